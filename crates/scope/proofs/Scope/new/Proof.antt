@@ -1,0 +1,12 @@
+-- `scope::Scope::new` meets its contract.
+use mathlib.Core.Path.{refl}
+use Rattle.scope.specs.Kept.{modulesFrom, modulesOf}
+use Rattle.scope.proofs.Scope.new.Statement.{statement}
+use Rattle.scope.proofs.Scope.new.Tie as tie
+
+returns : tie.Need-returns
+unfolding modulesOf modulesFrom
+returns c = refl
+
+pub new-spec : {M : Type 1} → statement M
+new-spec = tie.close (tie.spec returns)

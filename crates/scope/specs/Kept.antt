@@ -1,0 +1,89 @@
+-- How the code keeps a scope: the modules that a `Scope` stands for, and document 01's number and values for each answer.
+use Prim.Native.Nat.{ℕ, zero, suc, _+_, _*_, min}
+use mathlib.Core.Bool.{Bool, true, false}
+use mathlib.Core.List.{List, [], _∷_}
+use mathlib.Core.Option.{Option, none, some}
+use lib.ListN.{getD, set}
+use Rattle.scope.specs.Modules.{Module, Modules, Generated, Left, Outcome, done, refused}
+use Rattle.scope.specs.declared.id.Id.{Id}
+use Rattle.scope.specs.declared.Mark.{Mark}
+use Rattle.scope.specs.declared.Mark.the-variants.{Loaded, Stored, Cjs, Wrapping}
+use Rattle.scope.specs.declared.Scope.{Scope}
+use Rattle.scope.specs.declared.Place.{Place}
+use Rattle.scope.specs.declared.Place.the-variants.{At, Nowhere}
+use Rattle.scope.specs.declared.Gen.{Gen}
+use Rattle.scope.specs.declared.Requested.{Requested}
+use Rattle.scope.specs.declared.Marked.{Marked}
+use Rattle.scope.specs.declared.FileAnswer.{FileAnswer}
+use Rattle.scope.specs.declared.FileAnswer.the-variants.{Given, TooManyFiles}
+use Rattle.scope.specs.declared.SetAnswer.{SetAnswer}
+use Rattle.scope.specs.declared.SetAnswer.the-variants.{Set, NoSuchModule}
+use Rattle.scope.specs.declared.ReadAnswer.{ReadAnswer}
+use Rattle.scope.specs.declared.ReadAnswer.the-variants.{Is, NoSuchModule as NotRead}
+use Rattle.scope.specs.declared.EsmAnswer.{EsmAnswer}
+use Rattle.scope.specs.declared.EsmAnswer.the-variants.{Wrapped, NotWrapped, NoSuchModule as NotKnown}
+
+-- where mark k of module n stands
+abbrev pub rankOf : Mark → ℕ
+rankOf Loaded = 0
+rankOf Stored = 1
+rankOf Cjs = 2
+rankOf Wrapping = 3
+
+abbrev pub slotOf : Mark → ℕ → ℕ
+slotOf k n = 256 * rankOf k + n
+
+abbrev pub moduleAt : List ℕ → List Bool → ℕ → Module
+moduleAt files marks n =
+    record {
+      file = getD files n 0;
+      loaded = getD marks (slotOf Loaded n) false;
+      stored = getD marks (slotOf Stored n) false;
+      cjs = getD marks (slotOf Cjs n) false;
+      wrapping = getD marks (slotOf Wrapping n) false;
+    }
+
+-- a scope after a mark's store
+abbrev pub stored : Scope → Mark → ℕ → Bool → Scope
+stored s k n on = record { count = s .count; files = s .files; marks = set (s .marks) (slotOf k n) on }
+
+-- k modules from number n on
+unfoldable pub modulesFrom : ℕ → ℕ → List ℕ → List Bool → Modules
+modulesFrom zero n files marks = []
+modulesFrom (suc k) n files marks = moduleAt files marks n ∷ modulesFrom k (suc n) files marks
+
+-- the modules of a scope; a count over 256 stands for 256
+unfoldable pub modulesOf : Scope → Modules
+modulesOf s = modulesFrom (min (s .count) 256) 0 (s .files) (s .marks)
+
+abbrev pub placeBy : Place → Option ℕ
+placeBy (At i) = some i
+placeBy Nowhere = none
+
+-- the numbers of the refusals
+abbrev pub fileRefusal : FileAnswer → ℕ
+fileRefusal Given = 0
+fileRefusal TooManyFiles = 5
+
+abbrev pub setRefusal : SetAnswer → ℕ
+setRefusal Set = 0
+setRefusal NoSuchModule = 12
+
+-- what the answers stand for
+abbrev pub generated : Gen → Generated
+generated r = record { modules = modulesOf (r .scope); id = r .id; local-ctxt = r .«local_ctxt»; export-ctxt = r .«export_ctxt»; refusal = fileRefusal (r .answer) }
+
+abbrev pub requested : Requested → Left
+requested r = record { modules = modulesOf (r .scope); refusal = fileRefusal (r .answer) }
+
+abbrev pub markedBy : Marked → Left
+markedBy r = record { modules = modulesOf (r .scope); refusal = setRefusal (r .answer) }
+
+abbrev pub readBy : ReadAnswer → Outcome Bool
+readBy (Is b) = done b
+readBy NotRead = refused 12
+
+abbrev pub esmBy : EsmAnswer → Outcome (Option Id)
+esmBy (Wrapped i) = done (some i)
+esmBy NotWrapped = done none
+esmBy NotKnown = refused 12
