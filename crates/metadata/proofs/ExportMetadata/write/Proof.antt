@@ -1,0 +1,43 @@
+-- `write` meets its contract: a field with the old content and the new.
+use mathlib.Core.Path.{ap}
+use mathlib.Core.List.{List, _++_}
+use Prim.Native.Nat.{ℕ}
+use lib.ListN.{drop}
+use lib.Seq.{take-length}
+use Rattle.writer.specs.Bytes.{framed}
+use Rattle.writer.proofs.Wrote.{wrote-then, wrote-as, wrote-field}
+use Rattle.tree.specs.Tree.{encodes}
+use Rattle.metadata.specs.Metadata.{attributesFor}
+use Rattle.metadata.specs.Kept.{metadataOf}
+use borrow.Author.Needs.{needs}
+use Rattle.metadata.proofs.ExportMetadata.write.Statement.{statement}
+use Rattle.metadata.proofs.ExportMetadata.write.Tie as tie
+
+open-field-requires : tie.Need-open-field-requires
+open-field-requires c κs = search needs
+
+copy-requires : tie.Need-copy-requires
+copy-requires c κs = search needs
+
+put-requires : tie.Need-put-requires
+put-requires c κs = search needs
+
+close-field-requires : tie.Need-close-field-requires
+close-field-requires c κs = search needs
+
+same-length : tie.Need-same-length
+same-length c = search needs
+
+returns : tie.Need-returns
+returns c = wrote-as (wrote-field (c .before .before .before .before .before .before .before .before .before .before .before .before .before .before .open-field .ensures) (wrote-then (c .before .before .before .before .before .before .before .before .before .before .copy .ensures) (c .before .before .before .before .before .before .put .ensures)) (c .before .before .close-field .ensures)) (ap (λ (x : List ℕ). framed 0x2F (drop 3 x ++ encodes (attributesFor (metadataOf (c .before .before .before .before .before .before .before .before .before .before .before .before .before .before .before .before .before .before .args .self))))) (take-length (c .before .before .before .before .before .before .before .before .before .before .before .before .before .before .before .before .before .before .args .attributes .now)))
+
+pub write-spec : {M : Type 1} → statement M
+write-spec =
+    tie.close
+    (tie.spec
+    open-field-requires
+    copy-requires
+    put-requires
+    close-field-requires
+    same-length
+    returns)

@@ -1,0 +1,8 @@
+-- What the proofs of several functions, and of the crates above, use.
+pub mod DecimalLaws
+pub mod EncodeLaws
+pub mod DecodeLaws
+pub mod CallsLaws
+pub mod WithinLaws
+pub mod RoundTrip
+pub mod RefusalLaws

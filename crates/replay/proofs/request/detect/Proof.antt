@@ -1,0 +1,121 @@
+-- `replay::request::detect` meets its contract.
+use borrow.Author.Needs.{needs}
+use lib.ListN.{length}
+use mathlib.Core.Path.{subst}
+use native.Mathlib.Omega.{arith}
+use Rattle.replay.proofs.request.detect.Statement.{statement}
+use Rattle.replay.proofs.request.detect.Tie as tie
+use Rattle.replay.specs.Answer.{BytesIn}
+
+number-requires : tie.Need-number-requires
+number-requires c κs = search needs
+
+enum-known-config : tie.Need-enum-known-config
+enum-known-config c = search needs
+
+enum-told : tie.Need-enum-told
+enum-told c = search needs
+
+returns : tie.Need-returns
+returns c = search needs
+
+returns-2 : tie.Need-returns-2
+returns-2 c = search needs
+
+bytes-requires : tie.Need-bytes-requires
+bytes-requires c κs = search needs
+
+enum-known-n : tie.Need-enum-known-n
+enum-known-n c = search needs
+
+enum-told-2 : tie.Need-enum-told-2
+enum-told-2 c = search needs
+
+same-length : tie.Need-same-length
+same-length c = search needs
+
+returns-3 : tie.Need-returns-3
+returns-3 c = search needs
+
+has-requires : tie.Need-has-requires
+has-requires c κs = search needs
+
+same-length-2 : tie.Need-same-length-2
+same-length-2 c = search needs
+
+returns-4 : tie.Need-returns-4
+returns-4 c = search needs
+
+sub-tychodrel-detect : tie.Need-sub-tychodrel-detect
+sub-tychodrel-detect c = search needs
+
+part-tychodrel-detect-start : tie.Need-part-tychodrel-detect-start
+part-tychodrel-detect-start c = search needs
+
+part-tychodrel-detect-end : tie.Need-part-tychodrel-detect-end
+part-tychodrel-detect-end c = let w = subst (BytesIn 0 (length (c .before .before .before .before .before .before .before .before .before .before .before .before .before .before .before .before .before .before .args .lent .now))) (c .before .before .before .before .n .given .1) (c .before .before .before .before .before .before .before .before .bytes .ensures) in omega arith
+
+tychodrel-detect-requires : tie.Need-tychodrel-detect-requires
+tychodrel-detect-requires c κs = search needs
+
+refused-requires : tie.Need-refused-requires
+refused-requires c κs = search needs
+
+same-length-3 : tie.Need-same-length-3
+same-length-3 c = search needs
+
+same-length-4 : tie.Need-same-length-4
+same-length-4 c = search needs
+
+returns-5 : tie.Need-returns-5
+returns-5 c = search needs
+
+slice-aggregate-put-all : tie.Need-slice-aggregate-put-all
+slice-aggregate-put-all c = search needs
+
+put-all-requires : tie.Need-put-all-requires
+put-all-requires c κs = search needs
+
+put-decimal-requires : tie.Need-put-decimal-requires
+put-decimal-requires c κs = search needs
+
+same-length-5 : tie.Need-same-length-5
+same-length-5 c = search needs
+
+same-length-6 : tie.Need-same-length-6
+same-length-6 c = search needs
+
+returns-6 : tie.Need-returns-6
+returns-6 c = search needs
+
+pub detect-spec : {M : Type 1} → statement M
+detect-spec =
+    tie.close
+    (tie.spec
+    number-requires
+    enum-known-config
+    enum-told
+    returns
+    returns-2
+    bytes-requires
+    enum-known-n
+    enum-told-2
+    same-length
+    returns-3
+    has-requires
+    same-length-2
+    returns-4
+    sub-tychodrel-detect
+    part-tychodrel-detect-start
+    part-tychodrel-detect-end
+    tychodrel-detect-requires
+    refused-requires
+    same-length-3
+    same-length-4
+    returns-5
+    slice-aggregate-put-all
+    put-all-requires
+    put-decimal-requires
+    same-length-5
+    same-length-6
+    returns-6)

@@ -1,0 +1,117 @@
+-- `replay::request::encode_with` meets its contract.
+use borrow.Author.Needs.{needs}
+use lib.ListN.{length}
+use mathlib.Core.Path.{subst}
+use native.Mathlib.Omega.{arith}
+use Rattle.replay.proofs.request.encode_with.Statement.{statement}
+use Rattle.replay.proofs.request.encode_with.Tie as tie
+use Rattle.replay.specs.Answer.{BytesIn}
+
+bytes-requires : tie.Need-bytes-requires
+bytes-requires c κs = search needs
+
+enum-known-n : tie.Need-enum-known-n
+enum-known-n c = search needs
+
+enum-told : tie.Need-enum-told
+enum-told c = search needs
+
+same-length : tie.Need-same-length
+same-length c = search needs
+
+returns : tie.Need-returns
+returns c = search needs
+
+number-requires : tie.Need-number-requires
+number-requires c κs = search needs
+
+enum-known-room : tie.Need-enum-known-room
+enum-known-room c = search needs
+
+enum-told-2 : tie.Need-enum-told-2
+enum-told-2 c = search needs
+
+same-length-2 : tie.Need-same-length-2
+same-length-2 c = search needs
+
+returns-2 : tie.Need-returns-2
+returns-2 c = search needs
+
+same-length-3 : tie.Need-same-length-3
+same-length-3 c = search needs
+
+returns-3 : tie.Need-returns-3
+returns-3 c = search needs
+
+has-requires : tie.Need-has-requires
+has-requires c κs = search needs
+
+same-length-4 : tie.Need-same-length-4
+same-length-4 c = search needs
+
+returns-4 : tie.Need-returns-4
+returns-4 c = search needs
+
+sub-encoded : tie.Need-sub-encoded
+sub-encoded c = search needs
+
+part-encoded-start : tie.Need-part-encoded-start
+part-encoded-start c = search needs
+
+part-encoded-end : tie.Need-part-encoded-end
+part-encoded-end c = let w = subst (BytesIn 0 (length (c .before .before .before .before .before .before .before .before .before .before .before .before .before .before .before .before .before .before .before .args .lent .now))) (c .before .before .before .before .before .before .before .before .before .n .given .1) (c .before .before .before .before .before .before .before .before .before .before .before .before .before .bytes .ensures) in omega arith
+
+sub-encoded-2 : tie.Need-sub-encoded-2
+sub-encoded-2 c = search needs
+
+part-encoded-start-2 : tie.Need-part-encoded-start-2
+part-encoded-start-2 c = search needs
+
+part-encoded-end-2 : tie.Need-part-encoded-end-2
+part-encoded-end-2 c = search needs
+
+encoded-requires : tie.Need-encoded-requires
+encoded-requires c κs = search needs
+
+same-length-5 : tie.Need-same-length-5
+same-length-5 c = search needs
+
+same-length-6 : tie.Need-same-length-6
+same-length-6 c = search needs
+
+same-length-7 : tie.Need-same-length-7
+same-length-7 c = search needs
+
+returns-5 : tie.Need-returns-5
+returns-5 c = search needs
+
+pub encode-with-spec : {M : Type 1} → statement M
+encode-with-spec =
+    tie.close
+    (tie.spec
+    bytes-requires
+    enum-known-n
+    enum-told
+    same-length
+    returns
+    number-requires
+    enum-known-room
+    enum-told-2
+    same-length-2
+    returns-2
+    same-length-3
+    returns-3
+    has-requires
+    same-length-4
+    returns-4
+    sub-encoded
+    part-encoded-start
+    part-encoded-end
+    sub-encoded-2
+    part-encoded-start-2
+    part-encoded-end-2
+    encoded-requires
+    same-length-5
+    same-length-6
+    same-length-7
+    returns-5)

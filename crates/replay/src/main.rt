@@ -1,0 +1,168 @@
+// Replays the vectors on standard input: a line is a request, a tab and the answer that is expected.
+// Writes each line whose answer differs, and last how many cases there were.
+mod line;
+mod report;
+mod request;
+
+ghost use Prim.Native.Nat.{_≤_};
+ghost use lib.ListN.{length};
+ghost use Rattle.replay.specs.Window.{Within, CameIn};
+use line::Tally;
+use text::fields::find;
+
+// What was read and not yet taken: the window from start up to end.
+pub struct Window {
+    pub start: usize,
+    pub end: usize,
+    // More can be read.
+    pub open: bool,
+    // This line cannot be had whole: it is longer than the window, or reading failed.
+    pub broken: bool,
+}
+
+// Moves what stands from `start` up to `end` to the front.
+fn shift(window: &mut [u8], start: usize, end: usize)
+    requires { ⌜ (start ≤ end) × (end ≤ length (now window)) ⌝ }
+{
+    let mut i = start;
+    while i < end {
+        window[i - start] = window[i];
+        i += 1;
+    }
+}
+
+// Reads more. A window without a line end and without room is dropped.
+fn fill(window: &mut [u8], w: Window) -> Window
+    requires { ⌜ Within (length (now window)) w ⌝ }
+    ensures { λ r. ⌜ Within (length (now (window .entry))) r ⌝ }
+{
+    let start = w.start;
+    let end = w.end;
+    let kept = end - start;
+    if window.len() <= kept {
+        return Window {
+            start: 0,
+            end: 0,
+            open: true,
+            broken: true,
+        };
+    }
+    shift(window, start, end);
+    match read_more(&mut window[kept..]) {
+        Came::Bytes(more) => Window {
+            start: 0,
+            end: kept + more,
+            open: 0 < more,
+            broken: w.broken,
+        },
+        Came::Failed => Window {
+            start: 0,
+            end: 0,
+            open: false,
+            broken: true,
+        },
+    }
+}
+
+// What a read brought: some bytes, none at the end of the input.
+pub enum Came {
+    Bytes(usize),
+    Failed,
+}
+
+// Reads once.
+fn read_more(room: &mut [u8]) -> Came
+    ensures { λ r. ⌜ CameIn (length (now (room .entry))) r ⌝ }
+{
+    let got = libc::read(libc::STDIN_FILENO, room);
+    if got < 0 {
+        return Came::Failed;
+    }
+    Came::Bytes(io::count(got, room))
+}
+
+// What is left to read, and the count so far.
+pub struct State {
+    pub window: Window,
+    pub tally: Tally,
+    pub done: bool,
+}
+
+// Takes a line, or reads more, or ends.
+fn turn(window: &mut [u8], lent: &mut [u8], out: &mut [u8], answer: &mut [u8], s: State) -> State
+    requires { ⌜ Within (length (now window)) (s .window) ⌝ }
+    ensures { λ r. ⌜ Within (length (now (window .entry))) (r .window) ⌝ }
+{
+    let w = s.window;
+    let t = s.tally;
+    let start = w.start;
+    let end = w.end;
+    let stop = find(window, start, end, 10);
+    if stop < end {
+        let tally = line::replay(&window[start..stop], w.broken, lent, out, answer, t);
+        let next = Window {
+            start: stop + 1,
+            end,
+            open: w.open,
+            broken: false,
+        };
+        return State {
+            window: next,
+            tally,
+            done: false,
+        };
+    }
+    if w.open {
+        let filled = fill(window, w);
+        return State {
+            window: filled,
+            tally: t,
+            done: false,
+        };
+    }
+    let tally = line::replay_last(&window[start..end], w.broken, lent, out, answer, t);
+    State {
+        window: w,
+        tally,
+        done: true,
+    }
+}
+
+// Nothing says that the input ends, so the turns are counted down from a number that no run uses up.
+fn run(window: &mut [u8], lent: &mut [u8], out: &mut [u8], answer: &mut [u8]) -> Tally {
+    let empty = Window {
+        start: 0,
+        end: 0,
+        open: true,
+        broken: false,
+    };
+    let none = Tally {
+        cases: 0,
+        skipped: 0,
+        differences: 0,
+    };
+    let mut s = State {
+        window: empty,
+        tally: none,
+        done: false,
+    };
+    let mut turns = u64::MAX;
+    while turns > 0 {
+        s = turn(window, lent, out, answer, s);
+        if s.done {
+            return s.tally;
+        }
+        turns -= 1;
+    }
+    s.tally
+}
+
+fn main() {
+    // A line of up to a mebibyte, the bytes that it spells, what a call writes, and the answer's text.
+    let mut window = [0u8; 1048576];
+    let mut lent = [0u8; 524288];
+    let mut out = [0u8; 524288];
+    let mut answer = [0u8; 2097152];
+    let t = run(&mut window, &mut lent, &mut out, &mut answer);
+    report::total(t.cases, t.skipped, t.differences);
+}

@@ -1,0 +1,4 @@
+pub mod WriteLaws
+pub mod HexLaws
+pub mod DecimalLaws
+pub mod FieldsLaws

@@ -1,0 +1,34 @@
+-- `text::decimal::put_decimal` meets its contract.
+use borrow.Author.Needs.{needs}
+use Rattle.text.proofs.WriteLaws.{written-as}
+use Rattle.text.proofs.decimal.put_decimal.Statement.{statement}
+use Rattle.text.proofs.decimal.put_decimal.Tie as tie
+
+decimal-requires : tie.Need-decimal-requires
+decimal-requires c κs = search needs
+
+array-share-prefix-digits : tie.Need-array-share-prefix-digits
+array-share-prefix-digits c = search needs
+
+slice-aggregate-put-all : tie.Need-slice-aggregate-put-all
+slice-aggregate-put-all c = search needs
+
+put-all-requires : tie.Need-put-all-requires
+put-all-requires c κs = search needs
+
+same-length : tie.Need-same-length
+same-length c = search needs
+
+returns : tie.Need-returns
+returns c = record { count = c .before .before .before .before .before .decimal .result; fewest = c .before .before .before .before .before .decimal .ensures .1 .0; written = written-as (c .before .before .before .before .before .decimal .ensures .1 .1) (c .before .before .put-all .ensures) }
+
+pub put-decimal-spec : {M : Type 1} → statement M
+put-decimal-spec =
+    tie.close
+    (tie.spec
+    decimal-requires
+    array-share-prefix-digits
+    slice-aggregate-put-all
+    put-all-requires
+    same-length
+    returns)

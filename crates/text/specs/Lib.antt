@@ -1,0 +1,4 @@
+pub mod Write
+pub mod Hex
+pub mod Decimal
+pub mod Fields

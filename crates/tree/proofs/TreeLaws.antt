@@ -1,0 +1,66 @@
+-- Trees: how many bytes they take, and how deep their parts are.
+use Prim.Native.Nat.{ℕ, _+_, _≤_}
+use mathlib.Core.Path.{_≡_, refl}
+use mathlib.Core.List.{List, _++_}
+use native.Mathlib.Omega.{arith}
+use native.Mathlib.Nat.{le-max-left, le-max-right, max-le}
+use lib.ListN.{length, length-append}
+use Rattle.tree.specs.Tree.{Field, field, Fields, none, more, framed, encode, encodes, size, sizes, depth, depths}
+
+framed-length : (t : ℕ) (c : List ℕ) → length (framed t c) ≡ 3 + length c
+unfolding framed
+framed-length t c = omega arith
+
+field-size : (t : ℕ) (x : List ℕ) (cs : Fields) → sizes cs ≡ length (encodes cs) →
+    size (field t x cs) ≡ length (encode (field t x cs))
+unfolding size encode
+field-size t x cs e = let l = length-append x (encodes cs) in let f = framed-length t (x ++ encodes cs) in omega arith
+
+row-size : (f : Field) (fs : Fields) → size f ≡ length (encode f) → sizes fs ≡ length (encodes fs) →
+    sizes (more f fs) ≡ length (encodes (more f fs))
+unfolding size encode
+row-size f fs a b = let l = length-append (encode f) (encodes fs) in omega arith
+
+none-size : sizes none ≡ length (encodes none)
+unfolding size encode
+none-size = refl
+
+mutual
+  pub size-encode : (f : Field) → size f ≡ length (encode f)
+  size-encode (field t x cs) = field-size t x cs (sizes-encodes cs)
+
+  pub sizes-encodes : (fs : Fields) → sizes fs ≡ length (encodes fs)
+  sizes-encodes none = none-size
+  sizes-encodes (more f fs) = row-size f fs (size-encode f) (sizes-encodes fs)
+
+pub content-size : (t : ℕ) (x : List ℕ) (cs : Fields) → size (field t x cs) ≡ 3 + (length x + sizes cs)
+unfolding size
+content-size t x cs = refl
+
+pub depth-parts : (t : ℕ) (x : List ℕ) (cs : Fields) → depth (field t x cs) ≡ 1 + depths cs
+unfolding depth
+depth-parts t x cs = refl
+
+pub depth-none : depths none ≡ 0
+unfolding depth
+depth-none = refl
+
+-- a row is as deep as its deepest field
+pub depth-first : (f : Field) (fs : Fields) → depth f ≤ depths (more f fs)
+unfolding depth
+depth-first f fs = le-max-left (depth f) (depths fs)
+
+pub depth-rest : (f : Field) (fs : Fields) → depths fs ≤ depths (more f fs)
+unfolding depth
+depth-rest f fs = le-max-right (depth f) (depths fs)
+
+pub depth-most : (f : Field) (fs : Fields) (k : ℕ) → depth f ≤ k → depths fs ≤ k → depths (more f fs) ≤ k
+unfolding depth
+depth-most f fs k a b = max-le a b
+
+pub depth-one : (f : Field) → depths (more f none) ≡ depth f
+unfolding depth
+depth-one f = native.Mathlib.Nat.max-zero (depth f)
+
+pub depth-positive : (f : Field) → 1 ≤ depth f
+depth-positive (field t x cs) = let z = depth-parts t x cs in omega arith

@@ -1,0 +1,18 @@
+-- `clear` meets its contract: it zeroes from 0 on.
+use mathlib.Core.Path.{_∙_}
+use borrow.Author.Needs.{needs}
+use Rattle.writer.proofs.Finished.{zeroed-all}
+use Rattle.writer.proofs.clear.Statement.{statement}
+use Rattle.writer.proofs.clear.Tie as tie
+
+clear-from-requires : tie.Need-clear-from-requires
+clear-from-requires c κs = search needs
+
+same-length : tie.Need-same-length
+same-length c = search needs
+
+returns : tie.Need-returns
+returns c = c .before .before .clear-from .ensures ∙ zeroed-all _
+
+pub clear-spec : {M : Type 1} → statement M
+clear-spec = tie.close (tie.spec clear-from-requires same-length returns)

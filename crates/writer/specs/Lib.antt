@@ -1,0 +1,4 @@
+pub mod Bytes
+pub mod Wrote
+pub mod Finished
+pub mod Example
