@@ -32,6 +32,7 @@ use Rattle.tree.proofs.StandingLaws.{read-standing}
 use Rattle.tree.proofs.SoundLaws.{read-sound}
 use Rattle.metadata.specs.declared.Encoded.the-variants.{Done, Broken, NoRoom}
 use Rattle.metadata.specs.Metadata.{Metadata, append, attributesFor, withMetadata, decode}
+use Rattle.metadata.specs.Kept.{writtenBytes}
 use Rattle.metadata.specs.Calls.{attributesIn, lent, decodeCall, answerOn, outOn, encodeAnswer, encodeOut, Encoding}
 use Rattle.metadata.proofs.EncodeLaws.{framed-field, encodes-append}
 
@@ -155,14 +156,14 @@ module _ (s : List ℕ) where
         }
 
     -- the bytes that are written are those of the new attributes
-    written : (old : Fields) → Bytes s → lent s ≡ fine old → framed 0x2F (drop 3 s ++ encodes (attributesFor m)) ≡ encode (withMetadata m old)
+    written : (old : Fields) → Bytes s → lent s ≡ fine old → writtenBytes m s ≡ encode (withMetadata m old)
     unfolding withMetadata
     written old bs e =
         ap (framed 0x2F) (ap (λ (x : List ℕ). x ++ encodes (attributesFor m)) (sym (lent-sound s old bs e .bytes)) ∙ sym (encodes-append old (attributesFor m)))
         ∙ framed-field 0x2F [] (append old (attributesFor m))
 
     module _ {l mid k : List ℕ} {n : ℕ} {r : Bool} (bs : Bytes s) (v : verdict (lent s) ≡ Good)
-        (w : Wrote l 0 (framed 0x2F (drop 3 s ++ encodes (attributesFor m))) mid n) (f : Finished n mid r k) where
+        (w : Wrote l 0 (writtenBytes m s) mid n) (f : Finished n mid r k) where
       old : Fields
       old = good-fine (lent s) v .0
 

@@ -20,7 +20,7 @@ use Rattle.tree.proofs.ReadLaws.{fine-inj}
 use Rattle.tree.proofs.CompleteLaws.{read-complete}
 use Rattle.metadata.specs.Metadata.{Metadata, Small, injectedAttribute, contextAttribute, injectedAttributes, contextAttributes, append, attributesFor, withMetadata, startsWith, contextIn, told, newer, merged, decodeFrom, unset, decode}
 use Rattle.metadata.specs.declared.Encoded.the-variants.{Done, NoRoom}
-use Rattle.metadata.specs.Calls.{attributesIn, lent, decodeCall, answerOn, outOn, encodeAnswer, encodeOut}
+use Rattle.metadata.specs.Calls.{attributesIn, lent, decodeCall, answerOn, outOn, encodeAnswer, encodeOut, Encoding}
 use Rattle.metadata.proofs.DecimalLaws.{decimal-parses}
 use Rattle.metadata.proofs.CallsLaws.{lent-sound}
 use Rattle.metadata.proofs.WithinLaws.{new-within}
@@ -129,27 +129,32 @@ module _ (m : Metadata) (s : List ℕ) (room n : ℕ) where
   answer-accepted (fine old) e a = (old, room-accepted old (hasRoom (length (encode (withMetadata m old))) room) e refl a)
   answer-accepted (refused w p) e a = absurd (let z : _≡_ {A = ℕ} 0 1 = cc in omega arith)
 
-  -- the bytes that encoding wrote, without the zeros behind, decode to what the lent ones tell with the metadata onto it
-  pub encoded-decodes : Bytes s → Small (m .context) → encodeAnswer m s room ≡ Done n →
+  accepted-decodes : Bytes s → Small (m .context) → encodeAnswer m s room ≡ Done n →
       (o : Metadata) × (decodeCall s ≡ fine o) × (decodeCall (take n (encodeOut m s room)) ≡ fine (merged o m))
   unfolding encodeAnswer decodeCall
-  encoded-decodes bs h a =
+  accepted-decodes bs h a =
       let g = answer-accepted (lent s) refl a in
       let old = g .0 in
       let c = g .1 in
-      let f = withMetadata m old in (
+      let w = new-within m s old h (lent-sound s old bs (c .is-lent)) (c .fits) in (
         decode old,
         ap (mapped decode) (c .is-lent),
-        ap (λ (x : List ℕ). mapped decode (lent x)) (c .bytes)
-            ∙ ap (mapped decode) (lent-back f (new-within m s old h (lent-sound s old bs (c .is-lent)) (c .fits)))
+        ap (λ (x : List ℕ). mapped decode (lent x)) (c .bytes) ∙ ap (mapped decode) (lent-back (withMetadata m old) w)
             ∙ ap fine (older-merged m old h),
       )
 
--- onto nothing: they decode to the metadata
-pub encoded-alone : (m : Metadata) (room n : ℕ) → Small (m .context) → encodeAnswer m [] room ≡ Done n →
-    decodeCall (take n (encodeOut m [] room)) ≡ fine m
-unfolding decodeCall lent decode decodeFrom
-encoded-alone m room n h a =
-    let g = encoded-decodes m [] room n (λ i. omega arith) h a in
-    let e : g .0 ≡ unset = sym (fine-inj (g .1)) in
-    g .2 ∙ ap (λ (o : Metadata). fine (merged o m)) e ∙ ap fine (merged-unset m)
+module _ {m : Metadata} {l l' : List ℕ} {n : ℕ} where
+  -- the bytes that `encode` wrote, without the zeros behind, decode to the metadata onto what the lent ones told
+  pub encoded-decodes : {s : List ℕ} → Encoding m s l (Done n) l' → Bytes s → Small (m .context) →
+      (o : Metadata) × (decodeCall s ≡ fine o) × (decodeCall (take n l') ≡ fine (merged o m))
+  encoded-decodes {s} e bs h =
+      let g = accepted-decodes m s (length l) n bs h (sym (e .answer)) in
+      (g .0, g .1, ap (λ (x : List ℕ). decodeCall (take n x)) (e .buffer) ∙ g .2)
+
+  -- onto nothing: to the metadata
+  pub encoded-alone : Encoding m [] l (Done n) l' → Small (m .context) → decodeCall (take n l') ≡ fine m
+  unfolding decodeCall lent decode decodeFrom
+  encoded-alone e h =
+      let g = encoded-decodes e (λ i. omega arith) h in
+      let o : g .0 ≡ unset = sym (fine-inj (g .1)) in
+      g .2 ∙ ap (λ (x : Metadata). fine (merged x m)) o ∙ ap fine (merged-unset m)

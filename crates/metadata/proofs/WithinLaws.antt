@@ -93,7 +93,9 @@ context-formed (some c) h = row-formed contextKey (decimal c) (let e = decimal-s
 
 added-formed : (m : Metadata) → Small (m .context) → FormedAll (attributesFor m) attributes
 unfolding attributesFor
-added-formed m h = formed-append (injectedAttributes (m .injected)) (contextAttributes (m .context)) (injected-formed (m .injected)) (context-formed (m .context) h)
+added-formed m h =
+    formed-append (injectedAttributes (m .injected)) (contextAttributes (m .context)) (injected-formed (m .injected))
+    (context-formed (m .context) h)
 
 shallow-append : (fs gs : Fields) → depths fs ≤ 63 → depths gs ≤ 63 → depths (append fs gs) ≤ 63
 unfolding append
@@ -118,7 +120,9 @@ context-shallow (some c) = row-shallow contextKey (decimal c)
 
 added-shallow : (m : Metadata) → depths (attributesFor m) ≤ 63
 unfolding attributesFor
-added-shallow m = shallow-append (injectedAttributes (m .injected)) (contextAttributes (m .context)) (injected-shallow (m .injected)) (context-shallow (m .context))
+added-shallow m =
+    shallow-append (injectedAttributes (m .injected)) (contextAttributes (m .context)) (injected-shallow (m .injected))
+    (context-shallow (m .context))
 
 -- ---- The whole
 

@@ -43,7 +43,7 @@ fn is_digit(b: u8) -> bool
 // Where the text from `from` up to end goes on behind a plus.
 fn behind_plus(s: &[u8], from: usize, end: usize) -> usize
     requires { ⌜ (from ≤ end) × (end ≤ length (now s)) ⌝ }
-    ensures { λ r. ⌜ (slice r end (now (s .entry)) ≡ unsigned (slice from end (now (s .entry)))) × (r ≤ end) ⌝ }
+    ensures { λ r. ⌜ (slice r end (now (s .entry)) ≡ unsigned (slice from end (now (s .entry)))) × (from ≤ r) × (r ≤ end) ⌝ }
 {
     if from == end {
         return from;

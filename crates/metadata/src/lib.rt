@@ -13,18 +13,16 @@ use tree::read::Why;
 use tree::read::read_tree;
 ghost use mathlib.Core.Path.{_≡_};
 ghost use mathlib.Core.Bool.{_||_};
-ghost use mathlib.Core.List.{_++_};
 ghost use Prim.Native.Nat.{_+_, _≤_};
-ghost use lib.ListN.{length, drop};
+ghost use lib.ListN.{length};
 ghost use lib.Seq.{slice};
-ghost use Rattle.writer.specs.Bytes.{framed};
 ghost use Rattle.writer.specs.Wrote.{Wrote};
 ghost use Rattle.tree.specs.Layout.{same};
 ghost use Rattle.tree.specs.Tree.{size, encode, encodes, fixedOf};
 ghost use Rattle.tree.specs.Read.{verdict};
 ghost use Rattle.tree.specs.Standing.{treeAt, rowAt};
 ghost use Rattle.metadata.specs.Metadata.{injectedAttribute, contextAttribute, injectedAttributes, attributesFor, startsWith, contextIn, told, newer as newerOf, merged, unset, decode};
-ghost use Rattle.metadata.specs.Kept.{contextOf, metadataOf};
+ghost use Rattle.metadata.specs.Kept.{contextOf, metadataOf, writtenBytes};
 ghost use Rattle.metadata.specs.Calls.{attributesIn, lent, decoded, decodeCall, Encoding};
 
 // The content of the attribute of an injected export: kinds, key length, key and value.
@@ -243,7 +241,7 @@ impl ExportMetadata {
 
     // Writes the lent attributes' children and those that the metadata adds, as attributes at 0.
     fn write(self, attributes: &[u8], out: &mut [u8]) -> usize
-        ensures { λ p. ⌜ Wrote (now (out .entry)) 0 (framed 0x2F (drop 3 (now (attributes .entry)) ++ encodes (attributesFor (metadataOf self)))) (now (out .exit)) p ⌝ }
+        ensures { λ p. ⌜ Wrote (now (out .entry)) 0 (writtenBytes (metadataOf self) (now (attributes .entry))) (now (out .exit)) p ⌝ }
     {
         let content = writer::open_field(out, 0, 0x2F);
         let p = writer::copy(out, content, attributes, 3, attributes.len());

@@ -1,5 +1,6 @@
 -- `number_at` meets its contract. The invariant: what is left, behind the number so far, gives what the whole text gives.
-use Prim.Native.Nat.{_-_, _≤_}
+use Prim.Native.Nat.{_+_, _*_, _-_, _≤_, _<_}
+-- `number_at` meets its contract. The invariant: what is left, behind the number so far, gives what the whole text gives.
 use lib.ListN.{getD}
 use mathlib.Core.Path.{_≡_, refl, sym, ap, _∙_}
 use native.Mathlib.Omega.{arith}
@@ -65,7 +66,8 @@ returns-2 c =
     let here = c .before .before .before .before .before .loop in
     let digit = sym (c .before .before .is-digit .ensures) ∙ not-false _ (c .before .if1 .left) in
     let more = number-more (a .s .now) (here .at) (a .end) (c .before .before .before .before .loop-test .taken) (c .before .before .before .before .before .before .before .pre .1) (here .n) digit in
-    sym (ap limited more ∙ too-large _ _ (c .if2 .taken)) ∙ here .inv .0
+    let large : 4294967295 < here .n * 10 + (getD (a .s .now) (here .at) 0 - 48) = omega arith in
+    sym (ap limited more ∙ too-large _ _ large) ∙ here .inv .0
 
 add-at : tie.Need-add-at Inv-loop μ-loop
 add-at c = omega arith

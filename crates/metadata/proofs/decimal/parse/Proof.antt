@@ -17,7 +17,7 @@ unfolding parsed
 returns c =
     let a = c .before .before .before .args in
     let start = c .before .behind-plus in
-    sym (ap limited (number-none (a .s .now) (c .if1 .taken))) ∙ ap (λ (l : List ℕ). limited (number l)) (start .ensures .0)
+    sym (ap limited (number-none (a .s .now) {at = start .result} {end = a .end} (omega arith))) ∙ ap (λ (l : List ℕ). limited (number l)) (start .ensures .0)
 
 number-at-requires : tie.Need-number-at-requires
 number-at-requires c κs = search needs

@@ -1,0 +1,1 @@
+// What is claimed of several calls together. The claims stand in specs/, their proofs in proofs/.

@@ -1,0 +1,214 @@
+-- Rows and the cells that hold them: how many, which, one more, another value, and the search among them.
+use Prim.Native.Nat.{ℕ, zero, suc, _+_, _-_, _*_, _≤_, _<_}
+use native.Mathlib.Numerals.{add-one}
+use native.Mathlib.Omega.{arith}
+use mathlib.Core.Path.{_≡_, refl, sym, ap, _∙_}
+use mathlib.Core.Bool.{Bool, true, false, cond, _&&_}
+use mathlib.Core.List.{List, [], _∷_, _++_, append-nil}
+use mathlib.Core.Option.{Option, none, some}
+use lib.Dec.{leb, ltb, eqb}
+use lib.ListN.{length, getD, set, length-set}
+use lib.Seq.{getD-set-same, getD-set-other}
+use borrow.Author.Tests.{le-leb, lt-leb, eq-eqb, ne-eqb}
+use Rattle.tables.specs.declared.Table.{Table}
+use Rattle.tables.specs.Rows.{Row, rowsFrom, rows, Lies, next, between, firstIn, lesser, leastOf, without}
+
+pub from-length : (k at : ℕ) (t : List ℕ) → length (rowsFrom k at t) ≡ k
+unfolding rowsFrom
+from-length zero at t = refl
+from-length (suc k) at t = ap suc (from-length k (at + 2) t)
+
+pub rows-length : (b : Table) (t : List ℕ) → length (rows b t) ≡ getD t (b .count) 0
+unfolding rows
+rows-length b t = from-length (getD t (b .count) 0) (b .base) t
+
+-- arrays that agree on the cells of rows hold the same rows
+pub from-agree : (k at : ℕ) (t t' : List ℕ) → ((i : ℕ) → at ≤ i → i < at + 2 * k → getD t' i 0 ≡ getD t i 0) → rowsFrom k at t' ≡ rowsFrom k at t
+unfolding rowsFrom
+from-agree zero at t t' h = refl
+from-agree (suc k) at t t' h =
+    let a = h at (omega arith) (omega arith) in
+    let b = h (at + 1) (omega arith) (omega arith) in
+    let r = from-agree k (at + 2) t t' (λ i p q. h i (omega arith) (omega arith)) in
+    cc
+
+pub from-more : (k at : ℕ) (t : List ℕ) → rowsFrom (suc k) at t ≡ rowsFrom k at t ++ ((getD t (at + 2 * k) 0, getD t (at + 2 * k + 1) 0) ∷ [])
+unfolding rowsFrom
+from-more zero at t = let e : at + 2 * 0 ≡ at = omega arith in rw e
+from-more (suc k) at t =
+    let r = from-more k (at + 2) t in
+    let e : at + 2 + 2 * k ≡ at + 2 * suc k = omega arith in
+    cc
+
+pub from-row : (k at i : ℕ) (t : List ℕ) → i < k → getD (rowsFrom k at t) i (0, 0) ≡ (getD t (at + 2 * i) 0, getD t (at + 2 * i + 1) 0)
+unfolding rowsFrom
+from-row zero at i t h = absurd (omega arith)
+from-row (suc k) at zero t h = let e : at + 2 * 0 ≡ at = omega arith in rw e
+from-row (suc k) at (suc i) t h =
+    let r = from-row k (at + 2) i t (omega arith) in
+    let e : at + 2 + 2 * i ≡ at + 2 * suc i = omega arith in
+    cc
+
+pub rows-row : (b : Table) (i : ℕ) (t : List ℕ) → i < length (rows b t) → getD (rows b t) i (0, 0) ≡ (getD t (b .base + 2 * i) 0, getD t (b .base + 2 * i + 1) 0)
+unfolding rows
+rows-row b i t h = let l = from-length (getD t (b .count) 0) (b .base) t in from-row (getD t (b .count) 0) (b .base) i t (omega arith)
+
+-- ---- The search
+
+abbrev pub shifted : ℕ → Option ℕ → Option ℕ
+shifted i none = none
+shifted i (some n) = some (i + n)
+
+shifted-none : (o : Option ℕ) → shifted 0 o ≡ o
+shifted-none none = refl
+shifted-none (some n) = ap some (omega arith)
+
+shifted-next : (i : ℕ) (o : Option ℕ) → shifted i (next o) ≡ shifted (i + 1) o
+shifted-next i none = refl
+shifted-next i (some n) = ap some (omega arith)
+
+-- what is found from row i on
+abbrev pub foundFrom : ℕ → ℕ → ℕ → ℕ → ℕ → List ℕ → Option ℕ
+foundFrom lo hi n i base t = shifted i (firstIn lo hi (rowsFrom (n - i) (base + 2 * i) t))
+
+pub found-start : (lo hi : ℕ) (b : Table) (n : ℕ) (t : List ℕ) → n ≡ length (rows b t) → firstIn lo hi (rows b t) ≡ foundFrom lo hi n 0 (b .base) t
+unfolding rows
+found-start lo hi b n t e =
+    let l = from-length (getD t (b .count) 0) (b .base) t in
+    let c : getD t (b .count) 0 ≡ n - 0 = omega arith in
+    let z : b .base ≡ b .base + 2 * 0 = omega arith in
+    sym (shifted-none (firstIn lo hi (rowsFrom (getD t (b .count) 0) (b .base) t))) ∙ ap (λ (x : ℕ). shifted 0 (firstIn lo hi (rowsFrom x (b .base) t))) c ∙ ap (λ (x : ℕ). shifted 0 (firstIn lo hi (rowsFrom (n - 0) x t))) z
+
+pub rows-onward : (n i base : ℕ) (t : List ℕ) → i < n →
+    rowsFrom (n - i) (base + 2 * i) t ≡ (getD t (base + 2 * i) 0, getD t (base + 2 * i + 1) 0) ∷ rowsFrom (n - (i + 1)) (base + 2 * (i + 1)) t
+unfolding rowsFrom
+rows-onward n i base t h =
+    let e : n - i ≡ suc (n - (i + 1)) = omega arith in
+    let z : base + 2 * i + 2 ≡ base + 2 * (i + 1) = omega arith in
+    ap (λ (x : ℕ). rowsFrom x (base + 2 * i) t) e ∙ ap (λ (x : ℕ). (getD t (base + 2 * i) 0, getD t (base + 2 * i + 1) 0) ∷ rowsFrom (n - (i + 1)) x t) z
+
+module _ (lo hi n i base : ℕ) (t : List ℕ) (h : i < n) where
+  passed-by : between lo hi (getD t (base + 2 * i) 0) ≡ false → foundFrom lo hi n i base t ≡ foundFrom lo hi n (i + 1) base t
+  unfolding firstIn
+  passed-by e = rw (rows-onward n i base t h, e) (shifted-next i (firstIn lo hi (rowsFrom (n - (i + 1)) (base + 2 * (i + 1)) t)))
+
+  pub found-low : getD t (base + 2 * i) 0 < lo → foundFrom lo hi n i base t ≡ foundFrom lo hi n (i + 1) base t
+  found-low k = passed-by (rw (lt-leb lo (getD t (base + 2 * i) 0) k))
+
+  pub found-high : lo ≤ getD t (base + 2 * i) 0 → hi < getD t (base + 2 * i) 0 → foundFrom lo hi n i base t ≡ foundFrom lo hi n (i + 1) base t
+  found-high j k = passed-by (rw (le-leb lo (getD t (base + 2 * i) 0) j, lt-leb (getD t (base + 2 * i) 0) hi k))
+
+  pub found-here : lo ≤ getD t (base + 2 * i) 0 → getD t (base + 2 * i) 0 ≤ hi → foundFrom lo hi n i base t ≡ some i
+  unfolding firstIn
+  found-here j k = rw (rows-onward n i base t h, le-leb lo (getD t (base + 2 * i) 0) j, le-leb (getD t (base + 2 * i) 0) hi k) (ap some (omega arith))
+
+pub found-end : (lo hi n i base : ℕ) (t : List ℕ) → n ≤ i → foundFrom lo hi n i base t ≡ none
+unfolding firstIn rowsFrom
+found-end lo hi n i base t h = let e : n - i ≡ 0 = omega arith in rw e
+
+-- ---- The least value
+
+pub least-start : (key n base : ℕ) (t : List ℕ) → leastOf key (rowsFrom (n - n) (base + 2 * n) t) ≡ none
+unfolding leastOf rowsFrom
+least-start key n base t = let e : n - n ≡ 0 = omega arith in rw e
+
+module _ (key n i base : ℕ) (t : List ℕ) (h : i < n) where
+  pub least-here : getD t (base + 2 * i) 0 ≡ key →
+      leastOf key (rowsFrom (n - i) (base + 2 * i) t) ≡ lesser (getD t (base + 2 * i + 1) 0) (leastOf key (rowsFrom (n - (i + 1)) (base + 2 * (i + 1)) t))
+  unfolding leastOf
+  least-here e = rw (rows-onward n i base t h, eq-eqb (getD t (base + 2 * i) 0) key e)
+
+  pub least-other : (getD t (base + 2 * i) 0 ≡ key → ⊥) →
+      leastOf key (rowsFrom (n - i) (base + 2 * i) t) ≡ leastOf key (rowsFrom (n - (i + 1)) (base + 2 * (i + 1)) t)
+  unfolding leastOf
+  least-other e = rw (rows-onward n i base t h, ne-eqb (getD t (base + 2 * i) 0) key e)
+
+-- from the row before one back to it
+pub back : (key n i base : ℕ) (t : List ℕ) → 0 < i →
+    leastOf key (rowsFrom (n - i) (base + 2 * i) t) ≡ leastOf key (rowsFrom (n - (i - 1 + 1)) (base + 2 * (i - 1 + 1)) t)
+back key n i base t h = let e : i ≡ i - 1 + 1 = omega arith in ap (λ (x : ℕ). leastOf key (rowsFrom (n - x) (base + 2 * x) t)) e
+
+pub least-end : (key n i : ℕ) (b : Table) (t : List ℕ) → i ≤ 0 → n ≡ length (rows b t) → leastOf key (rowsFrom (n - i) (b .base + 2 * i) t) ≡ leastOf key (rows b t)
+unfolding rows
+least-end key n i b t h e =
+    let l = from-length (getD t (b .count) 0) (b .base) t in
+    let c : n - i ≡ getD t (b .count) 0 = omega arith in
+    let z : b .base + 2 * i ≡ b .base = omega arith in
+    ap (λ (x : ℕ). leastOf key (rowsFrom x (b .base + 2 * i) t)) c ∙ ap (λ (x : ℕ). leastOf key (rowsFrom (getD t (b .count) 0) x t)) z
+
+-- ---- Rows taken out
+
+without-append : (k : ℕ) (l : List Row) (r : Row) → without k (l ++ (r ∷ [])) ≡ without k l ++ without k (r ∷ [])
+unfolding without
+without-append k [] r = refl
+without-append k (q ∷ l) r = by (eqb (q .0) k) (without-append k l r)
+  where
+    by : (b : Bool) → without k (l ++ (r ∷ [])) ≡ without k l ++ without k (r ∷ []) →
+        cond b (without k (l ++ (r ∷ []))) (q ∷ without k (l ++ (r ∷ []))) ≡ cond b (without k l) (q ∷ without k l) ++ without k (r ∷ [])
+    by true e = e
+    by false e = ap (λ (x : List Row). q ∷ x) e
+
+-- i rows are read and kept of them are written back, in place
+pub record Dropping (key base n : ℕ) (t₀ : List ℕ) (i kept : ℕ) (t : List ℕ) : Type 0 where
+  pub kept-rows : rowsFrom kept base t ≡ without key (rowsFrom i base t₀)
+  pub less : kept ≤ i
+  pub upto : i ≤ n
+  pub same : (j : ℕ) → (base ≤ j → j < base + 2 * i → ⊥) → getD t j 0 ≡ getD t₀ j 0
+  pub size : length t ≡ length t₀
+
+pub drop-starts : (key base n : ℕ) (t : List ℕ) → Dropping key base n t 0 0 t
+unfolding rowsFrom without
+drop-starts key base n t = record { kept-rows = refl; less = omega arith; upto = omega arith; same = λ j h. refl; size = refl }
+
+module _ (key base n : ℕ) (t₀ : List ℕ) (i kept : ℕ) (t : List ℕ) (d : Dropping key base n t₀ i kept t) (h : i < n) where
+  first : getD t (base + 2 * i) 0 ≡ getD t₀ (base + 2 * i) 0
+  first = d .same (base + 2 * i) (λ p q. omega arith)
+
+  second : getD t (base + 2 * i + 1) 0 ≡ getD t₀ (base + 2 * i + 1) 0
+  second = d .same (base + 2 * i + 1) (λ p q. omega arith)
+
+  read : rowsFrom (i + 1) base t₀ ≡ rowsFrom i base t₀ ++ ((getD t₀ (base + 2 * i) 0, getD t₀ (base + 2 * i + 1) 0) ∷ [])
+  read = ap (λ (k : ℕ). rowsFrom k base t₀) (add-one i) ∙ from-more i base t₀
+
+  pub drop-skips : getD t (base + 2 * i) 0 ≡ key → Dropping key base n t₀ (i + 1) kept t
+  unfolding without
+  drop-skips e =
+      let k : getD t₀ (base + 2 * i) 0 ≡ key = sym first ∙ e in
+      let less = d .less in
+      record {
+        kept-rows = d .kept-rows ∙ sym (ap (without key) read ∙ without-append key (rowsFrom i base t₀) _ ∙ rw (eq-eqb (getD t₀ (base + 2 * i) 0) key k) (append-nil (without key (rowsFrom i base t₀))));
+        less = omega arith;
+        upto = omega arith;
+        same = λ j f. d .same j (λ p q. f p (omega arith));
+        size = d .size;
+      }
+
+  pub drop-keeps : (getD t (base + 2 * i) 0 ≡ key → ⊥) → base + 2 * n ≤ length t →
+      Dropping key base n t₀ (i + 1) (kept + 1) (set (set t (base + 2 * kept) (getD t (base + 2 * i) 0)) (base + 2 * kept + 1) (getD t (base + 2 * i + 1) 0))
+  unfolding without
+  drop-keeps e room =
+      let less = d .less in
+      let x = getD t (base + 2 * i) 0 in
+      let y = getD t (base + 2 * i + 1) 0 in
+      let one = set t (base + 2 * kept) x in
+      let t' = set one (base + 2 * kept + 1) y in
+      let ne : eqb (getD t₀ (base + 2 * i) 0) key ≡ false = ne-eqb (getD t₀ (base + 2 * i) 0) key (λ z. e (first ∙ z)) in
+      let s1 = length-set t (base + 2 * kept) x in
+      let s2 = length-set one (base + 2 * kept + 1) y in
+      let old : rowsFrom kept base t' ≡ rowsFrom kept base t =
+      from-agree kept base t t' (λ j p q. getD-set-other one (base + 2 * kept + 1) j y 0 (λ z. omega arith) ∙ getD-set-other t (base + 2 * kept) j x 0 (λ z. omega arith)) in
+      let a : getD t' (base + 2 * kept) 0 ≡ getD t₀ (base + 2 * i) 0 =
+      getD-set-other one (base + 2 * kept + 1) (base + 2 * kept) y 0 (λ z. omega arith) ∙ getD-set-same t (base + 2 * kept) x 0 (omega arith) ∙ first in
+      let c : getD t' (base + 2 * kept + 1) 0 ≡ getD t₀ (base + 2 * i + 1) 0 = getD-set-same one (base + 2 * kept + 1) y 0 (omega arith) ∙ second in
+      let wrote : rowsFrom (kept + 1) base t' ≡ without key (rowsFrom i base t₀) ++ ((getD t₀ (base + 2 * i) 0, getD t₀ (base + 2 * i + 1) 0) ∷ []) =
+      ap (λ (k : ℕ). rowsFrom k base t') (add-one kept) ∙ from-more kept base t' ∙ cc (old, d .kept-rows, a, c) in
+      record {
+        kept-rows = wrote ∙ sym (ap (without key) read ∙ without-append key (rowsFrom i base t₀) _ ∙ rw ne);
+        less = omega arith;
+        upto = omega arith;
+        same = λ j f.
+            getD-set-other one (base + 2 * kept + 1) j y 0 (λ z. f (omega arith) (omega arith)) ∙
+            getD-set-other t (base + 2 * kept) j x 0 (λ z. f (omega arith) (omega arith)) ∙
+            d .same j (λ p q. f p (omega arith));
+        size = s2 ∙ s1 ∙ d .size;
+      }
