@@ -13,13 +13,13 @@ use Rattle.tree.specs.Read.{Reading, fine, refused, read}
 use Rattle.metadata.specs.Decimal.{numberFrom, number, unsigned, parsed}
 use Rattle.metadata.specs.Metadata.{Metadata, startsWith, contextIn, injectedAttribute, told, decodeFrom, decode, contextKey, attribute}
 use Rattle.metadata.specs.Calls.{lent, decodeCall}
-use Rattle.extraction.specs.Call.{Left, extraction}
-use Rattle.extraction.specs.Build.{Case, rooms}
-use Rattle.extraction.specs.Cards.{card1, card2, card3, card4, card5, card6, card7, card7-without, card8, card9, card11, card11-deeper, deep, listing}
-use Rattle.extraction.specs.Computes.{computing}
-use Rattle.resolving.specs.Call.{Left as LeftList, resolving}
-use Rattle.resolving.specs.Cards.{Case as ListCase, card2 as resolved2, card12, listing as listing-resolved}
-use Rattle.resolving.specs.Computes.{computing as computing-resolved}
+use Rattle.extraction_rules.specs.Call.{Left, extraction}
+use Rattle.extraction_rules.specs.Build.{Case, rooms}
+use Rattle.extraction_rules.specs.Cards.{card1, card2, card3, card4, card5, card6, card7, card7-without, card8, card9, card11, card11-deeper, deep, listing}
+use Rattle.extraction_rules.specs.Computes.{computing}
+use Rattle.resolving_rules.specs.Call.{Left as LeftList, resolving}
+use Rattle.resolving_rules.specs.Cards.{Case as ListCase, card2 as resolved2, card12, listing as listing-resolved}
+use Rattle.resolving_rules.specs.Computes.{computing as computing-resolved}
 
 -- what a card asks: an extraction in a fresh scope, a resolving, the metadata in a lent 2F, the reading of a module
 pub data Question : Type 0 where

@@ -17,9 +17,9 @@ use Rattle.lent.specs.Outcome.{done}
 use Rattle.lent.specs.Lists.{filter, isSome, among}
 use Rattle.lent.specs.Fields.{keep}
 use Rattle.lent.specs.Table.{Row, rowsIn, atomsIn, fileOf}
-use Rattle.extraction.specs.First.{specifiersIn, stays}
-use Rattle.extraction.specs.Call.{Lent, Lengths, Extracted, itemsRead, extracted}
-use Rattle.resolving.specs.Call.{Lent as LentRecords, Resolved, resolved}
+use Rattle.extraction_rules.specs.First.{specifiersIn, stays}
+use Rattle.extraction_rules.specs.Call.{Lent, Lengths, Extracted, itemsRead, extracted}
+use Rattle.resolving_rules.specs.Call.{Lent as LentRecords, Resolved, resolved}
 use Rattle.claims.specs.Stands.{How, plain, computed, bare, original, imported, otherwise, Standing, headOf, tailOf, standingsAll, stands, isUse, isPlain, properties}
 use Rattle.claims.specs.Placed.{all, wellPlaced}
 

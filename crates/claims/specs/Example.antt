@@ -6,10 +6,10 @@ use mathlib.Core.List.{List, [], _∷_, _++_, map}
 use Rattle.tree.specs.Layout.{two, four}
 use Rattle.tree.specs.Tree.{Field, field, Fields, none, more}
 use Rattle.lent.specs.Lists.{filter}
-use Rattle.extraction.specs.First.{stays}
-use Rattle.extraction.specs.Walk.{partsFor}
-use Rattle.extraction.specs.Computes.{computing}
-use Rattle.extraction.specs.Build.{a, x, b, d, f, y, q, own, exp, literal, listed, leaf, fields, imports, named, default, namespace, const, statement, ident, member, call, require, requiring, metadata}
+use Rattle.extraction_rules.specs.First.{stays}
+use Rattle.extraction_rules.specs.Walk.{partsFor}
+use Rattle.extraction_rules.specs.Computes.{computing}
+use Rattle.extraction_rules.specs.Build.{a, x, b, d, f, y, q, own, exp, literal, listed, leaf, fields, imports, named, default, namespace, const, statement, ident, member, call, require, requiring, metadata}
 use Rattle.claims.specs.Stands.{How, plain, computed, bare, original, imported, otherwise, idsIn, matching, objectIds, standings, stands, properties}
 use Rattle.claims.specs.Placed.{all, importsIn, importsPrecede, localIds, hasSource, hasLocal, sharesNone, ownLocals, soleNamespace, fitNamespace, fitNamespaces, wellPlaced}
 use Rattle.claims.specs.Demand.{usesOf, recordFor, takes, TakenApart, Kept}

@@ -1,82 +1,81 @@
 -- Demand 3, second part: the wrapping marks after every list of calls. Document 01, 'Demand 3's words', the sentence on lists.
 use Prim.Native.Nat.{ℕ}
 use mathlib.Core.Path.{_≡_}
-use mathlib.Core.Bool.{Bool, true, false, cond, _&&_, _||_}
+use mathlib.Core.Bool.{Bool, false, _&&_, _||_}
 use mathlib.Core.List.{List, [], _∷_}
-use mathlib.Core.Option.{Option, none, some}
+use mathlib.Core.Option.{bind, Option·elim}
 use lib.Dec.{eqb}
-use Rattle.scope.specs.Id.{moduleId}
+use Rattle.scope.specs.declared.id.FileName.{FileName}
 use Rattle.scope.specs.declared.id.ModuleId.{ModuleId}
 use Rattle.scope.specs.declared.Mark.{Mark}
 use Rattle.scope.specs.declared.Mark.the-variants.{Loaded, Stored, Cjs, Wrapping}
-use Rattle.scope.specs.Modules.{Modules, numberOf, request, marking, given, isMarked}
+use Rattle.scope.specs.Modules.{Modules, numberOf, gen, marking, isMarked}
 use Rattle.lent.specs.Outcome.{Outcome, done, refused}
+use Rattle.lent.specs.Lists.{find, isSome}
 use Rattle.lent.specs.Table.{Row, rowsIn, fileOf}
-use Rattle.extraction.specs.Call.{Lent, Lengths, Extracted, extracted, extraction}
-use Rattle.resolving.specs.Call.{Lent as LentRecords, resolving}
+use Rattle.extraction_rules.specs.Call.{Lent, Lengths, Extracted, extracted, extraction}
+use Rattle.resolving_rules.specs.Call.{Lent as LentRecords, resolving}
 
--- file requests, marks set or read, extractions and resolvings, each with all its inputs; reading a mark covers `wrapped_esm_id`
+-- ---- Lists of calls
+
+-- a call on a scope with all its inputs: a file request, a mark set or read (`wrapped_esm_id` reads two), an extraction, a resolving;
+-- 'calls that start their own scope stand in no list'
 pub data Call : Type 0 where
-  requests : ℕ → Call
+  requests : FileName → Call
   sets : Mark → ModuleId → Call
   reads : Mark → ModuleId → Call
+  readsEsm : ModuleId → Call
   extracts : Lent → Lengths → Call
   resolves : LentRecords → ℕ → Call
 
-abbrev pub requestedOr : Option (ℕ × Modules) → Modules → Modules
-requestedOr none ms = ms
-requestedOr (some r) ms = r .1
-
--- the modules that a call returned or left, refused or not
+-- the scope's modules after a call, refused or not
 unfoldable pub after : Call → Modules → Modules
-after (requests f) ms = requestedOr (request f ms) ms
+after (requests f) ms = gen f ms .modules
 after (sets k m) ms = marking k m ms .modules
 after (reads k m) ms = ms
+after (readsEsm m) ms = ms
 after (extracts l room) ms = extraction l room ms .modules
 after (resolves l room) ms = resolving l room ms .modules
 
--- 'followed call by call from a fresh scope'
+-- 'followed call by call', 'nothing else writes the scope between'
 unfoldable pub afterAll : List Call → Modules → Modules
 afterAll [] ms = ms
 afterAll (c ∷ l) ms = afterAll l (after c ms)
 
--- n is the module of a file
-abbrev pub isNumber : ℕ → Option ℕ → Bool
-isNumber n none = false
-isNumber n (some k) = eqb n k
+-- ---- What wraps a module
 
-abbrev pub isModuleOf : ℕ → Option ℕ → Modules → Bool
-isModuleOf n none ms = false
-isModuleOf n (some f) ms = isNumber n (numberOf f ms)
+-- 'A source resolves to the module of the file its table names': the module n
+abbrev pub isModuleOf : ℕ → List Row → Modules → List ℕ → Bool
+isModuleOf n rows ms a = Option·elim (bind (fileOf a rows) (λ f. numberOf f ms)) false (eqb n)
 
--- one of these sources resolves, by the table, to the module n
-unfoldable pub reaches : ℕ → List (List ℕ) → List Row → Modules → Bool
-reaches n [] rows ms = false
-reaches n (a ∷ l) rows ms = isModuleOf n (fileOf a rows) ms || reaches n l rows ms
+-- one of these sources does
+abbrev pub reaches : ℕ → List Row → Modules → List (List ℕ) → Bool
+reaches n rows ms l = isSome (find (isModuleOf n rows ms) l)
 
 -- an accepted extraction forced a source that its table resolves to the module
-abbrev pub forcedTo : ℕ → Outcome Extracted → List Row → Bool
-forcedTo n (done r) rows = reaches n (r .forced) rows (r .modules)
-forcedTo n (refused k p) rows = false
+abbrev pub forcedTo : ℕ → List Row → Outcome Extracted → Bool
+forcedTo n rows (done r) = reaches n rows (r .modules) (r .forced)
+forcedTo n rows (refused k p) = false
 
-abbrev pub isWrapping : Mark → Bool
-isWrapping Loaded = false
-isWrapping Stored = false
-isWrapping Cjs = false
-isWrapping Wrapping = true
-
--- a call wraps the module n: such an extraction, or an accepted call that sets the wrapping mark and names the module
+-- such an extraction, or an accepted call that sets the wrapping mark and names the module
 unfoldable pub wraps : ℕ → Call → Modules → Bool
 wraps n (requests f) ms = false
-wraps n (sets k m) ms = given m ms && isWrapping k && eqb n (m .0)
+wraps n (sets Loaded m) ms = false
+wraps n (sets Stored m) ms = false
+wraps n (sets Cjs m) ms = false
+wraps n (sets Wrapping m) ms = eqb (marking Wrapping m ms .refusal) 0 && eqb n (m .0)
 wraps n (reads k m) ms = false
-wraps n (extracts l room) ms = forcedTo n (extracted l room ms) (rowsIn (l .table))
+wraps n (readsEsm m) ms = false
+wraps n (extracts l room) ms = forcedTo n (rowsIn (l .table)) (extracted l room ms)
 wraps n (resolves l room) ms = false
 
+-- a call of the list wraps the module, where ms is the scope before the first
 unfoldable pub wrapsAny : ℕ → List Call → Modules → Bool
 wrapsAny n [] ms = false
 wrapsAny n (c ∷ l) ms = wraps n c ms || wrapsAny n l (after c ms)
 
--- 'a single claim on the whole list': after it a module is marked for wrapping exactly when one of its calls wrapped it
+-- ---- 'a single claim on the whole list'
+
+-- after a list 'from a fresh scope' a module is marked for wrapping exactly when a call of the list wrapped it
 abbrev pub MarkedExactly : Type 0
 MarkedExactly = (calls : List Call) (n : ℕ) → isMarked Wrapping n (afterAll calls []) ≡ wrapsAny n calls []

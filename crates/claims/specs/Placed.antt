@@ -7,7 +7,7 @@ use Rattle.tree.specs.Layout.{two, four, same, idAt, nameOf, contextOf, valueOf
 use Rattle.tree.specs.Tree.{Field, Fields, none, more, fixedOf, partsOf}
 use Rattle.lent.specs.Lists.{isSome, among}
 use Rattle.lent.specs.Fields.{has, keep, findField, sole}
-use Rattle.extraction.specs.First.{specifiersIn}
+use Rattle.extraction_rules.specs.First.{specifiersIn}
 use Rattle.claims.specs.Stands.{How, stands, isMisplaced, properties}
 
 unfoldable pub all : {A : Type 0} → (A → Bool) → List A → Bool

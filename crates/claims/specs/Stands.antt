@@ -9,7 +9,7 @@ use Rattle.tree.specs.Layout.{same, idAt}
 use Rattle.tree.specs.Tree.{Field, field, Fields, none, more, tagOf, fixedOf, partsOf}
 use Rattle.tree.specs.Grammar.{find}
 use Rattle.lent.specs.Fields.{has}
-use Rattle.extraction.specs.Walk.{Parts, unwalked, member, super, assignment, children, partsFor}
+use Rattle.extraction_rules.specs.Walk.{Parts, unwalked, member, super, assignment, children, partsFor}
 
 pub data How : Type 0 where
   plain : List ℕ → How  -- 'as object of an expression 63 with 70': the property

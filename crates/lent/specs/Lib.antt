@@ -5,3 +5,4 @@ pub mod Lists
 pub mod Fields
 pub mod Table
 pub mod Buffer
+pub mod Kept

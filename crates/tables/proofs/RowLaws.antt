@@ -4,14 +4,14 @@ use native.Mathlib.Numerals.{add-one}
 use native.Mathlib.Omega.{arith}
 use mathlib.Core.Path.{_≡_, refl, sym, ap, _∙_}
 use mathlib.Core.Bool.{Bool, true, false, cond, _&&_}
-use mathlib.Core.List.{List, [], _∷_, _++_, append-nil}
+use mathlib.Core.List.{List, [], _∷_, _++_, map, append-nil}
 use mathlib.Core.Option.{Option, none, some}
 use lib.Dec.{leb, ltb, eqb}
 use lib.ListN.{length, getD, set, length-set}
 use lib.Seq.{getD-set-same, getD-set-other}
 use borrow.Author.Tests.{le-leb, lt-leb, eq-eqb, ne-eqb}
 use Rattle.tables.specs.declared.Table.{Table}
-use Rattle.tables.specs.Rows.{Row, rowsFrom, rows, Lies, next, between, firstIn, lesser, leastOf, without}
+use Rattle.tables.specs.Rows.{Row, rowsFrom, rows, Lies, next, between, flip, firstIn, lesser, leastOf, without}
 
 pub from-length : (k at : ℕ) (t : List ℕ) → length (rowsFrom k at t) ≡ k
 unfolding rowsFrom
@@ -105,6 +105,20 @@ module _ (lo hi n i base : ℕ) (t : List ℕ) (h : i < n) where
 pub found-end : (lo hi n i base : ℕ) (t : List ℕ) → n ≤ i → foundFrom lo hi n i base t ≡ none
 unfolding firstIn rowsFrom
 found-end lo hi n i base t h = let e : n - i ≡ 0 = omega arith in rw e
+
+-- one cell on, the values stand where the keys of a table stand
+pub first-value : (lo hi k at : ℕ) (t : List ℕ) → firstIn lo hi (rowsFrom k (at + 1) t) ≡ firstIn lo hi (map flip (rowsFrom k at t))
+unfolding firstIn rowsFrom
+first-value lo hi zero at t = refl
+first-value lo hi (suc k) at t =
+    let e : at + 1 + 2 ≡ at + 2 + 1 = omega arith in
+    ap (λ (o : Option ℕ). cond (between lo hi (getD t (at + 1) 0)) (some zero) (next o)) (ap (λ (a : ℕ). firstIn lo hi (rowsFrom k a t)) e ∙ first-value lo hi k (at + 2) t)
+
+pub found-value : (lo hi : ℕ) (b c : Table) (t : List ℕ) → c .count ≡ b .count → c .base ≡ b .base + 1 → firstIn lo hi (rows c t) ≡ firstIn lo hi (map flip (rows b t))
+unfolding rows
+found-value lo hi b c t p q =
+    ap (λ (n : ℕ). firstIn lo hi (rowsFrom (getD t n 0) (c .base) t)) p ∙ ap (λ (n : ℕ). firstIn lo hi (rowsFrom (getD t (b .count) 0) n t)) q
+    ∙ first-value lo hi (getD t (b .count) 0) (b .base) t
 
 -- ---- The least value
 

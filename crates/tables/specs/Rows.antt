@@ -46,6 +46,10 @@ abbrev pub placeBy : Found → Option ℕ
 placeBy (At i) = some i
 placeBy Nowhere = none
 
+-- a row by its value
+abbrev pub flip : Row → Row
+flip r = (r .1, r .0)
+
 -- the least value among the rows with a key
 abbrev pub lesser : ℕ → Option ℕ → Option ℕ
 lesser v none = some v

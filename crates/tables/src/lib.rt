@@ -1,10 +1,10 @@
 // Tables of pairs of numbers, several in one lent array. A table has a cell for its count, before its rows, and room for so many rows of two
 // cells. Nothing is allocated, and nothing but a table's own cells is written.
 ghost use mathlib.Core.Path.{_≡_};
-ghost use mathlib.Core.List.{[], _∷_, _++_};
+ghost use mathlib.Core.List.{[], _∷_, _++_, map};
 ghost use Prim.Native.Nat.{_+_, _*_, _<_, _≤_};
 ghost use lib.ListN.{length, getD};
-ghost use Rattle.tables.specs.Rows.{rows, Lies, firstIn, placeBy, leastBy, lesser, leastOf, without, withValue};
+ghost use Rattle.tables.specs.Rows.{rows, Lies, flip, firstIn, placeBy, leastBy, lesser, leastOf, without, withValue};
 ghost use Rattle.tables.specs.Only.{Only};
 
 pub struct Table {
@@ -59,6 +59,26 @@ pub fn value_of(t: &[u64], b: Table, i: usize) -> u64
 {
     let base = b.base;
     t[base + 2 * i + 1]
+}
+
+// The key of a row.
+pub fn key_of(t: &[u64], b: Table, i: usize) -> u64
+    requires { ⌜ Lies b (now t) × (i < length (rows b (now t))) ⌝ }
+    ensures { λ r. ⌜ r ≡ getD (rows b (now (t .entry))) i (0, 0) .0 ⌝ }
+{
+    let base = b.base;
+    t[base + 2 * i]
+}
+
+// The first row whose value is from lo to hi: one cell on, each value has the place of a key.
+pub fn find_value(t: &[u64], b: Table, lo: u64, hi: u64) -> Found
+    requires { ⌜ Lies b (now t) × (b .base + 2 * b .room < length (now t)) ⌝ }
+    ensures { λ r. ⌜ placeBy r ≡ firstIn lo hi (map flip (rows b (now (t .entry)))) ⌝ }
+{
+    let count = b.count;
+    let base = b.base + 1;
+    let room = b.room;
+    find(t, Table { count, base, room }, lo, hi)
 }
 
 // One row more.

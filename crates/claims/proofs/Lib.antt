@@ -1,0 +1,2 @@
+-- Proofs of what is claimed: the sentence on lists of calls (ListsLaws).
+pub mod ListsLaws

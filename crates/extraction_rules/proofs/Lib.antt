@@ -1,0 +1,20 @@
+-- Laws about the rules of extraction. What every elementary step keeps, the walk keeps (StepLaws, WalkLaws), and so the sanity laws
+-- (SanityLaws, RunLaws); the walk keeps the grammar (WithinLaws), so that what a pass leaves can be read (ReadableLaws). The
+-- wrapping marks that an accepted call sets are those of its forced sources (MarksLaws).
+pub mod TestLaws
+pub mod ListLaws
+pub mod OutcomeLaws
+pub mod FirstLaws
+pub mod StepLaws
+pub mod WalkLaws
+pub mod SanityLaws
+pub mod ValueLaws
+pub mod ImportsLaws
+pub mod RunLaws
+pub mod RuleLaws
+pub mod ExactLaws
+pub mod ShapeLaws
+pub mod WithinLaws
+pub mod ReadableLaws
+pub mod AcceptedLaws
+pub mod MarksLaws

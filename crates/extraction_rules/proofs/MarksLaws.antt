@@ -1,0 +1,210 @@
+-- Wrapping marks through an extraction: an accepted one marks exactly the modules of its forced sources, and keeps all other marks of
+-- that kind. Document 01, 'Second pass': "At the end forced sources get the wrapping mark if they resolve".
+use Prim.Native.Nat.{ℕ, _<_}
+use native.Mathlib.Omega.{arith}
+use mathlib.Core.Path.{_≡_, refl, sym, ap, _∙_}
+use mathlib.Core.Bool.{Bool, true, false, cond, _||_, or-true, or-false, or-assoc}
+use mathlib.Core.List.{List, [], _∷_}
+use mathlib.Core.Option.{Option, none as nothing, some, bind, Option·elim}
+use lib.Dec.{eqb}
+use lib.ListN.{length}
+use borrow.Author.Tests.{eqb-true, eqb-false}
+use Rattle.scope.specs.Modules.{Modules, numberOf, request, isMarked, setMark}
+use Rattle.scope.specs.declared.Mark.{Mark}
+use Rattle.scope.specs.declared.Mark.the-variants.{Cjs, Wrapping}
+use Rattle.scope.proofs.Laws.{number-below, request-keeps-marks, request-keeps-numbers, request-numbers, mark-keeps-numbers, mark-marks, mark-keeps-modules, mark-keeps-kinds}
+use Rattle.tree.specs.declared.grammar.Set.the-variants.{Module}
+use Rattle.tree.specs.Layout.{valueOf}
+use Rattle.tree.specs.Tree.{Fields}
+use Rattle.tree.specs.Read.{read}
+use Rattle.lent.specs.Outcome.{Outcome, done, refused, onto, placeless, refuseIf}
+use Rattle.lent.specs.Lists.{find, isSome}
+use Rattle.lent.specs.Table.{Row, rowsIn, fileOf, repeats, tableOf}
+use Rattle.lent.specs.Buffer.{fits}
+use Rattle.extraction_rules.specs.State.{State, Pass, first, second, Setting, start, setModules}
+use Rattle.extraction_rules.specs.First.{requested, moduleOf, moduleFor, forget}
+use Rattle.extraction_rules.specs.Second.{wrapModule, wrapAll, finish}
+use Rattle.extraction_rules.specs.Walk.{walkModule, walkAgain}
+use Rattle.extraction_rules.specs.Records.{recordsOf}
+use Rattle.extraction_rules.specs.Call.{Lent, Lengths, Extracted, badLists, itemsRead, ownModule, setting, moduleWith, passes, extracted}
+use Rattle.extraction_rules.proofs.OutcomeLaws.{After, after-bind, after-weaken}
+use Rattle.extraction_rules.proofs.FirstLaws.{source-cases, force-cases}
+use Rattle.extraction_rules.proofs.StepLaws.{CommonSteps, FirstSteps, SecondSteps}
+use Rattle.extraction_rules.proofs.WalkLaws.{Steps, imports-any-all, walkModule-keeps}
+use Rattle.extraction_rules.proofs.AcceptedLaws.{Of, of-onto, of-skip, of-after, of-placeless}
+
+-- ---- One mark
+
+-- a mark that is set is added to those of its kind
+pub mark-adds : (k : Mark) (n m : ℕ) (ms : Modules) → m < length ms → isMarked k n (setMark k m ms) ≡ isMarked k n ms || eqb n m
+mark-adds k n m ms h = go (eqb n m) refl
+  where
+    go : (b : Bool) → eqb n m ≡ b → isMarked k n (setMark k m ms) ≡ isMarked k n ms || b
+    go true e = ap (λ (i : ℕ). isMarked k i (setMark k m ms)) (eqb-true n m e) ∙ mark-marks k m ms h ∙ sym (or-true (isMarked k n ms))
+    go false e = mark-keeps-modules k k m n ms (eqb-false n m e) ∙ sym (or-false (isMarked k n ms))
+
+-- ---- A walk keeps the wrapping marks
+
+abbrev pub SameMarks : Modules → Modules → Type 0
+SameMarks ms ms′ = (n : ℕ) → isMarked Wrapping n ms′ ≡ isMarked Wrapping n ms
+
+wrapping-not-cjs : Wrapping ≡ Cjs → ⊥
+wrapping-not-cjs e = let z : _≡_ {A = ℕ} 0 1 = cc in omega arith
+
+abbrev AnyLiteral : List ℕ → Type 0
+AnyLiteral x = Unit {0}
+
+abbrev Unwrapped : Modules → State → Type 0
+Unwrapped ms s = SameMarks ms (s .modules)
+
+unwrapped-steps : (e : Setting) (ms : Modules) → Steps e AnyLiteral (Unwrapped ms)
+unfolding forget
+unwrapped-steps e ms =
+    record {
+      common =
+          record {
+            on-request = λ s f k ms′ q h n. request-keeps-marks f (s .modules) q Wrapping n ∙ h n;
+            on-cjs = λ s m h n. mark-keeps-kinds Cjs Wrapping m n (s .modules) wrapping-not-cjs ∙ h n;
+            on-force = λ s i h. force-cases i s (Unwrapped ms) h (λ r w. h);
+            on-top = λ s b h. h;
+            on-lazy = λ s r b h. h;
+          };
+      one = λ _. record { on-note = λ s m h. h; on-usage = λ s u c w h. h; on-collect = λ s r b h. h };
+      two = λ _. record { on-extend = λ s x us h. h; on-source = λ s x b q h. source-cases (valueOf x) s (Unwrapped ms) (λ _. h) h };
+    }
+
+walk-unwrapped : (e : Setting) (items : Fields) (ms : Modules) (s : State) → Unwrapped ms s → After (walkModule e items s) (λ gs s′. Unwrapped ms s′)
+walk-unwrapped e items ms s h = walkModule-keeps e AnyLiteral (Unwrapped ms) (unwrapped-steps e ms) items s (imports-any-all items AnyLiteral (λ x. tt)) h
+
+-- ---- The end of the second pass
+
+-- the module of the file that the table names for a source is n
+abbrev pub isModuleOf : ℕ → List Row → Modules → List ℕ → Bool
+isModuleOf n rows ms a = Option·elim (bind (fileOf a rows) (λ f. numberOf f ms)) false (eqb n)
+
+-- one of these sources resolves to the module n
+abbrev pub reaches : ℕ → List Row → Modules → List (List ℕ) → Bool
+reaches n rows ms l = isSome (find (isModuleOf n rows ms) l)
+
+-- from ms to ms′ the modules of these sources get the wrapping mark, and numbers stay
+record Wrapped (rows : List Row) (l : List (List ℕ)) (ms ms′ : Modules) : Type 0 where
+  marks : (n : ℕ) → isMarked Wrapping n ms′ ≡ isMarked Wrapping n ms || reaches n rows ms′ l
+  stays : (f k : ℕ) → numberOf f ms ≡ some k → numberOf f ms′ ≡ some k
+
+found-or : (b : Bool) (a : List ℕ) (o : Option (List ℕ)) → isSome (cond b (some a) o) ≡ b || isSome o
+found-or true a o = refl
+found-or false a o = refl
+
+reaches-first : (n : ℕ) (rows : List Row) (ms : Modules) (a : List ℕ) (l : List (List ℕ)) → reaches n rows ms (a ∷ l) ≡ isModuleOf n rows ms a || reaches n rows ms l
+unfolding find
+reaches-first n rows ms a l = found-or (isModuleOf n rows ms a) a (find (isModuleOf n rows ms) l)
+
+unresolved : (n : ℕ) (rows : List Row) (ms : Modules) (a : List ℕ) → fileOf a rows ≡ nothing → isModuleOf n rows ms a ≡ false
+unfolding Option·elim bind
+unresolved n rows ms a q = rw q
+
+resolved-to : (n : ℕ) (rows : List Row) (ms : Modules) (a : List ℕ) (f k : ℕ) → fileOf a rows ≡ some f → numberOf f ms ≡ some k → isModuleOf n rows ms a ≡ eqb n k
+unfolding Option·elim bind
+resolved-to n rows ms a f k q r = rw (q, r)
+
+-- a source that does not resolve, then the rest
+wrap-none : (rows : List Row) (a : List ℕ) (l : List (List ℕ)) (ms ms′ : Modules) → fileOf a rows ≡ nothing → Wrapped rows l ms ms′ → Wrapped rows (a ∷ l) ms ms′
+wrap-none rows a l ms ms′ q w =
+    record {
+      marks = λ n. w .marks n ∙ ap (λ (b : Bool). isMarked Wrapping n ms || b) (sym (reaches-first n rows ms′ a l ∙ ap (λ (b : Bool). b || reaches n rows ms′ l) (unresolved n rows ms′ a q)));
+      stays = w .stays;
+    }
+
+-- a source of the file f, which a request finds as module k; then the rest
+wrap-more : (rows : List Row) (a : List ℕ) (l : List (List ℕ)) (f k : ℕ) (ms new ms′ : Modules) →
+    fileOf a rows ≡ some f → request f ms ≡ some (k, new) → Wrapped rows l (setMark Wrapping k new) ms′ → Wrapped rows (a ∷ l) ms ms′
+wrap-more rows a l f k ms new ms′ q r w =
+    let here : numberOf f new ≡ some k = request-numbers f ms r in
+    let there : numberOf f ms′ ≡ some k = w .stays f k (mark-keeps-numbers Wrapping k new f ∙ here) in
+    record {
+      marks = λ n.
+          w .marks n
+          ∙ ap (λ (b : Bool). b || reaches n rows ms′ l) (mark-adds Wrapping n k new (number-below f new here) ∙ ap (λ (b : Bool). b || eqb n k) (request-keeps-marks f ms r Wrapping n))
+          ∙ or-assoc (isMarked Wrapping n ms) (eqb n k) (reaches n rows ms′ l)
+          ∙ ap (λ (b : Bool). isMarked Wrapping n ms || b) (sym (reaches-first n rows ms′ a l ∙ ap (λ (b : Bool). b || reaches n rows ms′ l) (resolved-to n rows ms′ a f k q there)));
+      stays = λ g j h. w .stays g j (mark-keeps-numbers Wrapping k new g ∙ request-keeps-numbers f ms r g j h);
+    }
+
+abbrev WrappedAfter : Setting → List (List ℕ) → State → State → Type 0
+WrappedAfter e l s s′ = (s′ .forced ≡ s .forced) × Wrapped (e .table) l (s .modules) (s′ .modules)
+
+wrapAll-after : (e : Setting) (l : List (List ℕ)) (s : State) → After (wrapAll e l s) (λ _ s′. WrappedAfter e l s s′)
+unfolding wrapAll moduleFor wrapModule find
+wrapAll-after e [] s = (refl, record { marks = λ n. sym (or-false (isMarked Wrapping n (s .modules))); stays = λ f k h. h })
+wrapAll-after e (a ∷ l) s = named (fileOf a (e .table)) refl (λ s. wrapAll-after e l s)
+  where
+    asked : (f : ℕ) (r : Option (ℕ × Modules)) → fileOf a (e .table) ≡ some f → request f (s .modules) ≡ r → ((s : State) → After (wrapAll e l s) (λ _ s′. WrappedAfter e l s s′)) →
+        After (onto (requested r 0 s) (λ q. onto (wrapModule (q .0) (q .1)) (λ q. wrapAll e l (q .1)))) (λ _ s′. WrappedAfter e (a ∷ l) s s′)
+    asked f nothing q h rec = tt
+    asked f (some r) q h rec =
+        let t : State = setModules (setMark Wrapping (r .0) (r .1)) s in
+        after-weaken (wrapAll e l t) (λ _ s′. WrappedAfter e l t s′) (λ _ s′. WrappedAfter e (a ∷ l) s s′)
+        (λ _ s′ w. (w .0, wrap-more (e .table) a l f (r .0) (s .modules) (r .1) (s′ .modules) q h (w .1))) (rec t)
+
+    named : (o : Option ℕ) → fileOf a (e .table) ≡ o → ((s : State) → After (wrapAll e l s) (λ _ s′. WrappedAfter e l s s′)) →
+        After (onto (moduleOf o 0 s) (λ q. onto (wrapModule (q .0) (q .1)) (λ q. wrapAll e l (q .1)))) (λ _ s′. WrappedAfter e (a ∷ l) s s′)
+    named nothing q rec =
+        after-weaken (wrapAll e l s) (λ _ s′. WrappedAfter e l s s′) (λ _ s′. WrappedAfter e (a ∷ l) s s′)
+        (λ _ s′ w. (w .0, wrap-none (e .table) a l (s .modules) (s′ .modules) q (w .1))) (rec s)
+    named (some f) q rec = asked f (request f (s .modules)) q refl rec
+
+-- ---- The whole call
+
+-- the wrapping marks after are those before and those of the modules of the forced sources
+abbrev pub MarksForced : List Row → Modules → List (List ℕ) → Modules → Type 0
+MarksForced rows ms forced ms′ = (n : ℕ) → isMarked Wrapping n ms′ ≡ isMarked Wrapping n ms || reaches n rows ms′ forced
+
+again-marks : (e : Setting) (items : Fields) (ms : Modules) (s : State) → Unwrapped ms s → After (walkAgain e items s) (λ gs s′. MarksForced (e .table) ms (s′ .forced) (s′ .modules))
+unfolding walkAgain finish
+again-marks e items ms s h =
+    let Q : State → Type 0 = λ s′. MarksForced (e .table) ms (s′ .forced) (s′ .modules) in
+    after-bind (walkModule e items s) _ (λ gs s′. Unwrapped ms s′) (λ gs s′. Q s′) (walk-unwrapped e items ms s h) λ gs s k.
+    after-bind (onto (wrapAll e (s .forced) s) _) _ (λ _ s′. Q s′) (λ gs s′. Q s′)
+    (after-bind (wrapAll e (s .forced) s) _ (λ _ s′. WrappedAfter e (s .forced) s s′) (λ _ s′. Q s′) (wrapAll-after e (s .forced) s)
+    (λ _ s′ w n. w .1 .marks n ∙ ap (λ (b : Bool). b || reaches n (e .table) (s′ .modules) (s .forced)) (k n) ∙ rw (w .0)))
+    (λ _ s′ q. q)
+
+abbrev Marks : List Row → Modules → Extracted → Type 0
+Marks rows ms r = MarksForced rows ms (r .forced) (r .modules)
+
+passes-marks : (l : Lent) (room : Lengths) (rows : List Row) (items : Fields) (own : ℕ × Modules) (ms : Modules) → SameMarks ms (own .1) → Of (passes l room rows items own) (Marks rows ms)
+unfolding passes
+passes-marks l room rows items own ms h =
+    let one = walkModule (setting first (own .0) l rows) items (start (own .1)) in
+    of-onto one _ (λ r. Unwrapped ms (r .1)) (Marks rows ms)
+    (of-after one (λ gs s. Unwrapped ms s) (walk-unwrapped (setting first (own .0) l rows) items ms (start (own .1)) h)) λ r k.
+    let two = walkAgain (setting second (own .0) l rows) (r .0) (r .1) in
+    of-skip (fits (moduleWith (r .0)) (room .work)) _ (Marks rows ms) λ _.
+    of-onto (placeless two) _ (λ q. MarksForced rows ms (q .1 .forced) (q .1 .modules)) (Marks rows ms)
+    (of-placeless two (λ q. MarksForced rows ms (q .1 .forced) (q .1 .modules))
+    (of-after two (λ gs s. MarksForced rows ms (s .forced) (s .modules)) (again-marks (setting second (own .0) l rows) (r .0) ms (r .1) k))) λ q m.
+    of-skip (fits (moduleWith (q .0)) (room .out)) _ (Marks rows ms) λ _.
+    of-skip (fits (recordsOf (q .1)) (room .records)) _ (Marks rows ms) λ _. m
+
+table-rows : (s : List ℕ) → Of (tableOf s) (λ rows. rows ≡ rowsIn s)
+unfolding tableOf
+table-rows s = go (repeats (rowsIn s))
+  where
+    go : (b : Bool) → Of (onto (refuseIf b 2) (λ _. done (rowsIn s))) (λ rows. rows ≡ rowsIn s)
+    go true = tt
+    go false = refl
+
+own-marks : (f : ℕ) (ms : Modules) (o : Option (ℕ × Modules)) → request f ms ≡ o → Of (ownModule o) (λ own. SameMarks ms (own .1))
+own-marks f ms nothing q = tt
+own-marks f ms (some own) q = λ n. request-keeps-marks f ms q Wrapping n
+
+-- an accepted extraction adds exactly the wrapping marks of the modules that its table names for its forced sources
+pub extraction-marks : (l : Lent) (room : Lengths) (ms : Modules) → Of (extracted l room ms) (λ r. MarksForced (rowsIn (l .table)) ms (r .forced) (r .modules))
+unfolding extracted
+extraction-marks l room ms =
+    let Q : Extracted → Type 0 = Marks (rowsIn (l .table)) ms in
+    of-skip (refuseIf (badLists l) 1) _ Q λ _.
+    of-onto (tableOf (l .table)) _ (λ rows. rows ≡ rowsIn (l .table)) Q (table-rows (l .table)) λ rows e.
+    of-skip (itemsRead (read Module (l .tree))) _ Q λ items.
+    of-onto (ownModule (request (l .file) ms)) _ (λ own. SameMarks ms (own .1)) Q (own-marks (l .file) ms (request (l .file) ms) refl) λ own h.
+    rw (← e) (passes-marks l room rows items own ms h)

@@ -1,0 +1,118 @@
+-- What a function on the array does to the state of the rules that the array shows: it tells something of it, changes it, or acts by a rule.
+use Prim.Native.Nat.{ℕ, zero, suc, _<_}
+use mathlib.Core.Path.{_≡_}
+use mathlib.Core.List.{List, [], _∷_, map}
+use mathlib.Core.Bool.{Bool, true, false}
+use mathlib.Core.Option.{Option, none as nothing, some}
+use lib.ListN.{getD}
+use Rattle.tables.specs.Rows.{rows}
+use Rattle.lent.specs.Lists.{mapped, among}
+use Rattle.lent.specs.Fields.{has}
+use Rattle.lent.specs.Outcome.{Outcome, done, refused}
+use Rattle.tree.specs.Layout.{two, four, valueOf}
+use Rattle.tree.specs.Tree.{Field, Fields, none, more, fixedOf}
+use Rattle.metadata.specs.Metadata.{append}
+use Rattle.extraction_rules.specs.State.{Record, State, Act, setCollected}
+use Rattle.extraction_rules.specs.First.{collect}
+use Rattle.kept.specs.Kept.{records, tableOf, held, Good, idOf, Shows}
+use Rattle.kept.specs.declared.Context.{Context}
+use Rattle.kept.specs.declared.Context.the-variants.{Of, Nowhere}
+use Rattle.kept.specs.declared.Source.{Source}
+use Rattle.kept.specs.declared.Source.the-variants.{From, Nothing}
+use Rattle.kept.specs.declared.Place.{Place}
+use Rattle.kept.specs.declared.Place.the-variants.{Index, NoRoom}
+use Rattle.kept.specs.declared.Room.{Room}
+use Rattle.kept.specs.declared.Room.the-variants.{Made, Full}
+
+-- the answer is f of every state that the array shows
+pub record Tells {A : Type 0} (f : State → A) (t : List ℕ) (a : A) : Type 0 where
+  pub is : (s : State) → Shows t s → a ≡ f s
+
+-- each state that the array shows is changed by f
+pub record Turns (f : State → State) (t t' : List ℕ) : Type 0 where
+  pub good : Good t'
+  pub shows : (s : State) → Shows t s → Shows t' (f s)
+
+-- a step was done, and the array shows its state
+pub record Did (o : Outcome (Unit {0} × State)) (t : List ℕ) : Type 0 where
+  pub state : State
+  pub is : o ≡ done (tt, state)
+  pub shows : Shows t state
+
+-- a rule with its place is followed, or refused with 8
+pub record Acts (act : ℕ → Act (Unit {0})) (t t' : List ℕ) (r : Room) : Type 0 where
+  pub good : Good t'
+  pub made : r ≡ Made → (s : State) (p : ℕ) → Shows t s → Did (act p s) t'
+  pub full : r ≡ Full → (s : State) (p : ℕ) → Shows t s → act p s ≡ refused 8 p
+
+-- ---- Records
+
+-- the record at a place gets specifiers
+unfoldable pub extendAt : ℕ → Fields → List Record → List Record
+extendAt i fs [] = []
+extendAt zero fs (r ∷ l) = record { literal = r .literal; specifiers = append (r .specifiers) fs } ∷ l
+extendAt (suc i) fs (r ∷ l) = r ∷ extendAt i fs l
+
+-- the record of a literal stands at a place, before its specifiers come: collecting gives it these
+pub record Gathered (x : List ℕ) (i : ℕ) (s : State) (t : List ℕ) : Type 0 where
+  pub list : List Record
+  pub shows : Shows t (setCollected list s)
+  pub is : (fs : Fields) (p : ℕ) → collect (record { literal = x; specifiers = fs }) p s ≡ done (tt, setCollected (extendAt i fs list) s)
+
+pub record Collects (x : List ℕ) (t t' : List ℕ) (r : Place) : Type 0 where
+  pub good : Good t'
+  pub below : (i : ℕ) → r ≡ Index i → i < held records t'
+  pub made : (i : ℕ) → r ≡ Index i → (s : State) → Shows t s → Gathered x i s t'
+  pub full : r ≡ NoRoom → (s : State) → Shows t s → (fs : Fields) (p : ℕ) → collect (record { literal = x; specifiers = fs }) p s ≡ refused 8 p
+
+-- the record at a place gets a 22 more
+pub record Extends (i : ℕ) (x : List ℕ) (t t' : List ℕ) : Type 0 where
+  pub good : Good t'
+  pub kept : held records t' ≡ held records t
+  pub shows : (s : State) (f : Field) → has 0x22 f ≡ true → fixedOf f ≡ x → Shows t s → Shows t' (setCollected (extendAt i (more f none) (s .collected)) s)
+
+-- the source of a record, and of the one at a place in the array
+abbrev pub sourceOf : Option Record → Option (List ℕ)
+sourceOf o = mapped (λ r. valueOf (r .literal)) o
+
+unfoldable pub sourceAt : List ℕ → ℕ → List ℕ
+sourceAt t i = valueOf (idOf (getD (rows (tableOf records) t) i (0, 0) .0))
+
+-- ---- Forced sources
+
+abbrev pub sourcesIn : List Record → List (List ℕ)
+sourcesIn l = map (λ r. valueOf (r .literal)) l
+
+-- each stands once
+unfoldable pub Once : List (List ℕ) → Type 0
+Once [] = Unit
+Once (a ∷ l) = (among a l ≡ false) × Once l
+
+-- forced sources are sources of collected records, each once: so their table has room for all
+pub record Sourced (s : State) : Type 0 where
+  pub once : Once (s .forced)
+  pub from : (a : List ℕ) → among a (s .forced) ≡ true → among a (sourcesIn (s .collected)) ≡ true
+
+-- the array shows a state whose forced sources are sources, and the source of one of its records is to be forced
+pub record Sources (t : List ℕ) : Type 0 where
+  pub state : State
+  pub shows : Shows t state
+  pub sourced : Sourced state
+
+pub record Forcible (a : List ℕ) (t : List ℕ) : Type 0 where
+  pub sources : Sources t
+  pub source : among a (sourcesIn (sources .state .collected)) ≡ true
+
+-- ---- What answers stand for
+
+abbrev pub contextBy : Context → Option (List ℕ)
+contextBy (Of c) = some (four (c .0))
+contextBy Nowhere = nothing
+
+abbrev pub sourceBy : Source → Option (List ℕ)
+sourceBy (From a) = some (two (a .0))
+sourceBy Nothing = nothing
+
+abbrev pub any : {A : Type 0} → List A → Bool
+any [] = false
+any (a ∷ l) = true

@@ -1,0 +1,49 @@
+// Forced sources, first forced first, and the rule that forces an id.
+ghost use Prim.Native.Nat.{_<_};
+ghost use Rattle.tree.specs.Layout.{two};
+ghost use Rattle.lent.specs.Lists.{among};
+ghost use Rattle.extraction_rules.specs.First.{forceSource, forceId};
+ghost use Rattle.kept.specs.Kept.{Good, idOf};
+ghost use Rattle.kept.specs.Does.{Tells, Turns, Sources, Forcible};
+use crate::FORCES;
+use crate::Source;
+use crate::imported::forget;
+use crate::records::holder;
+use scope::id::Atom;
+use tables::Found;
+
+// Whether a source is forced.
+pub fn is_forced(t: &[u64], source: Atom) -> bool
+    requires { ⌜ Good (now t) ⌝ }
+    ensures { λ r. ⌜ Tells (λ s. among (two (source .0)) (s .forced)) (now (t .entry)) r ⌝ }
+{
+    let key = source.0 as u64;
+    let found = tables::find(t, FORCES, key, key);
+    match found {
+        Found::At(_) => true,
+        Found::Nowhere => false,
+    }
+}
+
+// The source of a record is forced.
+pub fn force_source(t: &mut [u64], source: Atom)
+    requires { ⌜ Good (now t) × Forcible (two (source .0)) (now t) ⌝ }
+    ensures { λ _. ⌜ Turns (forceSource (two (source .0))) (now (t .entry)) (now (t .exit)) ⌝ }
+{
+    if is_forced(t, source) {
+        return;
+    }
+    tables::push(t, FORCES, source.0 as u64, 0);
+}
+
+// An id is forced: it is forgotten, and the source of the first record that holds it as a namespace is forced.
+pub fn force_id(t: &mut [u64], id: u64)
+    requires { ⌜ Good (now t) × Sources (now t) × (id < 281474976710656) ⌝ }
+    ensures { λ _. ⌜ Turns (forceId (idOf id)) (now (t .entry)) (now (t .exit)) ⌝ }
+{
+    forget(t, id);
+    let Source::From(source) = holder(t, id) else {
+        return;
+    };
+    force_source(t, source);
+}

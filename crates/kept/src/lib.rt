@@ -1,0 +1,69 @@
+// What the walk keeps: its tables in one lent array, and the functions of which the rules are made. Callers see the rules' state alone.
+pub mod imported; // imported ids and usages
+pub mod records; // collected records and their namespaces
+pub mod forced; // forced sources
+pub mod rest; // lazy records, and the flag top
+
+use scope::id::Atom;
+use scope::id::SyntaxContext;
+use tables::Table;
+
+pub const IMPORTS: Table = Table {
+    count: 0,
+    base: 7,
+    room: 512,
+};
+
+pub const USES: Table = Table {
+    count: 1,
+    base: 1031,
+    room: 2048,
+};
+
+pub const RECORDS: Table = Table {
+    count: 2,
+    base: 5127,
+    room: 256,
+};
+
+pub const NAMESPACES: Table = Table {
+    count: 3,
+    base: 5639,
+    room: 3641,
+};
+
+pub const LAZIES: Table = Table {
+    count: 4,
+    base: 12921,
+    room: 1024,
+};
+
+pub const FORCES: Table = Table {
+    count: 5,
+    base: 14969,
+    room: 256,
+};
+
+// A context, where there is one.
+pub enum Context {
+    Of(SyntaxContext),
+    Nowhere,
+}
+
+// A source, where there is one.
+pub enum Source {
+    From(Atom),
+    Nothing,
+}
+
+// Whether there was room for one more.
+pub enum Room {
+    Made,
+    Full,
+}
+
+// The place of a record, or no room for it.
+pub enum Place {
+    Index(usize),
+    NoRoom,
+}

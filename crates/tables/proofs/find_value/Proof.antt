@@ -1,0 +1,18 @@
+-- `tables::find_value` meets its contract.
+use mathlib.Core.Path.{refl, _∙_}
+use Rattle.tables.proofs.RowLaws.{found-value}
+use borrow.Author.Needs.{needs}
+use Rattle.tables.proofs.find_value.Statement.{statement}
+use Rattle.tables.proofs.find_value.Tie as tie
+
+add-base : tie.Need-add-base
+add-base c = search needs
+
+find-requires : tie.Need-find-requires
+find-requires c κs = search needs
+
+returns : tie.Need-returns
+returns c = c .find .ensures ∙ found-value (c .before .before .before .args .lo) (c .before .before .before .args .hi) (c .before .before .before .args .b) _ (c .before .before .before .args .t .now) refl refl
+
+pub find-value-spec : {M : Type 1} → statement M
+find-value-spec = tie.close (tie.spec add-base find-requires returns)
