@@ -9,8 +9,6 @@ use mathlib.Core.Option.{Option, none as nothing, some}
 use lib.Dec.{ltb, eqb}
 use lib.ListN.{length}
 use borrow.Author.Tests.{ltb-true}
-use Rattle.scope.specs.declared.id.FileName.{FileName}
-use Rattle.scope.specs.declared.id.ModuleId.{ModuleId}
 use Rattle.scope.specs.declared.Mark.{Mark}
 use Rattle.scope.specs.declared.Mark.the-variants.{Loaded, Stored, Cjs, Wrapping}
 use Rattle.scope.specs.Modules.{Modules, Left, request, generatedBy, gen, isMarked, setMark, given, marking}
@@ -20,16 +18,21 @@ use Rattle.tree.specs.Tree.{Fields, none, more, size}
 use Rattle.tree.specs.Read.{read}
 use Rattle.lent.specs.Outcome.{Outcome, done, refused, refuseIf}
 use Rattle.lent.specs.Table.{Row, rowsIn, fileOf, badTable, tableOf}
-use Rattle.extraction_rules.specs.Call.{Lent, Extracted, modulesAfter, extracted, extraction}
-use Rattle.extraction_rules.proofs.AcceptedLaws.{Of, of-onto, of-skip, of-weaken}
-use Rattle.extraction_rules.proofs.MarksLaws.{SameMarks, MarksForced, mark-adds, extraction-marks}
+use Rattle.extraction_rules.specs.Call.{Extracted, modulesAfter, extracted, extraction}
+use Rattle.extraction_rules.proofs.OutcomeLaws.{Of, of-onto}
+use Rattle.extraction_rules.proofs.MarksLaws.{SameMarks, MarksForced, mark-adds, of-skip, extraction-marks}
 use Rattle.resolving_rules.specs.Resolve.{sourcesIn, sourceOf, requested, numberOne, numberAll}
 use Rattle.resolving_rules.specs.Call.{Lent as LentRecords, Numbered, recordsRead, numbered, modulesAfter as numbersAfter, resolving}
 use Rattle.claims.specs.Lists.{Call, requests, sets, reads, readsEsm, extracts, resolves, after, afterAll, forcedTo, wraps, wrapsAny, MarkedExactly}
 
+-- a call that wraps nothing
+unwrapping : {a b : Bool} → a ≡ b → a ≡ b || false
+unwrapping {a} {b} e = e ∙ sym (or-false b)
+
 -- ---- Requests and marks
 
-request-marked : (n f : ℕ) (ms : Modules) (o : Option (ℕ × Modules)) → request f ms ≡ o → isMarked Wrapping n (generatedBy o ms .modules) ≡ isMarked Wrapping n ms
+request-marked : (n f : ℕ) (ms : Modules) (o : Option (ℕ × Modules)) → request f ms ≡ o →
+    isMarked Wrapping n (generatedBy o ms .modules) ≡ isMarked Wrapping n ms
 request-marked n f ms nothing e = refl
 request-marked n f ms (some r) e = request-keeps-marks f ms e Wrapping n
 
@@ -37,9 +40,17 @@ request-marked n f ms (some r) e = request-keeps-marks f ms e Wrapping n
 abbrev markingBy : Bool → Mark → ℕ → Modules → Left
 markingBy b k m ms = cond b (record { modules = setMark k m ms; refusal = 0 }) (record { modules = ms; refusal = 12 })
 
-other-marked : (k : Mark) (n m : ℕ) (ms : Modules) (b : Bool) → (Wrapping ≡ k → ⊥) → isMarked Wrapping n (markingBy b k m ms .modules) ≡ isMarked Wrapping n ms
+-- a mark of another kind
+other-marked : (k : Mark) (n m : ℕ) (ms : Modules) (b : Bool) → (Wrapping ≡ k → ⊥) →
+    isMarked Wrapping n (markingBy b k m ms .modules) ≡ isMarked Wrapping n ms
 other-marked k n m ms true d = mark-keeps-kinds k Wrapping m n ms d
 other-marked k n m ms false d = refl
+
+-- a wrapping mark is set where the call is accepted
+set-marked : (n m : ℕ) (ms : Modules) (b : Bool) → ltb m (length ms) ≡ b →
+    isMarked Wrapping n (markingBy b Wrapping m ms .modules) ≡ isMarked Wrapping n ms || eqb (markingBy b Wrapping m ms .refusal) 0 && eqb n m
+set-marked n m ms true e = mark-adds Wrapping n m ms (ltb-true m (length ms) e)
+set-marked n m ms false e = unwrapping refl
 
 -- ---- Resolving only gives numbers
 
@@ -52,12 +63,16 @@ numberOne-marks (some f) ms p = go (request f ms) refl
     go nothing e = tt
     go (some r) e = λ n. request-keeps-marks f ms e Wrapping n
 
+same-marks-onto : (ms new : Modules) (o : Outcome Modules) → SameMarks ms new → Of o (SameMarks new) → Of o (SameMarks ms)
+same-marks-onto ms new (done last) h k = λ n. k n ∙ h n
+same-marks-onto ms new (refused n p) h k = tt
+
 numberAll-marks : (rows : List Row) (fs : Fields) (ms : Modules) (p : ℕ) → Of (numberAll rows fs ms p) (SameMarks ms)
 unfolding numberAll
 numberAll-marks rows none ms p = λ n. refl
 numberAll-marks rows (more f fs) ms p =
     of-onto (numberOne (fileOf (sourceOf f) rows) ms p) _ (SameMarks ms) (SameMarks ms) (numberOne-marks (fileOf (sourceOf f) rows) ms p) λ new h.
-    of-weaken (numberAll rows fs new (p + size f)) (SameMarks new) (SameMarks ms) (λ last k n. k n ∙ h n) (numberAll-marks rows fs new (p + size f))
+    same-marks-onto ms new (numberAll rows fs new (p + size f)) h (numberAll-marks rows fs new (p + size f))
 
 numbered-marks : (l : LentRecords) (ms : Modules) → Of (numbered l ms) (λ q. SameMarks ms (q .modules))
 unfolding numbered
@@ -68,33 +83,30 @@ numbered-marks l ms =
     of-skip (recordsRead (read Records (l .records))) _ Q λ cs.
     of-onto (numberAll rows (sourcesIn cs) ms 3) _ (SameMarks ms) Q (numberAll-marks rows (sourcesIn cs) ms 3) λ new h. h
 
-numbers-marked : (n : ℕ) (ms : Modules) (o : Outcome Numbered) → Of o (λ q. SameMarks ms (q .modules)) → isMarked Wrapping n (numbersAfter o ms) ≡ isMarked Wrapping n ms
+numbers-marked : (n : ℕ) (ms : Modules) (o : Outcome Numbered) → Of o (λ q. SameMarks ms (q .modules)) →
+    isMarked Wrapping n (numbersAfter o ms) ≡ isMarked Wrapping n ms
 numbers-marked n ms (done q) h = h n
 numbers-marked n ms (refused k p) h = refl
 
 -- ---- Each call
 
--- a call that wraps nothing
-unwrapping : {a b : Bool} → a ≡ b → a ≡ b || false
-unwrapping {a} {b} e = e ∙ sym (or-false b)
-
-set-marked : (n m : ℕ) (ms : Modules) (b : Bool) → ltb m (length ms) ≡ b →
-    isMarked Wrapping n (markingBy b Wrapping m ms .modules) ≡ isMarked Wrapping n ms || eqb (markingBy b Wrapping m ms .refusal) 0 && eqb n m
-set-marked n m ms true e = mark-adds Wrapping n m ms (ltb-true m (length ms) e)
-set-marked n m ms false e = unwrapping refl
-
-extraction-marked : (n : ℕ) (rows : List Row) (ms : Modules) (o : Outcome Extracted) → Of o (λ r. MarksForced rows ms (r .forced) (r .modules)) →
+extraction-marked : (n : ℕ) (rows : List Row) (ms : Modules) (o : Outcome Extracted) →
+    Of o (λ r. MarksForced rows ms (r .forced) (r .modules)) →
     isMarked Wrapping n (modulesAfter o ms) ≡ isMarked Wrapping n ms || forcedTo n rows o
 extraction-marked n rows ms (done r) h = h n
 extraction-marked n rows ms (refused k p) h = unwrapping refl
+
+-- kinds that are told apart
+differ : _≡_ {A = ℕ} 0 1 → ⊥
+differ e = omega arith
 
 -- the wrapping marks after a call are those before and the module that it wraps
 call-marked : (n : ℕ) (c : Call) (ms : Modules) → isMarked Wrapping n (after c ms) ≡ isMarked Wrapping n ms || wraps n c ms
 unfolding after wraps gen marking extraction resolving
 call-marked n (requests f) ms = unwrapping (request-marked n (f .0) ms (request (f .0) ms) refl)
-call-marked n (sets Loaded m) ms = unwrapping (other-marked Loaded n (m .0) ms (given m ms) (λ e. let z : _≡_ {A = ℕ} 0 1 = cc in omega arith))
-call-marked n (sets Stored m) ms = unwrapping (other-marked Stored n (m .0) ms (given m ms) (λ e. let z : _≡_ {A = ℕ} 0 1 = cc in omega arith))
-call-marked n (sets Cjs m) ms = unwrapping (other-marked Cjs n (m .0) ms (given m ms) (λ e. let z : _≡_ {A = ℕ} 0 1 = cc in omega arith))
+call-marked n (sets Loaded m) ms = unwrapping (other-marked Loaded n (m .0) ms (given m ms) (λ e. differ (cc)))
+call-marked n (sets Stored m) ms = unwrapping (other-marked Stored n (m .0) ms (given m ms) (λ e. differ (cc)))
+call-marked n (sets Cjs m) ms = unwrapping (other-marked Cjs n (m .0) ms (given m ms) (λ e. differ (cc)))
 call-marked n (sets Wrapping m) ms = set-marked n (m .0) ms (given m ms) refl
 call-marked n (reads k m) ms = unwrapping refl
 call-marked n (readsEsm m) ms = unwrapping refl
@@ -104,7 +116,8 @@ call-marked n (resolves l room) ms = unwrapping (numbers-marked n ms (numbered l
 -- ---- The whole list
 
 -- from any scope on: its own marks, and the modules that a call wraps
-pub list-marked : (calls : List Call) (n : ℕ) (ms : Modules) → isMarked Wrapping n (afterAll calls ms) ≡ isMarked Wrapping n ms || wrapsAny n calls ms
+pub list-marked : (calls : List Call) (n : ℕ) (ms : Modules) →
+    isMarked Wrapping n (afterAll calls ms) ≡ isMarked Wrapping n ms || wrapsAny n calls ms
 unfolding afterAll wrapsAny
 list-marked [] n ms = unwrapping refl
 list-marked (c ∷ calls) n ms =

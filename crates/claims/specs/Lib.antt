@@ -1,8 +1,9 @@
 -- Claims over several calls: the twelve cards as one sentence (Cards); how an id stands in a tree (Stands), 'well placed' (Placed),
--- the words and statements of demand 3 (Demand, Lists), and worked cases of these (Example).
+-- the words and statements of demand 3 (Demand, Lists), and worked cases of these (Example, ListsExample).
 pub mod Cards
 pub mod Stands
 pub mod Placed
 pub mod Demand
 pub mod Lists
 pub mod Example
+pub mod ListsExample

@@ -3,16 +3,15 @@ use Prim.Native.Nat.{ℕ}
 use mathlib.Core.Path.{_≡_}
 use mathlib.Core.Bool.{Bool, false, _&&_, _||_}
 use mathlib.Core.List.{List, [], _∷_}
-use mathlib.Core.Option.{bind, Option·elim}
 use lib.Dec.{eqb}
 use Rattle.scope.specs.declared.id.FileName.{FileName}
 use Rattle.scope.specs.declared.id.ModuleId.{ModuleId}
 use Rattle.scope.specs.declared.Mark.{Mark}
 use Rattle.scope.specs.declared.Mark.the-variants.{Loaded, Stored, Cjs, Wrapping}
-use Rattle.scope.specs.Modules.{Modules, numberOf, gen, marking, isMarked}
+use Rattle.scope.specs.Modules.{Modules, gen, marking, isMarked}
 use Rattle.lent.specs.Outcome.{Outcome, done, refused}
-use Rattle.lent.specs.Lists.{find, isSome}
-use Rattle.lent.specs.Table.{Row, rowsIn, fileOf}
+use Rattle.lent.specs.Table.{Row, rowsIn}
+use Rattle.extraction_rules.specs.Reach.{reaches}
 use Rattle.extraction_rules.specs.Call.{Lent, Lengths, Extracted, extracted, extraction}
 use Rattle.resolving_rules.specs.Call.{Lent as LentRecords, resolving}
 
@@ -43,14 +42,6 @@ afterAll [] ms = ms
 afterAll (c ∷ l) ms = afterAll l (after c ms)
 
 -- ---- What wraps a module
-
--- 'A source resolves to the module of the file its table names': the module n
-abbrev pub isModuleOf : ℕ → List Row → Modules → List ℕ → Bool
-isModuleOf n rows ms a = Option·elim (bind (fileOf a rows) (λ f. numberOf f ms)) false (eqb n)
-
--- one of these sources does
-abbrev pub reaches : ℕ → List Row → Modules → List (List ℕ) → Bool
-reaches n rows ms l = isSome (find (isModuleOf n rows ms) l)
 
 -- an accepted extraction forced a source that its table resolves to the module
 abbrev pub forcedTo : ℕ → List Row → Outcome Extracted → Bool

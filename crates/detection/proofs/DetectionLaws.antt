@@ -28,7 +28,7 @@ use Rattle.tree.proofs.SliceLaws.{getD-slice}
 use Rattle.tree.proofs.AccessLaws.{cond-ind, extent-upto}
 use Rattle.tree.proofs.FixedLaws.{no-upto, upto-inj}
 use Rattle.tree.proofs.ExactLaws.{widthOf}
-use Rattle.tree.proofs.ReadLaws.{good-fine}
+use Rattle.tree.proofs.ReadLaws.{good-fine, verdict-refused}
 use Rattle.tree.proofs.StandingLaws.{row-more, row-none, tree-upto, tree-short, whole-step, row-next, read-field}
 use Rattle.detection.specs.declared.Ident.{Ident}
 use Rattle.detection.specs.declared.Ident.the-variants.{Name, Other}
@@ -168,10 +168,6 @@ forced-more s at end stop le a e =
     (whole-tag s at stop (accepted-next s at end stop le a e .0))
 
 -- ---- the whole call
-
-verdict-refused : {A : Type 0} (r : Reading A) {w : Why} {p : ℕ} → verdict r ≡ Refused w p → r ≡ refused w p
-verdict-refused (fine a) e = absurd (let z : _≡_ {A = ℕ} 0 1 = cc in omega arith)
-verdict-refused (refused v o) e = cc
 
 module-tag : (t : ℕ) → holdsAt Module t ≡ true → t ≡ 0x01
 unfolding holdsAt

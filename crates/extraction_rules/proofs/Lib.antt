@@ -16,5 +16,4 @@ pub mod ExactLaws
 pub mod ShapeLaws
 pub mod WithinLaws
 pub mod ReadableLaws
-pub mod AcceptedLaws
 pub mod MarksLaws

@@ -1,5 +1,5 @@
--- Wrapping marks through an extraction: an accepted one marks exactly the modules of its forced sources, and keeps all other marks of
--- that kind. Document 01, 'Second pass': "At the end forced sources get the wrapping mark if they resolve".
+-- Wrapping marks through an extraction: an accepted one marks exactly the modules of its forced sources, which are what its 83s hold, and
+-- leaves all other wrapping marks. Document 01, 'Second pass': "At the end forced sources get the wrapping mark if they resolve".
 use Prim.Native.Nat.{ℕ, _<_}
 use native.Mathlib.Omega.{arith}
 use mathlib.Core.Path.{_≡_, refl, sym, ap, _∙_}
@@ -15,23 +15,23 @@ use Rattle.scope.specs.declared.Mark.the-variants.{Cjs, Wrapping}
 use Rattle.scope.proofs.Laws.{number-below, request-keeps-marks, request-keeps-numbers, request-numbers, mark-keeps-numbers, mark-marks, mark-keeps-modules, mark-keeps-kinds}
 use Rattle.tree.specs.declared.grammar.Set.the-variants.{Module}
 use Rattle.tree.specs.Layout.{valueOf}
-use Rattle.tree.specs.Tree.{Fields}
+use Rattle.tree.specs.Tree.{Fields, field}
 use Rattle.tree.specs.Read.{read}
-use Rattle.lent.specs.Outcome.{Outcome, done, refused, onto, placeless, refuseIf}
+use Rattle.metadata.specs.Metadata.{append}
+use Rattle.lent.specs.Outcome.{Outcome, done, onto, placeless, refuseIf}
 use Rattle.lent.specs.Lists.{find, isSome}
 use Rattle.lent.specs.Table.{Row, rowsIn, fileOf, repeats, tableOf}
 use Rattle.lent.specs.Buffer.{fits}
-use Rattle.extraction_rules.specs.State.{State, Pass, first, second, Setting, start, setModules}
+use Rattle.extraction_rules.specs.State.{Record, State, first, second, Setting, start, setModules}
 use Rattle.extraction_rules.specs.First.{requested, moduleOf, moduleFor, forget}
 use Rattle.extraction_rules.specs.Second.{wrapModule, wrapAll, finish}
 use Rattle.extraction_rules.specs.Walk.{walkModule, walkAgain}
-use Rattle.extraction_rules.specs.Records.{recordsOf}
+use Rattle.extraction_rules.specs.Records.{recordFields, forcedFields, recordsOf}
 use Rattle.extraction_rules.specs.Call.{Lent, Lengths, Extracted, badLists, itemsRead, ownModule, setting, moduleWith, passes, extracted}
-use Rattle.extraction_rules.proofs.OutcomeLaws.{After, after-bind, after-weaken}
+use Rattle.extraction_rules.specs.Reach.{isModuleOf, reaches}
+use Rattle.extraction_rules.proofs.OutcomeLaws.{After, after-bind, after-weaken, Of, of-onto, of-any, of-after, of-placeless}
 use Rattle.extraction_rules.proofs.FirstLaws.{source-cases, force-cases}
-use Rattle.extraction_rules.proofs.StepLaws.{CommonSteps, FirstSteps, SecondSteps}
 use Rattle.extraction_rules.proofs.WalkLaws.{Steps, imports-any-all, walkModule-keeps}
-use Rattle.extraction_rules.proofs.AcceptedLaws.{Of, of-onto, of-skip, of-after, of-placeless}
 
 -- ---- One mark
 
@@ -73,18 +73,12 @@ unwrapped-steps e ms =
       two = λ _. record { on-extend = λ s x us h. h; on-source = λ s x b q h. source-cases (valueOf x) s (Unwrapped ms) (λ _. h) h };
     }
 
-walk-unwrapped : (e : Setting) (items : Fields) (ms : Modules) (s : State) → Unwrapped ms s → After (walkModule e items s) (λ gs s′. Unwrapped ms s′)
-walk-unwrapped e items ms s h = walkModule-keeps e AnyLiteral (Unwrapped ms) (unwrapped-steps e ms) items s (imports-any-all items AnyLiteral (λ x. tt)) h
+walk-unwrapped : (e : Setting) (items : Fields) (ms : Modules) (s : State) → Unwrapped ms s →
+    After (walkModule e items s) (λ gs s′. Unwrapped ms s′)
+walk-unwrapped e items ms s h =
+    walkModule-keeps e AnyLiteral (Unwrapped ms) (unwrapped-steps e ms) items s (imports-any-all items AnyLiteral (λ x. tt)) h
 
 -- ---- The end of the second pass
-
--- the module of the file that the table names for a source is n
-abbrev pub isModuleOf : ℕ → List Row → Modules → List ℕ → Bool
-isModuleOf n rows ms a = Option·elim (bind (fileOf a rows) (λ f. numberOf f ms)) false (eqb n)
-
--- one of these sources resolves to the module n
-abbrev pub reaches : ℕ → List Row → Modules → List (List ℕ) → Bool
-reaches n rows ms l = isSome (find (isModuleOf n rows ms) l)
 
 -- from ms to ms′ the modules of these sources get the wrapping mark, and numbers stay
 record Wrapped (rows : List Row) (l : List (List ℕ)) (ms ms′ : Modules) : Type 0 where
@@ -95,63 +89,71 @@ found-or : (b : Bool) (a : List ℕ) (o : Option (List ℕ)) → isSome (cond b 
 found-or true a o = refl
 found-or false a o = refl
 
-reaches-first : (n : ℕ) (rows : List Row) (ms : Modules) (a : List ℕ) (l : List (List ℕ)) → reaches n rows ms (a ∷ l) ≡ isModuleOf n rows ms a || reaches n rows ms l
-unfolding find
-reaches-first n rows ms a l = found-or (isModuleOf n rows ms a) a (find (isModuleOf n rows ms) l)
+-- a first source a, then the rest l
+module _ (rows : List Row) (a : List ℕ) (l : List (List ℕ)) where
+  reaches-first : (n : ℕ) (ms : Modules) (b : Bool) → isModuleOf n rows ms a ≡ b → reaches n rows ms (a ∷ l) ≡ b || reaches n rows ms l
+  unfolding find
+  reaches-first n ms b e = found-or (isModuleOf n rows ms a) a (find (isModuleOf n rows ms) l) ∙ ap (λ (c : Bool). c || reaches n rows ms l) e
 
-unresolved : (n : ℕ) (rows : List Row) (ms : Modules) (a : List ℕ) → fileOf a rows ≡ nothing → isModuleOf n rows ms a ≡ false
-unfolding Option·elim bind
-unresolved n rows ms a q = rw q
+  unresolved : (n : ℕ) (ms : Modules) → fileOf a rows ≡ nothing → isModuleOf n rows ms a ≡ false
+  unfolding Option·elim bind
+  unresolved n ms q = rw q
 
-resolved-to : (n : ℕ) (rows : List Row) (ms : Modules) (a : List ℕ) (f k : ℕ) → fileOf a rows ≡ some f → numberOf f ms ≡ some k → isModuleOf n rows ms a ≡ eqb n k
-unfolding Option·elim bind
-resolved-to n rows ms a f k q r = rw (q, r)
+  resolved-to : (n : ℕ) (ms : Modules) (f k : ℕ) → fileOf a rows ≡ some f → numberOf f ms ≡ some k → isModuleOf n rows ms a ≡ eqb n k
+  unfolding Option·elim bind
+  resolved-to n ms f k q r = rw (q, r)
 
--- a source that does not resolve, then the rest
-wrap-none : (rows : List Row) (a : List ℕ) (l : List (List ℕ)) (ms ms′ : Modules) → fileOf a rows ≡ nothing → Wrapped rows l ms ms′ → Wrapped rows (a ∷ l) ms ms′
-wrap-none rows a l ms ms′ q w =
-    record {
-      marks = λ n. w .marks n ∙ ap (λ (b : Bool). isMarked Wrapping n ms || b) (sym (reaches-first n rows ms′ a l ∙ ap (λ (b : Bool). b || reaches n rows ms′ l) (unresolved n rows ms′ a q)));
-      stays = w .stays;
-    }
+  -- the first does not resolve
+  wrap-none : (ms ms′ : Modules) → fileOf a rows ≡ nothing → Wrapped rows l ms ms′ → Wrapped rows (a ∷ l) ms ms′
+  wrap-none ms ms′ q w =
+      record {
+        marks = λ n. w .marks n ∙ ap (λ (b : Bool). isMarked Wrapping n ms || b) (sym (reaches-first n ms′ false (unresolved n ms′ q)));
+        stays = w .stays;
+      }
 
--- a source of the file f, which a request finds as module k; then the rest
-wrap-more : (rows : List Row) (a : List ℕ) (l : List (List ℕ)) (f k : ℕ) (ms new ms′ : Modules) →
-    fileOf a rows ≡ some f → request f ms ≡ some (k, new) → Wrapped rows l (setMark Wrapping k new) ms′ → Wrapped rows (a ∷ l) ms ms′
-wrap-more rows a l f k ms new ms′ q r w =
-    let here : numberOf f new ≡ some k = request-numbers f ms r in
-    let there : numberOf f ms′ ≡ some k = w .stays f k (mark-keeps-numbers Wrapping k new f ∙ here) in
-    record {
-      marks = λ n.
-          w .marks n
-          ∙ ap (λ (b : Bool). b || reaches n rows ms′ l) (mark-adds Wrapping n k new (number-below f new here) ∙ ap (λ (b : Bool). b || eqb n k) (request-keeps-marks f ms r Wrapping n))
-          ∙ or-assoc (isMarked Wrapping n ms) (eqb n k) (reaches n rows ms′ l)
-          ∙ ap (λ (b : Bool). isMarked Wrapping n ms || b) (sym (reaches-first n rows ms′ a l ∙ ap (λ (b : Bool). b || reaches n rows ms′ l) (resolved-to n rows ms′ a f k q there)));
-      stays = λ g j h. w .stays g j (mark-keeps-numbers Wrapping k new g ∙ request-keeps-numbers f ms r g j h);
-    }
+  -- the first is of the file f, which a request finds as module k
+  wrap-more : (f k : ℕ) (ms new ms′ : Modules) → fileOf a rows ≡ some f → request f ms ≡ some (k, new) →
+      Wrapped rows l (setMark Wrapping k new) ms′ → Wrapped rows (a ∷ l) ms ms′
+  wrap-more f k ms new ms′ q r w =
+      let here : numberOf f new ≡ some k = request-numbers f ms r in
+      let there : numberOf f ms′ ≡ some k = w .stays f k (mark-keeps-numbers Wrapping k new f ∙ here) in
+      record {
+        marks = λ n.
+            let rest = reaches n rows ms′ l in
+            w .marks n
+            ∙ ap (λ (b : Bool). b || rest) (mark-adds Wrapping n k new (number-below f new here))
+            ∙ ap (λ (b : Bool). b || eqb n k || rest) (request-keeps-marks f ms r Wrapping n)
+            ∙ or-assoc (isMarked Wrapping n ms) (eqb n k) rest
+            ∙ ap (λ (b : Bool). isMarked Wrapping n ms || b) (sym (reaches-first n ms′ (eqb n k) (resolved-to n ms′ f k q there)));
+        stays = λ g j h. w .stays g j (mark-keeps-numbers Wrapping k new g ∙ request-keeps-numbers f ms r g j h);
+      }
 
 abbrev WrappedAfter : Setting → List (List ℕ) → State → State → Type 0
 WrappedAfter e l s s′ = (s′ .forced ≡ s .forced) × Wrapped (e .table) l (s .modules) (s′ .modules)
 
-wrapAll-after : (e : Setting) (l : List (List ℕ)) (s : State) → After (wrapAll e l s) (λ _ s′. WrappedAfter e l s s′)
+-- what marking these sources does from any state on
+abbrev WrapsAll : Setting → List (List ℕ) → Type 0
+WrapsAll e l = (s : State) → After (wrapAll e l s) (λ _ s′. WrappedAfter e l s s′)
+
+wrapAll-after : (e : Setting) (l : List (List ℕ)) → WrapsAll e l
 unfolding wrapAll moduleFor wrapModule find
 wrapAll-after e [] s = (refl, record { marks = λ n. sym (or-false (isMarked Wrapping n (s .modules))); stays = λ f k h. h })
-wrapAll-after e (a ∷ l) s = named (fileOf a (e .table)) refl (λ s. wrapAll-after e l s)
+wrapAll-after e (a ∷ l) s = named (fileOf a (e .table)) refl (wrapAll-after e l)
   where
-    asked : (f : ℕ) (r : Option (ℕ × Modules)) → fileOf a (e .table) ≡ some f → request f (s .modules) ≡ r → ((s : State) → After (wrapAll e l s) (λ _ s′. WrappedAfter e l s s′)) →
-        After (onto (requested r 0 s) (λ q. onto (wrapModule (q .0) (q .1)) (λ q. wrapAll e l (q .1)))) (λ _ s′. WrappedAfter e (a ∷ l) s s′)
-    asked f nothing q h rec = tt
-    asked f (some r) q h rec =
-        let t : State = setModules (setMark Wrapping (r .0) (r .1)) s in
+    asked : (f : ℕ) (o : Option (ℕ × Modules)) → fileOf a (e .table) ≡ some f → request f (s .modules) ≡ o → WrapsAll e l →
+        After (onto (requested o 0 s) (λ q. onto (wrapModule (q .0) (q .1)) (λ q. wrapAll e l (q .1)))) (λ _ s′. WrappedAfter e (a ∷ l) s s′)
+    asked f nothing q r rest = tt
+    asked f (some k) q r rest =
+        let t : State = setModules (setMark Wrapping (k .0) (k .1)) s in
         after-weaken (wrapAll e l t) (λ _ s′. WrappedAfter e l t s′) (λ _ s′. WrappedAfter e (a ∷ l) s s′)
-        (λ _ s′ w. (w .0, wrap-more (e .table) a l f (r .0) (s .modules) (r .1) (s′ .modules) q h (w .1))) (rec t)
+        (λ _ s′ w. (w .0, wrap-more (e .table) a l f (k .0) (s .modules) (k .1) (s′ .modules) q r (w .1))) (rest t)
 
-    named : (o : Option ℕ) → fileOf a (e .table) ≡ o → ((s : State) → After (wrapAll e l s) (λ _ s′. WrappedAfter e l s s′)) →
+    named : (o : Option ℕ) → fileOf a (e .table) ≡ o → WrapsAll e l →
         After (onto (moduleOf o 0 s) (λ q. onto (wrapModule (q .0) (q .1)) (λ q. wrapAll e l (q .1)))) (λ _ s′. WrappedAfter e (a ∷ l) s s′)
-    named nothing q rec =
+    named nothing q rest =
         after-weaken (wrapAll e l s) (λ _ s′. WrappedAfter e l s s′) (λ _ s′. WrappedAfter e (a ∷ l) s s′)
-        (λ _ s′ w. (w .0, wrap-none (e .table) a l (s .modules) (s′ .modules) q (w .1))) (rec s)
-    named (some f) q rec = asked f (request f (s .modules)) q refl rec
+        (λ _ s′ w. (w .0, wrap-none (e .table) a l (s .modules) (s′ .modules) q (w .1))) (rest s)
+    named (some f) q rest = asked f (request f (s .modules)) q refl rest
 
 -- ---- The whole call
 
@@ -159,7 +161,8 @@ wrapAll-after e (a ∷ l) s = named (fileOf a (e .table)) refl (λ s. wrapAll-af
 abbrev pub MarksForced : List Row → Modules → List (List ℕ) → Modules → Type 0
 MarksForced rows ms forced ms′ = (n : ℕ) → isMarked Wrapping n ms′ ≡ isMarked Wrapping n ms || reaches n rows ms′ forced
 
-again-marks : (e : Setting) (items : Fields) (ms : Modules) (s : State) → Unwrapped ms s → After (walkAgain e items s) (λ gs s′. MarksForced (e .table) ms (s′ .forced) (s′ .modules))
+again-marks : (e : Setting) (items : Fields) (ms : Modules) (s : State) → Unwrapped ms s →
+    After (walkAgain e items s) (λ gs s′. MarksForced (e .table) ms (s′ .forced) (s′ .modules))
 unfolding walkAgain finish
 again-marks e items ms s h =
     let Q : State → Type 0 = λ s′. MarksForced (e .table) ms (s′ .forced) (s′ .modules) in
@@ -172,7 +175,12 @@ again-marks e items ms s h =
 abbrev Marks : List Row → Modules → Extracted → Type 0
 Marks rows ms r = MarksForced rows ms (r .forced) (r .modules)
 
-passes-marks : (l : Lent) (room : Lengths) (rows : List Row) (items : Fields) (own : ℕ × Modules) (ms : Modules) → SameMarks ms (own .1) → Of (passes l room rows items own) (Marks rows ms)
+-- a step of which nothing is asked, then the rest
+pub of-skip : {A B : Type 0} (m : Outcome A) (f : A → Outcome B) (Q : B → Type 0) → ((a : A) → Of (f a) Q) → Of (onto m f) Q
+of-skip m f Q k = of-onto m f (λ _. Unit {0}) Q (of-any m) (λ a _. k a)
+
+passes-marks : (l : Lent) (room : Lengths) (rows : List Row) (items : Fields) (own : ℕ × Modules) (ms : Modules) → SameMarks ms (own .1) →
+    Of (passes l room rows items own) (Marks rows ms)
 unfolding passes
 passes-marks l room rows items own ms h =
     let one = walkModule (setting first (own .0) l rows) items (start (own .1)) in
@@ -199,7 +207,8 @@ own-marks f ms nothing q = tt
 own-marks f ms (some own) q = λ n. request-keeps-marks f ms q Wrapping n
 
 -- an accepted extraction adds exactly the wrapping marks of the modules that its table names for its forced sources
-pub extraction-marks : (l : Lent) (room : Lengths) (ms : Modules) → Of (extracted l room ms) (λ r. MarksForced (rowsIn (l .table)) ms (r .forced) (r .modules))
+pub extraction-marks : (l : Lent) (room : Lengths) (ms : Modules) →
+    Of (extracted l room ms) (λ r. MarksForced (rowsIn (l .table)) ms (r .forced) (r .modules))
 unfolding extracted
 extraction-marks l room ms =
     let Q : Extracted → Type 0 = Marks (rowsIn (l .table)) ms in
@@ -208,3 +217,27 @@ extraction-marks l room ms =
     of-skip (itemsRead (read Module (l .tree))) _ Q λ items.
     of-onto (ownModule (request (l .file) ms)) _ (λ own. SameMarks ms (own .1)) Q (own-marks (l .file) ms (request (l .file) ms) refl) λ own h.
     rw (← e) (passes-marks l room rows items own ms h)
+
+-- ---- What a call forces is what its 83s hold
+
+abbrev pub Recorded : Extracted → Type 0
+Recorded r =
+    (c : List Record) × (z : List Record)
+    × (r .records ≡ field 0x02 [] (append (recordFields 0x80 c) (append (recordFields 0x81 z) (forcedFields (r .forced)))))
+
+passes-recorded : (l : Lent) (room : Lengths) (rows : List Row) (items : Fields) (own : ℕ × Modules) → Of (passes l room rows items own) Recorded
+unfolding passes recordsOf
+passes-recorded l room rows items own =
+    of-skip (walkModule (setting first (own .0) l rows) items (start (own .1))) _ Recorded λ r.
+    of-skip (fits (moduleWith (r .0)) (room .work)) _ Recorded λ _.
+    of-skip (placeless (walkAgain (setting second (own .0) l rows) (r .0) (r .1))) _ Recorded λ q.
+    of-skip (fits (moduleWith (q .0)) (room .out)) _ Recorded λ _.
+    of-skip (fits (recordsOf (q .1)) (room .records)) _ Recorded λ _. (q .1 .collected, q .1 .lazy, refl)
+
+pub forced-recorded : (l : Lent) (room : Lengths) (ms : Modules) → Of (extracted l room ms) Recorded
+unfolding extracted
+forced-recorded l room ms =
+    of-skip (refuseIf (badLists l) 1) _ Recorded λ _.
+    of-skip (tableOf (l .table)) _ Recorded λ rows.
+    of-skip (itemsRead (read Module (l .tree))) _ Recorded λ items.
+    of-skip (ownModule (request (l .file) ms)) _ Recorded λ own. passes-recorded l room rows items own

@@ -17,6 +17,7 @@ use Rattle.tree.specs.declared.grammar.Fit.the-variants.{Stay, Used, Over, No}
 use Rattle.tree.specs.declared.grammar.Step.{Step}
 use Rattle.tree.specs.declared.grammar.Step.the-variants.{Go}
 use Rattle.tree.specs.Grammar.{within, holdsAt, find, parts0, parts1, parts3, parts4, statements, patterns, expressions, others, ruleOf, slotAt, restOf, onFit, stepBy, stepAt}
+use Rattle.tree.proofs.Table.{passes, find-passes}
 use Rattle.tree.proofs.GrammarLaws.{no-step, maybe-slot, many-slot}
 use Rattle.extraction_rules.proofs.TestLaws.{and-both, or-neither}
 
@@ -135,21 +136,6 @@ no-import q q′ h e = step-untaken takesImport 0x10 (λ x w. w) q q′ h e
 
 -- ---- The grammar's table
 
-passes : (ℕ → Rule → Bool) → List (ℕ × Rule) → Bool
-passes g [] = true
-passes g (e ∷ l) = g (e .0) (e .1) && passes g l
-
-found : (g : ℕ → Rule → Bool) (t k : ℕ) (x y : Rule) (b : Bool) → eqb t k ≡ b → g k x ≡ true → g t y ≡ true → g t (cond b x y) ≡ true
-found g t k x y true e p q = ap (λ (n : ℕ). g n x) (eqb-true t k e) ∙ p
-found g t k x y false e p q = q
-
-find-passes : (g : ℕ → Rule → Bool) (t : ℕ) (l : List (ℕ × Rule)) → passes g l ≡ true → g t parts0 ≡ true → g t (find t l parts0) ≡ true
-unfolding passes
-find-passes g t [] h k = k
-find-passes g t (e ∷ l) h k =
-    let p = and-both (g (e .0) (e .1)) (passes g l) h in
-    found g t (e .0) (e .1) (find t l parts0) (eqb t (e .0)) refl (p .0) (find-passes g t l (p .1) k)
-
 either : (g : ℕ → Rule → Bool) (t : ℕ) (b : Bool) (x y : Rule) → g t x ≡ true → g t y ≡ true → g t (cond b x y) ≡ true
 either g t true x y p q = p
 either g t false x y p q = q
@@ -159,9 +145,9 @@ rule-passes : (g : ℕ → Rule → Bool) (t : ℕ) → passes g statements ≡ 
     passes g others ≡ true → g t parts0 ≡ true → g t (ruleOf t) ≡ true
 unfolding ruleOf
 rule-passes g t a b c d k =
-    either g t (within 0x40 0x48 t) _ _ (find-passes g t statements a k)
-    (either g t (within 0x50 0x56 t) _ _ (find-passes g t patterns b k)
-    (either g t (within 0x60 0x6e t) _ _ (find-passes g t expressions c k) (find-passes g t others d k)))
+    either g t (within 0x40 0x48 t) _ _ (find-passes g t statements parts0 a k)
+    (either g t (within 0x50 0x56 t) _ _ (find-passes g t patterns parts0 b k)
+    (either g t (within 0x60 0x6e t) _ _ (find-passes g t expressions parts0 c k) (find-passes g t others parts0 d k)))
 
 or-true : (a b : Bool) → b ≡ true → a || b ≡ true
 or-true true b e = refl
@@ -177,7 +163,7 @@ targets : ℕ → Rule → Bool
 targets k r = eqb k 0x66 || not (inRule takesTarget r)
 
 pub rule-targets : (t : ℕ) → eqb t 0x66 ≡ false → inRule takesTarget (ruleOf t) ≡ false
-unfolding targets passes holdsAt within
+unfolding targets holdsAt within
 rule-targets t n = only-by (eqb t 0x66) (inRule takesTarget (ruleOf t)) (rule-passes targets t refl refl refl refl (or-true (eqb t 0x66) true refl)) n
 
 -- only a module has imports
@@ -185,7 +171,7 @@ imports : ℕ → Rule → Bool
 imports k r = eqb k 0x01 || not (inRule takesImport r)
 
 pub rule-imports : (t : ℕ) → eqb t 0x01 ≡ false → inRule takesImport (ruleOf t) ≡ false
-unfolding imports passes holdsAt within
+unfolding imports holdsAt within
 rule-imports t n = only-by (eqb t 0x01) (inRule takesImport (ruleOf t)) (rule-passes imports t refl refl refl refl (or-true (eqb t 0x01) true refl)) n
 
 -- ---- A step through a slot for many parts, and for one that may be missing

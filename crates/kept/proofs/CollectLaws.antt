@@ -1,28 +1,27 @@
 -- Collecting: the record of a literal's value, found or new, and what its specifiers make of it.
-use Prim.Native.Nat.{ℕ, zero, suc, _+_, _-_, _*_, _/_, _%_, _≤_, _<_}
+use Prim.Native.Nat.{ℕ, zero, suc, _+_, _-_, _%_, _≤_, _<_}
 use native.Mathlib.Omega.{arith}
-use mathlib.Core.Path.{_≡_, refl, sym, ap, ap₂, subst, _∙_}
+use mathlib.Core.Path.{_≡_, refl, sym, ap, subst, _∙_}
 use mathlib.Core.Bool.{Bool, true, false, cond}
 use mathlib.Core.List.{List, [], _∷_, _++_, map, map-append}
 use mathlib.Core.Option.{Option, none as nothing, some}
-use lib.ListN.{length, length-map}
-use Rattle.tables.specs.Rows.{Row, rows, next, between, firstIn, leastOf}
+use lib.ListN.{length}
+use Rattle.tables.specs.Rows.{Row, rows, next, firstIn}
 use Rattle.tables.specs.Only.{Only}
 use Rattle.tree.specs.Layout.{same, valueOf}
-use Rattle.tree.specs.Tree.{Field, Fields, none, more}
+use Rattle.tree.specs.Tree.{Fields, none}
 use Rattle.metadata.specs.Metadata.{append}
 use Rattle.lent.specs.Fields.{findField}
-use Rattle.lent.specs.Outcome.{Outcome, done, refused}
+use Rattle.lent.specs.Outcome.{done, refused}
 use Rattle.extraction_rules.specs.State.{Record, State, setCollected}
 use Rattle.extraction_rules.specs.First.{holdsNamespace, collectIn, collect}
-use Rattle.kept.specs.Kept.{records, namespaces, tableOf, Below, held, Good, idOf, Brief, brief, briefOf, indexOf, namespacesIn, countNamespaces, Shows}
+use Rattle.kept.specs.Kept.{id-limit, records, tableOf, held, Good, idOf, Brief, brief, briefOf, indexOf, namespacesIn, countNamespaces, Shows}
 use Rattle.kept.specs.Does.{extendAt, Gathered, Collects}
-use Rattle.kept.specs.declared.Place.{Place}
 use Rattle.kept.specs.declared.Place.the-variants.{Index, NoRoom}
 use Rattle.kept.proofs.ListLaws.{below-append, length-more, first-below}
 use Rattle.kept.proofs.IndexLaws.{index-map, index-row, index-more}
 use Rattle.kept.proofs.RecordLaws.{same-name, name-range, held-shown}
-use Rattle.kept.proofs.FrameLaws.{Others, others-kept, good-kept, room-for, shows-collected}
+use Rattle.kept.proofs.FrameLaws.{others-kept, good-kept, room-for, shows-collected}
 use Rattle.kept.proofs.ImportedLaws.{room-made, room-full}
 
 -- ---- Specifiers of the record at a place
@@ -74,7 +73,7 @@ length-extend (suc i) fs (q ∷ l) = ap suc (length-extend i fs l)
 
 -- ---- The record that is found
 
-module _ (x : ℕ) (h : x < 281474976710656) {t : List ℕ} (g : Good t) where
+module _ (x : ℕ) (h : x < id-limit) {t : List ℕ} (g : Good t) where
   value-index : {s : State} → Shows t s →
       firstIn (x - x % 4294967296) (x - x % 4294967296 + 4294967295) (rows (tableOf records) t) ≡ indexOf (equalValue (idOf x)) (s .collected)
   unfolding brief briefOf

@@ -1,20 +1,19 @@
 -- The array after a record got a specifier more: a namespace is one row more, and the record's first where it had none.
-use Prim.Native.Nat.{ℕ, zero, suc, _+_, _≤_, _<_}
+use Prim.Native.Nat.{ℕ, _+_, _<_}
 use native.Mathlib.Omega.{arith}
-use mathlib.Core.Path.{_≡_, refl, sym, ap, subst, _∙_}
+use mathlib.Core.Path.{_≡_, refl, sym, ap, _∙_}
 use mathlib.Core.Bool.{Bool, true, false}
 use mathlib.Core.List.{List, [], _∷_, _++_, map}
 use lib.ListN.{length, getD}
-use Rattle.tables.specs.Rows.{Row, rows, Lies, leastOf, withValue}
+use Rattle.tables.specs.Rows.{rows, leastOf, withValue}
 use Rattle.tables.specs.Only.{Only}
 use Rattle.tree.specs.Tree.{Field, none, more, fixedOf}
 use Rattle.lent.specs.Fields.{has}
-use Rattle.extraction_rules.specs.State.{Record, State, setCollected}
-use Rattle.extraction_rules.specs.First.{holdsNamespace}
-use Rattle.kept.specs.Kept.{Kind, imports, uses, records, namespaces, lazies, forces, tableOf, top-cell, held, Good, idOf, importedOf, usageOf, brief, briefOf, literalOf, atomOf, flag, namespacesIn, Shows}
+use Rattle.extraction_rules.specs.State.{State, setCollected}
+use Rattle.kept.specs.Kept.{id-limit, Kind, imports, uses, records, namespaces, lazies, forces, tableOf, top-cell, held, Good, idOf, importedOf, usageOf, brief, briefOf, literalOf, atomOf, flag, namespacesIn, Shows}
 use Rattle.kept.specs.Does.{extendAt, Extends}
 use Rattle.kept.proofs.ListLaws.{below-append, below-value, length-more, length-value, rowOf}
-use Rattle.kept.proofs.FrameLaws.{one?, Others, others-kept, good-kept, room-for, shows-collected}
+use Rattle.kept.proofs.FrameLaws.{one?, others-kept, good-kept, room-for, shows-collected}
 use Rattle.kept.proofs.RecordLaws.{held-shown}
 use Rattle.kept.proofs.NamespaceLaws.{namespaces-extended, holders-extended, brief-other, brief-again, briefs-first, briefs-kept, holders-other}
 
@@ -23,7 +22,7 @@ record Rest (t t' : List ℕ) : Type 0 where
   rest : (m : Kind) → one? records m ≡ false → one? namespaces m ≡ false → rows (tableOf m) t' ≡ rows (tableOf m) t
   top-rest : getD t' top-cell 0 ≡ getD t top-cell 0
 
-module _ (k i : ℕ) {t t' : List ℕ} (h : k < 281474976710656) (b : i < held records t) (o : Rest t t')
+module _ (k i : ℕ) {t t' : List ℕ} (h : k < id-limit) (b : i < held records t) (o : Rest t t')
     (e : rows (tableOf namespaces) t' ≡ rows (tableOf namespaces) t ++ ((k, i) ∷ [])) where
   shows-extended : (s : State) (f : Field) → has 0x22 f ≡ true → fixedOf f ≡ idOf k → Shows t s →
       map briefOf (rows (tableOf records) t') ≡ map brief (extendAt i (more f none) (s .collected)) → Shows t' (setCollected (extendAt i (more f none) (s .collected)) s)
@@ -43,7 +42,7 @@ module _ (k i : ℕ) {t t' : List ℕ} (h : k < 281474976710656) (b : i < held r
         top = o .top-rest ∙ w .top;
       }
 
-module _ (k i : ℕ) {t m : List ℕ} (g : Good t) (h : k < 281474976710656) (b : i < held records t) (n : held namespaces t < 3641)
+module _ (k i : ℕ) {t m : List ℕ} (g : Good t) (h : k < id-limit) (b : i < held records t) (n : held namespaces t < 3641)
     (e : rows (tableOf namespaces) m ≡ rows (tableOf namespaces) t ++ ((k, i) ∷ [])) (o : Only (tableOf namespaces) t m) where
   pub met-good : Good m
   met-good =

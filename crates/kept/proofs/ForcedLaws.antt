@@ -1,7 +1,7 @@
 -- Forced sources: the search, the array after one is forced, and the room that there always is, since they are sources of records, each once.
-use Prim.Native.Nat.{ℕ, zero, suc, _+_, _≤_, _<_}
+use Prim.Native.Nat.{ℕ, zero, suc, _≤_, _<_}
 use native.Mathlib.Omega.{arith}
-use mathlib.Core.Path.{_≡_, refl, sym, ap, ap₂, subst, _∙_}
+use mathlib.Core.Path.{_≡_, refl, sym, ap, subst, _∙_}
 use mathlib.Core.Bool.{Bool, true, false, cond, _||_}
 use mathlib.Core.List.{List, [], _∷_, _++_, map, map-append}
 use mathlib.Core.Option.{Option, none as nothing, some}
@@ -15,8 +15,8 @@ use Rattle.tree.proofs.LayoutLaws.{same-refl, same-equal, same-two}
 use Rattle.lent.specs.Lists.{find, isSome, among}
 use Rattle.extraction_rules.specs.State.{Record, State, setForced}
 use Rattle.extraction_rules.specs.First.{holdsNamespace, forceSource, forceHolder, forget, forceId}
-use Rattle.kept.specs.Kept.{records, forces, tableOf, Below, held, Good, idOf, atomOf, Shows, Shown}
-use Rattle.kept.specs.Does.{Tells, Turns, sourceOf, sourcesIn, Once, Sourced, Sources, Forcible}
+use Rattle.kept.specs.Kept.{records, forces, tableOf, Below, held, Good, atomOf, Shows, Shown}
+use Rattle.kept.specs.Does.{Tells, Turns, sourceOf, sourcesIn, Once, Sources, Forcible}
 use Rattle.kept.proofs.IdLaws.{between-one}
 use Rattle.kept.proofs.ListLaws.{below-append, length-more}
 use Rattle.kept.proofs.FrameLaws.{others-kept, good-kept, room-for, shows-forced}
@@ -54,7 +54,7 @@ forced-told {t} {a} {o} g h e =
 
 -- ---- The room
 
-or-right : (x y : Bool) → y ≡ true → (x || y) ≡ true
+pub or-right : (x y : Bool) → y ≡ true → (x || y) ≡ true
 or-right true y e = refl
 or-right false y e = e
 
@@ -146,7 +146,7 @@ holder-some : (o : Option Record) (s : State) (x : List ℕ) → some x ≡ sour
 holder-some nothing s x e = absurd (let z : _≡_ {A = ℕ} 0 1 = cc in omega arith)
 holder-some (some r) s x e = let z : valueOf (r .literal) ≡ x = cc in ap (λ (y : List ℕ). forceSource y s) z
 
-find-among : (p : Record → Bool) (l : List Record) (x : List ℕ) → some x ≡ sourceOf (find p l) → among x (sourcesIn l) ≡ true
+pub find-among : (p : Record → Bool) (l : List Record) (x : List ℕ) → some x ≡ sourceOf (find p l) → among x (sourcesIn l) ≡ true
 unfolding find among
 find-among p [] x e = absurd (let z : _≡_ {A = ℕ} 0 1 = cc in omega arith)
 find-among p (r ∷ l) x e = by (p r) (find-among p l x) e

@@ -14,7 +14,7 @@ use Rattle.tables.proofs.RowLaws.{rows-length}
 use Rattle.tables.proofs.OnlyLaws.{apart-rows, apart-lies}
 use Rattle.extraction_rules.specs.State.{Record, Imported, Usage, State, setImported, setUsages, setCollected, setLazy, setForced}
 use Rattle.extraction_rules.specs.First.{holdsNamespace}
-use Rattle.kept.specs.Kept.{Kind, imports, uses, records, namespaces, lazies, forces, tableOf, top-cell, keyLimit, valueLimit, Below, Good, Shows, idOf, importedOf, usageOf, brief, briefOf, indexOf, namespacesIn, literalOf, atomOf}
+use Rattle.kept.specs.Kept.{Kind, imports, uses, records, namespaces, lazies, forces, tableOf, top-cell, keyLimit, valueLimit, Below, Good, Shows, idOf, importedOf, usageOf, brief, briefOf, indexOf, namespacesIn, placesIn, literalOf, atomOf}
 
 -- ---- Tables apart
 
@@ -136,6 +136,10 @@ good-kept k {t} {t'} {l} g o e n b =
 -- how many rows a good array holds
 pub room-for : (k : Kind) {t : List ℕ} → Good t → length (rows (tableOf k) t) ≤ tableOf k .room
 room-for k {t} g = let n = rows-length (tableOf k) t in let h = g .lies k .held in omega arith
+
+pub places-kept : (k : Kind) {t t' : List ℕ} → one? k lazies ≡ false → Good t → Only (tableOf k) t t' → placesIn t' ≡ placesIn t
+unfolding placesIn
+places-kept k e g o = ap (map (λ (r : Row). r .1)) (others-kept k g o .rows-kept lazies e)
 
 -- ---- What is shown
 

@@ -1,5 +1,5 @@
 -- Ids are the same just where the numbers that stand for them are equal.
-use Prim.Native.Nat.{ℕ, _+_, _*_, _/_, _%_, _≤_, _<_}
+use Prim.Native.Nat.{ℕ, _/_, _%_, _<_}
 use native.Mathlib.Omega.{arith}
 use mathlib.Core.Path.{_≡_, refl, sym, ap, _∙_}
 use mathlib.Core.Bool.{Bool, true, false, _&&_}
@@ -10,7 +10,7 @@ use borrow.Author.Tests.{eqb-true, leb-true, leb-false, eq-eqb, ne-eqb}
 use Rattle.tree.specs.Layout.{two, four, same, nameOf, contextOf}
 use Rattle.tree.proofs.LayoutLaws.{same-refl, same-two, same-four, same-code}
 use Rattle.tables.specs.Rows.{between}
-use Rattle.kept.specs.Kept.{idOf}
+use Rattle.kept.specs.Kept.{id-limit, idOf}
 
 -- where codes are the same just where numbers are equal, a code has one number
 from-code : (code : ℕ → List ℕ) (m n : ℕ) → same (code m) (code n) ≡ eqb m n → code m ≡ code n → m ≡ n
@@ -24,7 +24,7 @@ pub id-context : (n : ℕ) → contextOf (idOf n) ≡ four (n % 4294967296)
 unfolding idOf
 id-context n = refl
 
-pub same-id : (m n : ℕ) → m < 281474976710656 → n < 281474976710656 → same (idOf m) (idOf n) ≡ eqb m n
+pub same-id : (m n : ℕ) → m < id-limit → n < id-limit → same (idOf m) (idOf n) ≡ eqb m n
 same-id m n a b =
     same-code idOf m n (λ e.
     let hi = from-code two (m / 4294967296) (n / 4294967296) (same-two _ _ (omega arith) (omega arith)) (sym (id-name m) ∙ ap (take 2) e ∙ id-name n) in
@@ -40,5 +40,5 @@ between-one k n = by (leb k n) (leb n k) refl refl
     by true false p q = sym (ne-eqb n k (λ e. let y = leb-false n k q in omega arith))
     by false b p q = sym (ne-eqb n k (λ e. let x = leb-false k n p in omega arith))
 
-pub same-key : (k n : ℕ) → k < 281474976710656 → n < 281474976710656 → same (idOf n) (idOf k) ≡ between k k n
+pub same-key : (k n : ℕ) → k < id-limit → n < id-limit → same (idOf n) (idOf k) ≡ between k k n
 same-key k n a b = same-id n k b a ∙ sym (between-one k n)

@@ -1,22 +1,22 @@
 -- Imported ids: the context of one, and the array after one is noted.
-use Prim.Native.Nat.{ℕ, zero, suc, _+_, _≤_, _<_}
+use Prim.Native.Nat.{ℕ, zero, _≤_, _<_}
 use native.Mathlib.Omega.{arith}
-use mathlib.Core.Path.{_≡_, refl, sym, ap, subst, _∙_}
+use mathlib.Core.Path.{_≡_, refl, sym, ap, _∙_}
 use mathlib.Core.Bool.{Bool, true, false, cond}
 use mathlib.Core.List.{List, [], _∷_, _++_, map}
 use mathlib.Core.Option.{Option, none, some}
 use lib.Dec.{eqb}
 use lib.ListN.{length, length-map}
 use borrow.Author.Tests.{le-leb, lt-leb, eqb-true}
-use Rattle.tables.specs.Rows.{Row, rows, next, between, firstIn, withValue}
+use Rattle.tables.specs.Rows.{Row, rows, next, firstIn, withValue}
 use Rattle.tables.specs.Only.{Only}
 use Rattle.tree.specs.Layout.{four, same}
-use Rattle.lent.specs.Lists.{find, mapped}
+use Rattle.lent.specs.Lists.{mapped}
 use Rattle.lent.specs.Outcome.{done, refused}
 use Rattle.extraction_rules.specs.State.{Imported, State, roomFor, setImported}
 use Rattle.extraction_rules.specs.First.{importedAs, noteIn, noteId}
-use Rattle.kept.specs.Kept.{imports, tableOf, keyLimit, valueLimit, Below, Good, Shows, idOf, importedOf}
-use Rattle.kept.specs.Does.{Tells, Did, Acts, contextBy}
+use Rattle.kept.specs.Kept.{id-limit, imports, tableOf, Below, Good, Shows, idOf, importedOf}
+use Rattle.kept.specs.Does.{Tells, Did, Acts}
 use Rattle.kept.specs.declared.Room.the-variants.{Made, Full}
 use Rattle.kept.proofs.IdLaws.{same-id, same-key, between-one}
 use Rattle.kept.proofs.ListLaws.{below-append, below-value, length-value, length-more, rowOf, find-row}
@@ -36,14 +36,14 @@ mapped-mapped : {A B C : Type 0} (g : B → C) (f : A → B) (o : Option A) → 
 mapped-mapped g f none = refl
 mapped-mapped g f (some a) = refl
 
-imported-found : (id v : ℕ) (l : List Row) → id < 281474976710656 → Below 281474976710656 v l →
+imported-found : (id v : ℕ) (l : List Row) → id < id-limit → Below id-limit v l →
     importedAs (idOf id) (map importedOf l) ≡ mapped (λ i. four (rowOf l i .1)) (firstIn id id l)
 unfolding importedAs
 imported-found id v l h b =
-    ap (mapped (λ (m : Imported). m .context)) (find-row (λ (m : Imported). same (m .id) (idOf id)) importedOf id id 281474976710656 v (λ r k. same-key id (r .0) h k) l b)
+    ap (mapped (λ (m : Imported). m .context)) (find-row (λ (m : Imported). same (m .id) (idOf id)) importedOf id id id-limit v (λ r k. same-key id (r .0) h k) l b)
     ∙ mapped-mapped (λ (m : Imported). m .context) (λ i. importedOf (rowOf l i)) (firstIn id id l)
 
-pub context-told : {t : List ℕ} {id : ℕ} {o : Option ℕ} → Good t → id < 281474976710656 → o ≡ firstIn id id (rows (tableOf imports) t) →
+pub context-told : {t : List ℕ} {id : ℕ} {o : Option ℕ} → Good t → id < id-limit → o ≡ firstIn id id (rows (tableOf imports) t) →
     Tells (λ s. importedAs (idOf id) (s .imported)) t (mapped (λ i. four (rowOf (rows (tableOf imports) t) i .1)) o)
 context-told {t} {id} {o} g h e =
     record {
@@ -64,7 +64,7 @@ unfolding withValue
 noted-next none k c r l = refl
 noted-next (some i) k c r l = refl
 
-note-rows : (k c v : ℕ) (l : List Row) → k < 281474976710656 → Below 281474976710656 v l →
+note-rows : (k c v : ℕ) (l : List Row) → k < id-limit → Below id-limit v l →
     noteIn (importedOf (k, c)) (map importedOf l) ≡ map importedOf (noted (firstIn k k l) k c l)
 unfolding noteIn firstIn Below withValue
 note-rows k c v [] h b = refl
@@ -83,7 +83,7 @@ below-noted : (o : Option ℕ) (k c x v : ℕ) (l : List Row) → Below x v l �
 below-noted none k c x v l b p q = below-append x v l (k, c) b p q
 below-noted (some i) k c x v l b p q = below-value x v l i c b q
 
-module _ {t : List ℕ} {k c : ℕ} (g : Good t) (h : k < 281474976710656) (hc : c < 4294967296) where
+module _ {t : List ℕ} {k c : ℕ} (g : Good t) (h : k < id-limit) (hc : c < 4294967296) where
   noted-shown : (s : State) → Shows t s →
       map importedOf (noted (firstIn k k (rows (tableOf imports) t)) k c (rows (tableOf imports) t)) ≡ noteIn (importedOf (k, c)) (s .imported)
   noted-shown s w = sym (note-rows k c _ (rows (tableOf imports) t) h (g .below imports)) ∙ ap (noteIn (importedOf (k, c))) (w .imported)

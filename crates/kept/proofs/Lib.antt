@@ -1,14 +1,17 @@
--- Numbers and the bytes that they stand for (IdLaws); the rows of a table and the lists of the rules (ListLaws); what a change of one table
--- leaves alone (FrameLaws); and, for each rule, the array that shows its state.
+-- Numbers and the bytes that they stand for (IdLaws); rows and the lists of the rules (ListLaws, IndexLaws); what a change of one table leaves
+-- alone (FrameLaws); for each function the array that shows the rule's state (ImportedLaws to RestLaws); and laws on the rules' state for
+-- callers: specifiers one by one (NamespaceLaws, ExtendLaws), forced sources (SourcedLaws), the second pass (SecondLaws).
 pub mod IdLaws
 pub mod ListLaws
+pub mod IndexLaws
 pub mod FrameLaws
 pub mod ImportedLaws
 pub mod UsageLaws
-pub mod IndexLaws
 pub mod RecordLaws
 pub mod CollectLaws
 pub mod NamespaceLaws
 pub mod ExtendLaws
 pub mod ForcedLaws
 pub mod RestLaws
+pub mod SourcedLaws
+pub mod SecondLaws

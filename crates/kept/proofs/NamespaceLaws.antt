@@ -2,23 +2,22 @@
 use Prim.Native.Nat.{ℕ, zero, suc, _+_, _≤_, _<_}
 use native.Mathlib.Omega.{arith}
 use native.Mathlib.Numerals.{add-one}
-use mathlib.Core.Path.{_≡_, refl, sym, ap, ap₂, subst, _∙_}
+use mathlib.Core.Path.{_≡_, refl, sym, ap, ap₂, _∙_}
 use mathlib.Core.Bool.{Bool, true, false, cond, _&&_, _||_}
 use mathlib.Core.List.{List, [], _∷_, _++_, map}
 use mathlib.Core.Option.{Option, none as nothing, some}
 use lib.Dec.{ltb, eqb}
-use lib.ListN.{length, getD}
-use borrow.Author.Tests.{ltb-true, ltb-false, lt-ltb, le-ltb, eqb-true, eqb-false}
-use Rattle.tables.specs.Rows.{Row, rows, next, lesser, leastOf, withValue}
-use Rattle.tables.specs.Only.{Only}
+use lib.ListN.{length}
+use borrow.Author.Tests.{ltb-true, ltb-false, lt-ltb, le-ltb}
+use Rattle.tables.specs.Rows.{Row, next, lesser, leastOf, withValue}
 use Rattle.tree.specs.Layout.{same}
 use Rattle.tree.specs.Tree.{Field, Fields, none, more, fixedOf}
 use Rattle.metadata.specs.Metadata.{append}
 use Rattle.lent.specs.Lists.{isSome, mapped}
 use Rattle.lent.specs.Fields.{has, findField}
-use Rattle.extraction_rules.specs.State.{Record, State, setCollected}
+use Rattle.extraction_rules.specs.State.{Record}
 use Rattle.extraction_rules.specs.First.{holdsNamespace}
-use Rattle.kept.specs.Kept.{idOf, Brief, brief, briefOf, namespaceOf, indexOf, flag, countNamespaces, namespacesIn}
+use Rattle.kept.specs.Kept.{id-limit, idOf, Brief, brief, briefOf, namespaceOf, indexOf, flag, countNamespaces, namespacesIn}
 use Rattle.kept.specs.Does.{extendAt}
 use Rattle.kept.proofs.IdLaws.{same-id}
 use Rattle.kept.proofs.ListLaws.{rowOf}
@@ -162,7 +161,7 @@ or-false true = refl
 or-false false = refl
 
 -- which record is the first to hold a namespace, once record i holds the id k too
-pub holders-extended : (n k i : ℕ) (f : Field) (N : List Row) (l : List Record) → n < 281474976710656 → k < 281474976710656 → i < length l →
+pub holders-extended : (n k i : ℕ) (f : Field) (N : List Row) (l : List Record) → n < id-limit → k < id-limit → i < length l →
     has 0x22 f ≡ true → fixedOf f ≡ idOf k → leastOf n N ≡ indexOf (holdsNamespace (idOf n)) l →
     leastOf n (N ++ ((k, i) ∷ [])) ≡ indexOf (holdsNamespace (idOf n)) (extendAt i (more f none) l)
 holders-extended n k i f N l hn hk hi tag x e = least-more n k i N ∙ by (eqb k n) (same-id k n hk hn)

@@ -1,24 +1,23 @@
 -- Records: the source of the one that a search finds, by its first namespace or by a namespace that it holds.
-use Prim.Native.Nat.{ℕ, zero, suc, _+_, _-_, _*_, _/_, _%_, _≤_, _<_}
+use Prim.Native.Nat.{ℕ, zero, suc, _+_, _-_, _/_, _%_, _≤_, _<_}
 use native.Mathlib.Omega.{arith}
-use native.Mathlib.Numerals.{add-one}
-use mathlib.Core.Path.{_≡_, refl, sym, ap, ap₂, subst, _∙_}
-use mathlib.Core.Bool.{Bool, true, false, cond, _&&_, _||_}
-use mathlib.Core.List.{List, [], _∷_, _++_, map, map-map}
+use mathlib.Core.Path.{_≡_, refl, sym, ap, ap₂, _∙_}
+use mathlib.Core.Bool.{Bool, true, false, _&&_, _||_}
+use mathlib.Core.List.{List, map, map-map}
 use mathlib.Core.Option.{Option, none as nothing, some}
-use lib.Dec.{leb, eqb}
+use lib.Dec.{eqb}
 use lib.ListN.{length, getD, length-map}
 use borrow.Author.Tests.{le-leb, lt-leb, leb-true, eqb-true, eq-eqb, ne-eqb}
 use Rattle.scope.specs.Id.{local}
 use Rattle.tables.specs.Rows.{Row, rows, between, flip, firstIn, leastOf}
-use Rattle.tree.specs.Layout.{two, four, same, nameOf, contextOf, valueOf}
-use Rattle.tree.specs.Tree.{Field, Fields, fixedOf}
-use Rattle.tree.proofs.LayoutLaws.{same-refl, same-two, same-four}
+use Rattle.tree.specs.Layout.{four, same, nameOf, contextOf, valueOf}
+use Rattle.tree.specs.Tree.{Field, fixedOf}
+use Rattle.tree.proofs.LayoutLaws.{same-two, same-four}
 use Rattle.lent.specs.Lists.{find, mapped}
 use Rattle.lent.specs.Fields.{has, findField}
 use Rattle.extraction_rules.specs.State.{Record, State}
 use Rattle.extraction_rules.specs.First.{holdsNamespace, suits, usedRecord}
-use Rattle.kept.specs.Kept.{records, namespaces, tableOf, Below, held, Good, idOf, Brief, brief, briefOf, namespaceOf, indexOf, Shows, Shown}
+use Rattle.kept.specs.Kept.{id-limit, records, namespaces, tableOf, held, Good, idOf, Brief, brief, briefOf, namespaceOf, indexOf, Shows, Shown}
 use Rattle.kept.specs.Does.{Tells, sourceOf, sourceAt}
 use Rattle.kept.proofs.IdLaws.{id-name, id-context, between-one}
 use Rattle.kept.proofs.IndexLaws.{index-map, index-same, index-value, find-index, index-below, getD-map}
@@ -50,13 +49,13 @@ held-shown {t} {s} w = sym (length-map (rows (tableOf records) t) briefOf) ∙ a
 
 -- ---- The first that holds a namespace
 
-pub holder-below : {t : List ℕ} {id i : ℕ} → Shown t → id < 281474976710656 → some i ≡ leastOf id (rows (tableOf namespaces) t) → i < held records t
+pub holder-below : {t : List ℕ} {id i : ℕ} → Shown t → id < id-limit → some i ≡ leastOf id (rows (tableOf namespaces) t) → i < held records t
 holder-below {t} {id} {i} w h e =
     let b = index-below (holdsNamespace (idOf id)) (w .state .collected) i (sym (e ∙ w .shows .holders id h)) in
     let n = held-shown (w .shows) in
     omega arith
 
-pub holder-told : {t : List ℕ} {id : ℕ} {o : Option ℕ} → id < 281474976710656 → o ≡ leastOf id (rows (tableOf namespaces) t) →
+pub holder-told : {t : List ℕ} {id : ℕ} {o : Option ℕ} → id < id-limit → o ≡ leastOf id (rows (tableOf namespaces) t) →
     Tells (λ s. sourceOf (find (holdsNamespace (idOf id)) (s .collected))) t (mapped (sourceAt t) o)
 holder-told {t} {id} {o} h e = record { is = λ s w. source-found (holdsNamespace (idOf id)) o w (e ∙ w .holders id h) }
 
@@ -80,7 +79,7 @@ both : (a b : Bool) → (a && b) ≡ true → (a ≡ true) × (b ≡ true)
 both true b e = (refl, e)
 both false b e = absurd (let z : _≡_ {A = ℕ} 0 1 = cc in omega arith)
 
-pub same-name : (m n : ℕ) → m < 281474976710656 → n < 281474976710656 → same (nameOf (idOf m)) (nameOf (idOf n)) ≡ eqb (m / 4294967296) (n / 4294967296)
+pub same-name : (m n : ℕ) → m < id-limit → n < id-limit → same (nameOf (idOf m)) (nameOf (idOf n)) ≡ eqb (m / 4294967296) (n / 4294967296)
 same-name m n a b = ap₂ same (id-name m) (id-name n) ∙ same-two (m / 4294967296) (n / 4294967296) (omega arith) (omega arith)
 
 same-context : (m n : ℕ) → n < 4294967296 → same (contextOf (idOf m)) (four n) ≡ eqb (m % 4294967296) n
@@ -120,7 +119,7 @@ and-true true = refl
 and-true false = refl
 
 -- in the own local context: the name alone
-suits-name : (own id n : ℕ) → id < 281474976710656 → n < 281474976710657 → id % 4294967296 ≡ local own →
+suits-name : (own id n : ℕ) → id < id-limit → n < 281474976710657 → id % 4294967296 ≡ local own →
     suitsFirst own (idOf id) (namespaceOf n) ≡ between (id - id % 4294967296 + 1) (id - id % 4294967296 + 4294967296) n
 unfolding suitsFirst
 suits-name own id zero a b e = sym (rw (lt-leb (id - id % 4294967296 + 1) zero (omega arith)))
@@ -132,7 +131,7 @@ suits-name own id (suc m) a b e =
     ∙ ap (λ (x : ℕ). between (id - id % 4294967296 + 1) x (suc m)) hi
 
 -- else: the id itself
-suits-id : (own id n : ℕ) → own < 65536 → id < 281474976710656 → n < 281474976710657 → (id % 4294967296 ≡ local own → ⊥) →
+suits-id : (own id n : ℕ) → own < 65536 → id < id-limit → n < 281474976710657 → (id % 4294967296 ≡ local own → ⊥) →
     suitsFirst own (idOf id) (namespaceOf n) ≡ between (id + 1) (id + 1) n
 unfolding suitsFirst
 suits-id own id zero o a b e = sym (rw (lt-leb (id + 1) zero (omega arith)))
@@ -167,11 +166,11 @@ module _ {t : List ℕ} (g : Good t) (own id lo hi : ℕ) (h : (n : ℕ) → n <
   unfolding usedRecord
   used-by {o} e = record { is = λ s w. source-found (λ r. suits own (idOf id) (findField (has 0x22) (r .specifiers))) o w (e ∙ used-index s w) }
 
-pub used-name : (own id : ℕ) {t : List ℕ} {o : Option ℕ} → Good t → id < 281474976710656 → id % 4294967296 ≡ local own →
+pub used-name : (own id : ℕ) {t : List ℕ} {o : Option ℕ} → Good t → id < id-limit → id % 4294967296 ≡ local own →
     o ≡ firstIn (id - id % 4294967296 + 1) (id - id % 4294967296 + 4294967296) (map flip (rows (tableOf records) t)) →
     Tells (λ s. sourceOf (usedRecord own (idOf id) (s .collected))) t (mapped (sourceAt t) o)
 used-name own id g h e f = used-by g own id _ _ (λ n b. suits-name own id n h b e) f
 
-pub used-id : (own id : ℕ) {t : List ℕ} {o : Option ℕ} → Good t → own < 65536 → id < 281474976710656 → (id % 4294967296 ≡ local own → ⊥) →
+pub used-id : (own id : ℕ) {t : List ℕ} {o : Option ℕ} → Good t → own < 65536 → id < id-limit → (id % 4294967296 ≡ local own → ⊥) →
     o ≡ firstIn (id + 1) (id + 1) (map flip (rows (tableOf records) t)) → Tells (λ s. sourceOf (usedRecord own (idOf id) (s .collected))) t (mapped (sourceAt t) o)
 used-id own id g o h e f = used-by g own id _ _ (λ n b. suits-id own id n o h b e) f

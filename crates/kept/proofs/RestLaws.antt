@@ -1,23 +1,22 @@
 -- The array after a lazy record is appended and after top is set, and an array of zeros.
-use Prim.Native.Nat.{ℕ, zero, suc, _+_, _*_, _≤_, _<_}
+use Prim.Native.Nat.{ℕ, _+_, _*_, _≤_, _<_}
 use native.Mathlib.Omega.{arith}
 use mathlib.Core.Path.{_≡_, refl, sym, ap, subst, _∙_}
 use mathlib.Core.Bool.{Bool, true, false}
 use mathlib.Core.List.{List, [], _∷_, _++_, map, map-append}
 use lib.ListN.{length, getD, set, length-map}
 use lib.Seq.{getD-set-same}
-use borrow.Author.Tests.{eq-eqb, ne-eqb}
 use lib.Dec.{eqb}
 use Rattle.tables.specs.declared.Table.{Table}
 use Rattle.tables.specs.Rows.{Row, rowsFrom, rows, Lies, leastOf}
-use Rattle.tables.specs.Only.{Only, Apart}
+use Rattle.tables.specs.Only.{Only}
 use Rattle.tables.proofs.OnlyLaws.{store-count, apart-rows, apart-lies}
 use Rattle.tree.specs.Tree.{Fields}
-use Rattle.lent.specs.Outcome.{done, refused}
+use Rattle.lent.specs.Outcome.{refused}
 use Rattle.scope.specs.Modules.{Modules}
 use Rattle.extraction_rules.specs.State.{Record, State, start, setLazy, setTop}
 use Rattle.extraction_rules.specs.First.{addLazy}
-use Rattle.kept.specs.Kept.{Kind, imports, uses, records, namespaces, lazies, forces, tableOf, top-cell, cells, keyLimit, valueLimit, Below, held, Good, idOf, importedOf, usageOf, briefOf, literalOf, atomOf, indexOf, flag, namespacesIn, Shows}
+use Rattle.kept.specs.Kept.{id-limit, Kind, imports, uses, records, namespaces, lazies, forces, tableOf, top-cell, cells, keyLimit, valueLimit, Below, held, Good, idOf, importedOf, usageOf, briefOf, literalOf, atomOf, indexOf, flag, namespacesIn, placesIn, Shows}
 use Rattle.kept.specs.Does.{Tells, Turns, Did, Acts}
 use Rattle.kept.specs.declared.Room.the-variants.{Made, Full}
 use Rattle.kept.proofs.ListLaws.{below-append, length-more}
@@ -47,7 +46,7 @@ module _ (x q : ℕ) {t : List ℕ} (g : Good t) (fs : Fields) where
             ∙ sym (map-append (λ (c : Record). c .literal) (s .lazy) (r ∷ [])));
       }
 
-  pub lazy-made : {t' : List ℕ} → x < 281474976710656 → q < 65536 → rows (tableOf lazies) t' ≡ rows (tableOf lazies) t ++ ((x, q) ∷ []) →
+  pub lazy-made : {t' : List ℕ} → x < id-limit → q < 65536 → rows (tableOf lazies) t' ≡ rows (tableOf lazies) t ++ ((x, q) ∷ []) →
       held lazies t < 1024 → Only (tableOf lazies) t t' → Acts (addLazy (record { literal = idOf x; specifiers = fs })) t t' Made
   lazy-made a b e n o =
       let m = length-more (rows (tableOf lazies) t) (x, q) in
@@ -69,6 +68,10 @@ module _ (x q : ℕ) {t : List ℕ} (g : Good t) (fs : Fields) where
   pub lazy-full : 1024 ≤ held lazies t → Acts (addLazy (record { literal = idOf x; specifiers = fs })) t t Full
   lazy-full n =
       record { good = g; made = λ r s p w. absurd (let z : _≡_ {A = ℕ} 0 1 = cc in omega arith); full = λ r s p w. lazy-refused n s p w }
+
+pub lazy-placed : (x q : ℕ) (t t' : List ℕ) → rows (tableOf lazies) t' ≡ rows (tableOf lazies) t ++ ((x, q) ∷ []) → placesIn t' ≡ placesIn t ++ (q ∷ [])
+unfolding placesIn
+lazy-placed x q t t' e = ap (map (λ (r : Row). r .1)) e ∙ map-append (λ (r : Row). r .1) (rows (tableOf lazies) t) ((x, q) ∷ [])
 
 -- ---- Top
 
@@ -111,6 +114,10 @@ top-set {t} b g =
   where
     same : (k : Kind) → rows (tableOf k) (set t top-cell (flag b)) ≡ rows (tableOf k) t
     same k = apart-rows (apart-by top-table (tableOf k) (top-apart k)) (store-count top-table t (flag b)) (g .lies k)
+
+pub top-places : {t : List ℕ} (b : Bool) → Good t → placesIn (set t top-cell (flag b)) ≡ placesIn t
+unfolding placesIn
+top-places {t} b g = ap (map (λ (r : Row). r .1)) (apart-rows (apart-by top-table (tableOf lazies) (top-apart lazies)) (store-count top-table t (flag b)) (g .lies lazies))
 
 -- ---- An array of zeros shows the state at the start, but for top
 

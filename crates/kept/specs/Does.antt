@@ -1,10 +1,10 @@
 -- What a function on the array does to the state of the rules that the array shows: it tells something of it, changes it, or acts by a rule.
-use Prim.Native.Nat.{ℕ, zero, suc, _<_}
+use Prim.Native.Nat.{ℕ, zero, suc, _+_, _<_}
 use mathlib.Core.Path.{_≡_}
 use mathlib.Core.List.{List, [], _∷_, map}
 use mathlib.Core.Bool.{Bool, true, false}
 use mathlib.Core.Option.{Option, none as nothing, some}
-use lib.ListN.{getD}
+use lib.ListN.{getD, drop}
 use Rattle.tables.specs.Rows.{rows}
 use Rattle.lent.specs.Lists.{mapped, among}
 use Rattle.lent.specs.Fields.{has}
@@ -12,13 +12,16 @@ use Rattle.lent.specs.Outcome.{Outcome, done, refused}
 use Rattle.tree.specs.Layout.{two, four, valueOf}
 use Rattle.tree.specs.Tree.{Field, Fields, none, more, fixedOf}
 use Rattle.metadata.specs.Metadata.{append}
-use Rattle.extraction_rules.specs.State.{Record, State, Act, setCollected}
+use Rattle.extraction_rules.specs.State.{Record, Usage, State, Act, setCollected}
 use Rattle.extraction_rules.specs.First.{collect}
-use Rattle.kept.specs.Kept.{records, tableOf, held, Good, idOf, Shows}
+use Rattle.extraction_rules.specs.Second.{usagesOf}
+use Rattle.kept.specs.Kept.{id-limit, records, tableOf, held, Good, idOf, Shows}
 use Rattle.kept.specs.declared.Context.{Context}
 use Rattle.kept.specs.declared.Context.the-variants.{Of, Nowhere}
 use Rattle.kept.specs.declared.Source.{Source}
 use Rattle.kept.specs.declared.Source.the-variants.{From, Nothing}
+use Rattle.kept.specs.declared.Property.{Property}
+use Rattle.kept.specs.declared.Property.the-variants.{Is, Other}
 use Rattle.kept.specs.declared.Place.{Place}
 use Rattle.kept.specs.declared.Place.the-variants.{Index, NoRoom}
 use Rattle.kept.specs.declared.Room.{Room}
@@ -44,6 +47,17 @@ pub record Acts (act : ℕ → Act (Unit {0})) (t t' : List ℕ) (r : Room) : Ty
   pub good : Good t'
   pub made : r ≡ Made → (s : State) (p : ℕ) → Shows t s → Did (act p s) t'
   pub full : r ≡ Full → (s : State) (p : ℕ) → Shows t s → act p s ≡ refused 8 p
+
+-- ---- Usages
+
+abbrev pub listed : List ℕ → Property → List Usage → List Usage
+listed x (Is q) l = record { id = x; property = idOf q } ∷ l
+listed x Other l = l
+
+-- the usages of an id from a place on, by what stands at that place
+pub record Lists (x : List ℕ) (i : ℕ) (t : List ℕ) (r : Property) : Type 0 where
+  pub small : (q : ℕ) → r ≡ Is q → q < id-limit
+  pub is : (s : State) → Shows t s → usagesOf x (drop i (s .usages)) ≡ listed x r (usagesOf x (drop (i + 1) (s .usages)))
 
 -- ---- Records
 

@@ -36,18 +36,22 @@ top-cell = 6
 abbrev pub cells : ℕ
 cells = 15481
 
+-- an id, a literal or a property in one number: 2^48
+abbrev pub id-limit : ℕ
+id-limit = 281474976710656
+
 -- keys and values of each table are below these
 abbrev pub keyLimit : Kind → ℕ
-keyLimit imports = 281474976710656
-keyLimit uses = 281474976710656
-keyLimit records = 281474976710656
-keyLimit namespaces = 281474976710656
-keyLimit lazies = 281474976710656
+keyLimit imports = id-limit
+keyLimit uses = id-limit
+keyLimit records = id-limit
+keyLimit namespaces = id-limit
+keyLimit lazies = id-limit
 keyLimit forces = 65536
 
 abbrev pub valueLimit : Kind → ℕ
 valueLimit imports = 4294967296
-valueLimit uses = 281474976710656
+valueLimit uses = id-limit
 valueLimit records = 281474976710657
 valueLimit namespaces = 256
 valueLimit lazies = 65536
@@ -121,12 +125,16 @@ literalOf r = idOf (r .0)
 abbrev pub atomOf : Row → List ℕ
 atomOf r = two (r .0)
 
+-- where the patterns of the lazy records stand
+unfoldable pub placesIn : List ℕ → List ℕ
+placesIn t = map (λ r. r .1) (rows (tableOf lazies) t)
+
 -- of a record the array shows its literal, its first namespace, and, with the namespaces met, which record is the first to hold one
 pub record Shows (t : List ℕ) (s : State) : Type 0 where
   pub imported : map importedOf (rows (tableOf imports) t) ≡ s .imported
   pub usages : map usageOf (rows (tableOf uses) t) ≡ s .usages
   pub collected : map briefOf (rows (tableOf records) t) ≡ map brief (s .collected)
-  pub holders : (n : ℕ) → n < 281474976710656 → leastOf n (rows (tableOf namespaces) t) ≡ indexOf (holdsNamespace (idOf n)) (s .collected)
+  pub holders : (n : ℕ) → n < id-limit → leastOf n (rows (tableOf namespaces) t) ≡ indexOf (holdsNamespace (idOf n)) (s .collected)
   pub met : held namespaces t ≡ namespacesIn (s .collected)
   pub lazy : map literalOf (rows (tableOf lazies) t) ≡ map (λ r. r .literal) (s .lazy)
   pub forced : map atomOf (rows (tableOf forces) t) ≡ s .forced

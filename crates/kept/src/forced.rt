@@ -1,9 +1,10 @@
 // Forced sources, first forced first, and the rule that forces an id.
+ghost use mathlib.Core.Path.{_≡_};
 ghost use Prim.Native.Nat.{_<_};
 ghost use Rattle.tree.specs.Layout.{two};
 ghost use Rattle.lent.specs.Lists.{among};
 ghost use Rattle.extraction_rules.specs.First.{forceSource, forceId};
-ghost use Rattle.kept.specs.Kept.{Good, idOf};
+ghost use Rattle.kept.specs.Kept.{placesIn, id-limit, Good, idOf};
 ghost use Rattle.kept.specs.Does.{Tells, Turns, Sources, Forcible};
 use crate::FORCES;
 use crate::Source;
@@ -28,7 +29,7 @@ pub fn is_forced(t: &[u64], source: Atom) -> bool
 // The source of a record is forced.
 pub fn force_source(t: &mut [u64], source: Atom)
     requires { ⌜ Good (now t) × Forcible (two (source .0)) (now t) ⌝ }
-    ensures { λ _. ⌜ Turns (forceSource (two (source .0))) (now (t .entry)) (now (t .exit)) ⌝ }
+    ensures { λ _. ⌜ Turns (forceSource (two (source .0))) (now (t .entry)) (now (t .exit)) × (placesIn (now (t .exit)) ≡ placesIn (now (t .entry))) ⌝ }
 {
     if is_forced(t, source) {
         return;
@@ -38,8 +39,8 @@ pub fn force_source(t: &mut [u64], source: Atom)
 
 // An id is forced: it is forgotten, and the source of the first record that holds it as a namespace is forced.
 pub fn force_id(t: &mut [u64], id: u64)
-    requires { ⌜ Good (now t) × Sources (now t) × (id < 281474976710656) ⌝ }
-    ensures { λ _. ⌜ Turns (forceId (idOf id)) (now (t .entry)) (now (t .exit)) ⌝ }
+    requires { ⌜ Good (now t) × Sources (now t) × (id < id-limit) ⌝ }
+    ensures { λ _. ⌜ Turns (forceId (idOf id)) (now (t .entry)) (now (t .exit)) × (placesIn (now (t .exit)) ≡ placesIn (now (t .entry))) ⌝ }
 {
     forget(t, id);
     let Source::From(source) = holder(t, id) else {

@@ -62,6 +62,12 @@ pub enum Room {
     Full,
 }
 
+// The property of a usage, if it is one of the id that is asked for.
+pub enum Property {
+    Is(u64),
+    Other,
+}
+
 // The place of a record, or no room for it.
 pub enum Place {
     Index(usize),

@@ -5,7 +5,7 @@ ghost use Prim.Native.Nat.{ℕ, _<_};
 ghost use Rattle.tables.specs.Rows.{placeBy};
 ghost use Rattle.lent.specs.Lists.{find, mapped};
 ghost use Rattle.extraction_rules.specs.First.{usedRecord, holdsNamespace};
-ghost use Rattle.kept.specs.Kept.{Good, Shown, idOf, records, namespaces, held};
+ghost use Rattle.kept.specs.Kept.{placesIn, id-limit, Good, Shown, idOf, records, namespaces, held};
 ghost use Rattle.kept.specs.Does.{Tells, sourceBy, sourceOf, sourceAt, Collects, Extends};
 use crate::NAMESPACES;
 use crate::Place;
@@ -29,7 +29,7 @@ fn source_at(t: &[u64], found: Found) -> Source
 
 // The source of the record that a usage of an id belongs to: an id in the own local context is found by its name alone.
 pub fn used_record(t: &[u64], own: ModuleId, id: u64) -> Source
-    requires { ⌜ Good (now t) × (id < 281474976710656) ⌝ }
+    requires { ⌜ Good (now t) × (id < id-limit) ⌝ }
     ensures { λ r. ⌜ Tells (λ s. sourceOf (usedRecord (own .0) (idOf id) (s .collected))) (now (t .entry)) (sourceBy r) ⌝ }
 {
     let context = id % 4294967296;
@@ -45,7 +45,7 @@ pub fn used_record(t: &[u64], own: ModuleId, id: u64) -> Source
 
 // The source of the first record that holds a namespace.
 pub fn holder(t: &[u64], id: u64) -> Source
-    requires { ⌜ Good (now t) × Shown (now t) × (id < 281474976710656) ⌝ }
+    requires { ⌜ Good (now t) × Shown (now t) × (id < id-limit) ⌝ }
     ensures { λ r. ⌜ Tells (λ s. sourceOf (find (holdsNamespace (idOf id)) (s .collected))) (now (t .entry)) (sourceBy r) ⌝ }
 {
     let least = tables::least_value(t, NAMESPACES, id);
@@ -57,8 +57,8 @@ pub fn holder(t: &[u64], id: u64) -> Source
 
 // The record of a literal's value, or a new one.
 pub fn collect(t: &mut [u64], literal: u64) -> Place
-    requires { ⌜ Good (now t) × (literal < 281474976710656) ⌝ }
-    ensures { λ r. ⌜ Collects (idOf literal) (now (t .entry)) (now (t .exit)) r ⌝ }
+    requires { ⌜ Good (now t) × (literal < id-limit) ⌝ }
+    ensures { λ r. ⌜ Collects (idOf literal) (now (t .entry)) (now (t .exit)) r × (placesIn (now (t .exit)) ≡ placesIn (now (t .entry))) ⌝ }
 {
     let low = literal - literal % 4294967296;
     let found = tables::find(t, RECORDS, low, low + 4294967295);
@@ -78,8 +78,8 @@ pub fn collect(t: &mut [u64], literal: u64) -> Place
 
 // A record gets a namespace more.
 pub fn add_namespace(t: &mut [u64], i: usize, id: u64)
-    requires { ⌜ Good (now t) × (i < held records (now t)) × (held namespaces (now t) < 3641) × (id < 281474976710656) ⌝ }
-    ensures { λ _. ⌜ Extends i (idOf id) (now (t .entry)) (now (t .exit)) ⌝ }
+    requires { ⌜ Good (now t) × (i < held records (now t)) × (held namespaces (now t) < 3641) × (id < id-limit) ⌝ }
+    ensures { λ _. ⌜ Extends i (idOf id) (now (t .entry)) (now (t .exit)) × (placesIn (now (t .exit)) ≡ placesIn (now (t .entry))) ⌝ }
 {
     tables::push(t, NAMESPACES, id, i as u64);
     if tables::value_of(t, RECORDS, i) == 0 {

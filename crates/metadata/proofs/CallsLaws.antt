@@ -27,7 +27,7 @@ use Rattle.tree.specs.Read.{Reading, fine, refused, mapped, verdict, read}
 use Rattle.tree.specs.Standing.{rowOn, row, rowAt}
 use Rattle.tree.specs.Within.{Exact, FormedAll, Within}
 use Rattle.tree.proofs.TreeLaws.{depth-parts}
-use Rattle.tree.proofs.ReadLaws.{mapped-fine, fine-inj}
+use Rattle.tree.proofs.ReadLaws.{mapped-fine, fine-inj, good-fine, verdict-mapped, verdict-refused}
 use Rattle.tree.proofs.StandingLaws.{read-standing}
 use Rattle.tree.proofs.SoundLaws.{read-sound}
 use Rattle.metadata.specs.declared.Encoded.the-variants.{Done, Broken, NoRoom}
@@ -111,10 +111,6 @@ module _ (s : List ℕ) where
 
 -- ---- The verdict on them
 
-verdict-mapped : {A B : Type 0} (f : A → B) (r : Reading A) → verdict (mapped f r) ≡ verdict r
-verdict-mapped f (fine a) = refl
-verdict-mapped f (refused w p) = refl
-
 pub lent-empty : (s : List ℕ) → length s ≡ 0 → verdict (lent s) ≡ Good
 unfolding lent
 lent-empty s e = rw (eq-eqb (length s) 0 e)
@@ -122,15 +118,6 @@ lent-empty s e = rw (eq-eqb (length s) 0 e)
 pub lent-read : (s : List ℕ) → (length s ≡ 0 → ⊥) → verdict (lent s) ≡ verdict (read Attributes s)
 unfolding lent
 lent-read s e = rw (ne-eqb (length s) 0 e) (verdict-mapped attributesIn (read Attributes s))
-
--- by the verdict: what was lent, or the same refusal
-pub good-fine : {A : Type 0} (r : Reading A) → verdict r ≡ Good → (a : A) × (r ≡ fine a)
-good-fine (fine a) e = (a, refl)
-good-fine (refused w p) e = absurd (let z : _≡_ {A = ℕ} 0 1 = cc in omega arith)
-
-pub refused-same : {A : Type 0} (r : Reading A) (w : Why) (p : ℕ) → verdict r ≡ Refused w p → r ≡ refused w p
-refused-same (fine a) w p e = absurd (let z : _≡_ {A = ℕ} 0 1 = cc in omega arith)
-refused-same (refused v q) w p e = cc
 
 -- ---- The calls, by the verdict
 
@@ -143,13 +130,13 @@ module _ (s : List ℕ) where
 
   pub decode-refused : (w : Why) (p : ℕ) → verdict (lent s) ≡ Refused w p → refused w p ≡ decodeCall s
   unfolding decodeCall
-  decode-refused w p v = sym (ap (mapped decode) (refused-same (lent s) w p v))
+  decode-refused w p v = sym (ap (mapped decode) (verdict-refused (lent s) v))
 
   module _ (m : Metadata) where
     pub encode-refused : {l k : List ℕ} → k ≡ zeroed l → (w : Why) (p : ℕ) → verdict (lent s) ≡ Refused w p → Encoding m s l (Broken w p) k
     unfolding encodeAnswer encodeOut answerOn outOn zeroed
     encode-refused {l} z w p v =
-        let e = refused-same (lent s) w p v in
+        let e = verdict-refused (lent s) v in
         record {
           answer = sym (ap (λ (r : Reading Fields). answerOn r m (length l)) e);
           buffer = z ∙ sym (ap (λ (r : Reading Fields). outOn r m (length l)) e);

@@ -102,7 +102,7 @@ abbrev pub after : Verdict → Verdict → Verdict
 after Good v = v
 after (Refused w p) v = Refused w p
 
-verdict-mapped : {A B : Type 0} (f : A → B) (r : Reading A) → verdict (mapped f r) ≡ verdict r
+pub verdict-mapped : {A B : Type 0} (f : A → B) (r : Reading A) → verdict (mapped f r) ≡ verdict r
 verdict-mapped f (fine a) = refl
 verdict-mapped f (refused w p) = refl
 
@@ -219,3 +219,7 @@ read-children root s fs e = read-by (eqb (length s) 0) (childrenAt s 0 (length s
 pub good-fine : {A : Type 0} (r : Reading A) → verdict r ≡ Good → (a : A) × (r ≡ fine a)
 good-fine (fine a) e = (a, refl)
 good-fine (refused w p) e = absurd (let z : _≡_ {A = ℕ} 0 1 = cc in omega arith)
+
+pub verdict-refused : {A : Type 0} (r : Reading A) {w : Why} {p : ℕ} → verdict r ≡ Refused w p → r ≡ refused w p
+verdict-refused (fine a) e = absurd (let z : _≡_ {A = ℕ} 0 1 = cc in omega arith)
+verdict-refused (refused v o) e = cc

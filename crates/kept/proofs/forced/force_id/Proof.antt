@@ -1,5 +1,5 @@
 -- `kept::forced::force_id` meets its contract.
-use mathlib.Core.Path.{ap, subst}
+use mathlib.Core.Path.{_∙_, ap, subst}
 use Rattle.lent.specs.Lists.{find}
 use Rattle.extraction_rules.specs.First.{holdsNamespace}
 use Rattle.kept.specs.Kept.{idOf}
@@ -7,13 +7,14 @@ use Rattle.kept.specs.Does.{Tells, sourceOf, sourceBy}
 use Rattle.kept.proofs.ForcedLaws.{forgotten-shown, forgotten-forcible, forced-none, forced-some}
 use borrow.Author.Needs.{needs}
 use Rattle.kept.proofs.forced.force_id.Statement.{statement}
+-- `kept::forced::force_id` meets its contract.
 use Rattle.kept.proofs.forced.force_id.Tie as tie
 
 forget-requires : tie.Need-forget-requires
 forget-requires c κs = search needs
 
 holder-requires : tie.Need-holder-requires
-holder-requires c κs = (c .before .before .before .forget .ensures .good, forgotten-shown (idOf (c .before .before .before .before .before .before .args .id)) (c .before .before .before .forget .ensures) (c .before .before .before .before .before .before .pre .1), c .before .before .before .before .before .before .pre .2)
+holder-requires c κs = (c .before .before .before .forget .ensures .0 .good, forgotten-shown (idOf (c .before .before .before .before .before .before .args .id)) (c .before .before .before .forget .ensures .0) (c .before .before .before .before .before .before .pre .1), c .before .before .before .before .before .before .pre .2)
 
 enum-known-source : tie.Need-enum-known-source
 enum-known-source c = search needs
@@ -25,16 +26,16 @@ same-length : tie.Need-same-length
 same-length c = search needs
 
 returns : tie.Need-returns
-returns c = forced-none (idOf (c .before .before .before .before .before .before .before .before .before .args .id)) (c .before .before .before .before .before .before .forget .ensures) (subst (Tells (λ s. sourceOf (find (holdsNamespace (idOf (c .before .before .before .before .before .before .before .before .before .args .id))) (s .collected))) (c .before .before .before .before .before .before .forget .last .0)) (ap sourceBy (c .enum-told .given .1)) (c .before .before .holder .ensures))
+returns c = (forced-none (idOf (c .before .before .before .before .before .before .before .before .before .args .id)) (c .before .before .before .before .before .before .forget .ensures .0) (subst (Tells (λ s. sourceOf (find (holdsNamespace (idOf (c .before .before .before .before .before .before .before .before .before .args .id))) (s .collected))) (c .before .before .before .before .before .before .forget .last .0)) (ap sourceBy (c .enum-told .given .1)) (c .before .before .holder .ensures)), c .before .before .before .before .before .before .forget .ensures .1)
 
 force-source-requires : tie.Need-force-source-requires
-force-source-requires c κs = (c .before .before .before .before .before .before .before .before .forget .ensures .good, forgotten-forcible (idOf (c .before .before .before .before .before .before .before .before .before .before .before .args .id)) (c .before .before .before .before .before .before .before .before .forget .ensures) (c .before .before .before .before .before .before .before .before .before .before .before .pre .1) (subst (Tells (λ s. sourceOf (find (holdsNamespace (idOf (c .before .before .before .before .before .before .before .before .before .before .before .args .id))) (s .collected))) (c .before .before .before .before .before .before .before .before .forget .last .0)) (ap sourceBy (c .before .before .source .given .1)) (c .before .before .before .before .holder .ensures)))
+force-source-requires c κs = (c .before .before .before .before .before .before .before .before .forget .ensures .0 .good, forgotten-forcible (idOf (c .before .before .before .before .before .before .before .before .before .before .before .args .id)) (c .before .before .before .before .before .before .before .before .forget .ensures .0) (c .before .before .before .before .before .before .before .before .before .before .before .pre .1) (subst (Tells (λ s. sourceOf (find (holdsNamespace (idOf (c .before .before .before .before .before .before .before .before .before .before .before .args .id))) (s .collected))) (c .before .before .before .before .before .before .before .before .forget .last .0)) (ap sourceBy (c .before .before .source .given .1)) (c .before .before .before .before .holder .ensures)))
 
 same-length-2 : tie.Need-same-length-2
 same-length-2 c = search needs
 
 returns-2 : tie.Need-returns-2
-returns-2 c = forced-some (idOf (c .before .before .before .before .before .before .before .before .before .before .before .before .before .before .args .id)) (c .before .before .before .before .before .before .before .before .before .before .before .forget .ensures) (subst (Tells (λ s. sourceOf (find (holdsNamespace (idOf (c .before .before .before .before .before .before .before .before .before .before .before .before .before .before .args .id))) (s .collected))) (c .before .before .before .before .before .before .before .before .before .before .before .forget .last .0)) (ap sourceBy (c .before .before .before .before .before .source .given .1)) (c .before .before .before .before .before .before .before .holder .ensures)) (c .before .before .force-source .ensures)
+returns-2 c = (forced-some (idOf (c .before .before .before .before .before .before .before .before .before .before .before .before .before .before .args .id)) (c .before .before .before .before .before .before .before .before .before .before .before .forget .ensures .0) (subst (Tells (λ s. sourceOf (find (holdsNamespace (idOf (c .before .before .before .before .before .before .before .before .before .before .before .before .before .before .args .id))) (s .collected))) (c .before .before .before .before .before .before .before .before .before .before .before .forget .last .0)) (ap sourceBy (c .before .before .before .before .before .source .given .1)) (c .before .before .before .before .before .before .before .holder .ensures)) (c .before .before .force-source .ensures .0), c .before .before .force-source .ensures .1 ∙ c .before .before .before .before .before .before .before .before .before .before .before .forget .ensures .1)
 
 pub force-id-spec : {M : Type 1} → statement M
 force-id-spec =

@@ -1,0 +1,110 @@
+-- In every state of the rules forced sources are sources of collected records, each once.
+use Prim.Native.Nat.{ℕ}
+use native.Mathlib.Omega.{arith}
+use mathlib.Core.Path.{_≡_, refl, sym, ap, _∙_}
+use mathlib.Core.Bool.{Bool, true, false, cond, _||_}
+use mathlib.Core.List.{List, [], _∷_, _++_, map}
+use mathlib.Core.Option.{Option, none as nothing, some}
+use Rattle.scope.specs.Modules.{Modules}
+use Rattle.tree.specs.Layout.{same, valueOf, sameLiteral}
+use Rattle.tree.specs.Tree.{Fields}
+use Rattle.tree.proofs.LayoutLaws.{same-refl, same-equal}
+use Rattle.metadata.specs.Metadata.{append}
+use Rattle.lent.specs.Lists.{find, among}
+use Rattle.extraction_rules.specs.State.{Record, State, start, setForced, setCollected}
+use Rattle.extraction_rules.specs.First.{holdsNamespace, forceSource, forceHolder, forget, forceId, collectIn}
+use Rattle.extraction_rules.specs.Second.{extend}
+use Rattle.kept.specs.Does.{sourceOf, sourcesIn, Once, Sourced}
+use Rattle.kept.proofs.ForcedLaws.{find-among}
+
+pub sourced-start : (ms : Modules) → Sourced (start ms)
+unfolding Once among
+sourced-start ms = record { once = tt; from = λ a e. absurd (let z : _≡_ {A = ℕ} 0 1 = cc in omega arith) }
+
+-- ---- A source is forced
+
+among-more : (b a : List ℕ) (l : List (List ℕ)) → among b (l ++ (a ∷ [])) ≡ (among b l || same b a)
+unfolding among
+among-more b a [] = by (same b a)
+  where
+    by : (x : Bool) → (x || false) ≡ x
+    by true = refl
+    by false = refl
+among-more b a (c ∷ l) = by (same b c) (among-more b a l)
+  where
+    by : (x : Bool) → among b (l ++ (a ∷ [])) ≡ (among b l || same b a) → (x || among b (l ++ (a ∷ []))) ≡ ((x || among b l) || same b a)
+    by true e = refl
+    by false e = e
+
+or-false : (x y : Bool) → (x || y) ≡ false → (x ≡ false) × (y ≡ false)
+or-false true y e = absurd (let z : _≡_ {A = ℕ} 0 1 = cc in omega arith)
+or-false false y e = (refl, e)
+
+same-swap : (a b : List ℕ) → same a b ≡ false → same b a ≡ false
+same-swap a b e = by (same b a) refl
+  where
+    by : (x : Bool) → same b a ≡ x → x ≡ false
+    by true p = sym (same-refl a) ∙ ap (same a) (sym (same-equal b a p)) ∙ e
+    by false p = refl
+
+once-more : (a : List ℕ) (l : List (List ℕ)) → Once l → among a l ≡ false → Once (l ++ (a ∷ []))
+unfolding Once among
+once-more a [] o e = (refl, tt)
+once-more a (b ∷ l) o e =
+    let h = or-false (same a b) (among a l) e in
+    (among-more b a l ∙ ap (λ (x : Bool). x || same b a) (o .0) ∙ same-swap a b (h .0), once-more a l (o .1) (h .1))
+
+pub sourced-force : (a : List ℕ) {s : State} → Sourced s → among a (sourcesIn (s .collected)) ≡ true → Sourced (forceSource a s)
+unfolding forceSource
+sourced-force a {s} k h = by (among a (s .forced)) refl
+  where
+    from : (c : List ℕ) (x : Bool) → same c a ≡ x → (y : Bool) → among c (s .forced) ≡ y → (y || x) ≡ true → among c (sourcesIn (s .collected)) ≡ true
+    from c x p true q e = k .from c q
+    from c true p false q e = ap (λ (z : List ℕ). among z (sourcesIn (s .collected))) (same-equal c a p) ∙ h
+    from c false p false q e = absurd (let z : _≡_ {A = ℕ} 0 1 = cc in omega arith)
+
+    by : (b : Bool) → among a (s .forced) ≡ b → Sourced (cond b s (setForced (s .forced ++ (a ∷ [])) s))
+    by true e = k
+    by false e =
+        record {
+          once = once-more a (s .forced) (k .once) e;
+          from = λ c f. from c (same c a) refl (among c (s .forced)) refl (sym (among-more c a (s .forced)) ∙ f);
+        }
+
+pub sourced-force-id : (i : List ℕ) {s : State} → Sourced s → Sourced (forceId i s)
+unfolding forceId forget
+sourced-force-id i {s} k = by (find (holdsNamespace i) (s .collected)) refl
+  where
+    kept : Sourced (forget i s)
+    kept = record { once = k .once; from = k .from }
+
+    by : (o : Option Record) → find (holdsNamespace i) (s .collected) ≡ o → Sourced (forceHolder o (forget i s))
+    by nothing e = kept
+    by (some r) e = sourced-force (valueOf (r .literal)) kept (find-among (holdsNamespace i) (s .collected) (valueOf (r .literal)) (ap sourceOf (sym e)))
+
+-- ---- Records that change keep their sources
+
+pub sourced-collected : {s : State} {x : List Record} → Sourced s → ((a : List ℕ) → among a (sourcesIn (s .collected)) ≡ true → among a (sourcesIn x) ≡ true) →
+    Sourced (setCollected x s)
+sourced-collected k h = record { once = k .once; from = λ a e. h a (k .from a e) }
+
+pub collect-sources : (r : Record) (l : List Record) (a : List ℕ) → among a (sourcesIn l) ≡ true → among a (sourcesIn (collectIn r l)) ≡ true
+unfolding collectIn among
+collect-sources r [] a e = absurd (let z : _≡_ {A = ℕ} 0 1 = cc in omega arith)
+collect-sources r (q ∷ l) a e = by (same (valueOf (q .literal)) (valueOf (r .literal))) (same a (valueOf (q .literal))) refl (collect-sources r l a) e
+  where
+    by : (x y : Bool) → same a (valueOf (q .literal)) ≡ y → (among a (sourcesIn l) ≡ true → among a (sourcesIn (collectIn r l)) ≡ true) → (y || among a (sourcesIn l)) ≡ true →
+        among a (sourcesIn (cond x (record { literal = q .literal; specifiers = append (q .specifiers) (r .specifiers) } ∷ l) (q ∷ collectIn r l))) ≡ true
+    by true y p h f = ap (λ (b : Bool). b || among a (sourcesIn l)) p ∙ f
+    by false true p h f = ap (λ (b : Bool). b || among a (sourcesIn (collectIn r l))) p
+    by false false p h f = ap (λ (b : Bool). b || among a (sourcesIn (collectIn r l))) p ∙ h f
+
+pub extend-sources : (x : List ℕ) (fs : Fields) (l : List Record) → sourcesIn (map (extend x fs) l) ≡ sourcesIn l
+unfolding extend
+extend-sources x fs [] = refl
+extend-sources x fs (r ∷ l) = by (sameLiteral (r .literal) x) (extend-sources x fs l)
+  where
+    by : (b : Bool) → sourcesIn (map (extend x fs) l) ≡ sourcesIn l →
+        valueOf ((cond b (record { literal = r .literal; specifiers = append (r .specifiers) fs }) r) .literal) ∷ sourcesIn (map (extend x fs) l) ≡ valueOf (r .literal) ∷ sourcesIn l
+    by true e = ap (λ (m : List (List ℕ)). valueOf (r .literal) ∷ m) e
+    by false e = ap (λ (m : List (List ℕ)). valueOf (r .literal) ∷ m) e

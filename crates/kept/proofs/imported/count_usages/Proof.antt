@@ -1,0 +1,14 @@
+-- `kept::imported::count_usages` meets its contract.
+use Rattle.kept.specs.Kept.{uses}
+use Rattle.kept.proofs.UsageLaws.{usages-counted}
+use Rattle.kept.proofs.imported.count_usages.Statement.{statement}
+use Rattle.kept.proofs.imported.count_usages.Tie as tie
+
+count-of-requires : tie.Need-count-of-requires
+count-of-requires c κs = c .before .pre .lies uses
+
+returns : tie.Need-returns
+returns c = (usages-counted (c .count-of .ensures .0), c .count-of .ensures .0)
+
+pub count-usages-spec : {M : Type 1} → statement M
+count-usages-spec = tie.close (tie.spec count-of-requires returns)
