@@ -17,9 +17,9 @@ use Rattle.tree.specs.declared.grammar.Fit.the-variants.{Stay, Used, Over, No}
 use Rattle.tree.specs.declared.grammar.Step.{Step}
 use Rattle.tree.specs.declared.grammar.Step.the-variants.{Go}
 use Rattle.tree.specs.Grammar.{within, holdsAt, find, parts0, parts1, parts3, parts4, statements, patterns, expressions, others, ruleOf, slotAt, restOf, onFit, stepBy, stepAt}
-use Rattle.tree.proofs.Table.{passes, find-passes}
+use Rattle.tree.proofs.Table.{passes, find-passes, both-true}
 use Rattle.tree.proofs.GrammarLaws.{no-step, maybe-slot, many-slot}
-use Rattle.extraction_rules.proofs.TestLaws.{and-both, or-neither}
+use Rattle.extraction_rules.proofs.TestLaws.{or-neither}
 
 -- ---- Sets in a rule
 

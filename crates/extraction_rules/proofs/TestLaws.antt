@@ -2,10 +2,6 @@
 use mathlib.Core.Path.{_≡_, refl, sym}
 use mathlib.Core.Bool.{Bool, true, false, cond, _&&_, _||_, true≢false}
 
-pub and-both : (a b : Bool) → a && b ≡ true → (a ≡ true) × (b ≡ true)
-and-both true b e = (refl, e)
-and-both false b e = absurd (true≢false (sym e))
-
 pub or-neither : (a b : Bool) → a || b ≡ false → (a ≡ false) × (b ≡ false)
 or-neither true b e = absurd (true≢false e)
 or-neither false b e = (refl, e)

@@ -7,6 +7,7 @@ use mathlib.Core.Option.{Option, none as nothing, some}
 use native.Mathlib.Omega.{arith}
 use lib.Dec.{eqb}
 use borrow.Author.Tests.{eqb-true}
+use Rattle.tree.proofs.Table.{both-true}
 use Rattle.scope.specs.Id.{require-atom}
 use Rattle.tree.specs.Layout.{same, two, nameOf, valueOf}
 use Rattle.tree.specs.Tree.{Field, field, Fields, none, more, tagOf, fixedOf}
@@ -16,7 +17,6 @@ use Rattle.extraction_rules.specs.State.{Record, State, Pass, first, sec
 use Rattle.extraction_rules.specs.First.{moduleFor, onIdent, usage, argument, notExternal, required, withCallee, markCjs, markRequired, collect, addLazy, require, bindings, requireLazily, declarator}
 use Rattle.extraction_rules.specs.Walk.{afterExpression}
 use Rattle.extraction_rules.proofs.OutcomeLaws.{After, after-bind, after-if}
-use Rattle.extraction_rules.proofs.TestLaws.{and-both}
 
 pub after-any : {A : Type 0} (m : Outcome (A × State)) → After m (λ a s. Unit {0})
 after-any (done r) = tt
@@ -31,9 +31,9 @@ required-call e t x c gs l q = go (e .config .require && eqb t 0x65 && has 0x60 
     go : (b : Bool) → e .config .require && eqb t 0x65 && has 0x60 c && same (nameOf (fixedOf c)) (two require-atom) ≡ b →
         cond b (notExternal e (argument (sole gs))) nothing ≡ some l → (t ≡ 0x65) × (tagOf c ≡ 0x60)
     go true w q =
-        let a = and-both (e .config .require && eqb t 0x65 && has 0x60 c) (same (nameOf (fixedOf c)) (two require-atom)) w in
-        let b = and-both (e .config .require && eqb t 0x65) (has 0x60 c) (a .0) in
-        let d = and-both (e .config .require) (eqb t 0x65) (b .0) in
+        let a = both-true (e .config .require && eqb t 0x65 && has 0x60 c) (same (nameOf (fixedOf c)) (two require-atom)) w in
+        let b = both-true (e .config .require && eqb t 0x65) (has 0x60 c) (a .0) in
+        let d = both-true (e .config .require) (eqb t 0x65) (b .0) in
         (eqb-true t 0x65 (d .1), eqb-true (tagOf c) 0x60 (b .1))
     go false w q = absurd (let z : _≡_ {A = ℕ} 0 1 = cc in omega arith)
 

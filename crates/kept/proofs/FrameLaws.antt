@@ -7,6 +7,7 @@ use mathlib.Core.List.{List, map}
 use lib.Dec.{leb, ltb, eqb}
 use lib.ListN.{length, getD}
 use borrow.Author.Tests.{leb-true, ltb-true, eqb-true, eqb-false, not-true}
+use Rattle.tree.proofs.Table.{both-true}
 use Rattle.tables.specs.declared.Table.{Table}
 use Rattle.tables.specs.Rows.{Row, rows, Lies, leastOf}
 use Rattle.tables.specs.Only.{Outside, Only, Apart}
@@ -17,10 +18,6 @@ use Rattle.extraction_rules.specs.First.{holdsNamespace}
 use Rattle.kept.specs.Kept.{Kind, imports, uses, records, namespaces, lazies, forces, tableOf, top-cell, keyLimit, valueLimit, Below, Good, Shows, idOf, importedOf, usageOf, brief, briefOf, indexOf, namespacesIn, placesIn, literalOf, atomOf}
 
 -- ---- Tables apart
-
-both-true : (x y : Bool) → (x && y) ≡ true → (x ≡ true) × (y ≡ true)
-both-true true y e = (refl, e)
-both-true false y e = absurd (let z : _≡_ {A = ℕ} 0 1 = cc in omega arith)
 
 unfoldable pub apart? : Table → Table → Bool
 apart? b c =

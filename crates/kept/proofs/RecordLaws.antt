@@ -8,6 +8,7 @@ use mathlib.Core.Option.{Option, none as nothing, some}
 use lib.Dec.{eqb}
 use lib.ListN.{length, getD, length-map}
 use borrow.Author.Tests.{le-leb, lt-leb, leb-true, eqb-true, eq-eqb, ne-eqb}
+use Rattle.tree.proofs.Table.{both-true}
 use Rattle.scope.specs.Id.{local}
 use Rattle.tables.specs.Rows.{Row, rows, between, flip, firstIn, leastOf}
 use Rattle.tree.specs.Layout.{four, same, nameOf, contextOf, valueOf}
@@ -75,10 +76,6 @@ bools true b f g = sym (f refl)
 bools false true f g = g refl
 bools false false f g = refl
 
-both : (a b : Bool) → (a && b) ≡ true → (a ≡ true) × (b ≡ true)
-both true b e = (refl, e)
-both false b e = absurd (let z : _≡_ {A = ℕ} 0 1 = cc in omega arith)
-
 pub same-name : (m n : ℕ) → m < id-limit → n < id-limit → same (nameOf (idOf m)) (nameOf (idOf n)) ≡ eqb (m / 4294967296) (n / 4294967296)
 same-name m n a b = ap₂ same (id-name m) (id-name n) ∙ same-two (m / 4294967296) (n / 4294967296) (omega arith) (omega arith)
 
@@ -95,7 +92,7 @@ name-range m n =
     let hi : m ≤ n - n % 4294967296 + 4294967295 = omega arith in
     ap₂ _&&_ (le-leb (n - n % 4294967296) m lo) (le-leb m (n - n % 4294967296 + 4294967295) hi))
     (λ e.
-    let h = both _ _ e in
+    let h = both-true _ _ e in
     let lo = leb-true (n - n % 4294967296) m (h .0) in
     let hi = leb-true m (n - n % 4294967296 + 4294967295) (h .1) in
     eq-eqb (m / 4294967296) (n / 4294967296) (omega arith))
@@ -104,12 +101,12 @@ between-suc : (lo hi m : ℕ) → between lo hi m ≡ between (lo + 1) (hi + 1) 
 between-suc lo hi m =
     bools _ _
     (λ e.
-    let h = both _ _ e in
+    let h = both-true _ _ e in
     let p = leb-true lo m (h .0) in
     let q = leb-true m hi (h .1) in
     ap₂ _&&_ (le-leb (lo + 1) (suc m) (omega arith)) (le-leb (suc m) (hi + 1) (omega arith)))
     (λ e.
-    let h = both _ _ e in
+    let h = both-true _ _ e in
     let p = leb-true (lo + 1) (suc m) (h .0) in
     let q = leb-true (suc m) (hi + 1) (h .1) in
     ap₂ _&&_ (le-leb lo m (omega arith)) (le-leb m hi (omega arith)))
@@ -142,7 +139,7 @@ suits-id own id (suc m) o a b e =
     (ap (same (contextOf (idOf id))) (id-context m) ∙ same-context id (m % 4294967296) (omega arith))
     ∙ bools _ _
     (λ f.
-    let h = both _ _ f in
+    let h = both-true _ _ f in
     let p = eqb-true (m / 4294967296) (id / 4294967296) (h .0) in
     let q = eqb-true (id % 4294967296) (m % 4294967296) (h .1) in
     eq-eqb m id (omega arith))
