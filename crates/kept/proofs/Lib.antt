@@ -1,7 +1,8 @@
--- Numbers and the bytes that they stand for (IdLaws); rows and the lists of the rules (ListLaws, IndexLaws); what a change of one table leaves
+-- Numbers and the bytes that they stand for (IdLaws, IdentLaws); rows and the lists of the rules (ListLaws, IndexLaws); what a change of one table leaves
 -- alone (FrameLaws); for each function the array that shows the rule's state (ImportedLaws to RestLaws); and laws on the rules' state for
 -- callers: specifiers one by one (NamespaceLaws, ExtendLaws), forced sources (SourcedLaws), the second pass (SecondLaws).
 pub mod IdLaws
+pub mod IdentLaws
 pub mod ListLaws
 pub mod IndexLaws
 pub mod FrameLaws
