@@ -34,7 +34,7 @@ skip-is at n stop b e = go (leb n (stop - at)) refl e
 
 -- ---- One value of n bytes
 
-plain-is : (n : ℕ) (x : List ℕ) (r : Reach) → skipAt 0 n (length x) ≡ r → thenPiece r x (Plain Empty) (length x) ≡ Upto (length x) → length x ≡ n
+pub plain-is : (n : ℕ) (x : List ℕ) (r : Reach) → skipAt 0 n (length x) ≡ r → thenPiece r x (Plain Empty) (length x) ≡ Upto (length x) → length x ≡ n
 unfolding thenPiece pieceAt valueAt
 plain-is n x Short w e = absurd (no-upto e)
 plain-is n x (Upto b) w e = let a = skip-is 0 n (length x) b w .0 in let c = skip-is b 0 (length x) (length x) e .0 in omega arith

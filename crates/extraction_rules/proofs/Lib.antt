@@ -1,6 +1,8 @@
 -- Laws about the rules of extraction. What every elementary step keeps, the walk keeps (StepLaws, WalkLaws), and so the sanity laws
--- (SanityLaws, RunLaws); the walk keeps the grammar (WithinLaws), so that what a pass leaves can be read (ReadableLaws). The
--- wrapping marks that an accepted call sets are those of its forced sources (MarksLaws).
+-- (SanityLaws, RunLaws); the walk keeps the grammar (WithinLaws), so that what a pass leaves can be read (ReadableLaws), and the
+-- records whole (WholeLaws), so that they are read back (RecordsLaws). The wrapping marks that an accepted call sets are those of
+-- its forced sources (MarksLaws). What an accepted call is made of (CallLaws), that it collects its imports (CollectedLaws), and the
+-- grammar behind the imports (RegularLaws).
 pub mod TestLaws
 pub mod ListLaws
 pub mod OutcomeLaws
@@ -17,3 +19,8 @@ pub mod ShapeLaws
 pub mod WithinLaws
 pub mod ReadableLaws
 pub mod MarksLaws
+pub mod WholeLaws
+pub mod RecordsLaws
+pub mod CallLaws
+pub mod CollectedLaws
+pub mod RegularLaws

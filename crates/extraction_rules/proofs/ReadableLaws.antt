@@ -38,7 +38,7 @@ use Rattle.extraction_rules.proofs.WithinLaws.{Results, Widths, widths-
 
 -- ---- A module's items
 
-item-step : (t : ℕ) (q : Rule) → stepAt (ruleOf 0x01) t ≡ Go q → q ≡ ruleOf 0x01
+pub item-step : (t : ℕ) (q : Rule) → stepAt (ruleOf 0x01) t ≡ Go q → q ≡ ruleOf 0x01
 unfolding ruleOf within
 item-step t q e = only-step Item t q e .1
 
@@ -103,7 +103,7 @@ module-root : holdsAt Module 0x01 ≡ true
 unfolding holdsAt
 module-root = refl
 
-room-size : (n room : ℕ) → hasRoom n room ≡ true → n ≤ 65538
+pub room-size : (n room : ℕ) → hasRoom n room ≡ true → n ≤ 65538
 unfolding hasRoom
 room-size n room h = let a = leb-true n (min 65538 room) h in let b = min-le-left 65538 room in omega arith
 
@@ -120,7 +120,7 @@ items-readable gs room h r = read-complete Module (moduleWith gs) (items-within 
 
 -- ---- A run
 
-start-widths : (ms : Modules) → Widths (start ms)
+pub start-widths : (ms : Modules) → Widths (start ms)
 start-widths ms = (tt, tt)
 
 -- both passes leave items within the grammar
@@ -190,7 +190,7 @@ read-items s bs = go (read Module s) refl
         subst (λ (g : Field). Items (partsOf g)) q (module-items (w .0) (w .2))
     go (unread w p) e = tt
 
-fits-room : (f : Field) (room : ℕ) → Of (fits f room) (λ _. hasRoom (size f) room ≡ true)
+pub fits-room : (f : Field) (room : ℕ) → Of (fits f room) (λ _. hasRoom (size f) room ≡ true)
 unfolding fits
 fits-room f room = go (hasRoom (size f) room)
   where

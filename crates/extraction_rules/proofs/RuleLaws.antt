@@ -141,7 +141,7 @@ either g t true x y p q = p
 either g t false x y p q = q
 
 -- a test that every rule of the table passes
-rule-passes : (g : ℕ → Rule → Bool) (t : ℕ) → passes g statements ≡ true → passes g patterns ≡ true → passes g expressions ≡ true →
+pub rule-passes : (g : ℕ → Rule → Bool) (t : ℕ) → passes g statements ≡ true → passes g patterns ≡ true → passes g expressions ≡ true →
     passes g others ≡ true → g t parts0 ≡ true → g t (ruleOf t) ≡ true
 unfolding ruleOf
 rule-passes g t a b c d k =
@@ -149,11 +149,11 @@ rule-passes g t a b c d k =
     (either g t (within 0x50 0x56 t) _ _ (find-passes g t patterns parts0 b k)
     (either g t (within 0x60 0x6e t) _ _ (find-passes g t expressions parts0 c k) (find-passes g t others parts0 d k)))
 
-or-true : (a b : Bool) → b ≡ true → a || b ≡ true
+pub or-true : (a b : Bool) → b ≡ true → a || b ≡ true
 or-true true b e = refl
 or-true false b e = e
 
-only-by : (a b : Bool) → a || not b ≡ true → a ≡ false → b ≡ false
+pub only-by : (a b : Bool) → a || not b ≡ true → a ≡ false → b ≡ false
 only-by true b e n = absurd (true≢false n)
 only-by false true e n = sym e
 only-by false false e n = refl

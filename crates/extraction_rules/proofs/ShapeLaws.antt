@@ -70,7 +70,7 @@ pub shaped-none : (cs : Fields) → ShapedAll cs parts0 → cs ≡ none
 shaped-none none h = refl
 shaped-none (more f fs) h = absurd (no-step (tagOf f) (h .1))
 
-within-is : (lo hi t : ℕ) → within lo hi t ≡ true → (lo ≤ t) × (t ≤ hi)
+pub within-is : (lo hi t : ℕ) → within lo hi t ≡ true → (lo ≤ t) × (t ≤ hi)
 unfolding within
 within-is lo hi t e = go (leb lo t) (leb t hi) refl refl e
   where
@@ -79,15 +79,15 @@ within-is lo hi t e = go (leb lo t) (leb t hi) refl refl e
     go true false p q e = absurd (true≢false (sym e))
     go false b p q e = absurd (true≢false (sym e))
 
-specifier-is : (t : ℕ) → holdsAt Specifier t ≡ true → (0x20 ≤ t) × (t ≤ 0x22)
+pub specifier-is : (t : ℕ) → holdsAt Specifier t ≡ true → (0x20 ≤ t) × (t ≤ 0x22)
 unfolding holdsAt
 specifier-is t h = within-is 0x20 0x22 t h
 
 -- 'import: L, (20|21|22)*, 2F?'
-abbrev ImportStep : ℕ → Rule → Type 0
+abbrev pub ImportStep : ℕ → Rule → Type 0
 ImportStep t q = ((holdsAt Specifier t ≡ true) × (q ≡ ruleOf 0x10)) ⊎ ((t ≡ 0x2F) × (q ≡ parts0))
 
-import-step : (t : ℕ) (q : Rule) → stepAt (ruleOf 0x10) t ≡ Go q → ImportStep t q
+pub import-step : (t : ℕ) (q : Rule) → stepAt (ruleOf 0x10) t ≡ Go q → ImportStep t q
 unfolding ruleOf within holdsAt
 import-step t q e =
     ⊎-elim (λ w. inl w) (λ w. ⊎-elim (λ v. inr (eqb-true t 0x2F (v .0), v .1)) (λ v. absurd (no-step t v))
@@ -103,7 +103,7 @@ unfolding stepAt stepBy slotAt ruleOf within holdsAt
 attributes-step = refl
 
 -- '2F attributes: 30*.'
-attribute-step : (t : ℕ) (q : Rule) → stepAt (ruleOf 0x2F) t ≡ Go q → (t ≡ 0x30) × (q ≡ ruleOf 0x2F)
+pub attribute-step : (t : ℕ) (q : Rule) → stepAt (ruleOf 0x2F) t ≡ Go q → (t ≡ 0x30) × (q ≡ ruleOf 0x2F)
 unfolding ruleOf within holdsAt
 attribute-step t q e = let w = only-step Attribute t q e in (eqb-true t 0x30 (w .0), w .1)
 
@@ -125,11 +125,11 @@ unfolding ruleOf within
 target-step t q e = let w = step-one Target (One Expression) Nothing Nothing t q e in (target-is t (w .0), w .1)
 
 -- '63 member: object expression, 70|71|72'
-member-first : (t : ℕ) (q : Rule) → stepAt (ruleOf 0x63) t ≡ Go q → q ≡ parts1 (One Member)
+pub member-first : (t : ℕ) (q : Rule) → stepAt (ruleOf 0x63) t ≡ Go q → q ≡ parts1 (One Member)
 unfolding ruleOf within
 member-first t q e = step-one Expression (One Member) Nothing Nothing t q e .1
 
-member-second : (t : ℕ) (q : Rule) → stepAt (parts1 (One Member)) t ≡ Go q → (0x70 ≤ t) × (t ≤ 0x72)
+pub member-second : (t : ℕ) (q : Rule) → stepAt (parts1 (One Member)) t ≡ Go q → (0x70 ≤ t) × (t ≤ 0x72)
 unfolding holdsAt
 member-second t q e = within-is 0x70 0x72 t (step-one Member Nothing Nothing Nothing t q e .0)
 
@@ -222,7 +222,7 @@ attributes-more (more f fs) c h =
           (subst (ShapedAll fs) (w .1) (h .3)),
     )
 
-shaped-parts : (f : Field) (t : ℕ) → Shaped f → tagOf f ≡ t → ShapedAll (partsOf f) (ruleOf t)
+pub shaped-parts : (f : Field) (t : ℕ) → Shaped f → tagOf f ≡ t → ShapedAll (partsOf f) (ruleOf t)
 shaped-parts (field u x cs) t h e = subst (λ (k : ℕ). ShapedAll cs (ruleOf k)) e (h .1)
 
 empty-exact : Exact 0x2F []
@@ -271,7 +271,7 @@ usages-specifiers (u ∷ us) h = (named-specifier (u .property ++ 0 ∷ []) (pro
 
 -- ---- How deep an import is
 
-one-of : (t : ℕ) → 0x20 ≤ t → t ≤ 0x22 → (P : ℕ → Type 0) → P 0x20 → P 0x21 → P 0x22 → P t
+pub one-of : (t : ℕ) → 0x20 ≤ t → t ≤ 0x22 → (P : ℕ → Type 0) → P 0x20 → P 0x21 → P 0x22 → P t
 one-of t a b P p q r = go (eqb t 0x20) (eqb t 0x21) refl refl
   where
     go : (c d : Bool) → eqb t 0x20 ≡ c → eqb t 0x21 ≡ d → P t
@@ -282,15 +282,15 @@ one-of t a b P p q r = go (eqb t 0x20) (eqb t 0x21) refl refl
         last : (t : ℕ) → 0x20 ≤ t → t ≤ 0x22 → (t ≡ 0x20 → ⊥) → (t ≡ 0x21 → ⊥) → 0x22 ≡ t
         last t a b x y = omega arith
 
-specifier-rule : (t : ℕ) → holdsAt Specifier t ≡ true → ruleOf t ≡ parts0
+pub specifier-rule : (t : ℕ) → holdsAt Specifier t ≡ true → ruleOf t ≡ parts0
 unfolding ruleOf within
 specifier-rule t h = let w = specifier-is t h in one-of t (w .0) (w .1) (λ k. ruleOf k ≡ parts0) refl refl refl
 
-attribute-rule : ruleOf 0x30 ≡ parts0
+pub attribute-rule : ruleOf 0x30 ≡ parts0
 unfolding ruleOf within
 attribute-rule = refl
 
-leaf-depth : (f : Field) → ruleOf (tagOf f) ≡ parts0 → Shaped f → depth f ≡ 1
+pub leaf-depth : (f : Field) → ruleOf (tagOf f) ≡ parts0 → Shaped f → depth f ≡ 1
 leaf-depth (field t x cs) e h =
     let n : cs ≡ none = shaped-none cs (subst (ShapedAll cs) e (h .1)) in
     let z = depth-none in

@@ -318,7 +318,7 @@ module _ (e : Setting) where
       (noteAll-within n fs (p + size f) s (h .1) (a .1)) λ gs s b.
       ((a .0, b .0), b .1)
 
-  noteSpecifiers-within : (o : Option ℕ) (fs : Fields) (p : ℕ) (s : State) → Specifiers fs → Widths s →
+  pub noteSpecifiers-within : (o : Option ℕ) (fs : Fields) (p : ℕ) (s : State) → Specifiers fs → Widths s →
       After (noteSpecifiers o fs p s) (λ gs s′. Specifiers gs × Widths s′)
   noteSpecifiers-within nothing fs p s h w = (h, w)
   noteSpecifiers-within (some n) fs p s h w = noteAll-within n fs p s h w
@@ -351,7 +351,7 @@ module _ (e : Setting) where
     w,
   )
 
-  used-width : (i : List ℕ) (s : State) → Widths s → All (λ u. length (u .property) ≡ 6) (usagesOf i (s .usages))
+  pub used-width : (i : List ℕ) (s : State) → Widths s → All (λ u. length (u .property) ≡ 6) (usagesOf i (s .usages))
   unfolding usagesOf
   used-width i s w = all-filter (λ u. length (u .property) ≡ 6) (λ u. length (u .property) ≡ 6) (λ u. same (u .id) i) (s .usages) (λ u v k. k) (w .1)
 
@@ -441,7 +441,7 @@ module _ (e : Setting) where
   after-within express t x cs ds object p s v h n k w = expression-within (e .pass) (field t x cs) t x ds object p s (field-result t x cs ds h n k) w
   after-within plain t x cs ds object p s v h n k w = (field-result t x cs ds h n k, w)
 
-  enter-widths : (t : ℕ) (s : State) → Widths s → Widths (enter t s)
+  pub enter-widths : (t : ℕ) (s : State) → Widths s → Widths (enter t s)
   enter-widths t s w = go (eqb t 0x45)
     where
       go : (b : Bool) → Widths (cond b (setTop false s) s)
@@ -463,7 +463,7 @@ module _ (e : Setting) where
   RowWithin m cs = (q : Rule) → inRule takesTarget q ≡ false → ShapedAll cs q → (p : ℕ) (s : State) → Widths s → After (m p s)
       (λ gs s′. Results cs gs q × Widths s′)
 
-  parts-within : (v : Parts) (t : ℕ) (cs : Fields) (object : Bool) (p : ℕ) (s : State) → partsFor t ≡ v → ShapedAll cs (ruleOf t) →
+  pub parts-within : (v : Parts) (t : ℕ) (cs : Fields) (object : Bool) (p : ℕ) (s : State) → partsFor t ≡ v → ShapedAll cs (ruleOf t) →
       ((b : Bool) → RowWithin (walkAll cs e b) cs) → RowWithin (walkMember cs e) cs →
       (ShapedAll cs (ruleOf 0x66) → After (walkAssignment cs e object p s) (λ gs s′. Results cs gs (ruleOf 0x66) × Widths s′)) → Widths s →
       After (walkParts v cs e object p s) (λ gs s′. Results cs gs (ruleOf t) × Widths s′)
@@ -479,14 +479,14 @@ module _ (e : Setting) where
   parts-within children t cs object p s v h all mem asg w =
       all object (ruleOf t) (rule-targets t (parts-other t children v (λ q. let z : _≡_ {A = ℕ} 0 1 = cc in omega arith))) h p s w
 
-  not-module : (q q′ : Rule) (t : ℕ) → inRule takesTarget q ≡ false → stepAt q t ≡ Go q′ → t ≡ 0x01 → ⊥
+  pub not-module : (q q′ : Rule) (t : ℕ) → inRule takesTarget q ≡ false → stepAt q t ≡ Go q′ → t ≡ 0x01 → ⊥
   not-module q q′ t w e v = no-module q q′ w (subst (λ (u : ℕ). stepAt q u ≡ Go q′) v e)
 
-  value-row : (q : Rule) → q ≡ parts1 (One Expression) → inRule takesTarget q ≡ false
+  pub value-row : (q : Rule) → q ≡ parts1 (One Expression) → inRule takesTarget q ≡ false
   unfolding holdsAt within
   value-row q e = ap (inRule takesTarget) e
 
-  target-not : (t : ℕ) → (t ≡ 0x50) ⊎ (t ≡ 0x63) → (t ≡ 0x01 → ⊥) × (eqb t 0x66 ≡ false)
+  pub target-not : (t : ℕ) → (t ≡ 0x50) ⊎ (t ≡ 0x63) → (t ≡ 0x01 → ⊥) × (eqb t 0x66 ≡ false)
   target-not t (inl q) = (λ v. omega arith, ne-eqb t 0x66 (λ v. omega arith))
   target-not t (inr q) = (λ v. omega arith, ne-eqb t 0x66 (λ v. omega arith))
 
@@ -512,7 +512,7 @@ module _ (e : Setting) where
         (λ s w. walkAll-within fs (h .0) object (p + size f) s (step-without takesTarget q (h .0) (tagOf f) v (h .1)) (h .3) w)
         (λ g gs a b. more-results f g fs gs q (h .0) (h .1) v a b)
 
-    walkMember-within : (fs : Fields) (q : Rule) (p : ℕ) (s : State) → inRule takesTarget q ≡ false → ShapedAll fs q → Widths s →
+    pub walkMember-within : (fs : Fields) (q : Rule) (p : ℕ) (s : State) → inRule takesTarget q ≡ false → ShapedAll fs q → Widths s →
         After (walkMember fs e p s) (λ gs s′. Results fs gs q × Widths s′)
     walkMember-within none q p s v h w = (none-results q h, w)
     walkMember-within (more f fs) q p s v h w =
@@ -521,7 +521,7 @@ module _ (e : Setting) where
         (λ s w. walkAll-within fs (h .0) false (p + size f) s (step-without takesTarget q (h .0) (tagOf f) v (h .1)) (h .3) w)
         (λ g gs a b. more-results f g fs gs q (h .0) (h .1) v a b)
 
-    walkAssignment-within : (fs : Fields) (object : Bool) (p : ℕ) (s : State) → ShapedAll fs (ruleOf 0x66) → Widths s →
+    pub walkAssignment-within : (fs : Fields) (object : Bool) (p : ℕ) (s : State) → ShapedAll fs (ruleOf 0x66) → Widths s →
         After (walkAssignment fs e object p s) (λ gs s′. Results fs gs (ruleOf 0x66) × Widths s′)
     walkAssignment-within none object p s h w = (none-results (ruleOf 0x66) h, w)
     walkAssignment-within (more f fs) object p s h w =
@@ -534,7 +534,7 @@ module _ (e : Setting) where
         (walkAll-within fs (h .0) object (p + size f) s₁ (value-row (h .0) (i .1)) (h .3) (a .1)) λ gs s₂ b.
         (target-results f g fs gs (ruleOf 0x66) (h .0) (h .1) (a .0 .1) (a .0 .0) (b .0), b .1)
 
-    walkTarget-within : (f : Field) (p : ℕ) (s : State) → Shaped f → (tagOf f ≡ 0x01 → ⊥) → eqb (tagOf f) 0x66 ≡ false → Widths s →
+    pub walkTarget-within : (f : Field) (p : ℕ) (s : State) → Shaped f → (tagOf f ≡ 0x01 → ⊥) → eqb (tagOf f) 0x66 ≡ false → Widths s →
         After (walkTarget f e p s) (λ g s′. (Result f g × (tagOf g ≡ tagOf f)) × Widths s′)
     walkTarget-within (field t x cs) p s h n m w =
         after-bind (walkMember cs e (inside p x) s) _ (λ ds s′. Results cs ds (ruleOf t) × Widths s′)

@@ -1,0 +1,248 @@
+-- What an accepted call is made of: the two passes that it ran, and what the second pass's end left.
+use Prim.Native.Nat.{ℕ}
+use mathlib.Core.Path.{_≡_, refl, sym, ap, subst, _∙_}
+use mathlib.Core.List.{List, [], _∷_, map}
+use mathlib.Core.Option.{Option, none as nothing, some}
+use native.Mathlib.Omega.{arith}
+use Rattle.scope.specs.Modules.{Modules, numberOf, request}
+use Rattle.tree.specs.declared.grammar.Set.the-variants.{Module}
+use Rattle.tree.specs.Tree.{Fields}
+use Rattle.tree.specs.Read.{read}
+use Rattle.tree.specs.Layout.{same, valueOf, Bytes}
+use Rattle.lent.specs.Outcome.{Outcome, done, refused, onto, placeless, refuseIf}
+use Rattle.lent.specs.Lists.{find, mapped}
+use Rattle.lent.specs.Table.{Row, rowsIn, atomsIn, repeats, tableOf, fileOf}
+use Rattle.lent.specs.Buffer.{fits}
+use Rattle.extraction_rules.specs.State.{Record, State, first, second, Setting, start}
+use Rattle.extraction_rules.specs.First.{requested, moduleOf, moduleFor}
+use Rattle.extraction_rules.specs.Second.{wrapModule, wrapAll, loseNamespaces, finish}
+use Rattle.extraction_rules.specs.Walk.{walkModule, walkAgain}
+use Rattle.extraction_rules.specs.Records.{recordsOf}
+use Rattle.extraction_rules.specs.Call.{Lent, Lengths, Extracted, badLists, itemsRead, ownModule, setting, moduleWith, extractedFrom, passes, extracted}
+use Rattle.extraction_rules.proofs.OutcomeLaws.{After, after-bind, after-both, after-weaken, after-done, Of}
+use Rattle.extraction_rules.proofs.FirstLaws.{lose-literal}
+use Rattle.extraction_rules.proofs.TestLaws.{cond-of}
+use Rattle.extraction_rules.proofs.StepLaws.{finish-keeps}
+use Rattle.extraction_rules.proofs.SanityLaws.{Numbered, numbered-steps, numbered-end}
+use Rattle.extraction_rules.proofs.RunLaws.{Sane, run-sane}
+use Rattle.extraction_rules.proofs.ReadableLaws.{Items, read-items, run-within}
+use Rattle.extraction_rules.proofs.WholeLaws.{Whole}
+use Rattle.extraction_rules.proofs.RecordsLaws.{run-whole}
+
+-- a step that is accepted, and the next
+pub onto-done : {A B : Type 0} (m : Outcome A) (f : A → Outcome B) (b : B) → onto m f ≡ done b → (a : A) × (m ≡ done a) × (f a ≡ done b)
+onto-done (done a) f b e = (a, refl, e)
+onto-done (refused n p) f b e = absurd (let z : _≡_ {A = ℕ} 0 1 = cc in omega arith)
+
+pub done-inj : {A : Type 0} {a b : A} → done a ≡ done b → a ≡ b
+done-inj e = cc
+
+placeless-done : {A : Type 0} (m : Outcome A) (a : A) → placeless m ≡ done a → m ≡ done a
+placeless-done (done b) a e = e
+placeless-done (refused n p) a e = absurd (let z : _≡_ {A = ℕ} 0 1 = cc in omega arith)
+
+own-done : (o : Option (ℕ × Modules)) (r : ℕ × Modules) → ownModule o ≡ done r → o ≡ some r
+own-done nothing r e = absurd (let z : _≡_ {A = ℕ} 0 1 = cc in omega arith)
+own-done (some q) r e = ap some (done-inj e)
+
+-- ---- Both passes of an accepted call
+
+pub record Run (l : Lent) (ms : Modules) (r : Extracted) : Type 0 where
+  pub items : Fields
+  pub reads : itemsRead (read Module (l .tree)) ≡ done items
+  pub own : ℕ × Modules
+  pub requests : request (l .file) ms ≡ some own
+  -- the first pass
+  pub works : Fields
+  pub middle : State
+  pub one : walkModule (setting first (own .0) l (rowsIn (l .table))) items (start (own .1)) ≡ done (works, middle)
+  -- the second pass, with its end
+  pub outs : Fields
+  pub end : State
+  pub two : walkAgain (setting second (own .0) l (rowsIn (l .table))) works middle ≡ done (outs, end)
+  pub gives : r ≡ extractedFrom works outs end
+
+record Passed (l : Lent) (rows : List Row) (items : Fields) (own : ℕ × Modules) (r : Extracted) : Type 0 where
+  works : Fields
+  middle : State
+  one : walkModule (setting first (own .0) l rows) items (start (own .1)) ≡ done (works, middle)
+  outs : Fields
+  end : State
+  two : walkAgain (setting second (own .0) l rows) works middle ≡ done (outs, end)
+  gives : r ≡ extractedFrom works outs end
+
+passes-done : (l : Lent) (room : Lengths) (rows : List Row) (items : Fields) (own : ℕ × Modules) (r : Extracted) →
+    passes l room rows items own ≡ done r → Passed l rows items own r
+unfolding passes
+passes-done l room rows items own r e =
+    let a = onto-done (walkModule (setting first (own .0) l rows) items (start (own .1))) _ r e in
+    let b = onto-done (fits (moduleWith (a .0 .0)) (room .work)) _ r (a .2) in
+    let c = onto-done (placeless (walkAgain (setting second (own .0) l rows) (a .0 .0) (a .0 .1))) _ r (b .2) in
+    let d = onto-done (fits (moduleWith (c .0 .0)) (room .out)) _ r (c .2) in
+    let f = onto-done (fits (recordsOf (c .0 .1)) (room .records)) _ r (d .2) in
+    record {
+      works = a .0 .0;
+      middle = a .0 .1;
+      one = a .1;
+      outs = c .0 .0;
+      end = c .0 .1;
+      two = placeless-done (walkAgain (setting second (own .0) l rows) (a .0 .0) (a .0 .1)) (c .0) (c .1);
+      gives = sym (done-inj (f .2));
+    }
+
+table-rows : (t : List ℕ) (rows : List Row) → tableOf t ≡ done rows → rowsIn t ≡ rows
+unfolding tableOf
+table-rows t rows e = done-inj (onto-done (refuseIf (repeats (rowsIn t)) 2) _ rows e .2)
+
+pub call-run : (l : Lent) (room : Lengths) (ms : Modules) (r : Extracted) → extracted l room ms ≡ done r → Run l ms r
+unfolding extracted
+call-run l room ms r e =
+    let a = onto-done (refuseIf (badLists l) 1) _ r e in
+    let b = onto-done (tableOf (l .table)) _ r (a .2) in
+    let c = onto-done (itemsRead (read Module (l .tree))) _ r (b .2) in
+    let d = onto-done (ownModule (request (l .file) ms)) _ r (c .2) in
+    made (b .0) (c .0) (d .0) (table-rows (l .table) (b .0) (b .1)) (c .1) (own-done (request (l .file) ms) (d .0) (d .1))
+    (passes-done l room (b .0) (c .0) (d .0) r (d .2))
+  where
+    made : (rows : List Row) (items : Fields) (own : ℕ × Modules) → rowsIn (l .table) ≡ rows → itemsRead (read Module (l .tree)) ≡ done items →
+        request (l .file) ms ≡ some own → Passed l rows items own r → Run l ms r
+    made rows items own t i o p =
+        record {
+          items = items;
+          reads = i;
+          own = own;
+          requests = o;
+          works = p .works;
+          middle = p .middle;
+          one = ap (λ (q : List Row). walkModule (setting first (own .0) l q) items (start (own .1))) t ∙ p .one;
+          outs = p .outs;
+          end = p .end;
+          two = ap (λ (q : List Row). walkAgain (setting second (own .0) l q) (p .works) (p .middle)) t ∙ p .two;
+          gives = p .gives;
+        }
+
+-- ---- The second pass's end: 'other records lose namespaces'
+
+-- records, forced sources and lazy records are as they were
+abbrev Untouched : State → State → Type 0
+Untouched s t = (t .collected ≡ s .collected) × (t .forced ≡ s .forced) × (t .lazy ≡ s .lazy)
+
+-- what the end leaves of these
+abbrev pub Finished : State → State → Type 0
+Finished s t =
+    (t .collected ≡ map (loseNamespaces (s .forced)) (s .collected))
+    × (t .forced ≡ s .forced)
+    × (t .lazy ≡ s .lazy)
+    × ((f n : ℕ) → numberOf f (s .modules) ≡ some n → numberOf f (t .modules) ≡ some n)
+
+-- what holds after a step for each b
+after-each : {A B : Type 0} (m : Outcome (A × State)) (P : B → A → State → Type 0) → ((b : B) → After m (P b)) → After m (λ a s. (b : B) → P b a s)
+after-each (done r) P h = h
+after-each (refused n p) P h = tt
+
+module _ (e : Setting) where
+  moduleFor-untouched : (a : List ℕ) (p : ℕ) (s : State) → After (moduleFor e a p s) (λ n t. Untouched s t)
+  unfolding moduleFor
+  moduleFor-untouched a p s = go (fileOf a (e .table))
+    where
+      ask : (r : Option (ℕ × Modules)) → After (requested r p s) (λ n t. Untouched s t)
+      ask nothing = tt
+      ask (some r) = (refl, refl, refl)
+
+      go : (o : Option ℕ) → After (moduleOf o p s) (λ n t. Untouched s t)
+      go nothing = (refl, refl, refl)
+      go (some f) = ask (request f (s .modules))
+
+  wrapModule-untouched : (o : Option ℕ) (s : State) → After (wrapModule o s) (λ n t. Untouched s t)
+  unfolding wrapModule
+  wrapModule-untouched nothing s = (refl, refl, refl)
+  wrapModule-untouched (some n) s = (refl, refl, refl)
+
+  untouched-next : (s t u : State) → Untouched s t → Untouched t u → Untouched s u
+  untouched-next s t u h k = (k .0 ∙ h .0, k .1 ∙ h .1, k .2 ∙ h .2)
+
+  wrapAll-untouched : (l : List (List ℕ)) (s t : State) → Untouched s t → After (wrapAll e l t) (λ n u. Untouched s u)
+  unfolding wrapAll
+  wrapAll-untouched [] s t h = h
+  wrapAll-untouched (a ∷ l) s t h =
+      after-bind (moduleFor e a 0 t) _ (λ n u. Untouched t u) (λ n u. Untouched s u) (moduleFor-untouched a 0 t) λ n u k.
+      after-bind (wrapModule n u) _ (λ n v. Untouched u v) (λ n u. Untouched s u) (wrapModule-untouched n u) λ _ v m.
+      wrapAll-untouched l s v (untouched-next s u v (untouched-next s t u h k) m)
+
+  finish-records : (s : State) → After (finish e s) (λ _ t. (t .collected ≡ map (loseNamespaces (s .forced)) (s .collected)) × (t .forced ≡ s .forced) × (t .lazy ≡ s .lazy))
+  unfolding finish
+  finish-records s =
+      after-bind (wrapAll e (s .forced) s) _ (λ n t. Untouched s t) (λ _ t. (t .collected ≡ map (loseNamespaces (s .forced)) (s .collected)) × (t .forced ≡ s .forced) × (t .lazy ≡ s .lazy))
+      (wrapAll-untouched (s .forced) s s (refl, refl, refl)) λ _ t h. (rw (h .0, h .1), h .1, h .2)
+
+  -- numbers that were given stay
+  finish-numbers : (s : State) → After (finish e s) (λ _ t. (k : (f : ℕ) × (n : ℕ) × (numberOf f (s .modules) ≡ some n)) → numberOf (k .0) (t .modules) ≡ some (k .1))
+  finish-numbers s =
+      after-each (finish e s) (λ k _ t. numberOf (k .0) (t .modules) ≡ some (k .1))
+      (λ k. finish-keeps e (Numbered (k .0) (k .1)) (numbered-steps e (λ _. Unit {0}) (k .0) (k .1) .common) (numbered-end (k .0) (k .1)) s (k .2))
+
+  pub finish-leaves : (s : State) → After (finish e s) (λ _ t. Finished s t)
+  finish-leaves s =
+      after-weaken (finish e s)
+      (λ _ t. ((t .collected ≡ map (loseNamespaces (s .forced)) (s .collected)) × (t .forced ≡ s .forced) × (t .lazy ≡ s .lazy))
+      × ((k : (f : ℕ) × (n : ℕ) × (numberOf f (s .modules) ≡ some n)) → numberOf (k .0) (t .modules) ≡ some (k .1))) (λ _ t. Finished s t)
+      (λ _ t h. (h .0 .0, h .0 .1, h .0 .2, λ f n w. h .1 (f, n, w)))
+      (after-both (finish e s) (λ _ t. (t .collected ≡ map (loseNamespaces (s .forced)) (s .collected)) × (t .forced ≡ s .forced) × (t .lazy ≡ s .lazy))
+      (λ _ t. (k : (f : ℕ) × (n : ℕ) × (numberOf f (s .modules) ≡ some n)) → numberOf (k .0) (t .modules) ≡ some (k .1)) (finish-records s) (finish-numbers s))
+
+  -- the second pass is a walk, then its end
+  pub again-done : (items : Fields) (s : State) (r : Fields × State) → walkAgain e items s ≡ done r →
+      (t : State) × (walkModule e items s ≡ done (r .0, t)) × Finished t (r .1)
+  unfolding walkAgain
+  again-done items s r q =
+      let a = onto-done (walkModule e items s) _ r q in
+      let b = onto-done (finish e (a .0 .1)) _ r (a .2) in
+      let m = done-inj (b .2) in
+      let f = after-done (finish e (a .0 .1)) (λ _ t. Finished (a .0 .1) t) (b .0) (b .1) (finish-leaves (a .0 .1)) in
+      (a .0 .1, a .1 ∙ ap (λ (x : Fields). done (x, a .0 .1)) (ap (λ (y : Fields × State). y .0) m), rw (ap (λ (y : Fields × State). y .1) m) at f)
+
+-- the record of a source loses its namespaces, unless the source is forced
+pub record-lost : (a : List ℕ) (forced : List (List ℕ)) (l : List Record) →
+    find (λ r. same (valueOf (r .literal)) a) (map (loseNamespaces forced) l)
+    ≡ mapped (loseNamespaces forced) (find (λ r. same (valueOf (r .literal)) a) l)
+unfolding find loseNamespaces
+record-lost a forced [] = refl
+record-lost a forced (r ∷ l) =
+    rw (lose-literal forced r, record-lost a forced l)
+    (sym (cond-of (mapped (loseNamespaces forced)) (same (valueOf (r .literal)) a) (some r) (find (λ r. same (valueOf (r .literal)) a) l)))
+
+-- ---- What holds in a run
+
+of-done : {A : Type 0} (m : Outcome A) (P : A → Type 0) (a : A) → m ≡ done a → Of m P → P a
+of-done m P a e h = subst (λ (o : Outcome _). Of o P) e h
+
+module _ (l : Lent) (ms : Modules) (r : Extracted) (bytes : Bytes (l .tree)) (run : Run l ms r) where
+  abbrev rows : List Row
+  rows = rowsIn (l .table)
+
+  -- the items that it read, and what the first pass left, are within the grammar
+  pub run-items : Items (run .items)
+  run-items = of-done (itemsRead (read Module (l .tree))) Items (run .items) (run .reads) (read-items (l .tree) bytes)
+
+  pub run-works : Items (run .works)
+  run-works =
+      after-done (walkModule (setting first (run .own .0) l rows) (run .items) (start (run .own .1)))
+      (λ works s. Items works × After (walkAgain (setting second (run .own .0) l rows) works s) (λ outs s′. Items outs)) (run .works, run .middle) (run .one)
+      (run-within l rows (run .own .0) (run .own .1) (run .items) run-items) .0
+
+  -- at its end the records are whole, and the run is sane
+  pub run-end-whole : Whole (run .end)
+  run-end-whole =
+      let two = setting second (run .own .0) l rows in
+      after-done (walkAgain two (run .works) (run .middle)) (λ outs s. Whole s) (run .outs, run .end) (run .two)
+      (after-done (walkModule (setting first (run .own .0) l rows) (run .items) (start (run .own .1)))
+      (λ works s. Whole s × After (walkAgain two works s) (λ outs s′. Whole s′)) (run .works, run .middle) (run .one)
+      (run-whole l rows (run .own .0) (run .own .1) (run .items) run-items) .1)
+
+  pub run-end-sane : Sane (atomsIn (l .externals)) (run .end)
+  run-end-sane =
+      let two = setting second (run .own .0) l rows in
+      after-done (walkAgain two (run .works) (run .middle)) (λ outs s. Sane (atomsIn (l .externals)) s) (run .outs, run .end) (run .two)
+      (after-done (walkModule (setting first (run .own .0) l rows) (run .items) (start (run .own .1)))
+      (λ works s. Sane (atomsIn (l .externals)) s × After (walkAgain two works s) (λ outs s′. Sane (atomsIn (l .externals)) s′)) (run .works, run .middle) (run .one)
+      (run-sane l rows (run .own .0) (run .own .1) (run .items)) .1)

@@ -1,0 +1,506 @@
+-- The walk keeps the records whole: literals of six bytes, specifiers within the grammar, forced values of two bytes.
+use Prim.Native.Nat.{ℕ, _+_}
+use mathlib.Core.Path.{_≡_, refl, sym, ap, subst, _∙_}
+use mathlib.Core.Bool.{Bool, true, false, not, cond, _&&_, _||_}
+use mathlib.Core.List.{List, [], _∷_, _++_}
+use mathlib.Core.Option.{Option, none as nothing, some}
+use native.Mathlib.Omega.{arith}
+use lib.Dec.{leb, eqb}
+use lib.ListN.{length, getD}
+use lib.Seq.{length-slice, length-take-le}
+use borrow.Author.Tests.{eqb-true}
+use Rattle.scope.specs.Id.{require-atom, export}
+use Rattle.scope.specs.Modules.{Modules, request}
+use Rattle.tree.specs.declared.grammar.Rule.{Rule}
+use Rattle.tree.specs.Layout.{skipAt, literalEnd, same, two, four, idAt, nameOf, valueOf, sameLiteral}
+use Rattle.tree.specs.Access.{valueAt, pieceAt, fixedAt}
+use Rattle.tree.specs.Tree.{Field, field, Fields, none, more, tagOf, fixedOf, size}
+use Rattle.tree.specs.Grammar.{piecesOf, ruleOf}
+use Rattle.tree.specs.Within.{Exact}
+use Rattle.metadata.specs.Metadata.{append}
+use Rattle.lent.specs.Outcome.{Outcome, onto}
+use Rattle.lent.specs.Lists.{among}
+use Rattle.lent.specs.Fields.{has, keep, sole, inside}
+use Rattle.lent.specs.Table.{fileOf}
+use Rattle.extraction_rules.specs.State.{Record, Imported, Usage, State, Pass, first, second, Setting, Act, give, change, refuse, roomFor, setImported, setUsages, setCollected, setLazy, setForced, setTop}
+use Rattle.extraction_rules.specs.First.{external, idFrom, requested, moduleOf, moduleFor, holdsNamespace, forget, forceId, onIdent, importedAs, usedRecord, addUsage, useProperty, useFrom, useImported, usage, argument, notExternal, required, markCjs, markRequired, collectIn, collect, addLazy, require, noteIn, noteId, noteNamed, notedContext, noteSpecifier, noteAll, noteSpecifiers, specifiersIn, importFirst, exportSpecifier, Binding, bound, left, below, bindingOf, bindings, bindingsAll, bindingsFirst, requireLazily, declarator}
+use Rattle.extraction_rules.specs.Second.{usagesOf, specifiersFrom, extend, takeApart, onSole, importSecond, wrapModule, wrapAll, loseNamespaces, finish}
+use Rattle.extraction_rules.specs.Walk.{Rule as Kind, import, export as exporting, declare, express, nothing as plain, ruleFor, afterExpression, afterImport, after, Parts, unwalked, member, super, assignment, children, partsFor, enter, walk, walkAll, walkMember, walkAssignment, walkTarget}
+use Rattle.extraction_rules.proofs.OutcomeLaws.{After, after-bind, after-both, after-if}
+use Rattle.extraction_rules.proofs.ListLaws.{All, all-last, all-map, all-find}
+use Rattle.extraction_rules.proofs.FirstLaws.{source-cases, force-cases}
+use Rattle.extraction_rules.proofs.StepLaws.{Keeps, moduleFor-keeps}
+use Rattle.extraction_rules.proofs.WalkLaws.{rule-tag, parts-tag, parts-other, walkParts}
+use Rattle.extraction_rules.proofs.RuleLaws.{inRule, takesTarget, step-without, rule-targets}
+use Rattle.extraction_rules.proofs.ExactLaws.{plain-is, property-exact}
+use Rattle.extraction_rules.proofs.ShapeLaws.{Shaped, ShapedAll, Specifiers, target-step, import-parts, named-specifier, usages-specifiers}
+use Rattle.extraction_rules.proofs.WithinLaws.{Result, Results, Widths, widths-common, noteSpecifiers-within, used-width, parts-within, enter-widths, not-module, value-row, target-not, walk-within, walkAll-within, walkMember-within, walkAssignment-within, walkTarget-within}
+
+-- ---- Whole records
+
+abbrev pub WholeRecord : Record → Type 0
+WholeRecord r = (length (r .literal) ≡ 6) × Specifiers (r .specifiers)
+
+abbrev pub Whole : State → Type 0
+Whole s = All WholeRecord (s .collected) × All WholeRecord (s .lazy) × All (λ a. length a ≡ 2) (s .forced)
+
+pub specifiers-append : (fs gs : Fields) → Specifiers fs → Specifiers gs → Specifiers (append fs gs)
+unfolding append
+specifiers-append none gs h k = k
+specifiers-append (more f fs) gs h k = (h .0, specifiers-append fs gs (h .1) k)
+
+specifiers-keep : (t : Field → Bool) (fs : Fields) → Specifiers fs → Specifiers (keep t fs)
+unfolding keep
+specifiers-keep t none h = tt
+specifiers-keep t (more f fs) h = go (t f) (specifiers-keep t fs (h .1))
+  where
+    go : (b : Bool) → Specifiers (keep t fs) → Specifiers (cond b (more f (keep t fs)) (keep t fs))
+    go true w = (h .0, w)
+    go false w = w
+
+value-width : (l : List ℕ) → length l ≡ 6 → length (valueOf l) ≡ 2
+value-width l e = length-take-le 2 l (omega arith)
+
+-- ---- What the tree gives: literals and the ids of patterns
+
+width-10 : (x : List ℕ) → Exact 0x10 x → length x ≡ 6
+unfolding fixedAt pieceAt valueAt piecesOf literalEnd
+width-10 x h = plain-is 6 x (skipAt 0 6 (length x)) refl h
+
+width-61 : (x : List ℕ) → Exact 0x61 x → length x ≡ 6
+unfolding fixedAt pieceAt valueAt piecesOf literalEnd
+width-61 x h = plain-is 6 x (skipAt 0 6 (length x)) refl h
+
+width-50 : (x : List ℕ) → Exact 0x50 x → length x ≡ 6
+unfolding fixedAt pieceAt valueAt piecesOf
+width-50 x h = plain-is 6 x (skipAt 0 6 (length x)) refl h
+
+width-54 : (x : List ℕ) → Exact 0x54 x → length x ≡ 6
+unfolding fixedAt pieceAt valueAt piecesOf
+width-54 x h = plain-is 6 x (skipAt 0 6 (length x)) refl h
+
+bound-width : (t : ℕ) (x : List ℕ) → bindingOf t ≡ bound → Exact t x → length x ≡ 6
+unfolding bindingOf
+bound-width t x e h = go (eqb t 0x50) (eqb t 0x54) (eqb t 0x55) refl refl e
+  where
+    code : Binding → ℕ
+    code bound = 0
+    code left = 1
+    code below = 2
+
+    go : (a b c : Bool) → eqb t 0x50 ≡ a → eqb t 0x54 ≡ b → cond (a || b) bound (cond c left below) ≡ bound → length x ≡ 6
+    go true b c v w e = width-50 x (subst (λ (k : ℕ). Exact k x) (eqb-true t 0x50 v) h)
+    go false true c v w e = width-54 x (subst (λ (k : ℕ). Exact k x) (eqb-true t 0x54 w) h)
+    go false false true v w e = absurd (let z = ap code e in omega arith)
+    go false false false v w e = absurd (let z = ap code e in omega arith)
+
+-- 'naming the pattern's binding ids', by what kind of pattern it is
+abbrev bindingsBy : Binding → List ℕ → Fields → Fields
+bindingsBy b x cs = elim b [
+  | bound ↦ more (field 0x20 (idAt x 0 ++ 0 ∷ []) none) none
+  | left ↦ bindingsFirst cs
+  | below ↦ bindingsAll cs
+]
+
+bindings-by : (b : Binding) (t : ℕ) (x : List ℕ) (cs : Fields) → bindingOf t ≡ b → Exact t x → Specifiers (bindingsFirst cs) →
+    Specifiers (bindingsAll cs) → Specifiers (bindingsBy b x cs)
+bindings-by bound t x cs e h k m =
+    let w = bound-width t x e h in
+    (named-specifier (idAt x 0 ++ 0 ∷ []) (property-exact (idAt x 0) (length-slice 0 6 x (omega arith))), tt)
+bindings-by left t x cs e h k m = k
+bindings-by below t x cs e h k m = m
+
+mutual
+  unfolding bindings
+
+  pub bindings-whole : (f : Field) → Shaped f → Specifiers (bindings f)
+  bindings-whole (field t x cs) h =
+      bindings-by (bindingOf t) t x cs refl (h .0) (bindingsFirst-whole cs (ruleOf t) (h .1)) (bindingsAll-whole cs (ruleOf t) (h .1))
+
+  bindingsAll-whole : (fs : Fields) (q : Rule) → ShapedAll fs q → Specifiers (bindingsAll fs)
+  bindingsAll-whole none q h = tt
+  bindingsAll-whole (more f fs) q h =
+      specifiers-append (bindings f) (bindingsAll fs) (bindings-whole f (h .2)) (bindingsAll-whole fs (h .0) (h .3))
+
+  bindingsFirst-whole : (fs : Fields) (q : Rule) → ShapedAll fs q → Specifiers (bindingsFirst fs)
+  bindingsFirst-whole none q h = tt
+  bindingsFirst-whole (more f fs) q h = bindings-whole f (h .2)
+
+-- the literal of a call that meets the require conditions
+sole-shaped : (gs : Fields) (q : Rule) (f : Field) → ShapedAll gs q → sole gs ≡ some f → Shaped f
+unfolding sole
+sole-shaped none q f h e = absurd (let z : _≡_ {A = ℕ} 0 1 = cc in omega arith)
+sole-shaped (more g none) q f h e = let w : g ≡ f = cc in subst Shaped w (h .2)
+sole-shaped (more g (more k ks)) q f h e = absurd (let z : _≡_ {A = ℕ} 0 1 = cc in omega arith)
+
+literal-61 : (f : Field) → Shaped f → tagOf f ≡ 0x61 → length (fixedOf f) ≡ 6
+literal-61 (field t x cs) h e = width-61 x (subst (λ (k : ℕ). Exact k x) e (h .0))
+
+argument-whole : (o : Option Field) (l : List ℕ) → ((f : Field) → o ≡ some f → Shaped f) → argument o ≡ some l → length l ≡ 6
+unfolding argument
+argument-whole nothing l h e = absurd (let z : _≡_ {A = ℕ} 0 1 = cc in omega arith)
+argument-whole (some (field t x none)) l h e = absurd (let z : _≡_ {A = ℕ} 0 1 = cc in omega arith)
+argument-whole (some (field t x (more f fs))) l h e = go (same x (0 ∷ [])) (has 0x61 f) refl e
+  where
+    go : (a b : Bool) → has 0x61 f ≡ b → cond {A = Option (List ℕ)} (a && b) (some (fixedOf f)) nothing ≡ some l → length l ≡ 6
+    go true true w e =
+        let q : fixedOf f ≡ l = cc in
+        ap length (sym q) ∙ literal-61 f (h (field t x (more f fs)) refl .1 .2) (eqb-true (tagOf f) 0x61 w)
+    go true false w e = absurd (let z : _≡_ {A = ℕ} 0 1 = cc in omega arith)
+    go false b w e = absurd (let z : _≡_ {A = ℕ} 0 1 = cc in omega arith)
+
+notExternal-same : (e : Setting) (o : Option (List ℕ)) (l : List ℕ) → notExternal e o ≡ some l → o ≡ some l
+unfolding notExternal
+notExternal-same e nothing l q = q
+notExternal-same e (some k) l q = go (external e k) q
+  where
+    go : (b : Bool) → cond b nothing (some k) ≡ some l → some k ≡ some l
+    go true q = absurd (let z : _≡_ {A = ℕ} 0 1 = cc in omega arith)
+    go false q = q
+
+pub required-width : (e : Setting) (f : Field) (l : List ℕ) → Shaped f → required e f ≡ some l → length l ≡ 6
+unfolding required
+required-width e (field t x none) l h q = absurd (let z : _≡_ {A = ℕ} 0 1 = cc in omega arith)
+required-width e (field t x (more c gs)) l h q =
+    go (e .config .require && eqb t 0x65 && has 0x60 c && same (nameOf (fixedOf c)) (two require-atom)) q
+  where
+    go : (b : Bool) → cond b (notExternal e (argument (sole gs))) nothing ≡ some l → length l ≡ 6
+    go true q = argument-whole (sole gs) l (λ f w. sole-shaped gs (h .1 .0) f (h .1 .3) w) (notExternal-same e (argument (sole gs)) l q)
+    go false q = absurd (let z : _≡_ {A = ℕ} 0 1 = cc in omega arith)
+
+-- ---- Collecting, extending, losing namespaces
+
+collectIn-whole : (r : Record) (l : List Record) → WholeRecord r → All WholeRecord l → All WholeRecord (collectIn r l)
+unfolding collectIn
+collectIn-whole r [] k h = (k, tt)
+collectIn-whole r (q ∷ l) k h = go (same (valueOf (q .literal)) (valueOf (r .literal))) (collectIn-whole r l k (h .1))
+  where
+    go : (b : Bool) → All WholeRecord (collectIn r l) →
+        All WholeRecord (cond b (record { literal = q .literal; specifiers = append (q .specifiers) (r .specifiers) } ∷ l) (q ∷ collectIn r l))
+    go true w = ((h .0 .0, specifiers-append (q .specifiers) (r .specifiers) (h .0 .1) (k .1)), h .1)
+    go false w = (h .0, w)
+
+extend-whole : (x : List ℕ) (fs : Fields) (r : Record) → Specifiers fs → WholeRecord r → WholeRecord (extend x fs r)
+unfolding extend
+extend-whole x fs r k h = go (sameLiteral (r .literal) x)
+  where
+    go : (b : Bool) → WholeRecord (cond b (record { literal = r .literal; specifiers = append (r .specifiers) fs }) r)
+    go true = (h .0, specifiers-append (r .specifiers) fs (h .1) k)
+    go false = h
+
+lose-whole : (forced : List (List ℕ)) (r : Record) → WholeRecord r → WholeRecord (loseNamespaces forced r)
+unfolding loseNamespaces
+lose-whole forced r h = go (among (valueOf (r .literal)) forced)
+  where
+    go : (b : Bool) → WholeRecord (cond b r (record { literal = r .literal; specifiers = keep (λ f. not (has 0x22 f)) (r .specifiers) }))
+    go true = h
+    go false = (h .0, specifiers-keep (λ f. not (has 0x22 f)) (r .specifiers) (h .1))
+
+source-whole : (a : List ℕ) (s : State) → length a ≡ 2 → Whole s → Whole (setForced (s .forced ++ (a ∷ [])) s)
+source-whole a s e h = (h .0, h .1, all-last (λ a. length a ≡ 2) (s .forced) a (h .2) e)
+
+force-whole : (i : List ℕ) (s : State) → Whole s → Whole (forceId i s)
+unfolding forget
+force-whole i s h =
+    force-cases i s Whole h
+    (λ r w. (
+      h .0,
+      h .1,
+      all-last (λ a. length a ≡ 2) (s .forced) (valueOf (r .literal)) (h .2)
+          (value-width (r .literal) (all-find WholeRecord (holdsNamespace i) (s .collected) r (h .0) w .0)),
+    ))
+
+-- ---- The rules
+
+module _ (e : Setting) where
+  next : {A B : Type 0} (m : Outcome (A × State)) (f : A × State → Outcome (B × State)) → Keeps Whole m →
+      ((a : A) (s : State) → Whole s → Keeps Whole (f (a, s))) → Keeps Whole (onto m f)
+  next m f h k = after-bind m f (λ r s. Whole s) (λ r s. Whole s) h k
+
+  moduleFor-whole : (a : List ℕ) (p : ℕ) (s : State) → Whole s → Keeps Whole (moduleFor e a p s)
+  unfolding moduleFor
+  moduleFor-whole a p s h = go (fileOf a (e .table))
+    where
+      ask : (r : Option (ℕ × Modules)) → Keeps Whole (requested r p s)
+      ask nothing = tt
+      ask (some r) = h
+
+      go : (o : Option ℕ) → Keeps Whole (moduleOf o p s)
+      go nothing = h
+      go (some f) = ask (request f (s .modules))
+
+  room-whole : (n most p : ℕ) (f : State → State) (s : State) → Whole (f s) → Keeps Whole (roomFor n most p f s)
+  room-whole n most p f s h = after-if (leb n most) (change f) (refuse 8 p) s (λ r s. Whole s) (λ _. h) (λ _. tt)
+
+  useProperty-whole : (o : Option ℕ) (i : List ℕ) (q : Field) (at p : ℕ) (s : State) → Whole s → Keeps Whole (useProperty o i q at p s)
+  unfolding useProperty addUsage
+  useProperty-whole nothing i q at p s h = h
+  useProperty-whole (some n) i q at p s h =
+      let l : List Usage = s .usages ++ (record { id = i; property = idFrom (fixedOf q) (export n) } ∷ []) in
+      after-if (has 0x72 q) (refuse 7 at) _ s (λ r s. Whole s) (λ _. tt) (λ _. room-whole (length l) 2048 p (setUsages l) s h)
+
+  useFrom-whole : (o : Option Record) (i : List ℕ) (q : Field) (at p : ℕ) (s : State) → Whole s → Keeps Whole (useFrom o e i q at p s)
+  unfolding useFrom
+  useFrom-whole nothing i q at p s h = h
+  useFrom-whole (some r) i q at p s h =
+      next (moduleFor e (valueOf (r .literal)) p s) _ (moduleFor-whole (valueOf (r .literal)) p s h) λ n s h. useProperty-whole n i q at p s h
+
+  useImported-whole : (o : Option (List ℕ)) (i : List ℕ) (q : Field) (at p : ℕ) (s : State) → Whole s → Keeps Whole (useImported o e i q at p s)
+  unfolding useImported
+  useImported-whole nothing i q at p s h = h
+  useImported-whole (some k) i q at p s h =
+      after-if (has 0x71 q) (change (forceId i)) _ s (λ r s. Whole s) (λ _. force-whole i s h)
+      (λ _. useFrom-whole (usedRecord (e .own) i (s .collected)) i q at p s h)
+
+  usage-whole : (m : Option (Field × Field)) (p : ℕ) (s : State) → Whole s → Keeps Whole (usage m e p s)
+  unfolding usage
+  usage-whole nothing p s h = h
+  usage-whole (some m) p s h =
+      useImported-whole (importedAs (fixedOf (m .0)) (s .imported)) (fixedOf (m .0)) (m .1) (p + 3 + size (m .0)) p s h
+
+  markCjs-whole : (o : Option ℕ) (f : Field) (s : State) → Whole s → Keeps Whole (markCjs o f s)
+  unfolding markCjs
+  markCjs-whole nothing f s h = h
+  markCjs-whole (some n) f s h = h
+
+  markRequired-whole : (l : List ℕ) (f : Field) (p : ℕ) (s : State) → Whole s → Keeps Whole (markRequired e l f p s)
+  unfolding markRequired
+  markRequired-whole l f p s h = next (moduleFor e (valueOf l) p s) _ (moduleFor-whole (valueOf l) p s h) λ n s h. markCjs-whole n f s h
+
+  addLazy-whole : (r : Record) (p : ℕ) (s : State) → WholeRecord r → Whole s → Keeps Whole (addLazy r p s)
+  unfolding addLazy
+  addLazy-whole r p s k h =
+      room-whole (length (s .lazy ++ (r ∷ []))) 1024 p (setLazy (s .lazy ++ (r ∷ []))) s (h .0, all-last WholeRecord (s .lazy) r (h .1) k, h .2)
+
+  collect-whole : (r : Record) (p : ℕ) (s : State) → WholeRecord r → Whole s → Keeps Whole (collect r p s)
+  unfolding collect
+  collect-whole r p s k h =
+      room-whole (length (collectIn r (s .collected))) 256 p (setCollected (collectIn r (s .collected))) s
+      (collectIn-whole r (s .collected) k (h .0), h .1, h .2)
+
+  require-whole : (o : Option (List ℕ)) (f : Field) (p : ℕ) (s : State) → ((l : List ℕ) → o ≡ some l → length l ≡ 6) → Whole s →
+      Keeps Whole (require o e f p s)
+  unfolding require
+  require-whole nothing f p s k h = h
+  require-whole (some l) f p s k h =
+      let r : Record = record { literal = l; specifiers = none } in
+      next (markRequired e l f p s) _ (markRequired-whole l f p s h) λ g s h.
+      next (cond (s .top) (collect r p) (addLazy r p) s) _
+      (after-if (s .top) (collect r p) (addLazy r p) s (λ r s. Whole s) (λ _. collect-whole r p s (k l refl, tt) h)
+      (λ _. addLazy-whole r p s (k l refl, tt) h)) λ _ s h. h
+
+  exportSpecifier-whole : (x : List ℕ) (p : ℕ) (s : State) → Whole s → Keeps Whole (exportSpecifier e x p s)
+  unfolding exportSpecifier
+  exportSpecifier-whole x p s h =
+      after-if (eqb (getD x 0 0) 2 || eqb (getD x 7 0) 2) (refuse 6 p) _ s (λ r s. Whole s) (λ _. tt) (λ _. force-whole (idAt x 1) s h)
+
+  requireLazily-whole : (o : Option (List ℕ)) (q i : Field) (p : ℕ) (s : State) → ((l : List ℕ) → o ≡ some l → length l ≡ 6) → Shaped q →
+      Whole s → Keeps Whole (requireLazily o e q i p s)
+  unfolding requireLazily
+  requireLazily-whole nothing q i p s k m h = h
+  requireLazily-whole (some l) q i p s k m h =
+      next (markRequired e l i p s) _ (markRequired-whole l i p s h) λ j s h.
+      next (addLazy (record { literal = l; specifiers = bindings q }) p s) _ (addLazy-whole _ p s (k l refl, bindings-whole q m) h) λ _ s h. h
+
+  declarator-whole : (cs : Fields) (r : Rule) (p : ℕ) (s : State) → ShapedAll cs r → Whole s → Keeps Whole (declarator e cs p s)
+  unfolding declarator
+  declarator-whole none r p s k h = h
+  declarator-whole (more q none) r p s k h = h
+  declarator-whole (more q (more i rest)) r p s k h =
+      next (requireLazily (required e i) e q i p s) _
+      (requireLazily-whole (required e i) q i p s (λ l w. required-width e i l (k .3 .2) w) (k .2) h) λ j s h. h
+
+  expression-whole : (j : Pass) (f : Field) (object : Bool) (p : ℕ) (s : State) → Shaped f → Whole s →
+      Keeps Whole (afterExpression j e f object p s)
+  unfolding afterExpression
+  expression-whole first f object p s k h =
+      after-if (has 0x60 f && not object) _ _ s (λ r s. Whole s) (λ _. force-whole (fixedOf f) s h)
+      (λ _. next (usage (onIdent f) e p s) _ (usage-whole (onIdent f) p s h) λ _ s h.
+      require-whole (required e f) f p s (λ l w. required-width e f l k w) h)
+  expression-whole second f object p s k h = h
+
+  -- ---- '10, not external'
+
+  noteId-whole : (m : Imported) (p : ℕ) (s : State) → Whole s → Keeps Whole (noteId m p s)
+  unfolding noteId
+  noteId-whole m p s h = room-whole (length (noteIn m (s .imported))) 512 p (setImported (noteIn m (s .imported))) s h
+
+  noteSpecifier-whole : (n : ℕ) (f : Field) (p : ℕ) (s : State) → Whole s → Keeps Whole (noteSpecifier n f p s)
+  unfolding noteSpecifier noteNamed
+  noteSpecifier-whole n f p s h =
+      after-if (has 0x20 f) (noteNamed n (fixedOf f) p) _ s (λ r s. Whole s)
+      (λ _. after-if (eqb (getD (fixedOf f) 6 0) 2) (refuse 6 p) _ s (λ r s. Whole s) (λ _. tt)
+      (λ _. next (noteId (record { id = idAt (fixedOf f) 0; context = four (export n) }) p s) _ (noteId-whole _ p s h) λ _ s h. h))
+      (λ _. next (noteId (record { id = fixedOf f; context = notedContext n f }) p s) _ (noteId-whole _ p s h) λ _ s h. h)
+
+  noteAll-whole : (n : ℕ) (fs : Fields) (p : ℕ) (s : State) → Whole s → Keeps Whole (noteAll n fs p s)
+  unfolding noteAll
+  noteAll-whole n none p s h = h
+  noteAll-whole n (more f fs) p s h =
+      next (noteSpecifier n f p s) _ (noteSpecifier-whole n f p s h) λ g s h.
+      next (noteAll n fs (p + size f) s) _ (noteAll-whole n fs (p + size f) s h) λ gs s h. h
+
+  noteSpecifiers-whole : (o : Option ℕ) (fs : Fields) (p : ℕ) (s : State) → Whole s → Keeps Whole (noteSpecifiers o fs p s)
+  noteSpecifiers-whole nothing fs p s h = h
+  noteSpecifiers-whole (some n) fs p s h = noteAll-whole n fs p s h
+
+  importFirst-whole : (x : List ℕ) (ds : Fields) (p : ℕ) (s : State) → Exact 0x10 x → ShapedAll ds (ruleOf 0x10) → Widths s → Whole s →
+      Keeps Whole (importFirst e x ds p s)
+  unfolding importFirst
+  importFirst-whole x ds p s k m w h =
+      after-if (external e x) (give (field 0x10 x ds)) _ s (λ r s. Whole s) (λ _. h)
+      (λ _. after-bind (moduleFor e (valueOf x) p s) _ (λ n s. Widths s × Whole s) (λ r s. Whole s)
+      (after-both (moduleFor e (valueOf x) p s) (λ n s. Widths s) (λ n s. Whole s) (moduleFor-keeps e Widths (widths-common e) (valueOf x) p s w)
+      (moduleFor-whole (valueOf x) p s h)) λ n s a.
+      after-bind (noteSpecifiers n (specifiersIn ds) (inside p x) s) _ (λ gs s. (Specifiers gs × Widths s) × Whole s) (λ r s. Whole s)
+      (after-both (noteSpecifiers n (specifiersIn ds) (inside p x) s) (λ gs s. Specifiers gs × Widths s) (λ gs s. Whole s)
+      (noteSpecifiers-within e n (specifiersIn ds) (inside p x) s (import-parts ds m .0) (a .0))
+      (noteSpecifiers-whole n (specifiersIn ds) (inside p x) s (a .1))) λ gs s b.
+      next (collect (record { literal = x; specifiers = gs }) p s) _ (collect-whole _ p s (width-10 x k, b .0 .0) (b .1)) λ _ s h. h)
+
+  -- ---- The second pass
+
+  takeApart-whole : (us : List Usage) (x : List ℕ) (cs : Fields) (s : State) → All (λ u. length (u .property) ≡ 6) us → Exact 0x10 x →
+      Whole s → Keeps Whole (takeApart us x cs s)
+  unfolding takeApart
+  takeApart-whole [] x cs s u k h =
+      source-cases (valueOf x) s Whole (λ _. h) (source-whole (valueOf x) s (value-width x (width-10 x k)) h)
+  takeApart-whole (v ∷ us) x cs s u k h = (
+    all-map WholeRecord WholeRecord (extend x (specifiersFrom (v ∷ us))) (s .collected)
+        (λ r w. extend-whole x (specifiersFrom (v ∷ us)) r (usages-specifiers (v ∷ us) u) w) (h .0),
+    h .1,
+    h .2,
+  )
+
+  onSole-whole : (o : Option Field) (x : List ℕ) (cs : Fields) (s : State) → Exact 0x10 x → Widths s → Whole s → Keeps Whole (onSole o x cs s)
+  unfolding onSole
+  onSole-whole nothing x cs s k w h = h
+  onSole-whole (some f) x cs s k w h =
+      after-if (has 0x22 f) _ (give (field 0x10 x cs)) s (λ r s. Whole s)
+      (λ _. takeApart-whole (usagesOf (fixedOf f) (s .usages)) x cs s (used-width e (fixedOf f) s w) k h) (λ _. h)
+
+  importSecond-whole : (x : List ℕ) (cs : Fields) (s : State) → Exact 0x10 x → Widths s → Whole s → Keeps Whole (importSecond e x cs s)
+  unfolding importSecond
+  importSecond-whole x cs s k w h =
+      after-if (external e x || among (valueOf x) (s .forced)) (give (field 0x10 x cs)) (onSole (sole (specifiersIn cs)) x cs) s (λ r s. Whole s)
+      (λ _. h) (λ _. onSole-whole (sole (specifiersIn cs)) x cs s k w h)
+
+  import-whole : (j : Pass) (x : List ℕ) (ds : Fields) (p : ℕ) (s : State) → Exact 0x10 x → ShapedAll ds (ruleOf 0x10) → Widths s → Whole s →
+      Keeps Whole (afterImport j e x ds p s)
+  unfolding afterImport
+  import-whole first x ds p s k m w h = importFirst-whole x ds p s k m w h
+  import-whole second x ds p s k m w h = importSecond-whole x ds s k w h
+
+  wrapAll-whole : (l : List (List ℕ)) (s : State) → Whole s → Keeps Whole (wrapAll e l s)
+  unfolding wrapAll wrapModule
+  wrapAll-whole [] s h = h
+  wrapAll-whole (a ∷ l) s h =
+      next (moduleFor e a 0 s) _ (moduleFor-whole a 0 s h) λ n s h. next (wrapModule n s) _ (wrap n s h) λ _ s h. wrapAll-whole l s h
+    where
+      wrap : (o : Option ℕ) (s : State) → Whole s → Keeps Whole (wrapModule o s)
+      wrap nothing s h = h
+      wrap (some n) s h = h
+
+  pub finish-whole : (s : State) → Whole s → Keeps Whole (finish e s)
+  unfolding finish
+  finish-whole s h =
+      next (wrapAll e (s .forced) s) _ (wrapAll-whole (s .forced) s h) λ _ s h.
+      (all-map WholeRecord WholeRecord (loseNamespaces (s .forced)) (s .collected) (λ r w. lose-whole (s .forced) r w) (h .0), h .1, h .2)
+
+  -- ---- The walk
+
+  after-whole : (r : Kind) (t : ℕ) (x : List ℕ) (ds : Fields) (object : Bool) (p : ℕ) (s : State) → ruleFor t ≡ r → Exact t x →
+      ShapedAll ds (ruleOf t) → Widths s → Whole s → Keeps Whole (after r e t x ds object p s)
+  unfolding after
+  after-whole import t x ds object p s v k m w h =
+      let q = rule-tag t import v in
+      import-whole (e .pass) x ds p s (subst (λ (u : ℕ). Exact u x) q k) (subst (λ (u : ℕ). ShapedAll ds (ruleOf u)) q m) w h
+  after-whole exporting t x ds object p s v k m w h = exportSpecifier-whole x p s h
+  after-whole declare t x ds object p s v k m w h = next (declarator e ds p s) _ (declarator-whole ds (ruleOf t) p s m h) λ gs s h. h
+  after-whole express t x ds object p s v k m w h = expression-whole (e .pass) (field t x ds) object p s (k, m) h
+  after-whole plain t x ds object p s v k m w h = h
+
+  enter-whole : (t : ℕ) (s : State) → Whole s → Whole (enter t s)
+  enter-whole t s h = go (eqb t 0x45)
+    where
+      go : (b : Bool) → Whole (cond b (setTop false s) s)
+      go true = h
+      go false = h
+
+  -- one field, then the rest of a row
+  row-whole : (m : Act Field) (n : Act Fields) (s : State) (f : Field) → After (m s) (λ g s′. Result f g × Widths s′) → Keeps Whole (m s) →
+      ((s : State) → Widths s → Whole s → Keeps Whole (n s)) →
+      Keeps Whole (onto (m s) (λ r. onto (n (r .1)) (λ u. give (more (r .0) (u .0)) (u .1))))
+  row-whole m n s f a b k =
+      after-bind (m s) _ (λ g s′. (Result f g × Widths s′) × Whole s′) (λ r s. Whole s)
+      (after-both (m s) (λ g s′. Result f g × Widths s′) (λ g s′. Whole s′) a b) λ g s c. next (n s) _ (k s (c .0 .1) (c .1)) λ gs s h. h
+
+  abbrev RowWhole : (ℕ → Act Fields) → Fields → Type 0
+  RowWhole m cs = (q : Rule) → inRule takesTarget q ≡ false → ShapedAll cs q → (p : ℕ) (s : State) → Widths s → Whole s → Keeps Whole (m p s)
+
+  parts-whole : (v : Parts) (t : ℕ) (cs : Fields) (object : Bool) (p : ℕ) (s : State) → partsFor t ≡ v → ShapedAll cs (ruleOf t) →
+      ((b : Bool) → RowWhole (walkAll cs e b) cs) → RowWhole (walkMember cs e) cs →
+      (ShapedAll cs (ruleOf 0x66) → Keeps Whole (walkAssignment cs e object p s)) → Widths s → Whole s →
+      Keeps Whole (walkParts v cs e object p s)
+  parts-whole unwalked t cs object p s v k all mem asg w h = h
+  parts-whole member t cs object p s v k all mem asg w h =
+      mem (ruleOf t) (rule-targets t (parts-other t member v (λ q. let z : _≡_ {A = ℕ} 0 1 = cc in omega arith))) k p s w h
+  parts-whole super t cs object p s v k all mem asg w h =
+      all false (ruleOf t) (rule-targets t (parts-other t super v (λ q. let z : _≡_ {A = ℕ} 0 1 = cc in omega arith))) k p s w h
+  parts-whole assignment t cs object p s v k all mem asg w h =
+      asg (subst (λ (u : ℕ). ShapedAll cs (ruleOf u)) (parts-tag t assignment v) k)
+  parts-whole children t cs object p s v k all mem asg w h =
+      all object (ruleOf t) (rule-targets t (parts-other t children v (λ q. let z : _≡_ {A = ℕ} 0 1 = cc in omega arith))) k p s w h
+
+  mutual
+    unfolding walk
+
+    pub walk-whole : (f : Field) (object : Bool) (p : ℕ) (s : State) → Shaped f → (tagOf f ≡ 0x01 → ⊥) → Widths s → Whole s →
+        Keeps Whole (walk f e object p s)
+    walk-whole (field t x cs) object p s k n w h =
+        let m = walkParts (partsFor t) cs e object (inside p x) (enter t s) in
+        after-bind m _ (λ ds s′. (Results cs ds (ruleOf t) × Widths s′) × Whole s′) (λ r s. Whole s)
+        (after-both m (λ ds s′. Results cs ds (ruleOf t) × Widths s′) (λ ds s′. Whole s′)
+        (parts-within e (partsFor t) t cs object (inside p x) (enter t s) refl (k .1) (λ b q w h p s v. walkAll-within e cs q b p s w h v)
+        (λ q w h p s v. walkMember-within e cs q p s w h v)
+        (λ k. walkAssignment-within e cs object (inside p x) (enter t s) k (enter-widths e t s w)) (enter-widths e t s w))
+        (parts-whole (partsFor t) t cs object (inside p x) (enter t s) refl (k .1) (λ b q v k p s w h. walkAll-whole cs q b p s v k w h)
+        (λ q v k p s w h. walkMember-whole cs q p s v k w h)
+        (λ k. walkAssignment-whole cs object (inside p x) (enter t s) k (enter-widths e t s w) (enter-whole t s h)) (enter-widths e t s w)
+        (enter-whole t s h))) λ ds s a.
+        after-whole (ruleFor t) t x ds object p s refl (k .0) (a .0 .0 .shaped) (a .0 .1) (a .1)
+
+    pub walkAll-whole : (fs : Fields) (q : Rule) (object : Bool) (p : ℕ) (s : State) → inRule takesTarget q ≡ false → ShapedAll fs q →
+        Widths s → Whole s → Keeps Whole (walkAll fs e object p s)
+    walkAll-whole none q object p s v k w h = h
+    walkAll-whole (more f fs) q object p s v k w h =
+        row-whole (walk f e object p) (walkAll fs e object (p + size f)) s f
+        (walk-within e f object p s (k .2) (not-module e q (k .0) (tagOf f) v (k .1)) w)
+        (walk-whole f object p s (k .2) (not-module e q (k .0) (tagOf f) v (k .1)) w h)
+        (λ s w h. walkAll-whole fs (k .0) object (p + size f) s (step-without takesTarget q (k .0) (tagOf f) v (k .1)) (k .3) w h)
+
+    walkMember-whole : (fs : Fields) (q : Rule) (p : ℕ) (s : State) → inRule takesTarget q ≡ false → ShapedAll fs q → Widths s → Whole s →
+        Keeps Whole (walkMember fs e p s)
+    walkMember-whole none q p s v k w h = h
+    walkMember-whole (more f fs) q p s v k w h =
+        row-whole (walk f e true p) (walkAll fs e false (p + size f)) s f
+        (walk-within e f true p s (k .2) (not-module e q (k .0) (tagOf f) v (k .1)) w)
+        (walk-whole f true p s (k .2) (not-module e q (k .0) (tagOf f) v (k .1)) w h)
+        (λ s w h. walkAll-whole fs (k .0) false (p + size f) s (step-without takesTarget q (k .0) (tagOf f) v (k .1)) (k .3) w h)
+
+    walkAssignment-whole : (fs : Fields) (object : Bool) (p : ℕ) (s : State) → ShapedAll fs (ruleOf 0x66) → Widths s → Whole s →
+        Keeps Whole (walkAssignment fs e object p s)
+    walkAssignment-whole none object p s k w h = h
+    walkAssignment-whole (more f fs) object p s k w h =
+        let i = target-step (tagOf f) (k .0) (k .1) in
+        let n = target-not e (tagOf f) (i .0) in
+        after-bind (walkTarget f e p s) _ (λ g s′. ((Result f g × (tagOf g ≡ tagOf f)) × Widths s′) × Whole s′) (λ r s. Whole s)
+        (after-both (walkTarget f e p s) (λ g s′. (Result f g × (tagOf g ≡ tagOf f)) × Widths s′) (λ g s′. Whole s′)
+        (walkTarget-within e f p s (k .2) (n .0) (n .1) w) (walkTarget-whole f p s (k .2) (n .1) w h)) λ g s₁ a.
+        next (walkAll fs e object (p + size f) s₁) _
+        (walkAll-whole fs (k .0) object (p + size f) s₁ (value-row e (k .0) (i .1)) (k .3) (a .0 .1) (a .1)) λ gs s h. h
+
+    walkTarget-whole : (f : Field) (p : ℕ) (s : State) → Shaped f → eqb (tagOf f) 0x66 ≡ false → Widths s → Whole s →
+        Keeps Whole (walkTarget f e p s)
+    walkTarget-whole (field t x cs) p s k m w h =
+        next (walkMember cs e (inside p x) s) _ (walkMember-whole cs (ruleOf t) (inside p x) s (rule-targets t m) (k .1) w h) λ ds s h. h
