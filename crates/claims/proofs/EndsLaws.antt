@@ -1,108 +1,132 @@
--- Demand 3 from its two sides: what the passes leave of a namespace import makes, with an accepted resolving, its end.
-use Prim.Native.Nat.{ℕ}
-use mathlib.Core.Path.{_≡_, sym, ap, subst, _∙_}
-use mathlib.Core.Bool.{Bool, true, false, _&&_}
-use mathlib.Core.List.{List, []}
-use mathlib.Core.Option.{some}
-use Rattle.scope.specs.Id.{export}
-use Rattle.scope.specs.Modules.{Modules, numberOf, request}
-use Rattle.tree.specs.declared.grammar.Set.the-variants.{Module}
-use Rattle.tree.specs.Layout.{four, same, valueOf, Bytes}
-use Rattle.tree.specs.Tree.{field, Fields, none, more, partsOf}
-use Rattle.tree.specs.Read.{read}
-use Rattle.metadata.specs.Metadata.{append}
-use Rattle.lent.specs.Outcome.{done}
-use Rattle.lent.specs.Lists.{find, filter, among}
-use Rattle.lent.specs.Table.{Row, rowsIn, atomsIn, fileOf}
-use Rattle.extraction_rules.specs.State.{State, second}
-use Rattle.extraction_rules.specs.Walk.{walkModule}
-use Rattle.extraction_rules.specs.Call.{Lent, Lengths, Extracted, itemsRead, setting, extracted}
-use Rattle.extraction_rules.proofs.RecordsLaws.{call-records}
-use Rattle.extraction_rules.proofs.CallLaws.{Run, Finished, call-run, done-inj, again-done}
-use Rattle.resolving_rules.specs.Call.{Resolved, resolved}
-use Rattle.claims.specs.Stands.{How, stands, isUse, isPlain, properties}
-use Rattle.claims.specs.Placed.{all, wellPlaced}
-use Rattle.claims.specs.Demand.{usesOf, Unchanged, Rewritten, Every, Declares, propertyFields, isUsed, takes, handedOn, Ends}
-use Rattle.claims.proofs.ResolvedLaws.{import-resolves, resolves-to, ends-apart, ends-kept}
+-- From what the two passes leave to the words of demand 3: the declaration, the uses, and the name that is gone.
+use Prim.Native.Nat.{ℕ, zero, suc, _+_}
+use mathlib.Core.Path.{_≡_, refl, sym, ap, ap₂, subst, _∙_}
+use mathlib.Core.Logic.{_⊎_, inl, inr}
+use mathlib.Core.Bool.{Bool, true, false, not, cond, _&&_, _||_, true≢false}
+use mathlib.Core.List.{List, [], _∷_, _++_, map, append-nil}
+use mathlib.Core.Option.{Option, none as nothing, some}
+use native.Mathlib.Omega.{arith}
+use lib.Dec.{eqb}
+use Rattle.scope.specs.Id.{require-atom, local, export}
+use Rattle.tree.specs.Layout.{same, two, four, nameOf, contextOf, valueOf}
+use Rattle.tree.specs.Tree.{Field, field, Fields, none, more, tagOf, fixedOf, partsOf, size}
+use Rattle.lent.specs.Lists.{filter}
+use Rattle.lent.specs.Fields.{has, keep}
+use Rattle.extraction_rules.specs.First.{specifiersIn, stays}
+use Rattle.extraction_rules.specs.Walk.{partsFor}
+use Rattle.extraction_rules.proofs.AlikeLaws.{RegularAll}
+use Rattle.extraction_rules.proofs.TableLaws.{Each}
+use Rattle.claims.specs.Stands.{How, Standing, idsIn, headOf, tailOf, standings, standingsAll, stands, isUse, properties}
+use Rattle.claims.specs.Demand.{Every, itemAt, Declares, usesOf, propertyFields}
+use Rattle.claims.proofs.WaysLaws.{met, ways, waysAll, hows, hows-standings, stands-ways}
+use Rattle.claims.proofs.HowLaws.{Neutral}
+use Rattle.claims.proofs.FirstPassLaws.{OtherImport, OwnImport, Behind, Around, QuietAll, quietAll-neutral, import-ways}
+use Rattle.claims.proofs.SettledLaws.{takesApart}
+use Rattle.claims.proofs.OutLaws.{OutAll, Fine, fine-append}
+use Rattle.claims.proofs.GoneLaws.{goneAll}
+use Rattle.claims.proofs.UsesLaws.{every-append, every-filter, Good, Uses, usesAll}
+use Rattle.claims.proofs.CleanLaws.{Clean, CleanSpec, Absent}
+use Rattle.claims.proofs.WorkedLaws.{import-stays}
+use Rattle.claims.proofs.OutsLaws.{keep-ways, keep-regular, ownSpecifiers, OwnOut, OutsBehind, Outs}
 
--- it is used, and every use is a plain property
-abbrev pub takenApart : List How → Bool
-takenApart hs = isUsed (filter isUse hs) && all isPlain (filter isUse hs)
+-- no use among these standings
+neutral-every : (P : Standing → Type 0) (l : List Standing) → filter isUse (hows l) ≡ [] → Every (λ s. isUse (s .how) ≡ true → P s) l
+unfolding filter
+neutral-every P [] h = tt
+neutral-every P (s ∷ l) h = go (isUse (s .how)) refl h (neutral-every P l)
+  where
+    go : (b : Bool) → isUse (s .how) ≡ b → cond b (s .how ∷ filter isUse (hows l)) (filter isUse (hows l)) ≡ [] → (filter isUse (hows l) ≡ [] → Every (λ s. isUse (s .how) ≡ true → P s) l) → Every (λ s. isUse (s .how) ≡ true → P s) (s ∷ l)
+    go true q h k = absurd (let z : _≡_ {A = ℕ} 0 1 = cc in omega arith)
+    go false q h k = ((λ u. absurd (true≢false (sym u ∙ q))), k h)
 
-takes-resolved : (rows : List Row) (x : List ℕ) (file : ℕ) (hs : List How) → fileOf (valueOf x) rows ≡ some file → takes rows x hs ≡ takenApart hs
-unfolding takes
-takes-resolved rows x file hs e = rw e
+module _ (i lit : List ℕ) (own file n : ℕ) (us : List How) (context : contextOf i ≡ four (local own)) (named : same (nameOf i) (two require-atom) ≡ false) where
+  abbrev c : List ℕ
+  c = four (export n)
 
--- ---- What the passes leave of the import with the literal x and the namespace i at the place k; t is the state before the second pass's end
+  abbrev taken : Bool
+  taken = takesApart us
 
-abbrev pub Side : Bool → List ℕ → List ℕ → ℕ → ℕ → List How → Fields → Fields → State → Type 0
-Side true x i k file hs items outs t =
-    (n : ℕ)
-    × (numberOf file (t .modules) ≡ some n)
-    × (among (valueOf x) (t .forced) ≡ false)
-    × (find (λ c. same (valueOf (c .literal)) (valueOf x)) (t .collected) ≡ some (record { literal = x; specifiers = append (more (field 0x22 i none) none) (propertyFields 0x20 (four (export n)) (properties hs)) }))
-    × (stands outs i ≡ [])
-    × Every (Rewritten (four (export n))) (usesOf items outs i)
-    × Declares outs k x (propertyFields 0x20 (four (export n)) (properties hs))
-Side false x i k file hs items outs t =
-    (among (valueOf x) (t .forced) ≡ true)
-    × (find (λ c. same (valueOf (c .literal)) (valueOf x)) (t .collected) ≡ some (record { literal = x; specifiers = more (field 0x22 i none) none }))
-    × Declares outs k x (more (field 0x22 i none) none)
-    × Every Unchanged (usesOf items outs i)
+  -- ---- The declaration
 
--- of every namespace import with a non-external source that resolves, in a well placed tree
-abbrev pub Sides : Type 0
-Sides =
-    (l : Lent) (ms : Modules) (r : Extracted) → Bytes (l .tree) → (run : Run l ms r) (t : State) →
-    walkModule (setting second (run .own .0) l (rowsIn (l .table))) (run .works) (run .middle) ≡ done (run .outs, t) →
-    wellPlaced (run .own .0) (run .items) ≡ true →
-    (k : ℕ) (x i : List ℕ) → Declares (run .items) k x (more (field 0x22 i none) none) → among (valueOf x) (atomsIn (l .externals)) ≡ false →
-    (file : ℕ) → fileOf (valueOf x) (rowsIn (l .table)) ≡ some file →
-    Side (takenApart (stands (run .items) i)) x i k file (stands (run .items) i) (run .items) (run .outs) t
+  pub declares-own : (k : ℕ) (items outs : Fields) → Outs i lit own file n us context named k items outs → Declares outs k lit (ownSpecifiers i lit own file n us context named taken)
+  declares-own k none outs h = absurd h
+  declares-own zero (more f fs) outs h = (h .4 .0, ap (itemAt zero) (h .2) ∙ ap some (h .4 .1), h .4 .2)
+  declares-own (suc k) (more f fs) outs h = let w = declares-own k fs (h .2) (h .5) in (w .0, ap (itemAt (suc k)) (h .3) ∙ w .1, w .2)
 
--- ---- The ends
+  -- ---- The uses
 
-module _ (l : Lent) (room : Lengths) (ms : Modules) (r : Extracted) (n : ℕ) (q : Resolved) (bytes : Bytes (l .tree))
-    (extracts : extracted l room ms ≡ done r) (resolves : resolved (handedOn l r) n (r .modules) ≡ done q) (run : Run l ms r) where
-  outs-are : run .outs ≡ partsOf (r .out)
-  outs-are = sym (ap (λ (a : Extracted). partsOf (a .out)) (run .gives))
+  import-uses : (f g : Field) → tagOf f ≡ 0x10 → QuietAll (partsOf f) → Uses taken i c own named (standings f g i false)
+  import-uses f g q h = neutral-every (Good taken c) (standings f g i false) (ap (filter isUse) (hows-standings f g i false ∙ import-ways f i q) ∙ quietAll-neutral (partsOf f) i false h .0)
 
-  ends-by : (t : State) → Finished t (run .end) → (k : ℕ) (x i : List ℕ) (file : ℕ) (hs : List How) (items : Fields) →
-      fileOf (valueOf x) (rowsIn (l .table)) ≡ some file → (b : Bool) → Side b x i k file hs items (partsOf (r .out)) t → Ends b i x k hs items l r q
-  ends-by t ended k x i file hs items e true h =
-      let c = four (export (h .0)) in
-      let number = ap (λ (a : Extracted). numberOf file (a .modules)) (run .gives) ∙ ended .3 file (h .0) (h .1) in (
-        h .0,
-        resolves-to l r n q (run .end) (ap (λ (a : Extracted). a .records) (run .gives)) (call-records l room ms bytes r extracts) resolves x file (h .0) e number,
-        record { gone = h .4; used = h .5; declares = h .6; records = ends-apart l room ms r n q bytes extracts resolves run t ended x i c (properties hs) (h .2) (h .3) },
-      )
-  ends-by t ended k x i file hs items e false h =
-      record { declares = h .2; records = ends-kept l room ms r n q bytes extracts resolves run t ended x i (h .0) (h .1); used = h .3 }
+  keep-import : (f : Field) (fs : Fields) → tagOf f ≡ 0x10 → keep stays (more f fs) ≡ more f (keep stays fs)
+  unfolding keep
+  keep-import f fs q = rw (import-stays f q)
 
-  ends-run : Sides → wellPlaced (run .own .0) (run .items) ≡ true → (k : ℕ) (x i : List ℕ) →
-      Declares (run .items) k x (more (field 0x22 i none) none) → among (valueOf x) (atomsIn (l .externals)) ≡ false →
-      Ends (takes (rowsIn (l .table)) x (stands (run .items) i)) i x k (stands (run .items) i) (run .items) l r q
-  ends-run sides p k x i d w =
-      let f = import-resolves l room ms r n q bytes extracts resolves run k x (d .0) (d .1) w in
-      let a = again-done (setting second (run .own .0) l (rowsIn (l .table))) (run .works) (run .middle) (run .outs, run .end) (run .two) in
-      let hs = stands (run .items) i in
-      let s = sides l ms r bytes run (a .0) (a .1) p k x i d w (f .0) (f .1) in
-      rw (takes-resolved (rowsIn (l .table)) x (f .0) hs (f .1))
-      (ends-by (a .0) (a .2) k x i (f .0) hs (run .items) (f .1) (takenApart hs)
-      (subst (λ (outs : Fields). Side (takenApart hs) x i k (f .0) hs (run .items) outs (a .0)) outs-are s))
+  both-uses : (f g : Field) (fs hs gs : Fields) → gs ≡ more g hs → tagOf f ≡ 0x10 → QuietAll (partsOf f) → Uses taken i c own named (standingsAll (keep stays fs) hs i false) → Uses taken i c own named (standingsAll (keep stays (more f fs)) gs i false)
+  unfolding standings
+  both-uses f g fs hs gs e q h k =
+      rw (keep-import f fs q, e) (every-append (λ s. isUse (s .how) ≡ true → Good taken c s) (standings f g i false) (standingsAll (keep stays fs) hs i false) (import-uses f g q h) k)
 
-some-inj : {A : Type 0} {a b : A} → some a ≡ some b → a ≡ b
-some-inj e = cc
+  behind-uses : (fs gs : Fields) → Behind i lit own file fs → OutsBehind i lit own file n us context named fs gs → Fine taken (waysAll fs i false) → Uses taken i c own named (standingsAll (keep stays fs) gs i false)
+  unfolding standings ways keep
+  behind-uses none gs b h fine = tt
+  behind-uses (more f fs) gs b (inr h) fine = usesAll taken i c own named (keep stays (more f fs)) gs false (keep-regular (more f fs) (h .0)) (subst (Fine taken) (sym (keep-ways (more f fs) i (h .0))) fine) (h .1)
+  behind-uses (more f fs) gs (inl b) (inl h) fine = both-uses f (h .1) fs (h .2) gs (h .3) (h .0) (b .0 .quiet) (behind-uses fs (h .2) (b .1) (h .5) (fine-append taken (ways f i false) (waysAll fs i false) fine .1))
+  behind-uses (more (field t x cs) fs) gs (inr b) (inl h) fine = absurd (b .0 .0 .no-import (h .0))
 
--- demand 3, first part, of lent bytes, once the passes' side is known
-pub kept-or-apart : Sides → (l : Lent) (room : Lengths) (ms : Modules) (r : Extracted) (n : ℕ) (q : Resolved) (items : Fields) (own : ℕ × Modules) →
-    Bytes (l .tree) → extracted l room ms ≡ done r → resolved (handedOn l r) n (r .modules) ≡ done q →
-    itemsRead (read Module (l .tree)) ≡ done items → request (l .file) ms ≡ some own → wellPlaced (own .0) items ≡ true →
-    (k : ℕ) (x i : List ℕ) → Declares items k x (more (field 0x22 i none) none) → among (valueOf x) (atomsIn (l .externals)) ≡ false →
-    Ends (takes (rowsIn (l .table)) x (stands items i)) i x k (stands items i) items l r q
-kept-or-apart sides l room ms r n q items own bytes extracts resolves reads requests p k x i d w =
-    let run = call-run l room ms r extracts in
-    let a : run .items ≡ items = done-inj (sym (run .reads) ∙ reads) in
-    let b : run .own ≡ own = some-inj (sym (run .requests) ∙ requests) in
-    subst (λ (fs : Fields). Declares fs k x (more (field 0x22 i none) none) → wellPlaced (own .0) fs ≡ true → Ends (takes (rowsIn (l .table)) x (stands fs i)) i x k (stands fs i) fs l r q) a
-    (λ d p. ends-run l room ms r n q bytes extracts resolves run sides (ap (λ (o : ℕ × Modules). wellPlaced (o .0) (run .items)) b ∙ p) k x i d w) d p
+  around-uses : (k : ℕ) (fs gs : Fields) → Around i lit own file k fs → Outs i lit own file n us context named k fs gs → Fine taken (waysAll fs i false) → Uses taken i c own named (standingsAll (keep stays fs) gs i false)
+  unfolding ways
+  around-uses k none gs b h fine = absurd h
+  around-uses zero (more f fs) gs b h fine = both-uses f (h .0) fs (h .1) gs (h .2) (h .3) (b .0 .quiet) (behind-uses fs (h .1) (b .1) (h .5) (fine-append taken (ways f i false) (waysAll fs i false) fine .1))
+  around-uses (suc k) (more f fs) gs b h fine = both-uses f (h .1) fs (h .2) gs (h .3) (h .0) (b .0 .quiet) (around-uses k fs (h .2) (b .1) (h .5) (fine-append taken (ways f i false) (waysAll fs i false) fine .1))
+
+  pub uses-end : (k : ℕ) (items outs : Fields) → Around i lit own file k items → Outs i lit own file n us context named k items outs → Fine taken (waysAll items i false) → Every (Good taken c) (usesOf items outs i)
+  unfolding usesOf
+  uses-end k items outs b h fine = every-filter (Good taken c) (standingsAll (keep stays items) outs i false) (around-uses k items outs b h fine)
+
+  -- ---- The name is gone
+
+  -- of the imports in *out*: where the id stands in no specifier, it stands nowhere
+  abbrev pub Tidy : Field → Type 0
+  Tidy g = tagOf g ≡ 0x10 → Each (λ f. ways f i false ≡ []) (specifiersIn (partsOf g)) → waysAll (partsOf g) i false ≡ []
+
+  clean-absent : (fs : Fields) → Each (CleanSpec i own context) fs → Each (λ f. ways f i false ≡ []) fs
+  clean-absent none h = tt
+  clean-absent (more f fs) h = (h .0 .0, clean-absent fs (h .1))
+
+  clean-gone : (y : List ℕ) (g : Field) → Tidy g → Clean i own context y g → ways g i false ≡ []
+  clean-gone y g t h = import-ways g i (h .0) ∙ t (h .0) (clean-absent (specifiersIn (partsOf g)) (h .2))
+
+  module _ (apart : taken ≡ true) (absent : Each (λ f. ways f i false ≡ []) (propertyFields 0x20 c (properties us))) where
+    nil-both : (f : Field) (fs gs : Fields) → gs ≡ more f fs → ways f i false ≡ [] → waysAll fs i false ≡ [] → waysAll gs i false ≡ []
+    unfolding ways
+    nil-both f fs gs e h k = rw e (rw (h, k))
+
+    first-tidy : (g : Field) (hs gs : Fields) → gs ≡ more g hs → Each Tidy gs → Tidy g × Each Tidy hs
+    first-tidy g hs gs e t = subst (Each Tidy) e t
+
+    behind-gone : (fs gs : Fields) → OutsBehind i lit own file n us context named fs gs → Fine taken (waysAll fs i false) → Each Tidy gs → waysAll gs i false ≡ []
+    unfolding ways keep
+    behind-gone none gs h fine t = rw h
+    behind-gone (more f fs) gs (inr h) fine t = goneAll taken i c own named context apart (keep stays (more f fs)) gs false (keep-regular (more f fs) (h .0)) (subst (Fine taken) (sym (keep-ways (more f fs) i (h .0))) fine) (h .1)
+    behind-gone (more f fs) gs (inl h) fine t =
+        let k = first-tidy (h .1) (h .2) gs (h .3) t in
+        nil-both (h .1) (h .2) gs (h .3) (clean-gone (fixedOf f) (h .1) (k .0) (h .4)) (behind-gone fs (h .2) (h .5) (fine-append taken (ways f i false) (waysAll fs i false) fine .1) (k .1))
+
+    own-gone : (g : Field) → Tidy g → OwnOut i lit own file n us context named g → ways g i false ≡ []
+    own-gone g t h =
+        let q : tagOf g ≡ 0x10 = ap tagOf (h .1) in
+        import-ways g i q ∙ t q (subst (Each (λ f. ways f i false ≡ [])) (sym (ap (λ (g : Field). specifiersIn (partsOf g)) (h .1) ∙ h .2 ∙ ap (ownSpecifiers i lit own file n us context named) apart)) absent)
+
+    around-gone : (k : ℕ) (fs gs : Fields) → Outs i lit own file n us context named k fs gs → Fine taken (waysAll fs i false) → Each Tidy gs → waysAll gs i false ≡ []
+    unfolding ways
+    around-gone k none gs h fine t = absurd h
+    around-gone zero (more f fs) gs h fine t =
+        let k = first-tidy (h .0) (h .1) gs (h .2) t in
+        nil-both (h .0) (h .1) gs (h .2) (own-gone (h .0) (k .0) (h .4)) (behind-gone fs (h .1) (h .5) (fine-append taken (ways f i false) (waysAll fs i false) fine .1) (k .1))
+    around-gone (suc k) (more f fs) gs h fine t =
+        let q = first-tidy (h .1) (h .2) gs (h .3) t in
+        nil-both (h .1) (h .2) gs (h .3) (clean-gone (fixedOf f) (h .1) (q .0) (h .4)) (around-gone k fs (h .2) (h .5) (fine-append taken (ways f i false) (waysAll fs i false) fine .1) (q .1))
+
+    pub gone-end : (k : ℕ) (items outs : Fields) → Outs i lit own file n us context named k items outs → Fine taken (waysAll items i false) → Each Tidy outs → stands outs i ≡ []
+    gone-end k items outs h fine t = stands-ways outs i ∙ around-gone k items outs h fine t

@@ -1,6 +1,27 @@
--- Proofs of what is claimed: the sentence on lists of calls (ListsLaws); for demand 3, the resolved list of an extraction's records
--- (ResolvedLaws), the items around a namespace's import in a well placed tree (PlacedLaws), and its end from what the passes leave (EndsLaws).
+-- Proofs of what is claimed: the sentence on lists of calls (ListsLaws) and demand 3 (DemandLaws, from TopLaws): what well placed items say around
+-- a namespace's import, what each pass leaves of it, of its uses and of its record, and what resolving makes of that.
 pub mod ListsLaws
-pub mod ResolvedLaws
 pub mod PlacedLaws
 pub mod EndsLaws
+pub mod CleanLaws
+pub mod CoreLaws
+pub mod DefaultLaws
+pub mod FirstPassLaws
+pub mod GoneLaws
+pub mod HeldLaws
+pub mod HowLaws
+pub mod ImportedLaws
+pub mod OutLaws
+pub mod OutsLaws
+pub mod RecordLaws
+pub mod ResolvesLaws
+pub mod RunLaws
+pub mod SettledLaws
+pub mod SpecifierLaws
+pub mod SurroundedLaws
+pub mod TidyLaws
+pub mod TopLaws
+pub mod UsesLaws
+pub mod WaysLaws
+pub mod WorkedLaws
+pub mod DemandLaws

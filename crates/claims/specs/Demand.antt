@@ -10,7 +10,7 @@ use lib.ListN.{take, drop, getD}
 use Rattle.scope.specs.Id.{export}
 use Rattle.scope.specs.Modules.{Modules, numberOf, request}
 use Rattle.tree.specs.declared.grammar.Set.the-variants.{Module}
-use Rattle.tree.specs.Layout.{four, valueOf, sameLiteral}
+use Rattle.tree.specs.Layout.{four, valueOf, sameLiteral, Bytes}
 use Rattle.tree.specs.Tree.{Field, field, Fields, none, more, tagOf, fixedOf, partsOf, encode}
 use Rattle.tree.specs.Read.{read}
 use Rattle.lent.specs.Outcome.{done}
@@ -124,10 +124,11 @@ handedOn l r = record { table = l .table; records = encode (r .records) }
 
 -- For an accepted extraction of a well placed tree and an accepted resolving of its records, every namespace import with a
 -- non-external source is taken apart exactly when its source resolves, it is used and every use is a plain property; else it is kept.
+-- What is lent is bytes.
 abbrev pub KeptOrApart : Type 0
 KeptOrApart =
     (l : Lent) (room : Lengths) (ms : Modules) (r : Extracted) (n : ℕ) (q : Resolved) (items : Fields) (own : ℕ × Modules) →
     extracted l room ms ≡ done r → resolved (handedOn l r) n (r .modules) ≡ done q →
-    itemsRead (read Module (l .tree)) ≡ done items → request (l .file) ms ≡ some own → wellPlaced (own .0) items ≡ true →
+    Bytes (l .tree) → itemsRead (read Module (l .tree)) ≡ done items → request (l .file) ms ≡ some own → wellPlaced (own .0) items ≡ true →
     (k : ℕ) (x i : List ℕ) → Declares items k x (more (field 0x22 i none) none) → among (valueOf x) (atomsIn (l .externals)) ≡ false →
     Ends (takes (rowsIn (l .table)) x (stands items i)) i x k (stands items i) items l r q

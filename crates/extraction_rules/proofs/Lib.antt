@@ -22,5 +22,10 @@ pub mod MarksLaws
 pub mod WholeLaws
 pub mod RecordsLaws
 pub mod CallLaws
-pub mod CollectedLaws
 pub mod RegularLaws
+pub mod AlikeLaws
+pub mod ItemsLaws
+pub mod QuietLaws
+pub mod SpaceLaws
+pub mod TableLaws
+pub mod TagLaws

@@ -1,207 +1,167 @@
--- What the grammar says of trees behind a module's imports, field by field, as far as the rules lean on it.
-use Prim.Native.Nat.{ℕ, _≤_}
+-- Trees within the grammar are regular behind the imports.
+use Prim.Native.Nat.{ℕ, _≤_, _<_}
 use mathlib.Core.Path.{_≡_, refl, sym, ap, subst, _∙_}
 use mathlib.Core.Logic.{_⊎_, inl, inr}
-use mathlib.Core.Bool.{Bool, true, false, not, cond, _||_, true≢false}
-use mathlib.Core.List.{List, [], _∷_}
-use mathlib.Core.Option.{some}
+use mathlib.Core.Bool.{Bool, true, false, not, cond, _&&_, _||_, true≢false}
+use mathlib.Core.List.{List, [], _∷_, _++_, append-nil}
 use native.Mathlib.Omega.{arith}
-use lib.Dec.{eqb}
-use lib.ListN.{length, getD}
-use lib.Seq.{take-all}
-use borrow.Author.Tests.{eqb-true, eqb-false}
+use lib.Dec.{leb, eqb}
+use lib.ListN.{length, take, drop, getD}
+use lib.Seq.{take-at}
+use borrow.Author.Tests.{eqb-true, eqb-false, leb-true}
+use Rattle.tree.proofs.Table.{both-true}
 use Rattle.tree.specs.declared.grammar.Set.{Set}
-use Rattle.tree.specs.declared.grammar.Set.the-variants.{Item, Expression, Member}
+use Rattle.tree.specs.declared.grammar.Set.the-variants.{Expression, Member}
 use Rattle.tree.specs.declared.grammar.Slot.the-variants.{Nothing, One}
 use Rattle.tree.specs.declared.grammar.Rule.{Rule}
 use Rattle.tree.specs.declared.grammar.Step.the-variants.{Go}
 use Rattle.tree.specs.Layout.{idAt}
-use Rattle.tree.specs.Tree.{Field, field, Fields, none, more, tagOf}
-use Rattle.tree.specs.Grammar.{within, holdsAt, parts0, ruleOf, stepAt, doneAt}
+use Rattle.tree.specs.Tree.{Field, field, Fields, none, more, tagOf, fixedOf, partsOf}
+use Rattle.tree.specs.Grammar.{within, holdsAt, parts0, parts1, ruleOf, stepAt, doneAt}
 use Rattle.tree.specs.Within.{Exact}
 use Rattle.tree.proofs.GrammarLaws.{step-one}
-use Rattle.lent.specs.Fields.{has, findField}
-use Rattle.lent.specs.Lists.{isSome}
-use Rattle.extraction_rules.proofs.TestLaws.{or-neither, is-false}
-use Rattle.extraction_rules.proofs.RuleLaws.{inRule, step-without, step-untaken, rule-passes, or-true, only-by, only-step}
+use Rattle.extraction_rules.proofs.TestLaws.{or-neither, neither-or, is-false}
+use Rattle.extraction_rules.proofs.RuleLaws.{inRule, step-without, step-untaken, rule-passes, or-true, only-by}
 use Rattle.extraction_rules.proofs.ExactLaws.{width-60, width-70, width-23}
-use Rattle.extraction_rules.proofs.ShapeLaws.{Shaped, ShapedAll, shaped-none, target-step, member-second}
-use Rattle.extraction_rules.proofs.ReadableLaws.{item-step}
+use Rattle.extraction_rules.proofs.ShapeLaws.{Shaped, ShapedAll, shaped-none, target-step}
+use Rattle.extraction_rules.proofs.AlikeLaws.{Two, RegularAt, Regular, RegularAll}
 
--- ---- Definitions
+-- tags of modules, imports and records, and of what stands in these alone
+abbrev pub outer : ℕ → Bool
+outer t = eqb t 0x01 || (eqb t 0x02 || (eqb t 0x10 || (eqb t 0x20 || (eqb t 0x21 || (eqb t 0x22 || (eqb t 0x80 || eqb t 0x81))))))
 
--- an object and a member: 70, 71 or 72
-abbrev pub Two : Fields → Type 0
-Two cs = (o q : Field) × (cs ≡ more o (more q none)) × ((tagOf q ≡ 0x70) ⊎ ((tagOf q ≡ 0x71) ⊎ (tagOf q ≡ 0x72)))
+abbrev takesOuter : Set → Bool
+takesOuter x = holdsAt x 0x01 || (holdsAt x 0x02 || (holdsAt x 0x10 || (holdsAt x 0x20 || (holdsAt x 0x21 || (holdsAt x 0x22 || (holdsAt x 0x80 || holdsAt x 0x81))))))
 
--- what the grammar says of a field behind the imports
-pub record ShapedAt (t : ℕ) (x : List ℕ) (cs : Fields) : Type 0 where
-  -- no 10
-  pub no-import : t ≡ 0x10 → ⊥
-  -- no 20, 21, 22
-  pub no-local : (t ≡ 0x20 → ⊥) × (t ≡ 0x21 → ⊥) × (t ≡ 0x22 → ⊥)
-  -- a 23 has no parts; its original is a whole id, or a string
-  pub export-bare : t ≡ 0x23 → cs ≡ none
-  pub export-kind : t ≡ 0x23 → ((getD x 0 0 ≡ 1) × (7 ≤ length x)) ⊎ (getD x 0 0 ≡ 2)
-  -- a 60 is an id without parts
-  pub ident-bare : t ≡ 0x60 → cs ≡ none
-  pub ident-whole : t ≡ 0x60 → idAt x 0 ≡ x
-  -- a 63 has an object and a member, a 70 is an atom without parts
-  pub member-two : t ≡ 0x63 → Two cs
-  pub name-bare : t ≡ 0x70 → cs ≡ none
-  pub name-two : t ≡ 0x70 → length x ≡ 2
-  -- the target of a 66 is no 60 and no 23
-  pub target : t ≡ 0x66 → (f : Field) (fs : Fields) → cs ≡ more f fs → (tagOf f ≡ 0x60 → ⊥) × (tagOf f ≡ 0x23 → ⊥)
+-- no other field has such parts
+outers : ℕ → Rule → Bool
+outers k r = outer k || not (inRule takesOuter r)
 
-abbrev mutual
-  pub Regular : Field → Type 0
-  Regular (field t x cs) = ShapedAt t x cs × RegularAll cs
+rule-outer : (t : ℕ) → outer t ≡ false → inRule takesOuter (ruleOf t) ≡ false
+unfolding outers holdsAt within
+rule-outer t n = only-by (outer t) (inRule takesOuter (ruleOf t)) (rule-passes outers t refl refl refl refl (or-true (outer t) true refl)) n
 
-  pub RegularAll : Fields → Type 0
-  RegularAll none = Unit {0}
-  RegularAll (more f fs) = Regular f × RegularAll fs
+not-outer : (t u : ℕ) → outer t ≡ false → outer u ≡ true → t ≡ u → ⊥
+not-outer t u h k q = true≢false (sym k ∙ ap outer (sym q) ∙ h)
 
--- ---- Tags that stand in front of the items, or in no module
-
-abbrev anyOf : (ℕ → Bool) → List ℕ → Bool
-anyOf p [] = false
-anyOf p (k ∷ l) = p k || anyOf p l
-
-abbrev fronts : List ℕ
-fronts = 0x01 ∷ 0x02 ∷ 0x10 ∷ 0x20 ∷ 0x21 ∷ 0x22 ∷ 0x80 ∷ 0x81 ∷ []
-
-abbrev frontTag : ℕ → Bool
-frontTag t = anyOf (λ k. eqb k t) fronts
-
-abbrev takesFront : Set → Bool
-takesFront x = anyOf (holdsAt x) fronts
-
-any-false : (p : ℕ → Bool) (l : List ℕ) (t : ℕ) → anyOf p l ≡ false → anyOf (λ k. eqb k t) l ≡ true → p t ≡ false
-any-false p [] t h e = absurd (true≢false (sym e))
-any-false p (k ∷ l) t h e = go (eqb k t) refl e (λ w. any-false p l t (or-neither (p k) (anyOf p l) h .1) w)
+-- a part of a rule without such sets
+part-outer : (q q′ : Rule) (t : ℕ) → inRule takesOuter q ≡ false → stepAt q t ≡ Go q′ → outer t ≡ false
+part-outer q q′ t h e =
+    neither-or (eqb t 0x01) _ (no 0x01 (λ x w. or-neither (holdsAt x 0x01) _ w .0))
+    (neither-or (eqb t 0x02) _ (no 0x02 (λ x w. or-neither (holdsAt x 0x02) _ (two x w) .0))
+    (neither-or (eqb t 0x10) _ (no 0x10 (λ x w. or-neither (holdsAt x 0x10) _ (three x w) .0))
+    (neither-or (eqb t 0x20) _ (no 0x20 (λ x w. or-neither (holdsAt x 0x20) _ (four x w) .0))
+    (neither-or (eqb t 0x21) _ (no 0x21 (λ x w. or-neither (holdsAt x 0x21) _ (five x w) .0))
+    (neither-or (eqb t 0x22) _ (no 0x22 (λ x w. or-neither (holdsAt x 0x22) _ (six x w) .0))
+    (neither-or (eqb t 0x80) _ (no 0x80 (λ x w. or-neither (holdsAt x 0x80) (holdsAt x 0x81) (seven x w) .0)) (no 0x81 (λ x w. or-neither (holdsAt x 0x80) (holdsAt x 0x81) (seven x w) .1))))))))
   where
-    go : (b : Bool) → eqb k t ≡ b → b || anyOf (λ k. eqb k t) l ≡ true → (anyOf (λ k. eqb k t) l ≡ true → p t ≡ false) → p t ≡ false
-    go true w e i = ap p (sym (eqb-true k t w)) ∙ or-neither (p k) (anyOf p l) h .0
-    go false w e i = i e
+    no : (u : ℕ) → ((x : Set) → takesOuter x ≡ false → holdsAt x u ≡ false) → eqb t u ≡ false
+    no u k = is-false (eqb t u) (λ z. step-untaken takesOuter u k q q′ h (ap (stepAt q) (sym (eqb-true t u z)) ∙ e))
 
--- a row that takes no such tag has none
-row-front : (q q′ : Rule) (t : ℕ) → inRule takesFront q ≡ false → stepAt q t ≡ Go q′ → frontTag t ≡ false
-row-front q q′ t h e = is-false (frontTag t) (λ w. step-untaken takesFront t (λ x v. any-false (holdsAt x) fronts t v w) q q′ h e)
+    two : (x : Set) → takesOuter x ≡ false → holdsAt x 0x02 || (holdsAt x 0x10 || (holdsAt x 0x20 || (holdsAt x 0x21 || (holdsAt x 0x22 || (holdsAt x 0x80 || holdsAt x 0x81))))) ≡ false
+    two x w = or-neither (holdsAt x 0x01) _ w .1
 
-frontRule : ℕ → Rule → Bool
-frontRule k r = frontTag k || not (inRule takesFront r)
+    three : (x : Set) → takesOuter x ≡ false → holdsAt x 0x10 || (holdsAt x 0x20 || (holdsAt x 0x21 || (holdsAt x 0x22 || (holdsAt x 0x80 || holdsAt x 0x81)))) ≡ false
+    three x w = or-neither (holdsAt x 0x02) _ (or-neither (holdsAt x 0x01) _ w .1) .1
 
--- only such a field has such parts
-rule-front : (t : ℕ) → frontTag t ≡ false → inRule takesFront (ruleOf t) ≡ false
-unfolding frontRule holdsAt within
-rule-front t n = only-by (frontTag t) (inRule takesFront (ruleOf t)) (rule-passes frontRule t refl refl refl refl (or-true (frontTag t) true refl)) n
+    four : (x : Set) → takesOuter x ≡ false → holdsAt x 0x20 || (holdsAt x 0x21 || (holdsAt x 0x22 || (holdsAt x 0x80 || holdsAt x 0x81))) ≡ false
+    four x w = or-neither (holdsAt x 0x10) _ (three x w) .1
 
-not-front : (t k : ℕ) → frontTag t ≡ false → frontTag k ≡ true → t ≡ k → ⊥
-not-front t k h w e = true≢false (sym w ∙ ap frontTag (sym e) ∙ h)
+    five : (x : Set) → takesOuter x ≡ false → holdsAt x 0x21 || (holdsAt x 0x22 || (holdsAt x 0x80 || holdsAt x 0x81)) ≡ false
+    five x w = or-neither (holdsAt x 0x20) _ (four x w) .1
 
--- ---- Field by field
+    six : (x : Set) → takesOuter x ≡ false → holdsAt x 0x22 || (holdsAt x 0x80 || holdsAt x 0x81) ≡ false
+    six x w = or-neither (holdsAt x 0x21) _ (five x w) .1
 
-bare : (t k : ℕ) (cs : Fields) → ruleOf k ≡ parts0 → ShapedAll cs (ruleOf t) → t ≡ k → cs ≡ none
-bare t k cs r h e = shaped-none cs (subst (ShapedAll cs) (ap ruleOf e ∙ r) h)
+    seven : (x : Set) → takesOuter x ≡ false → holdsAt x 0x80 || holdsAt x 0x81 ≡ false
+    seven x w = or-neither (holdsAt x 0x22) _ (six x w) .1
 
-rule-23 : ruleOf 0x23 ≡ parts0
+-- ---- Fields of one tag
+
+bare-at : (t u : ℕ) (cs : Fields) → ShapedAll cs (ruleOf t) → ruleOf u ≡ parts0 → t ≡ u → cs ≡ none
+bare-at t u cs h k q = shaped-none cs (subst (ShapedAll cs) (ap ruleOf q ∙ k) h)
+
+export-rule : ruleOf 0x23 ≡ parts0
 unfolding ruleOf within
-rule-23 = refl
+export-rule = refl
 
-rule-60 : ruleOf 0x60 ≡ parts0
+empty-rule : ruleOf 0x40 ≡ parts0
 unfolding ruleOf within
-rule-60 = refl
+empty-rule = refl
 
-rule-70 : ruleOf 0x70 ≡ parts0
+ident-rule : ruleOf 0x60 ≡ parts0
 unfolding ruleOf within
-rule-70 = refl
+ident-rule = refl
 
-export-by : (x : List ℕ) → Exact 0x23 x → ((getD x 0 0 ≡ 1) × (7 ≤ length x)) ⊎ (getD x 0 0 ≡ 2)
-export-by x h = go (eqb (getD x 0 0) 2) refl
+name-rule : ruleOf 0x70 ≡ parts0
+unfolding ruleOf within
+name-rule = refl
+
+kind-of : (x : List ℕ) → Exact 0x23 x → ((getD x 0 0 ≡ 1) × (7 ≤ length x)) ⊎ (getD x 0 0 ≡ 2)
+kind-of x h = go (eqb (getD x 0 0) 2) refl
   where
     go : (b : Bool) → eqb (getD x 0 0) 2 ≡ b → ((getD x 0 0 ≡ 1) × (7 ≤ length x)) ⊎ (getD x 0 0 ≡ 2)
-    go true w = inr (eqb-true (getD x 0 0) 2 w)
-    go false w = let v = width-23 x h w in let u = v .1 in inl (v .0, omega arith)
+    go true q = inr (eqb-true (getD x 0 0) 2 q)
+    go false q = let w = width-23 x h q in let l = w .1 in inl (w .0, omega arith)
 
-member-tag : (t : ℕ) → 0x70 ≤ t → t ≤ 0x72 → (t ≡ 0x70) ⊎ ((t ≡ 0x71) ⊎ (t ≡ 0x72))
-member-tag t a b = go (eqb t 0x70) (eqb t 0x71) refl refl
+pub whole-id : (x : List ℕ) → length x ≡ 6 → idAt x 0 ≡ x
+whole-id x l = ap (take 6) (sym (append-nil x)) ∙ take-at x [] 6 l
+
+member-tag : (t : ℕ) → holdsAt Member t ≡ true → (t ≡ 0x70) ⊎ ((t ≡ 0x71) ⊎ (t ≡ 0x72))
+unfolding holdsAt within
+member-tag t h =
+    let w = both-true (leb 0x70 t) (leb t 0x72) h in
+    go (leb-true 0x70 t (w .0)) (leb-true t 0x72 (w .1)) (eqb t 0x70) (eqb t 0x71) refl refl
   where
-    last : (t : ℕ) → 0x70 ≤ t → t ≤ 0x72 → (t ≡ 0x70 → ⊥) → (t ≡ 0x71 → ⊥) → t ≡ 0x72
-    last t a b c d = omega arith
+    go : 0x70 ≤ t → t ≤ 0x72 → (a b : Bool) → eqb t 0x70 ≡ a → eqb t 0x71 ≡ b → (t ≡ 0x70) ⊎ ((t ≡ 0x71) ⊎ (t ≡ 0x72))
+    go l u true b p q = inl (eqb-true t 0x70 p)
+    go l u false true p q = inr (inl (eqb-true t 0x71 q))
+    go l u false false p q = let x = eqb-false t 0x70 p in let y = eqb-false t 0x71 q in inr (inr (last t l u x y))
+      where
+        last : (t : ℕ) → 0x70 ≤ t → t ≤ 0x72 → (t ≡ 0x70 → ⊥) → (t ≡ 0x71 → ⊥) → t ≡ 0x72
+        last t l u x y = omega arith
 
-    go : (c d : Bool) → eqb t 0x70 ≡ c → eqb t 0x71 ≡ d → (t ≡ 0x70) ⊎ ((t ≡ 0x71) ⊎ (t ≡ 0x72))
-    go true d v w = inl (eqb-true t 0x70 v)
-    go false true v w = inr (inl (eqb-true t 0x71 w))
-    go false false v w = inr (inr (last t a b (eqb-false t 0x70 v) (eqb-false t 0x71 w)))
-
-member-rule : (cs : Fields) → ShapedAll cs (ruleOf 0x63) → Two cs
+member-parts : (cs : Fields) → ShapedAll cs (ruleOf 0x63) → Two cs
 unfolding ruleOf within
-member-rule none h = absurd (true≢false (sym h))
-member-rule (more o none) h =
-    absurd (true≢false (sym (subst (λ (r : Rule). doneAt r ≡ true) (step-one Expression (One Member) Nothing Nothing (tagOf o) (h .0) (h .1) .1) (h .3))))
-member-rule (more o (more q qs)) h =
+member-parts none h = absurd (true≢false (sym h))
+member-parts (more o none) h = absurd (true≢false (sym (ap doneAt (sym (step-one Expression (One Member) Nothing Nothing (tagOf o) (h .0) (h .1) .1)) ∙ h .3)))
+member-parts (more o (more q rest)) h =
+    let k = step-one Expression (One Member) Nothing Nothing (tagOf o) (h .0) (h .1) .1 in
     let m = h .3 in
-    let r = step-one Expression (One Member) Nothing Nothing (tagOf o) (h .0) (h .1) .1 in
-    let s = subst (λ (k : Rule). stepAt k (tagOf q) ≡ Go (m .0)) r (m .1) in
-    let w = member-second (tagOf q) (m .0) s in
-    let z = step-one Member Nothing Nothing Nothing (tagOf q) (m .0) s .1 in
-    (o, q, ap (λ (k : Fields). more o (more q k)) (shaped-none qs (subst (ShapedAll qs) z (m .3))), member-tag (tagOf q) (w .0) (w .1))
+    let w = step-one Member Nothing Nothing Nothing (tagOf q) (m .0) (subst (λ (r : Rule). stepAt r (tagOf q) ≡ Go (m .0)) k (m .1)) in
+    (o, q, ap (λ (r : Fields). more o (more q r)) (shaped-none rest (subst (ShapedAll rest) (w .1) (m .3))), member-tag (tagOf q) (w .0))
 
-target-by : (cs : Fields) → ShapedAll cs (ruleOf 0x66) → (f : Field) (fs : Fields) → cs ≡ more f fs → (tagOf f ≡ 0x60 → ⊥) × (tagOf f ≡ 0x23 → ⊥)
-target-by cs h f fs e =
-    let k = subst (λ (z : Fields). ShapedAll z (ruleOf 0x66)) e h in
-    go (tagOf f) (target-step (tagOf f) (k .0) (k .1) .0)
+target-tag : (cs : Fields) → ShapedAll cs (ruleOf 0x66) → (f : Field) (fs : Fields) → cs ≡ more f fs → (tagOf f ≡ 0x60 → ⊥) × (tagOf f ≡ 0x23 → ⊥)
+target-tag none h f fs q = absurd (let z : _≡_ {A = ℕ} 0 1 = cc in omega arith)
+target-tag (more g gs) h f fs q = go (target-step (tagOf g) (h .0) (h .1) .0)
   where
-    go : (t : ℕ) → (t ≡ 0x50) ⊎ (t ≡ 0x63) → (t ≡ 0x60 → ⊥) × (t ≡ 0x23 → ⊥)
-    go t (inl w) = ((λ v. omega arith), (λ v. omega arith))
-    go t (inr w) = ((λ v. omega arith), (λ v. omega arith))
+    e : g ≡ f
+    e = cc
 
-shaped-at : (t : ℕ) (x : List ℕ) (cs : Fields) → frontTag t ≡ false → Exact t x → ShapedAll cs (ruleOf t) → ShapedAt t x cs
-shaped-at t x cs n h k =
+    go : (tagOf g ≡ 0x50) ⊎ (tagOf g ≡ 0x63) → (tagOf f ≡ 0x60 → ⊥) × (tagOf f ≡ 0x23 → ⊥)
+    go (inl k) = ((λ z. let v : _≡_ {A = ℕ} 0x50 0x60 = sym k ∙ ap tagOf e ∙ z in omega arith), (λ z. let v : _≡_ {A = ℕ} 0x50 0x23 = sym k ∙ ap tagOf e ∙ z in omega arith))
+    go (inr k) = ((λ z. let v : _≡_ {A = ℕ} 0x63 0x60 = sym k ∙ ap tagOf e ∙ z in omega arith), (λ z. let v : _≡_ {A = ℕ} 0x63 0x23 = sym k ∙ ap tagOf e ∙ z in omega arith))
+
+regular-at : (t : ℕ) (x : List ℕ) (cs : Fields) → outer t ≡ false → Exact t x → ShapedAll cs (ruleOf t) → RegularAt t x cs
+regular-at t x cs o h k =
     record {
-      no-import = not-front t 0x10 n refl;
-      no-local = (not-front t 0x20 n refl, not-front t 0x21 n refl, not-front t 0x22 n refl);
-      export-bare = bare t 0x23 cs rule-23 k;
-      export-kind = λ e. export-by x (subst (λ (u : ℕ). Exact u x) e h);
-      ident-bare = bare t 0x60 cs rule-60 k;
-      ident-whole = λ e. let w = width-60 x (subst (λ (u : ℕ). Exact u x) e h) in take-all 6 x (omega arith);
-      member-two = λ e. member-rule cs (subst (λ (u : ℕ). ShapedAll cs (ruleOf u)) e k);
-      name-bare = bare t 0x70 cs rule-70 k;
-      name-two = λ e. width-70 x (subst (λ (u : ℕ). Exact u x) e h);
-      target = λ e. target-by cs (subst (λ (u : ℕ). ShapedAll cs (ruleOf u)) e k);
+      no-import = not-outer t 0x10 o refl;
+      no-local = (not-outer t 0x20 o refl, not-outer t 0x21 o refl, not-outer t 0x22 o refl);
+      export-bare = bare-at t 0x23 cs k export-rule;
+      export-kind = λ q. kind-of x (subst (λ (m : ℕ). Exact m x) q h);
+      empty-bare = bare-at t 0x40 cs k empty-rule;
+      ident-bare = bare-at t 0x60 cs k ident-rule;
+      ident-whole = λ q. whole-id x (width-60 x (subst (λ (m : ℕ). Exact m x) q h));
+      member-two = λ q. member-parts cs (subst (λ (m : ℕ). ShapedAll cs (ruleOf m)) q k);
+      name-bare = bare-at t 0x70 cs k name-rule;
+      name-two = λ q. width-70 x (subst (λ (m : ℕ). Exact m x) q h);
+      target = λ q. target-tag cs (subst (λ (m : ℕ). ShapedAll cs (ruleOf m)) q k);
     }
 
--- ---- Trees
-
 mutual
-  field-regular : (f : Field) → frontTag (tagOf f) ≡ false → Shaped f → Regular f
-  field-regular (field t x cs) n h = (shaped-at t x cs n (h .0) (h .1), row-regular cs (ruleOf t) (rule-front t n) (h .1))
+  pub regular : (f : Field) → outer (tagOf f) ≡ false → Shaped f → Regular f
+  regular (field t x cs) o h = (regular-at t x cs o (h .0) (h .1), regular-all cs (ruleOf t) (rule-outer t o) (h .1))
 
-  row-regular : (fs : Fields) (q : Rule) → inRule takesFront q ≡ false → ShapedAll fs q → RegularAll fs
-  row-regular none q n h = tt
-  row-regular (more f fs) q n h =
-      (field-regular f (row-front q (h .0) (tagOf f) n (h .1)) (h .2), row-regular fs (h .0) (step-without takesFront q (h .0) (tagOf f) n (h .1)) (h .3))
-
-item-holds : (t : ℕ) (q : Rule) → stepAt (ruleOf 0x01) t ≡ Go q → holdsAt Item t ≡ true
-unfolding ruleOf within
-item-holds t q e = only-step Item t q e .0
-
-item-front : (t : ℕ) → holdsAt Item t ≡ true → eqb t 0x10 ≡ false → frontTag t ≡ false
-unfolding holdsAt within
-item-front t h n = is-false (frontTag t) (λ w. go (eqb 0x10 t) refl w)
-  where
-    go : (b : Bool) → eqb 0x10 t ≡ b → frontTag t ≡ true → ⊥
-    go true v w = eqb-false t 0x10 n (sym (eqb-true 0x10 t v))
-    go false v w = true≢false (sym h ∙ any-false (holdsAt Item) (0x01 ∷ 0x02 ∷ 0x20 ∷ 0x21 ∷ 0x22 ∷ 0x80 ∷ 0x81 ∷ []) t refl (rw v at w))
-
--- items without a 10, within the grammar
-pub items-regular : (fs : Fields) → isSome (findField (has 0x10) fs) ≡ false → ShapedAll fs (ruleOf 0x01) → RegularAll fs
-unfolding findField
-items-regular none n h = tt
-items-regular (more f fs) n h =
-    go (has 0x10 f) refl n (λ w. items-regular fs w (subst (ShapedAll fs) (item-step (tagOf f) (h .0) (h .1)) (h .3)))
-  where
-    go : (b : Bool) → has 0x10 f ≡ b → isSome (cond b (some f) (findField (has 0x10) fs)) ≡ false →
-        (isSome (findField (has 0x10) fs) ≡ false → RegularAll fs) → RegularAll (more f fs)
-    go true w n k = absurd (true≢false n)
-    go false w n k = (field-regular f (item-front (tagOf f) (item-holds (tagOf f) (h .0) (h .1)) w) (h .2), k n)
+  regular-all : (fs : Fields) (q : Rule) → inRule takesOuter q ≡ false → ShapedAll fs q → RegularAll fs
+  regular-all none q n h = tt
+  regular-all (more f fs) q n h = (regular f (part-outer q (h .0) (tagOf f) n (h .1)) (h .2), regular-all fs (h .0) (step-without takesOuter q (h .0) (tagOf f) n (h .1)) (h .3))

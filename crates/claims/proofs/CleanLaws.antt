@@ -1,0 +1,213 @@
+-- Other imports in both passes: none of their specifiers comes to hold the namespace's id.
+use Prim.Native.Nat.{ℕ, _+_, _<_}
+use mathlib.Core.Path.{_≡_, refl, sym, ap, ap₂, subst, _∙_}
+use mathlib.Core.Logic.{_⊎_, inl, inr}
+use mathlib.Core.Bool.{Bool, true, false, not, cond, _&&_, _||_, true≢false}
+use mathlib.Core.List.{List, [], _∷_, _++_, append-nil}
+use mathlib.Core.Option.{Option, none as nothing, some}
+use native.Mathlib.Omega.{arith}
+use lib.Dec.{leb, eqb}
+use lib.ListN.{length, take, drop, getD, length-take, length-drop}
+use borrow.Author.Tests.{eqb-true}
+use Rattle.scope.specs.Id.{local, export}
+use Rattle.tree.specs.Layout.{same, four, idAt, nameOf, contextOf, valueOf}
+use Rattle.tree.specs.Tree.{Field, field, Fields, none, more, tagOf, fixedOf, partsOf, size}
+use Rattle.tree.specs.Within.{Exact}
+use Rattle.tree.proofs.LayoutLaws.{same-refl, same-equal}
+use Rattle.metadata.specs.Metadata.{append, withMetadata}
+use Rattle.lent.specs.Outcome.{Outcome, done, onto}
+use Rattle.lent.specs.Lists.{filter, among}
+use Rattle.lent.specs.Fields.{has, keep, sole, inside}
+use Rattle.extraction_rules.specs.State.{Record, Imported, Usage, State, Setting, give, change, refuse}
+use Rattle.extraction_rules.specs.First.{external, idFrom, moduleFor, collect, noteId, outsideName, noteNamed, notedContext, noteSpecifier, noteAll, noteSpecifiers, specifiersIn, attributesIn, attributesOf, withContext, importFirst}
+use Rattle.extraction_rules.specs.Second.{usagesOf, specifiersFrom, takeApart, onSole, importSecond}
+use Rattle.extraction_rules.specs.Walk.{partsFor}
+use Rattle.extraction_rules.proofs.OutcomeLaws.{After, after-bind, after-if}
+use Rattle.extraction_rules.proofs.ValueLaws.{after-any}
+use Rattle.extraction_rules.proofs.ListLaws.{All, all-filter, same-not, not-same}
+use Rattle.extraction_rules.proofs.ExactLaws.{width-20}
+use Rattle.extraction_rules.proofs.TableLaws.{Each, each-append}
+use Rattle.extraction_rules.proofs.SpaceLaws.{Property}
+use Rattle.claims.specs.Stands.{How, imported, otherwise, namedIds, idsIn}
+use Rattle.claims.specs.Demand.{propertyFields}
+use Rattle.claims.proofs.WaysLaws.{met, ways, waysAll}
+use Rattle.claims.proofs.OutLaws.{export-foreign}
+
+-- an outside name is an atom
+outside-two : (x : List ℕ) → 6 < length x → (getD x 6 0 ≡ 1 → length x ≡ 13) → length (outsideName x) ≡ 2
+unfolding outsideName
+outside-two x l k = go (eqb (getD x 6 0) 1) refl
+  where
+    go : (b : Bool) → eqb (getD x 6 0) 1 ≡ b → length (cond b (drop 7 (take 9 x)) (take 2 x)) ≡ 2
+    go true q = let z = k (eqb-true (getD x 6 0) 1 q) in simp (length-drop, length-take) (omega arith)
+    go false q = simp length-take (omega arith)
+
+-- specifiers and attributes apart
+pub keep-append : (p : Field → Bool) (fs gs : Fields) → keep p (append fs gs) ≡ append (keep p fs) (keep p gs)
+unfolding keep append
+keep-append p none gs = refl
+keep-append p (more f fs) gs = go (p f) (keep-append p fs gs)
+  where
+    go : (b : Bool) → keep p (append fs gs) ≡ append (keep p fs) (keep p gs) → cond b (more f (keep p (append fs gs))) (keep p (append fs gs)) ≡ append (cond b (more f (keep p fs)) (keep p fs)) (keep p gs)
+    go true h = ap (more f) h
+    go false h = h
+
+pub no-specifiers : (ds : Fields) → specifiersIn (attributesIn ds) ≡ none
+unfolding keep
+no-specifiers none = refl
+no-specifiers (more f fs) = go (has 0x2F f) refl (no-specifiers fs)
+  where
+    go : (b : Bool) → has 0x2F f ≡ b → specifiersIn (attributesIn fs) ≡ none → specifiersIn (cond b (more f (attributesIn fs)) (attributesIn fs)) ≡ none
+    go true q h = rw q h
+    go false q h = h
+
+pub no-context : (m : Option ℕ) (ds : Fields) → specifiersIn (withContext m ds) ≡ none
+unfolding keep withContext withMetadata
+no-context nothing ds = no-specifiers ds
+no-context (some n) ds = refl
+
+-- a specifier is no 2F
+abbrev pub Spec : Field → Type 0
+Spec f = has 0x2F f ≡ false
+
+pub specs-kept : (fs : Fields) → Each Spec fs → specifiersIn fs ≡ fs
+unfolding keep
+specs-kept none h = refl
+specs-kept (more f fs) h = rw (h .0) (ap (more f) (specs-kept fs (h .1)))
+
+append-nothing : (fs : Fields) → append fs none ≡ fs
+unfolding append
+append-nothing none = refl
+append-nothing (more f fs) = ap (more f) (append-nothing fs)
+
+pub specs-of : (fs gs : Fields) → Each Spec fs → specifiersIn gs ≡ none → specifiersIn (append fs gs) ≡ fs
+specs-of fs gs h k = keep-append (λ f. not (has 0x2F f)) fs gs ∙ ap₂ {C = Fields} append (specs-kept fs h) k ∙ append-nothing fs
+
+pub keep-specs : (ds : Fields) → Each Spec (specifiersIn ds)
+unfolding keep
+keep-specs none = tt
+keep-specs (more f fs) = go (has 0x2F f) refl (keep-specs fs)
+  where
+    go : (b : Bool) → has 0x2F f ≡ b → Each Spec (specifiersIn fs) → Each Spec (cond (not b) (more f (specifiersIn fs)) (specifiersIn fs))
+    go true q h = h
+    go false q h = (q, h)
+
+module _ (i : List ℕ) (own : ℕ) (context : contextOf i ≡ four (local own)) where
+  -- the id stands nowhere in it
+  abbrev pub Absent : Field → Type 0
+  Absent f = ways f i false ≡ []
+
+  foreign-id : (y : List ℕ) (n : ℕ) → contextOf y ≡ four (export n) → same y i ≡ false
+  foreign-id y n q = same-not y i (λ e. not-same (four (export n)) (four (local own)) (export-foreign n own) (sym q ∙ ap contextOf e ∙ context))
+
+  -- a 20 with a property as its id
+  pub property-absent : (y : List ℕ) → Property y → Absent (field 0x20 (y ++ 0 ∷ []) none)
+  unfolding ways idsIn met partsFor
+  property-absent y ([], n, l, q) = absurd (omega arith)
+  property-absent y (a ∷ [], n, l, q) = absurd (omega arith)
+  property-absent y (a ∷ (b ∷ (c ∷ p)), n, l, q) = absurd (omega arith)
+  property-absent y (a ∷ (b ∷ []), n, l, q) = rw (q, foreign-id (a ∷ (b ∷ four (export n))) n refl)
+
+  named-new : (x o : List ℕ) (n : ℕ) → 6 < length x → length o ≡ 2 → same (idAt x 0) i ≡ false → Absent (field 0x20 (idAt x 0 ++ 1 ∷ idFrom o (export n)) none)
+  unfolding ways idsIn met partsFor
+  named-new x [] n l k d = absurd (omega arith)
+  named-new x (u ∷ []) n l k d = absurd (omega arith)
+  named-new x (u ∷ (v ∷ (w ∷ o))) n l k d = absurd (omega arith)
+  named-new [] (u ∷ (v ∷ [])) n l k d = absurd (omega arith)
+  named-new (a ∷ []) (u ∷ (v ∷ [])) n l k d = absurd (omega arith)
+  named-new (a ∷ (b ∷ [])) (u ∷ (v ∷ [])) n l k d = absurd (omega arith)
+  named-new (a ∷ (b ∷ (c ∷ []))) (u ∷ (v ∷ [])) n l k d = absurd (omega arith)
+  named-new (a ∷ (b ∷ (c ∷ (e ∷ [])))) (u ∷ (v ∷ [])) n l k d = absurd (omega arith)
+  named-new (a ∷ (b ∷ (c ∷ (e ∷ (f ∷ []))))) (u ∷ (v ∷ [])) n l k d = absurd (omega arith)
+  named-new (a ∷ (b ∷ (c ∷ (e ∷ (f ∷ (g ∷ x)))))) (u ∷ (v ∷ [])) n l k d = rw (d, foreign-id (u ∷ (v ∷ four (export n))) n refl)
+
+  met-first : (h : How × List ℕ) (l : List (How × List ℕ)) (m : List How) → met (h ∷ l) i ++ m ≡ [] → same (h .1) i ≡ false
+  unfolding met
+  met-first h l m e = go (same (h .1) i) e
+    where
+      go : (b : Bool) → cond b (h .0 ∷ met l i) (met l i) ++ m ≡ [] → b ≡ false
+      go true e = absurd (let z : _≡_ {A = ℕ} 0 1 = cc in omega arith)
+      go false e = refl
+
+  local-absent : (x : List ℕ) (cs : Fields) → Absent (field 0x20 x cs) → same (idAt x 0) i ≡ false
+  unfolding ways idsIn partsFor
+  local-absent x cs h = met-first (imported, idAt x 0) (cond (eqb (getD x 6 0) 1) ((otherwise, idAt x 7) ∷ []) []) (waysAll cs i false) h
+
+  -- ---- The first pass
+
+  -- a specifier in which the id does not stand; a 20 is whole
+  abbrev pub CleanSpec : Field → Type 0
+  CleanSpec f = Absent f × Spec f
+
+  abbrev pub Whole : Field → Type 0
+  Whole f = tagOf f ≡ 0x20 → Exact 0x20 (fixedOf f)
+
+  specifier-clean : (n : ℕ) (f : Field) (p : ℕ) (s : State) → CleanSpec f → Whole f → After (noteSpecifier n f p s) (λ g t. CleanSpec g)
+  unfolding noteSpecifier noteNamed
+  specifier-clean n (field t x cs) p s h w = go (eqb t 0x20) refl
+    where
+      named : t ≡ 0x20 → CleanSpec (field 0x20 (idAt x 0 ++ 1 ∷ idFrom (outsideName x) (export n)) none)
+      named q =
+          let e = width-20 x (w q) in
+          (named-new x (outsideName x) n (e .0) (outside-two x (e .0) (e .1)) (local-absent x cs (subst (λ (k : ℕ). Absent (field k x cs)) q (h .0))), refl)
+
+      go : (b : Bool) → eqb t 0x20 ≡ b →
+          After (cond b (noteNamed n x p) (λ s. onto (noteId (record { id = x; context = notedContext n (field t x cs) }) p s) (λ r. done (field t x cs, r .1))) s) (λ g t. CleanSpec g)
+      go true q =
+          after-if (eqb (getD x 6 0) 2) (refuse 6 p) _ s (λ g t. CleanSpec g) (λ _. tt)
+          (λ _. after-bind (noteId (record { id = idAt x 0; context = four (export n) }) p s) _ (λ u t. Unit {0}) (λ g t. CleanSpec g) (after-any (noteId (record { id = idAt x 0; context = four (export n) }) p s)) λ u t′ _. named (eqb-true t 0x20 q))
+      go false q =
+          after-bind (noteId (record { id = x; context = notedContext n (field t x cs) }) p s) _ (λ u t. Unit {0}) (λ g t. CleanSpec g) (after-any (noteId (record { id = x; context = notedContext n (field t x cs) }) p s)) λ u t _. h
+
+  notes-clean : (n : ℕ) (fs : Fields) (p : ℕ) (s : State) → Each CleanSpec fs → Each Whole fs → After (noteAll n fs p s) (λ gs t. Each CleanSpec gs)
+  unfolding noteAll
+  notes-clean n none p s h w = tt
+  notes-clean n (more f fs) p s h w =
+      after-bind (noteSpecifier n f p s) _ (λ g t. CleanSpec g) (λ gs t. Each CleanSpec gs) (specifier-clean n f p s (h .0) (w .0)) λ g s a.
+      after-bind (noteAll n fs (p + size f) s) _ (λ gs t. Each CleanSpec gs) (λ gs t. Each CleanSpec gs) (notes-clean n fs (p + size f) s (h .1) (w .1)) λ gs s b. (a, b)
+
+  specifiers-clean : (o : Option ℕ) (fs : Fields) (p : ℕ) (s : State) → Each CleanSpec fs → Each Whole fs → After (noteSpecifiers o fs p s) (λ gs t. Each CleanSpec gs)
+  specifiers-clean nothing fs p s h w = h
+  specifiers-clean (some n) fs p s h w = notes-clean n fs p s h w
+
+  clean-specs : (fs : Fields) → Each CleanSpec fs → Each Spec fs
+  clean-specs none h = tt
+  clean-specs (more f fs) h = (h .0 .1, clean-specs fs (h .1))
+
+  -- an import of the literal y in whose specifiers the id does not stand
+  abbrev pub Clean : List ℕ → Field → Type 0
+  Clean y g = (tagOf g ≡ 0x10) × (fixedOf g ≡ y) × Each CleanSpec (specifiersIn (partsOf g))
+
+  pub first-clean : (e : Setting) (y : List ℕ) (ds : Fields) (p : ℕ) (s : State) → Each CleanSpec (specifiersIn ds) → Each Whole (specifiersIn ds) → After (importFirst e y ds p s) (λ g t. Clean y g)
+  unfolding importFirst
+  first-clean e y ds p s h w =
+      after-if (external e y) (give (field 0x10 y ds)) _ s (λ g t. Clean y g) (λ _. (refl, refl, h))
+      (λ _. after-bind (moduleFor e (valueOf y) p s) _ (λ m t. Unit {0}) (λ g t. Clean y g) (after-any (moduleFor e (valueOf y) p s)) λ m t _.
+      after-bind (noteSpecifiers m (specifiersIn ds) (inside p y) t) _ (λ gs u. Each CleanSpec gs) (λ g t. Clean y g) (specifiers-clean m (specifiersIn ds) (inside p y) t h w) λ gs u v.
+      after-bind (collect (record { literal = y; specifiers = gs }) p u) _ (λ _ x. Unit {0}) (λ g t. Clean y g) (after-any (collect (record { literal = y; specifiers = gs }) p u)) λ _ x _.
+      (refl, refl, rw (specs-of gs (withContext m ds) (clean-specs gs v) (no-context m ds)) v))
+
+  -- ---- The second pass
+
+  pub from-clean : (us : List Usage) → All (λ u. Property (u .property)) us → Each CleanSpec (specifiersFrom us)
+  unfolding specifiersFrom
+  from-clean [] h = tt
+  from-clean (u ∷ us) h = ((property-absent (u .property) (h .0), refl), from-clean us (h .1))
+
+  apart-clean : (us : List Usage) (y : List ℕ) (ds : Fields) (s : State) → All (λ u. Property (u .property)) us → Each CleanSpec (specifiersIn ds) → After (takeApart us y ds s) (λ g t. Clean y g)
+  unfolding takeApart
+  apart-clean [] y ds s h k = (refl, refl, k)
+  apart-clean (u ∷ us) y ds s h k =
+      let f = from-clean (u ∷ us) h in (refl, refl, rw (specs-of (specifiersFrom (u ∷ us)) (attributesIn ds) (clean-specs (specifiersFrom (u ∷ us)) f) (no-specifiers ds)) f)
+
+  sole-clean : (o : Option Field) (y : List ℕ) (ds : Fields) (s : State) → All (λ u. Property (u .property)) (s .usages) → Each CleanSpec (specifiersIn ds) → After (onSole o y ds s) (λ g t. Clean y g)
+  unfolding onSole usagesOf
+  sole-clean nothing y ds s h k = (refl, refl, k)
+  sole-clean (some f) y ds s h k =
+      after-if (has 0x22 f) _ (give (field 0x10 y ds)) s (λ g t. Clean y g)
+      (λ _. apart-clean (filter (λ (u : Usage). same (u .id) (fixedOf f)) (s .usages)) y ds s (all-filter (λ (u : Usage). Property (u .property)) (λ (u : Usage). Property (u .property)) (λ (u : Usage). same (u .id) (fixedOf f)) (s .usages) (λ u _ k. k) h) k) (λ _. (refl, refl, k))
+
+  pub second-clean : (e : Setting) (y : List ℕ) (ds : Fields) (s : State) → All (λ u. Property (u .property)) (s .usages) → Each CleanSpec (specifiersIn ds) → After (importSecond e y ds s) (λ g t. Clean y g)
+  unfolding importSecond
+  second-clean e y ds s h k =
+      after-if (external e y || among (valueOf y) (s .forced)) (give (field 0x10 y ds)) (onSole (sole (specifiersIn ds)) y ds) s (λ g t. Clean y g) (λ _. (refl, refl, k)) (λ _. sole-clean (sole (specifiersIn ds)) y ds s h k)

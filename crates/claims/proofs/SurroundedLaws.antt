@@ -1,0 +1,102 @@
+-- A well placed tree within the grammar: what the passes need of the items around a namespace's import.
+use Prim.Native.Nat.{ℕ, zero, suc}
+use mathlib.Core.Path.{_≡_, refl, sym, ap, ap₂, subst, _∙_}
+use mathlib.Core.Logic.{_⊎_, inl, inr}
+use mathlib.Core.Bool.{Bool, true, false, not, cond, _&&_, _||_, true≢false}
+use mathlib.Core.List.{List, [], _∷_, _++_}
+use mathlib.Core.Option.{Option, none as nothing, some}
+use native.Mathlib.Omega.{arith}
+use lib.Dec.{eqb}
+use borrow.Author.Tests.{eqb-true, eq-eqb}
+use Rattle.tree.proofs.Table.{both-true}
+use Rattle.scope.specs.Id.{require-atom, local}
+use Rattle.tree.specs.declared.grammar.Rule.{Rule}
+use Rattle.tree.specs.Layout.{same, two, four, idAt, nameOf, contextOf, valueOf}
+use Rattle.tree.specs.Tree.{Field, field, Fields, none, more, tagOf, fixedOf, partsOf}
+use Rattle.tree.specs.Grammar.{ruleOf}
+use Rattle.tree.proofs.LayoutLaws.{same-refl, same-equal}
+use Rattle.lent.specs.Lists.{isSome, among}
+use Rattle.lent.specs.Fields.{has, keep, findField, sole}
+use Rattle.extraction_rules.specs.First.{specifiersIn}
+use Rattle.extraction_rules.proofs.TestLaws.{or-neither}
+use Rattle.extraction_rules.proofs.ListLaws.{not-same}
+use Rattle.extraction_rules.proofs.ShapeLaws.{Shaped, ShapedAll, Specifiers, import-parts}
+use Rattle.extraction_rules.proofs.TableLaws.{Each}
+use Rattle.claims.specs.Stands.{How, stands}
+use Rattle.claims.specs.Placed.{all, importsIn, importsPrecede, sharesNone, localsOf, localIds, ownLocals, soleNamespace, namespacesOf, fitNamespace, fitNamespaces, wellPlaced}
+use Rattle.claims.specs.Demand.{itemAt}
+use Rattle.claims.proofs.WaysLaws.{ways, waysAll, stands-ways}
+use Rattle.claims.proofs.ImportedLaws.{OtherSpace, OtherLocal}
+use Rattle.claims.proofs.FirstPassLaws.{OtherImport, OwnImport, Around, import-ways}
+use Rattle.claims.proofs.CleanLaws.{CleanSpec, Whole}
+use Rattle.claims.proofs.WorkedLaws.{CleanImport, CleanAround}
+use Rattle.claims.proofs.OutLaws.{fits}
+use Rattle.claims.proofs.TidyLaws.{import-quiet}
+use Rattle.claims.proofs.SpecifierLaws.{fits-each, each-keep, locals-other, locals-all, SpecFacts, specs-facts, each-part}
+use Rattle.claims.proofs.PlacedLaws.{EachImport, EachBut, Apart, Others, shares-apart, around-placed}
+
+-- of each import of a list of items
+pub imports-all : (t : Field → Bool) (fs : Fields) → all t (importsIn fs) ≡ true → EachImport (λ f. t f ≡ true) fs
+unfolding importsIn all
+imports-all t none h = tt
+imports-all t (more f fs) h = go (has 0x10 f) refl h (imports-all t fs)
+  where
+    go : (b : Bool) → has 0x10 f ≡ b → all t (cond b (f ∷ importsIn fs) (importsIn fs)) ≡ true → (all t (importsIn fs) ≡ true → EachImport (λ f. t f ≡ true) fs) → EachImport (λ f. t f ≡ true) (more f fs)
+    go true q h ih = let w = both-true (t f) (all t (importsIn fs)) h in ((λ _. w .0), ih (w .1))
+    go false q h ih = ((λ z. absurd (true≢false (sym (eq-eqb (tagOf f) 0x10 z) ∙ q))), ih h)
+
+-- what is known of each item, and of each but one, together
+but-with : (P Q R : Field → Type 0) (k : ℕ) (fs : Fields) → ((f : Field) → tagOf f ≡ 0x10 → P f → Q f → R f) → EachBut P k fs → Each Q fs → EachBut R k fs
+but-with P Q R k none j h w = tt
+but-with P Q R zero (more f fs) j h w = all-with fs h (w .1)
+  where
+    all-with : (fs : Fields) → EachImport P fs → Each Q fs → EachImport R fs
+    all-with none h w = tt
+    all-with (more f fs) h w = ((λ t. j f t (h .0 t) (w .0)), all-with fs (h .1) (w .1))
+but-with P Q R (suc k) (more f fs) j h w = ((λ t. j f t (h .0 t) (w .0)), but-with P Q R k fs j (h .1) (w .1))
+
+pub each-both : (P Q : Field → Type 0) (fs : Fields) → Each P fs → Each Q fs → Each (λ f. P f × Q f) fs
+each-both P Q none h k = tt
+each-both P Q (more f fs) h k = ((h .0, k .0), each-both P Q fs (h .1) (k .1))
+
+shaped-each : (fs : Fields) (q : Rule) → ShapedAll fs q → Each Shaped fs
+shaped-each none q h = tt
+shaped-each (more f fs) q h = (h .2, shaped-each fs (h .0) (h .3))
+
+import-shaped : (f : Field) → tagOf f ≡ 0x10 → Shaped f → ShapedAll (partsOf f) (ruleOf 0x10)
+import-shaped (field t x cs) q h = subst (λ (m : ℕ). ShapedAll cs (ruleOf m)) q (h .1)
+
+module _ (i lit : List ℕ) (own file : ℕ) (context : contextOf i ≡ four (local own)) where
+  -- what is known of every item
+  abbrev Known : Field → Type 0
+  Known f = Shaped f × ((tagOf f ≡ 0x10 → ownLocals own f ≡ true) × (fits (ways f i false) ≡ true))
+
+  import-others : (f : Field) → tagOf f ≡ 0x10 → Apart i (valueOf lit) f → Known f → Others i lit own file context f
+  unfolding ownLocals
+  import-others f t a k =
+      let s = import-shaped f t (k .0) in
+      let p = import-parts (partsOf f) s in
+      let ws = fits-each (partsOf f) i (subst (λ (l : List How). fits l ≡ true) (import-ways f i t) (k .1 .1)) in
+      let w = specs-facts i lit own file context (specifiersIn (partsOf f)) (p .0) (locals-other i (specifiersIn (partsOf f)) (a .1)) (locals-all (λ i. same (contextOf i) (four (local own))) (specifiersIn (partsOf f)) (k .1 .0 t)) (each-keep (λ s. fits (ways s i false) ≡ true) (λ f. not (has 0x2F f)) (partsOf f) ws) in
+      let F = SpecFacts i lit own file context in
+      (record {
+        tag = t;
+        source = a .0;
+        locals = each-part i lit own file context F (OtherLocal i lit own file) (specifiersIn (partsOf f)) (λ s k. k .0) w;
+        spaces = each-part i lit own file context F (OtherSpace i lit own file) (specifiersIn (partsOf f)) (λ s k. k .1 .0) w;
+        quiet = import-quiet (partsOf f) s;
+      }, (each-part i lit own file context F (CleanSpec i own context) (specifiersIn (partsOf f)) (λ s k. k .1 .1 .0) w, each-part i lit own file context F (Whole i own context) (specifiersIn (partsOf f)) (λ s k. k .1 .1 .1) w))
+
+  -- the namespace's own id is among its locals
+  own-local : (cs : Fields) → specifiersIn cs ≡ more (field 0x22 i none) none → idAt i 0 ≡ i → among i (localIds (specifiersIn cs)) ≡ true
+  unfolding localIds among
+  own-local cs q w = rw (q, w, same-refl i)
+
+  pub around-well : (k : ℕ) (items cs : Fields) → ShapedAll items (ruleOf 0x01) → importsPrecede items ≡ true → sharesNone (importsIn items) ≡ true → all (ownLocals own) (importsIn items) ≡ true → fits (waysAll items i false) ≡ true → idAt i 0 ≡ i →
+      itemAt k items ≡ some (field 0x10 lit cs) → specifiersIn cs ≡ more (field 0x22 i none) none → ShapedAll cs (ruleOf 0x10) → Around i lit own file k items × CleanAround i lit own file context k items
+  around-well k items cs shape precede share locals fit w e q s =
+      around-placed i lit own file context k items cs shape precede e (record { tag = refl; literal = refl; sole = q; quiet = import-quiet cs s })
+      (but-with (Apart i (valueOf lit)) Known (Others i lit own file context) k items (λ f t a b. import-others f t a b)
+      (shares-apart i k items (field 0x10 lit cs) share e refl (own-local cs q w))
+      (each-both Shaped (λ f. (tagOf f ≡ 0x10 → ownLocals own f ≡ true) × (fits (ways f i false) ≡ true)) items (shaped-each items (ruleOf 0x01) shape)
+      (each-both (λ f. tagOf f ≡ 0x10 → ownLocals own f ≡ true) (λ f. fits (ways f i false) ≡ true) items (imports-all (ownLocals own) items locals) (fits-each items i fit))))
