@@ -1,8 +1,8 @@
 -- Laws about the rules of extraction. What every elementary step keeps, the walk keeps (StepLaws, WalkLaws), and so the sanity laws
 -- (SanityLaws, RunLaws); the walk keeps the grammar (WithinLaws), so that what a pass leaves can be read (ReadableLaws), and the
 -- records whole (WholeLaws), so that they are read back (RecordsLaws). The wrapping marks that an accepted call sets are those of
--- its forced sources (MarksLaws). What an accepted call is made of (CallLaws), that it collects its imports (CollectedLaws), and the
--- grammar behind the imports (RegularLaws).
+-- its forced sources (MarksLaws). What an accepted call is made of (CallLaws). For demand 3: the grammar behind the imports (RegularLaws,
+-- TagLaws), what the first pass leaves of trees there (AlikeLaws, ItemsLaws, QuietLaws), and the tables (TableLaws, SpaceLaws).
 pub mod TestLaws
 pub mod ListLaws
 pub mod OutcomeLaws
