@@ -52,8 +52,7 @@ use Rattle.claims.proofs.RunLaws.{Run, run-of, sources-of, forced-of}
 use Rattle.claims.proofs.RecordLaws.{endedRecord, Ended, onto-done, record-found, properties-resolved, namespace-resolved}
 
 module _ (i lit : List ℕ) (own file : ℕ) (context : contextOf i ≡ four (local own)) (named : same (nameOf i) (two require-atom) ≡ false)
-  (Space : List ℕ → Type 0) (locals : (j : List ℕ) → Space j → contextOf j ≡ four (local own)) where
-
+    (Space : List ℕ → Type 0) (locals : (j : List ℕ) → Space j → contextOf j ≡ four (local own)) where
   -- what is known of the items around the import at the place k
   pub record Surrounded (k : ℕ) (items : Fields) (taken : Bool) : Type 0 where
     pub around : Around i lit own file k items
@@ -167,10 +166,13 @@ module _ (i lit : List ℕ) (own file : ℕ) (context : contextOf i ≡ four (lo
     end-of : (b : Bool) (k : ℕ) (items outs gs : Fields) (s t : State) (ms : Modules) (n : ℕ) → takesApart (stands items i) ≡ b → Surrounded k items (takesApart (stands items i)) → Held i lit own file n (stands items i) s → Spaces Space own locals s →
         Outs i lit own file n (stands items i) context named k items outs → Ended (takesApart (stands items i)) i lit (four (export n)) (properties (stands items i)) t → Items outs → numberOf file ms ≡ some n →
         resolvedAll rows (t .forced) ms (append (recordFields 0x80 (t .collected)) (recordFields 0x81 (t .lazy))) 3 ≡ done gs → EndsBy b k (stands items i) items outs gs ms
-    end-of true k items outs gs s t ms n q h held sp o en shape number e =
-        (n, number, ends-taken k items outs gs t ms n q h o en
-        (properties-absent i own context (four (export n)) (properties (stands items i)) s (all-weaken (λ u. Space (u .id) × Property (u .property)) (λ u. Property (u .property)) (s .usages) (λ u k. k .1) (sp .usages)) (held-usages (stands items i) n s q held))
-        (tidy-all n (stands items i) outs (ruleOf 0x01) (shape .shaped)) e)
+    end-of true k items outs gs s t ms n q h held sp o en shape number e = (
+      n,
+      number,
+      ends-taken k items outs gs t ms n q h o en
+          (properties-absent i own context (four (export n)) (properties (stands items i)) s (all-weaken (λ u. Space (u .id) × Property (u .property)) (λ u. Property (u .property)) (s .usages) (λ u k. k .1) (sp .usages)) (held-usages (stands items i) n s q held))
+          (tidy-all n (stands items i) outs (ruleOf 0x01) (shape .shaped)) e,
+    )
     end-of false k items outs gs s t ms n q h held sp o en shape number e = ends-kept k items outs gs t ms n q h o en e
 
     -- the resolved list of the end's records
@@ -182,11 +184,11 @@ module _ (i lit : List ℕ) (own file : ℕ) (context : contextOf i ≡ four (lo
         let us = stands items i in
         let x = after-done (walkModule one items (start ms)) (λ works s. Worked i lit own file context k items works × (((n : ℕ) × Held i lit own file n us s) × Spaces Space own locals s)) (u .works, u .middle) (u .once) (first-all k items ms h) in
         let y = after-done (walkAgain again (u .works) (u .middle)) (λ outs t. Outs i lit own file (x .1 .0 .0) us context named k items outs × Ended (takesApart us) i lit (four (export (x .1 .0 .0))) (properties us) t) (u .outs, u .end) (u .twice)
-            (second-all k items (u .works) (u .middle) (x .1 .0 .0) h (d (x .1 .0 .0)) (x .0) (x .1 .0 .1) (x .1 .1)) in
+        (second-all k items (u .works) (u .middle) (x .1 .0 .0) h (d (x .1 .0 .0)) (x .0) (x .1 .0 .1) (x .1 .1)) in
         let v = after-done (walkModule one items (start ms)) (λ works s. Items works × After (walkAgain again works s) (λ outs t. Items outs)) (u .works, u .middle) (u .once) (run-within l rows own ms items shape) in
         let w = after-done (walkAgain again (u .works) (u .middle)) (λ outs t. Items outs) (u .outs, u .end) (u .twice) (v .1) in
         let number = after-done (walkAgain again (u .works) (u .middle)) (λ outs t. Numbered file (x .1 .0 .0) t) (u .outs, u .end) (u .twice)
-            (walkAgain-keeps again (λ _. Unit {0}) (Numbered file (x .1 .0 .0)) (numbered-steps again (λ _. Unit {0}) file (x .1 .0 .0)) (numbered-end file (x .1 .0 .0)) (u .works) (u .middle) (imports-any-all (u .works) (λ _. Unit {0}) (λ _. tt)) (x .1 .0 .1 .given)) in
+        (walkAgain-keeps again (λ _. Unit {0}) (Numbered file (x .1 .0 .0)) (numbered-steps again (λ _. Unit {0}) file (x .1 .0 .0)) (numbered-end file (x .1 .0 .0)) (u .works) (u .middle) (imports-any-all (u .works) (λ _. Unit {0}) (λ _. tt)) (x .1 .0 .1 .given)) in
         end-of (takesApart us) k items (u .outs) gs (u .middle) (u .end) new (x .1 .0 .0) refl h (x .1 .0 .1) (x .1 .1) (y .0) (y .1) w
         (numbers-stay rows (sourcesIn (partsOf (recordsOf (u .end)))) (u .end .modules) new 3 file (x .1 .0 .0) numbered number) resolved
 

@@ -112,11 +112,12 @@ module _ (own : ℕ) (items : Fields) (shape : Each Shaped items) (share : share
   space-of k f m s e t own-f sole-f es q hs =
       let one = namespace-sole f m s sole-f es q in
       let w : idAt (fixedOf s) 0 ≡ fixedOf s = whole-specifier s (inr (eqb-true (tagOf s) 0x22 q)) hs in
-      let loc = each-at (λ s. same (contextOf (idAt (fixedOf s) 0)) (four (local own)) ≡ true) m (specifiersIn (partsOf f)) s (locals-all (λ i. same (contextOf i) (four (local own))) (specifiersIn (partsOf f)) own-f) es in
-      (ap contextOf (sym w) ∙ same-equal (contextOf (idAt (fixedOf s) 0)) (four (local own)) loc,
-      but-fill (NoDefault (fixedOf s)) k items f
-      (but-map (Apart (fixedOf s) (valueOf (fixedOf f))) (NoDefault (fixedOf s)) k items shape (λ g t h a. apart-default (fixedOf s) (valueOf (fixedOf f)) g t h a) (shares-apart (fixedOf s) k items f share e t (rw (one, w, same-refl (fixedOf s)))))
-      e (subst (Each (λ g. has 0x21 g ≡ true → same (fixedOf g) (fixedOf s) ≡ false)) (sym one) ((λ z. absurd (let v : _≡_ {A = ℕ} 0x21 0x22 = sym (eqb-true (tagOf s) 0x21 z) ∙ eqb-true (tagOf s) 0x22 q in omega arith)), tt)))
+      let loc = each-at (λ s. same (contextOf (idAt (fixedOf s) 0)) (four (local own)) ≡ true) m (specifiersIn (partsOf f)) s (locals-all (λ i. same (contextOf i) (four (local own))) (specifiersIn (partsOf f)) own-f) es in (
+        ap contextOf (sym w) ∙ same-equal (contextOf (idAt (fixedOf s) 0)) (four (local own)) loc,
+        but-fill (NoDefault (fixedOf s)) k items f
+            (but-map (Apart (fixedOf s) (valueOf (fixedOf f))) (NoDefault (fixedOf s)) k items shape (λ g t h a. apart-default (fixedOf s) (valueOf (fixedOf f)) g t h a) (shares-apart (fixedOf s) k items f share e t (rw (one, w, same-refl (fixedOf s)))))
+            e (subst (Each (λ g. has 0x21 g ≡ true → same (fixedOf g) (fixedOf s) ≡ false)) (sym one) ((λ z. absurd (let v : _≡_ {A = ℕ} 0x21 0x22 = sym (eqb-true (tagOf s) 0x21 z) ∙ eqb-true (tagOf s) 0x22 q in omega arith)), tt)),
+      )
 
   specifier-shaped : (fs : Fields) → Specifiers fs → Each Shaped fs
   specifier-shaped none h = tt
@@ -126,8 +127,10 @@ module _ (own : ℕ) (items : Fields) (shape : Each Shaped items) (share : share
   of-import k f e t own-f sole-f =
       let hs = specifier-shaped (specifiersIn (partsOf f)) (import-parts (partsOf f) (import-shaped f t (each-at Shaped k items f shape e)) .0) in
       each-from (OfImport (SpaceIn own items) own (space-local own items)) (specifiersIn (partsOf f))
-      (λ m s es. ((λ q. space-of k f m s e t own-f sole-f es q (each-at Shaped m (specifiersIn (partsOf f)) s hs es)),
-      λ q sp. true≢false (sym (same-refl (fixedOf s)) ∙ each-at (λ g. has 0x21 g ≡ true → same (fixedOf g) (fixedOf s) ≡ false) m (specifiersIn (partsOf f)) s (each-at (λ f. tagOf f ≡ 0x10 → NoDefault (fixedOf s) f) k items f (sp .1) e t) es q)))
+      (λ m s es. (
+        (λ q. space-of k f m s e t own-f sole-f es q (each-at Shaped m (specifiersIn (partsOf f)) s hs es)),
+        λ q sp. true≢false (sym (same-refl (fixedOf s)) ∙ each-at (λ g. has 0x21 g ≡ true → same (fixedOf g) (fixedOf s) ≡ false) m (specifiersIn (partsOf f)) s (each-at (λ f. tagOf f ≡ 0x10 → NoDefault (fixedOf s) f) k items f (sp .1) e t) es q),
+      ))
 
   pub imports-of : EachImport (λ f. ownLocals own f ≡ true) items → EachImport (λ f. soleNamespace f ≡ true) items → EachImport (λ f. Each (OfImport (SpaceIn own items) own (space-local own items)) (specifiersIn (partsOf f))) items
   imports-of h w =

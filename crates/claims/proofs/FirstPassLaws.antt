@@ -96,7 +96,7 @@ module _ (i lit : List ℕ) (own file : ℕ) where
   Around (suc k) (more f fs) = OtherImport f × Around k fs
 
   module _ (e : Setting) (one : e .pass ≡ first) (mine : e .own ≡ own) (res : fileOf (valueOf lit) (e .table) ≡ some file) (inner : external e lit ≡ false)
-    (named : same (nameOf i) (two require-atom) ≡ false) (context : contextOf i ≡ four (local own)) where
+      (named : same (nameOf i) (two require-atom) ≡ false) (context : contextOf i ≡ four (local own)) where
     -- a 10 is walked by its own rule alone
     by-pass : (k : Pass) (y : List ℕ) (ds : Fields) (p : ℕ) (s : State) → k ≡ first → afterImport k e y ds p s ≡ importFirst e y ds p s
     unfolding afterImport

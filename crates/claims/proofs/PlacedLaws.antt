@@ -151,9 +151,10 @@ unfolding fitNamespace
 fine-placed items i h =
     let hs = stands items i in
     let a = both-true (fits hs && not (same (nameOf i) (two require-atom))) (not (among (two require-atom) (properties hs))) h in
-    let b = both-true (fits hs) (not (same (nameOf i) (two require-atom))) (a .0) in
-    (unnot (same (nameOf i) (two require-atom)) (b .1),
-    subst (Fine (takesApart hs)) (stands-ways items i) ((λ t. both-true (isUsed (filter isUse hs)) (allPlain hs) t .1), unnot (among (two require-atom) (properties hs)) (a .1), λ _. b .0))
+    let b = both-true (fits hs) (not (same (nameOf i) (two require-atom))) (a .0) in (
+      unnot (same (nameOf i) (two require-atom)) (b .1),
+      subst (Fine (takesApart hs)) (stands-ways items i) ((λ t. both-true (isUsed (filter isUse hs)) (allPlain hs) t .1), unnot (among (two require-atom) (properties hs)) (a .1), λ _. b .0),
+    )
   where
     unnot : (b : Bool) → not b ≡ true → b ≡ false
     unnot true h = absurd (true≢false (sym h))
@@ -229,9 +230,13 @@ shares-apart i (suc k) (more g fs) f h e t m = go (has 0x10 g) refl h (λ v. sha
     go : (b : Bool) → has 0x10 g ≡ b → sharesNone (cond b (g ∷ importsIn fs) (importsIn fs)) ≡ true → (sharesNone (importsIn fs) ≡ true → EachBut (Apart i (valueOf (fixedOf f))) k fs) → EachBut (Apart i (valueOf (fixedOf f))) (suc k) (more g fs)
     go true q h ih =
         let b = both-true (not (hasSource (valueOf (fixedOf g)) (importsIn fs)) && all (λ i. not (hasLocal i (importsIn fs))) (localsOf g)) (sharesNone (importsIn fs)) h in
-        let c = both-true (not (hasSource (valueOf (fixedOf g)) (importsIn fs))) (all (λ i. not (hasLocal i (importsIn fs))) (localsOf g)) (b .0) in
-        ((λ _. (is-false (same (valueOf (fixedOf g)) (valueOf (fixedOf f))) (λ z. true≢false (sym (own .0) ∙ has-source (valueOf (fixedOf g)) (valueOf (fixedOf f)) (importsIn fs) z ∙ unnot (hasSource (valueOf (fixedOf g)) (importsIn fs)) (c .0))),
-        is-false (among i (localsOf g)) (λ z. true≢false (sym (own .1) ∙ unnot (hasLocal i (importsIn fs)) (all-among (λ i. not (hasLocal i (importsIn fs))) i (localsOf g) (c .1) z))))), ih (b .1))
+        let c = both-true (not (hasSource (valueOf (fixedOf g)) (importsIn fs))) (all (λ i. not (hasLocal i (importsIn fs))) (localsOf g)) (b .0) in (
+          (λ _. (
+            is-false (same (valueOf (fixedOf g)) (valueOf (fixedOf f))) (λ z. true≢false (sym (own .0) ∙ has-source (valueOf (fixedOf g)) (valueOf (fixedOf f)) (importsIn fs) z ∙ unnot (hasSource (valueOf (fixedOf g)) (importsIn fs)) (c .0))),
+            is-false (among i (localsOf g)) (λ z. true≢false (sym (own .1) ∙ unnot (hasLocal i (importsIn fs)) (all-among (λ i. not (hasLocal i (importsIn fs))) i (localsOf g) (c .1) z))),
+          )),
+          ih (b .1),
+        )
     go false q h ih = ((λ t. absurd (true≢false (sym (eq-eqb (tagOf g) 0x10 t) ∙ q))), ih h)
 
 pub fits-placed : (items : Fields) (i : List ℕ) → fitNamespace (stands items i) i ≡ true → fits (waysAll items i false) ≡ true

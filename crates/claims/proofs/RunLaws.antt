@@ -93,4 +93,3 @@ forced-fields (a ∷ l) = ap (λ (m : List (List ℕ)). a ∷ m) (forced-fields 
 pub forced-of : (s : State) → forcedIn (partsOf (recordsOf s)) ≡ s .forced
 unfolding recordsOf
 forced-of s = forced-append (recordFields 0x80 (s .collected)) _ (records-sources 0x80 (s .collected)) ∙ forced-append (recordFields 0x81 (s .lazy)) (forcedFields (s .forced)) (records-sources 0x81 (s .lazy)) ∙ forced-fields (s .forced)
-

@@ -163,15 +163,17 @@ module _ (i lit : List ℕ) (own file : ℕ) where
     taken-apart ds s v q h k =
         let fs : Fields = propertyFields 0x20 c (properties us) in
         let r : specifiersFrom v ≡ fs = ap specifiersFrom q ∙ from-usages i c (properties us) in
-        let lacks : (j : List ℕ) (gs : Fields) → holdsIn j (append gs (specifiersFrom v)) ≡ holdsIn j gs = λ j gs. ap isSome (find-append (λ f. has 0x22 f && same (fixedOf f) j) gs (specifiersFrom v) (from-finds (λ f. has 0x22 f && same (fixedOf f) j) v (λ z. refl))) in
-        (record {
-          entry =
-              record-map (extend lit (specifiersFrom v)) a (s .collected) (extend-literal lit (specifiersFrom v)) ∙ ap (mapped (extend lit (specifiersFrom v))) (h .entry) ∙
-              ap some (extend-own lit (specifiersFrom v) (more (field 0x22 i none) none) ∙ ap (λ (gs : Fields). record { literal = lit; specifiers = append (more (field 0x22 i none) none) gs }) r);
-          alone = λ j w. h .alone j (sym (seek-extend (holdsIn j) lit (specifiersFrom v) (s .collected) (lacks j)) ∙ w);
-          holds = seek-extend (holdsIn i) lit (specifiersFrom v) (s .collected) (lacks i) ∙ h .holds;
-          sits = k;
-        }, ap (λ (gs : Fields). field 0x10 lit (append gs (attributesIn ds))) r)
+        let lacks : (j : List ℕ) (gs : Fields) → holdsIn j (append gs (specifiersFrom v)) ≡ holdsIn j gs = λ j gs. ap isSome (find-append (λ f. has 0x22 f && same (fixedOf f) j) gs (specifiersFrom v) (from-finds (λ f. has 0x22 f && same (fixedOf f) j) v (λ z. refl))) in (
+          record {
+            entry =
+                record-map (extend lit (specifiersFrom v)) a (s .collected) (extend-literal lit (specifiersFrom v)) ∙ ap (mapped (extend lit (specifiersFrom v))) (h .entry) ∙
+                ap some (extend-own lit (specifiersFrom v) (more (field 0x22 i none) none) ∙ ap (λ (gs : Fields). record { literal = lit; specifiers = append (more (field 0x22 i none) none) gs }) r);
+            alone = λ j w. h .alone j (sym (seek-extend (holdsIn j) lit (specifiersFrom v) (s .collected) (lacks j)) ∙ w);
+            holds = seek-extend (holdsIn i) lit (specifiersFrom v) (s .collected) (lacks i) ∙ h .holds;
+            sits = k;
+          },
+          ap (λ (gs : Fields). field 0x10 lit (append gs (attributesIn ds))) r,
+        )
 
     apart-own : (ds : Fields) (s : State) (v : List Usage) → v ≡ usagesFor i c (properties us) → usagesOf i (s .usages) ≡ v → allPlain us ≡ true → H s → Stood i a c true (properties us) s →
         After (takeApart v lit ds s) (λ g t. Ended (isUsed (filter isUse us)) c (properties us) ds g t)

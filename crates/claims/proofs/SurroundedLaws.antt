@@ -78,14 +78,16 @@ module _ (i lit : List ℕ) (own file : ℕ) (context : contextOf i ≡ four (lo
       let p = import-parts (partsOf f) s in
       let ws = fits-each (partsOf f) i (subst (λ (l : List How). fits l ≡ true) (import-ways f i t) (k .1 .1)) in
       let w = specs-facts i lit own file context (specifiersIn (partsOf f)) (p .0) (locals-other i (specifiersIn (partsOf f)) (a .1)) (locals-all (λ i. same (contextOf i) (four (local own))) (specifiersIn (partsOf f)) (k .1 .0 t)) (each-keep (λ s. fits (ways s i false) ≡ true) (λ f. not (has 0x2F f)) (partsOf f) ws) in
-      let F = SpecFacts i lit own file context in
-      (record {
-        tag = t;
-        source = a .0;
-        locals = each-part i lit own file context F (OtherLocal i lit own file) (specifiersIn (partsOf f)) (λ s k. k .0) w;
-        spaces = each-part i lit own file context F (OtherSpace i lit own file) (specifiersIn (partsOf f)) (λ s k. k .1 .0) w;
-        quiet = import-quiet (partsOf f) s;
-      }, (each-part i lit own file context F (CleanSpec i own context) (specifiersIn (partsOf f)) (λ s k. k .1 .1 .0) w, each-part i lit own file context F (Whole i own context) (specifiersIn (partsOf f)) (λ s k. k .1 .1 .1) w))
+      let F = SpecFacts i lit own file context in (
+        record {
+          tag = t;
+          source = a .0;
+          locals = each-part i lit own file context F (OtherLocal i lit own file) (specifiersIn (partsOf f)) (λ s k. k .0) w;
+          spaces = each-part i lit own file context F (OtherSpace i lit own file) (specifiersIn (partsOf f)) (λ s k. k .1 .0) w;
+          quiet = import-quiet (partsOf f) s;
+        },
+        (each-part i lit own file context F (CleanSpec i own context) (specifiersIn (partsOf f)) (λ s k. k .1 .1 .0) w, each-part i lit own file context F (Whole i own context) (specifiersIn (partsOf f)) (λ s k. k .1 .1 .1) w),
+      )
 
   -- the namespace's own id is among its locals
   own-local : (cs : Fields) → specifiersIn cs ≡ more (field 0x22 i none) none → idAt i 0 ≡ i → among i (localIds (specifiersIn cs)) ≡ true

@@ -227,12 +227,12 @@ resolving-ends l room ms r n q items own accepted resolving reading requesting p
     let m = mine-of (own .0) items k x i (declares .0) (shape .shaped) w (declares .1) (declares .2) in
     let f = fine-placed items i (m .fit) in
     let a = around-well i x (own .0) file (m .context) k items (declares .0) (shape .shaped) (w .precede) (w .share) (w .locals) (fits-placed items i (m .fit)) (m .whole) (declares .1) (declares .2)
-        (import-shaped (field 0x10 x (declares .0)) refl (shaped-at k items (field 0x10 x (declares .0)) (shape .shaped) (declares .1))) in
+    (import-shaped (field 0x10 x (declares .0)) refl (shaped-at k items (field 0x10 x (declares .0)) (shape .shaped) (declares .1))) in
     let rows = rowsIn (l .table) in
     let Space = SpaceIn (own .0) items in
     let locals = space-local (own .0) items in
     let ready = ready-placed i x (own .0) file (m .context) Space locals items (shape .shaped) (w .precede)
-        (imports-of (own .0) items (shaped-items items (ruleOf 0x01) (shape .shaped)) (w .share) (imports-all (ownLocals (own .0)) items (w .locals)) (imports-all soleNamespace items (w .soles))) in
+    (imports-of (own .0) items (shaped-items items (ruleOf 0x01) (shape .shaped)) (w .share) (imports-all (ownLocals (own .0)) items (w .locals)) (imports-all soleNamespace items (w .soles))) in
     let u = listed-of (handedOn l r) n (r .modules) q (partsOf (r .records)) resolving readable in
     subst (λ (b : Bool). Ends b i x k (stands items i) items l r q) (sym (takes-is rows x file (stands items i) res))
     (ends-from (takesApart (stands items i)) i x k file (stands items i) items l r q (own .0) (m .context) (f .0) Space locals res inside inside

@@ -125,18 +125,22 @@ module _ (taken : Bool) (i c : List ℕ) (own : ℕ) (named : same (nameOf i) (t
 
   bare-uses : (t : ℕ) (x : List ℕ) (cs : Fields) (g : Field) → t ≡ 0x60 → RegularAt t x cs → Fine taken (met (idsIn t x false) i) → Stays t x cs g → All (UseOf (field t x cs) g) (idsIn t x false)
   bare-uses t x cs g q w fine h =
-      subst (λ (l : List (How × List ℕ)). All (UseOf (field t x cs) g) l) (sym (ident-ids t x q))
-      ((λ e u. good-kept taken c (record { how = bare; here = field t x cs; there = g }) (kept bare (idAt x 0) refl refl e (subst (λ (l : List (How × List ℕ)). Fine taken (met l i)) (ident-ids t x q) fine))
-      (ident-same t x cs g h q (w .ident-bare q) (sym (w .ident-whole q) ∙ same-equal (idAt x 0) i e))), tt)
+      subst (λ (l : List (How × List ℕ)). All (UseOf (field t x cs) g) l) (sym (ident-ids t x q)) (
+        (λ e u. good-kept taken c (record { how = bare; here = field t x cs; there = g }) (kept bare (idAt x 0) refl refl e (subst (λ (l : List (How × List ℕ)). Fine taken (met l i)) (ident-ids t x q) fine))
+            (ident-same t x cs g h q (w .ident-bare q) (sym (w .ident-whole q) ∙ same-equal (idAt x 0) i e))),
+        tt,
+      )
 
   original-uses : (t : ℕ) (x : List ℕ) (cs : Fields) (g : Field) (object : Bool) → t ≡ 0x23 → Fine taken (met (idsIn t x object) i) → Stays t x cs g → All (UseOf (field t x cs) g) (idsIn t x object)
   original-uses t x cs g object q fine h =
       subst (λ (l : List (How × List ℕ)). All (UseOf (field t x cs) g) l) (sym (export-ids t x object q)) (go (eqb (getD x 0 0) 1) (subst (λ (l : List (How × List ℕ)). Fine taken (met l i)) (export-ids t x object q) fine))
     where
       go : (b : Bool) → Fine taken (met (cond b ((original, idAt x 1) ∷ []) []) i) → All (UseOf (field t x cs) g) (cond b ((original, idAt x 1) ∷ []) [])
-      go true f =
-          ((λ e u. good-kept taken c (record { how = original; here = field t x cs; there = g }) (kept original (idAt x 1) refl refl e f)
-          (ap₂ {C = Field} (λ k y. field k y none) (h .0) (original-bytes t x (fixedOf g) (h .1) q))), tt)
+      go true f = (
+        (λ e u. good-kept taken c (record { how = original; here = field t x cs; there = g }) (kept original (idAt x 1) refl refl e f)
+            (ap₂ {C = Field} (λ k y. field k y none) (h .0) (original-bytes t x (fixedOf g) (h .1) q))),
+        tt,
+      )
       go false f = tt
 
   not-tag : (t k : ℕ) → (b : Bool) → eqb t k ≡ b → (t ≡ k) ⊎ (eqb t k ≡ false)

@@ -28,7 +28,6 @@ use Rattle.extraction_rules.proofs.TableLaws.{Each, each-append, find-m
 use Rattle.extraction_rules.proofs.QuietLaws.{QuietSteps}
 use Rattle.extraction_rules.proofs.ItemsLaws.{ItemSteps}
 
-
 -- an id is its name and its context
 pub same-id : (i j : List ℕ) → nameOf i ≡ nameOf j → contextOf i ≡ contextOf j → i ≡ j
 same-id i j p q = sym (split i) ∙ ap₂ {C = List ℕ} (λ a b. a ++ b) p q ∙ split j
