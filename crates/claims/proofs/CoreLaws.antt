@@ -20,6 +20,7 @@ use Rattle.lent.specs.Lists.{among, filter}
 use Rattle.lent.specs.Buffer.{fits}
 use Rattle.lent.specs.Table.{Row, fileOf}
 use Rattle.lent.specs.Fields.{has, keep}
+use Rattle.lent.proofs.AcceptedLaws.{onto-done}
 use Rattle.extraction_rules.specs.State.{Record, State, Pass, first, second, Setting, start}
 use Rattle.extraction_rules.specs.First.{external}
 use Rattle.extraction_rules.specs.Second.{usagesOf}
@@ -49,7 +50,7 @@ use Rattle.claims.proofs.UsesLaws.{Good}
 use Rattle.claims.proofs.OutsLaws.{ownSpecifiers, Outs, OtherBut, second-pass}
 use Rattle.claims.proofs.EndsLaws.{declares-own, uses-end, Tidy, gone-end}
 use Rattle.claims.proofs.RunLaws.{Run, run-of, sources-of, forced-of}
-use Rattle.claims.proofs.RecordLaws.{endedRecord, Ended, onto-done, record-found, properties-resolved, namespace-resolved}
+use Rattle.claims.proofs.RecordLaws.{endedRecord, Ended, record-found, properties-resolved, namespace-resolved}
 
 module _ (i lit : List ℕ) (own file : ℕ) (context : contextOf i ≡ four (local own)) (named : same (nameOf i) (two require-atom) ≡ false)
     (Space : List ℕ → Type 0) (locals : (j : List ℕ) → Space j → contextOf j ≡ four (local own)) where

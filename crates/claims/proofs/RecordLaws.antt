@@ -12,10 +12,11 @@ use Rattle.tree.specs.Layout.{same, valueOf, sameLiteral}
 use Rattle.tree.specs.Tree.{Field, field, Fields, none, more, tagOf, fixedOf, partsOf, size}
 use Rattle.tree.proofs.LayoutLaws.{same-refl, same-equal}
 use Rattle.metadata.specs.Metadata.{append}
-use Rattle.lent.specs.Outcome.{Outcome, done, refused, onto}
+use Rattle.lent.specs.Outcome.{done, refused}
 use Rattle.lent.specs.Lists.{find, mapped, among}
 use Rattle.lent.specs.Table.{Row, fileOf}
 use Rattle.lent.specs.Fields.{has, keep, inside}
+use Rattle.lent.proofs.AcceptedLaws.{done-refused, onto-done}
 use Rattle.extraction_rules.specs.State.{Record, State, Setting, setModules, setCollected}
 use Rattle.extraction_rules.specs.First.{requested, moduleOf, moduleFor}
 use Rattle.extraction_rules.specs.Second.{wrapModule, wrapAll, loseNamespaces, finish}
@@ -92,16 +93,11 @@ module _ (taken : Bool) (i lit c : List ℕ) (ps : List (List ℕ)) where
 
 -- ---- Resolving
 
--- the first of two steps was done, and then the second
-pub onto-done : {A B : Type 0} (m : Outcome A) (f : A → Outcome B) (b : B) → onto m f ≡ done b → (a : A) × (m ≡ done a) × (f a ≡ done b)
-onto-done (done a) f b e = (a, refl, e)
-onto-done (refused n p) f b e = absurd (let z : _≡_ {A = ℕ} 0 1 = cc in omega arith)
-
 -- the resolved record of a collected record: its heading, and its specifiers
 record-done : (o : Option ℕ) (forced : List (List ℕ)) (ms : Modules) (r : Record) (p : ℕ) (g : Field) → resolvedRecord o forced ms (field 0x80 (r .literal) (r .specifiers)) p ≡ done g →
     (eqb (getD (fixedOf g) 0 0) 3 ≡ true) × (drop 13 (fixedOf g) ≡ r .literal) × (resolvedSpecifiers (among (valueOf (r .literal)) forced) (r .specifiers) (inside p (r .literal)) ≡ done (partsOf g))
 unfolding resolvedRecord heading
-record-done nothing forced ms r p g e = absurd (let z : _≡_ {A = ℕ} 0 1 = cc in omega arith)
+record-done nothing forced ms r p g e = done-refused e
 record-done (some file) forced ms r p g e =
     let a = onto-done (resolvedSpecifiers (among (valueOf (r .literal)) forced) (r .specifiers) (inside p (r .literal))) _ g e in
     let w : field 0x90 (heading (field 0x80 (r .literal) (r .specifiers)) (moduleNumber file ms) file) (a .0) ≡ g = cc (a .2) in
@@ -145,7 +141,7 @@ properties-resolved all c (y ∷ ps) p fs e =
     sym w ∙ ap₂ {C = Fields} more (named (eqb (getD x 6 0) 2) x (a .0) (a .1)) (properties-resolved all c ps (p + size (field 0x20 x none)) (b .0) (b .1))
   where
     named : (b : Bool) (x : List ℕ) (g : Field) → cond b (refused 6 p) (done (field 0x91 x none)) ≡ done g → g ≡ field 0x91 x none
-    named true x g e = absurd (let z : _≡_ {A = ℕ} 0 1 = cc in omega arith)
+    named true x g e = done-refused e
     named false x g e = cc
 
 pub namespace-resolved : (i : List ℕ) (p : ℕ) (fs : Fields) → resolvedSpecifiers true (more (field 0x22 i none) none) p ≡ done fs → fs ≡ more (field 0x92 (i ++ 1 ∷ []) none) none

@@ -16,6 +16,7 @@ use Rattle.lent.specs.Outcome.{Outcome, done, refused, onto}
 use Rattle.lent.specs.Lists.{among, isSome}
 use Rattle.lent.specs.Table.{Row, fileOf}
 use Rattle.lent.specs.Fields.{keep, inside}
+use Rattle.lent.proofs.AcceptedLaws.{done-refused, onto-done}
 use Rattle.extraction_rules.specs.State.{Record, State, Pass, first, second, Setting, change, refuse, setCollected, setTop}
 use Rattle.extraction_rules.specs.First.{external, moduleFor, collectIn, collect, noteSpecifiers, specifiersIn, withContext, importFirst, stays, forget}
 use Rattle.extraction_rules.specs.Second.{specifiersFrom, extend, loseNamespaces}
@@ -28,7 +29,6 @@ use Rattle.extraction_rules.proofs.StepLaws.{EndSteps}
 use Rattle.extraction_rules.proofs.WalkLaws.{Steps, walkAll-keeps, walkAgain-keeps, imports-any-all}
 use Rattle.resolving_rules.specs.Resolve.{resolvedRecord, resolvedAll}
 use Rattle.claims.specs.Demand.{itemAt}
-use Rattle.claims.proofs.RecordLaws.{onto-done}
 
 module _ (a : List ℕ) where
   -- a is the source of a collected record
@@ -104,7 +104,7 @@ module _ (a : List ℕ) where
   -- a resolved list has no record whose source is unresolved
   resolves-record : (o : Option ℕ) (forced : List (List ℕ)) (ms : Modules) (f : Field) (p : ℕ) (g : Field) → resolvedRecord o forced ms f p ≡ done g → isSome o ≡ true
   unfolding resolvedRecord
-  resolves-record nothing forced ms f p g e = absurd (let z : _≡_ {A = ℕ} 0 1 = cc in omega arith)
+  resolves-record nothing forced ms f p g e = done-refused e
   resolves-record (some file) forced ms f p g e = refl
 
   pub collected-resolves : (rows : List Row) (forced : List (List ℕ)) (ms : Modules) (l : List Record) (rest : Fields) (p : ℕ) (gs : Fields) → among a (sourcesOf l) ≡ true → resolvedAll rows forced ms (append (recordFields 0x80 l) rest) p ≡ done gs → isSome (fileOf a rows) ≡ true

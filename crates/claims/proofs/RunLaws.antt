@@ -4,25 +4,20 @@ use mathlib.Core.List.{List, [], _∷_}
 use mathlib.Core.Bool.{false}
 use lib.Dec.{eqb}
 use mathlib.Core.Path.{_≡_, refl, sym, ap, subst, _∙_}
-use native.Mathlib.Omega.{arith}
 use Rattle.scope.specs.Modules.{Modules}
 use Rattle.tree.specs.Tree.{Field, Fields, none, more, partsOf}
 use Rattle.metadata.specs.Metadata.{append}
 use Rattle.lent.specs.Fields.{has, keep}
-use Rattle.lent.specs.Outcome.{Outcome, done, refused, placeless}
+use Rattle.lent.specs.Outcome.{done, placeless}
 use Rattle.lent.specs.Table.{Row}
 use Rattle.lent.specs.Buffer.{fits}
+use Rattle.lent.proofs.AcceptedLaws.{onto-done, placeless-done}
 use Rattle.extraction_rules.specs.State.{Record, State, first, second, start}
 use Rattle.extraction_rules.specs.Walk.{walkModule, walkAgain}
 use Rattle.extraction_rules.specs.Records.{recordFields, forcedFields, recordsOf}
 use Rattle.extraction_rules.specs.Call.{Lent, Lengths, Extracted, setting, moduleWith, extractedFrom, passes}
 use Rattle.extraction_rules.proofs.TableLaws.{Each}
 use Rattle.resolving_rules.specs.Resolve.{sourcesIn, forcedIn}
-use Rattle.claims.proofs.RecordLaws.{onto-done}
-
-placeless-done : {A : Type 0} (o : Outcome A) (a : A) → placeless o ≡ done a → o ≡ done a
-placeless-done (done b) a e = e
-placeless-done (refused n p) a e = absurd (let z : _≡_ {A = ℕ} 0 1 = cc in omega arith)
 
 pub record Run (l : Lent) (rows : List Row) (own : ℕ) (items : Fields) (ms : Modules) (r : Extracted) : Type 0 where
   pub works : Fields

@@ -23,6 +23,7 @@ use Rattle.lent.specs.Lists.{isSome, among, filter}
 use Rattle.lent.specs.Fields.{has, keep, findField}
 use Rattle.lent.specs.Table.{Row, rowsIn, atomsIn, fileOf, tableOf, badTable, repeats}
 use Rattle.lent.specs.Buffer.{fits}
+use Rattle.lent.proofs.AcceptedLaws.{done-inj, onto-done, table-rows}
 use Rattle.extraction_rules.specs.State.{first, second, Setting, start}
 use Rattle.extraction_rules.specs.Walk.{walkModule, walkAgain}
 use Rattle.extraction_rules.specs.Records.{recordFields, recordsOf}
@@ -43,7 +44,6 @@ use Rattle.claims.proofs.FirstPassLaws.{OtherImport, Behind, Around}
 use Rattle.claims.proofs.SettledLaws.{takesApart}
 use Rattle.claims.proofs.OutLaws.{Fine}
 use Rattle.claims.proofs.OutsLaws.{OtherSources, OtherBut}
-use Rattle.claims.proofs.RecordLaws.{onto-done}
 use Rattle.claims.proofs.PlacedLaws.{EachImport, fine-placed, fits-placed, ready-placed}
 use Rattle.claims.proofs.SpecifierLaws.{locals-all, whole-specifier}
 use Rattle.claims.proofs.SurroundedLaws.{imports-all, around-well}
@@ -102,11 +102,7 @@ namespaces-own cs i q = sym (both cs) ∙ ap (keep (has 0x22)) q
 -- ---- The calls, step by step
 
 done-same : {A : Type 0} (o : Outcome A) (a b : A) → o ≡ done a → o ≡ done b → a ≡ b
-done-same o a b p q = let r : done a ≡ done b = sym p ∙ q in cc
-
-table-rows : (s : List ℕ) (rows : List Row) → tableOf s ≡ done rows → rows ≡ rowsIn s
-unfolding tableOf
-table-rows s rows e = let a = onto-done (refuseIf (repeats (rowsIn s)) 2) _ rows e in let q : done (rowsIn s) ≡ done rows = a .2 in cc
+done-same o a b p q = done-inj (sym p ∙ q)
 
 own-of : (o : Option (ℕ × Modules)) (own : ℕ × Modules) → o ≡ some own → ownModule o ≡ done own
 own-of nothing own e = absurd (let z : _≡_ {A = ℕ} 0 1 = cc in omega arith)

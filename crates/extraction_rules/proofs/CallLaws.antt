@@ -3,16 +3,16 @@ use Prim.Native.Nat.{ℕ}
 use mathlib.Core.Path.{_≡_, refl, sym, ap, subst, _∙_}
 use mathlib.Core.List.{List, [], _∷_, map}
 use mathlib.Core.Option.{Option, none as nothing, some}
-use native.Mathlib.Omega.{arith}
 use Rattle.scope.specs.Modules.{Modules, numberOf, request}
 use Rattle.tree.specs.declared.grammar.Set.the-variants.{Module}
 use Rattle.tree.specs.Tree.{Fields}
 use Rattle.tree.specs.Read.{read}
 use Rattle.tree.specs.Layout.{same, valueOf, Bytes}
-use Rattle.lent.specs.Outcome.{Outcome, done, refused, onto, placeless, refuseIf}
+use Rattle.lent.specs.Outcome.{Outcome, done, refused, placeless, refuseIf}
 use Rattle.lent.specs.Lists.{find, mapped}
-use Rattle.lent.specs.Table.{Row, rowsIn, atomsIn, repeats, tableOf, fileOf}
+use Rattle.lent.specs.Table.{Row, rowsIn, atomsIn, tableOf, fileOf}
 use Rattle.lent.specs.Buffer.{fits}
+use Rattle.lent.proofs.AcceptedLaws.{done-inj, done-refused, onto-done, placeless-done, table-rows}
 use Rattle.extraction_rules.specs.State.{Record, State, first, second, Setting, start}
 use Rattle.extraction_rules.specs.First.{requested, moduleOf, moduleFor}
 use Rattle.extraction_rules.specs.Second.{wrapModule, wrapAll, loseNamespaces, finish}
@@ -29,20 +29,8 @@ use Rattle.extraction_rules.proofs.ReadableLaws.{Items, read-items, run
 use Rattle.extraction_rules.proofs.WholeLaws.{Whole}
 use Rattle.extraction_rules.proofs.RecordsLaws.{run-whole}
 
--- a step that is accepted, and the next
-pub onto-done : {A B : Type 0} (m : Outcome A) (f : A → Outcome B) (b : B) → onto m f ≡ done b → (a : A) × (m ≡ done a) × (f a ≡ done b)
-onto-done (done a) f b e = (a, refl, e)
-onto-done (refused n p) f b e = absurd (let z : _≡_ {A = ℕ} 0 1 = cc in omega arith)
-
-pub done-inj : {A : Type 0} {a b : A} → done a ≡ done b → a ≡ b
-done-inj e = cc
-
-placeless-done : {A : Type 0} (m : Outcome A) (a : A) → placeless m ≡ done a → m ≡ done a
-placeless-done (done b) a e = e
-placeless-done (refused n p) a e = absurd (let z : _≡_ {A = ℕ} 0 1 = cc in omega arith)
-
 own-done : (o : Option (ℕ × Modules)) (r : ℕ × Modules) → ownModule o ≡ done r → o ≡ some r
-own-done nothing r e = absurd (let z : _≡_ {A = ℕ} 0 1 = cc in omega arith)
+own-done nothing r e = done-refused e
 own-done (some q) r e = ap some (done-inj e)
 
 -- ---- Both passes of an accepted call
@@ -90,10 +78,6 @@ passes-done l room rows items own r e =
       gives = sym (done-inj (f .2));
     }
 
-table-rows : (t : List ℕ) (rows : List Row) → tableOf t ≡ done rows → rowsIn t ≡ rows
-unfolding tableOf
-table-rows t rows e = done-inj (onto-done (refuseIf (repeats (rowsIn t)) 2) _ rows e .2)
-
 pub call-run : (l : Lent) (room : Lengths) (ms : Modules) (r : Extracted) → extracted l room ms ≡ done r → Run l ms r
 unfolding extracted
 call-run l room ms r e =
@@ -101,7 +85,7 @@ call-run l room ms r e =
     let b = onto-done (tableOf (l .table)) _ r (a .2) in
     let c = onto-done (itemsRead (read Module (l .tree))) _ r (b .2) in
     let d = onto-done (ownModule (request (l .file) ms)) _ r (c .2) in
-    made (b .0) (c .0) (d .0) (table-rows (l .table) (b .0) (b .1)) (c .1) (own-done (request (l .file) ms) (d .0) (d .1))
+    made (b .0) (c .0) (d .0) (sym (table-rows (l .table) (b .0) (b .1))) (c .1) (own-done (request (l .file) ms) (d .0) (d .1))
     (passes-done l room (b .0) (c .0) (d .0) r (d .2))
   where
     made : (rows : List Row) (items : Fields) (own : ℕ × Modules) → rowsIn (l .table) ≡ rows → itemsRead (read Module (l .tree)) ≡ done items →

@@ -18,10 +18,11 @@ use Rattle.tree.specs.Layout.{valueOf}
 use Rattle.tree.specs.Tree.{Fields, field}
 use Rattle.tree.specs.Read.{read}
 use Rattle.metadata.specs.Metadata.{append}
-use Rattle.lent.specs.Outcome.{Outcome, done, onto, placeless, refuseIf}
+use Rattle.lent.specs.Outcome.{Outcome, onto, placeless, refuseIf}
 use Rattle.lent.specs.Lists.{find, isSome}
-use Rattle.lent.specs.Table.{Row, rowsIn, fileOf, repeats, tableOf}
+use Rattle.lent.specs.Table.{Row, rowsIn, fileOf, tableOf}
 use Rattle.lent.specs.Buffer.{fits}
+use Rattle.lent.proofs.AcceptedLaws.{table-rows}
 use Rattle.extraction_rules.specs.State.{Record, State, first, second, Setting, start, setModules}
 use Rattle.extraction_rules.specs.First.{requested, moduleOf, moduleFor, forget}
 use Rattle.extraction_rules.specs.Second.{wrapModule, wrapAll, finish}
@@ -29,7 +30,7 @@ use Rattle.extraction_rules.specs.Walk.{walkModule, walkAgain}
 use Rattle.extraction_rules.specs.Records.{recordFields, forcedFields, recordsOf}
 use Rattle.extraction_rules.specs.Call.{Lent, Lengths, Extracted, badLists, itemsRead, ownModule, setting, moduleWith, passes, extracted}
 use Rattle.extraction_rules.specs.Reach.{isModuleOf, reaches}
-use Rattle.extraction_rules.proofs.OutcomeLaws.{After, after-bind, after-weaken, Of, of-onto, of-any, of-after, of-placeless}
+use Rattle.extraction_rules.proofs.OutcomeLaws.{After, after-bind, after-weaken, Of, of-each, of-onto, of-any, of-after, of-placeless}
 use Rattle.extraction_rules.proofs.FirstLaws.{source-cases, force-cases}
 use Rattle.extraction_rules.proofs.WalkLaws.{Steps, imports-any-all, walkModule-keeps}
 
@@ -194,14 +195,6 @@ passes-marks l room rows items own ms h =
     of-skip (fits (moduleWith (q .0)) (room .out)) _ (Marks rows ms) λ _.
     of-skip (fits (recordsOf (q .1)) (room .records)) _ (Marks rows ms) λ _. m
 
-table-rows : (s : List ℕ) → Of (tableOf s) (λ rows. rows ≡ rowsIn s)
-unfolding tableOf
-table-rows s = go (repeats (rowsIn s))
-  where
-    go : (b : Bool) → Of (onto (refuseIf b 2) (λ _. done (rowsIn s))) (λ rows. rows ≡ rowsIn s)
-    go true = tt
-    go false = refl
-
 own-marks : (f : ℕ) (ms : Modules) (o : Option (ℕ × Modules)) → request f ms ≡ o → Of (ownModule o) (λ own. SameMarks ms (own .1))
 own-marks f ms nothing q = tt
 own-marks f ms (some own) q = λ n. request-keeps-marks f ms q Wrapping n
@@ -213,7 +206,7 @@ unfolding extracted
 extraction-marks l room ms =
     let Q : Extracted → Type 0 = Marks (rowsIn (l .table)) ms in
     of-skip (refuseIf (badLists l) 1) _ Q λ _.
-    of-onto (tableOf (l .table)) _ (λ rows. rows ≡ rowsIn (l .table)) Q (table-rows (l .table)) λ rows e.
+    of-onto (tableOf (l .table)) _ (λ rows. rows ≡ rowsIn (l .table)) Q (of-each (tableOf (l .table)) _ (table-rows (l .table))) λ rows e.
     of-skip (itemsRead (read Module (l .tree))) _ Q λ items.
     of-onto (ownModule (request (l .file) ms)) _ (λ own. SameMarks ms (own .1)) Q (own-marks (l .file) ms (request (l .file) ms) refl) λ own h.
     rw (← e) (passes-marks l room rows items own ms h)

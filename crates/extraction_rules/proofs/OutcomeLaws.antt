@@ -40,6 +40,10 @@ abbrev pub Of : {A : Type 0} → Outcome A → (A → Type 0) → Type 0
 Of (done a) P = P a
 Of (refused n p) P = Unit {0}
 
+pub of-each : {A : Type 0} (m : Outcome A) (P : A → Type 0) → ((a : A) → m ≡ done a → P a) → Of m P
+of-each (done a) P h = h a refl
+of-each (refused n p) P h = tt
+
 pub of-onto : {A B : Type 0} (m : Outcome A) (f : A → Outcome B) (P : A → Type 0) (Q : B → Type 0) → Of m P →
     ((a : A) → P a → Of (f a) Q) → Of (onto m f) Q
 of-onto (done a) f P Q h k = k a h

@@ -8,21 +8,18 @@ use Rattle.tree.specs.declared.grammar.Set.the-variants.{Records}
 use Rattle.tree.specs.Tree.{Field, field, Fields, none, more, partsOf}
 use Rattle.tree.specs.Read.{fine, read}
 use Rattle.lent.specs.Outcome.{done, refuseIf}
-use Rattle.lent.specs.Table.{Row, rowsIn, badTable, repeats, tableOf}
+use Rattle.lent.specs.Table.{Row, rowsIn, badTable, tableOf}
 use Rattle.lent.specs.Buffer.{fits}
+use Rattle.lent.proofs.AcceptedLaws.{done-inj, onto-done, table-rows}
 use Rattle.resolving_rules.specs.Resolve.{sourcesIn, forcedIn, numberAll, resolvedAll}
 use Rattle.resolving_rules.specs.Call.{Lent, recordsRead, Numbered, numbered, Resolved, listed, resolved}
-use Rattle.resolving_rules.proofs.ResolveLaws.{onto-done, done-inj, numberAll-keeps}
+use Rattle.resolving_rules.proofs.ResolveLaws.{numberAll-keeps}
 
 -- the sources in f are numbered, and the list is made of them
 pub record Listed (l : Lent) (ms : Modules) (f : Field) (q : Resolved) : Type 0 where
   pub numbers : numberAll (rowsIn (l .table)) (sourcesIn (partsOf f)) ms 3 ≡ done (q .modules)
   pub all : resolvedAll (rowsIn (l .table)) (forcedIn (partsOf f)) (q .modules) (sourcesIn (partsOf f)) 3 ≡ done (partsOf (q .list))
   pub list : q .list ≡ field 0x03 [] (partsOf (q .list))
-
-table-rows : (t : List ℕ) (rows : List Row) → tableOf t ≡ done rows → rows ≡ rowsIn t
-unfolding tableOf
-table-rows t rows e = sym (done-inj (onto-done (refuseIf (repeats (rowsIn t)) 2) _ rows e .2))
 
 numbers-same : (ms : Modules) (a b : List Row) (fs gs : Fields) (m n : Modules) → a ≡ b → fs ≡ gs → m ≡ n →
     numberAll a (sourcesIn fs) ms 3 ≡ done m → numberAll b (sourcesIn gs) ms 3 ≡ done n

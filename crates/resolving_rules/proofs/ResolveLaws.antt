@@ -4,28 +4,17 @@ use mathlib.Core.Path.{_≡_, refl, sym, ap, subst, _∙_}
 use mathlib.Core.Bool.{Bool, true, false, cond}
 use mathlib.Core.List.{List, [], _∷_}
 use mathlib.Core.Option.{Option, none as nothing, some}
-use native.Mathlib.Omega.{arith}
 use lib.Dec.{eqb}
 use lib.ListN.{getD}
 use Rattle.scope.specs.Modules.{Modules, numberOf, request}
 use Rattle.scope.proofs.Laws.{request-keeps-numbers}
 use Rattle.tree.specs.Tree.{Field, field, Fields, none, more, fixedOf, partsOf, size}
-use Rattle.lent.specs.Outcome.{Outcome, done, refused, onto}
+use Rattle.lent.specs.Outcome.{done, refused}
 use Rattle.lent.specs.Lists.{among}
 use Rattle.lent.specs.Fields.{inside}
 use Rattle.lent.specs.Table.{Row, fileOf}
+use Rattle.lent.proofs.AcceptedLaws.{done-inj, done-refused, onto-done}
 use Rattle.resolving_rules.specs.Resolve.{sourceOf, requested, numberOne, numberAll, resolvedNamed, resolvedNamespace, resolvedSpecifier, resolvedSpecifiers, moduleOf, heading, resolvedRecord, resolvedAll}
-
--- a step that is accepted, and the next
-pub onto-done : {A B : Type 0} (m : Outcome A) (f : A → Outcome B) (b : B) → onto m f ≡ done b → (a : A) × (m ≡ done a) × (f a ≡ done b)
-onto-done (done a) f b e = (a, refl, e)
-onto-done (refused n p) f b e = absurd (let z : _≡_ {A = ℕ} 0 1 = cc in omega arith)
-
-pub done-inj : {A : Type 0} {a b : A} → done a ≡ done b → a ≡ b
-done-inj e = cc
-
-pub done-refused : {A B : Type 0} {a : A} {n p : ℕ} → refused n p ≡ done a → B
-done-refused {a = a} e = absurd (let z : _≡_ {A = ℕ} 0 1 = cc in omega arith)
 
 -- ---- 'Resolving numbers every resolvable source': a number once given stays
 

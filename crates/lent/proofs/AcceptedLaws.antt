@@ -1,0 +1,27 @@
+-- What an accepted outcome says of the steps that gave it.
+use Prim.Native.Nat.{ℕ}
+use mathlib.Core.Path.{_≡_, refl, sym}
+use mathlib.Core.List.{List}
+use native.Mathlib.Omega.{arith}
+use Rattle.lent.specs.Outcome.{Outcome, done, refused, onto, placeless, refuseIf}
+use Rattle.lent.specs.Table.{Row, rowsIn, repeats, tableOf}
+
+pub done-inj : {A : Type 0} {a b : A} → done a ≡ done b → a ≡ b
+done-inj e = cc
+
+pub done-refused : {A B : Type 0} {a : A} {n p : ℕ} → refused n p ≡ done a → B
+done-refused {a = a} e = absurd (let z : _≡_ {A = ℕ} 0 1 = cc in omega arith)
+
+-- a step that is accepted, and the next
+pub onto-done : {A B : Type 0} (m : Outcome A) (f : A → Outcome B) (b : B) → onto m f ≡ done b → (a : A) × (m ≡ done a) × (f a ≡ done b)
+onto-done (done a) f b e = (a, refl, e)
+onto-done (refused n p) f b e = done-refused e
+
+pub placeless-done : {A : Type 0} (m : Outcome A) (a : A) → placeless m ≡ done a → m ≡ done a
+placeless-done (done b) a e = e
+placeless-done (refused n p) a e = done-refused e
+
+-- a table that is accepted has the rows that its bytes say
+pub table-rows : (t : List ℕ) (rows : List Row) → tableOf t ≡ done rows → rows ≡ rowsIn t
+unfolding tableOf
+table-rows t rows e = sym (done-inj (onto-done (refuseIf (repeats (rowsIn t)) 2) _ rows e .2))
