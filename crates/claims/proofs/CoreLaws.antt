@@ -1,44 +1,39 @@
 -- A namespace import whose source resolves, in an accepted extraction: the two ends, from what is known of the items around it.
-use Prim.Native.Nat.{ℕ, zero, suc, _+_}
+use Prim.Native.Nat.{ℕ, _+_}
 use mathlib.Core.Path.{_≡_, refl, sym, ap, ap₂, subst, _∙_}
-use mathlib.Core.Logic.{_⊎_, inl, inr}
-use mathlib.Core.Bool.{Bool, true, false, not, cond, _&&_, true≢false}
+use mathlib.Core.Bool.{Bool, true, false, _&&_, true≢false}
 use mathlib.Core.List.{List, [], _∷_, _++_}
-use mathlib.Core.Option.{Option, none as nothing, some}
-use native.Mathlib.Omega.{arith}
-use lib.Dec.{eqb}
+use mathlib.Core.Option.{some}
 use Rattle.scope.specs.Id.{require-atom, local, export}
-use Rattle.scope.specs.Modules.{Modules, numberOf, request}
-use Rattle.scope.proofs.Laws.{request-keeps-numbers}
+use Rattle.scope.specs.Modules.{Modules, numberOf}
 use Rattle.tree.specs.Layout.{same, two, four, nameOf, contextOf, valueOf}
 use Rattle.tree.specs.declared.grammar.Rule.{Rule}
 use Rattle.tree.specs.Grammar.{ruleOf}
-use Rattle.tree.specs.Tree.{Field, field, Fields, none, more, tagOf, fixedOf, partsOf, size}
+use Rattle.tree.specs.Tree.{Field, field, Fields, none, more, partsOf}
 use Rattle.metadata.specs.Metadata.{append}
-use Rattle.lent.specs.Outcome.{Outcome, done, refused, onto, placeless}
+use Rattle.lent.specs.Outcome.{Outcome, done}
 use Rattle.lent.specs.Lists.{among, filter}
-use Rattle.lent.specs.Buffer.{fits}
 use Rattle.lent.specs.Table.{Row, fileOf}
-use Rattle.lent.specs.Fields.{has, keep}
-use Rattle.lent.proofs.AcceptedLaws.{onto-done}
-use Rattle.extraction_rules.specs.State.{Record, State, Pass, first, second, Setting, start}
+use Rattle.extraction_rules.specs.State.{State, first, second, Setting, start}
 use Rattle.extraction_rules.specs.First.{external}
 use Rattle.extraction_rules.specs.Second.{usagesOf}
 use Rattle.extraction_rules.specs.Walk.{walkModule, walkAgain}
-use Rattle.extraction_rules.specs.Records.{recordFields, forcedFields, recordsOf}
-use Rattle.extraction_rules.specs.Call.{Lent, Lengths, Extracted, setting, moduleWith, extractedFrom, passes}
+use Rattle.extraction_rules.specs.Records.{recordFields, recordsOf}
+use Rattle.extraction_rules.specs.Call.{Lent, Extracted, setting}
 use Rattle.extraction_rules.proofs.OutcomeLaws.{After, after-both, after-done}
-use Rattle.extraction_rules.proofs.ListLaws.{All, all-weaken}
+use Rattle.extraction_rules.proofs.ListLaws.{all-weaken}
 use Rattle.extraction_rules.proofs.TableLaws.{Each}
 use Rattle.extraction_rules.proofs.SpaceLaws.{Property, Spaces, spaces-say}
 use Rattle.extraction_rules.proofs.SanityLaws.{Numbered, numbered-steps, numbered-end}
 use Rattle.extraction_rules.proofs.ShapeLaws.{Shaped, ShapedAll}
 use Rattle.extraction_rules.proofs.ReadableLaws.{Items, run-within}
 use Rattle.extraction_rules.proofs.WalkLaws.{walkAgain-keeps, imports-any-all}
-use Rattle.resolving_rules.specs.Resolve.{sourcesIn, forcedIn, numberOne, numberAll, requested, resolvedSpecifiers, resolvedAll}
+use Rattle.extraction_rules.proofs.CallLaws.{Run}
+use Rattle.resolving_rules.specs.Resolve.{sourcesIn, forcedIn, numberAll, resolvedSpecifiers, resolvedAll}
+use Rattle.resolving_rules.proofs.ResolveLaws.{numberAll-keeps, namespace-made}
 use Rattle.claims.specs.Stands.{How, stands, isUse, properties}
-use Rattle.claims.specs.Demand.{isUsed, Every, Rewritten, Unchanged, Declares, usesOf, recordFor, propertyFields, TakenApart, Kept}
-use Rattle.claims.proofs.WaysLaws.{ways, waysAll, stands-ways}
+use Rattle.claims.specs.Demand.{isUsed, Every, Declares, usesOf, recordFor, propertyFields, TakenApart, Kept}
+use Rattle.claims.proofs.WaysLaws.{ways, waysAll}
 use Rattle.claims.proofs.HowLaws.{allPlain}
 use Rattle.claims.proofs.HeldLaws.{Held, Stood, usagesFor}
 use Rattle.claims.proofs.TidyLaws.{tidy-parts, properties-absent}
@@ -49,8 +44,8 @@ use Rattle.claims.proofs.OutLaws.{Fine}
 use Rattle.claims.proofs.UsesLaws.{Good}
 use Rattle.claims.proofs.OutsLaws.{ownSpecifiers, Outs, OtherBut, second-pass}
 use Rattle.claims.proofs.EndsLaws.{declares-own, uses-end, Tidy, gone-end}
-use Rattle.claims.proofs.RunLaws.{Run, run-of, sources-of, forced-of}
-use Rattle.claims.proofs.RecordLaws.{endedRecord, Ended, record-found, properties-resolved, namespace-resolved}
+use Rattle.claims.proofs.SourcesLaws.{sources-of, forced-of}
+use Rattle.claims.proofs.RecordLaws.{endedRecord, Ended, record-found, properties-resolved}
 
 module _ (i lit : List ℕ) (own file : ℕ) (context : contextOf i ≡ four (local own)) (named : same (nameOf i) (two require-atom) ≡ false)
     (Space : List ℕ → Type 0) (locals : (j : List ℕ) → Space j → contextOf j ≡ four (local own)) where
@@ -84,22 +79,6 @@ module _ (i lit : List ℕ) (own file : ℕ) (context : contextOf i ≡ four (lo
 
     -- ---- Resolving
 
-    -- numbers stay
-    pub numbers-stay : (rows : List Row) (fs : Fields) (ms new : Modules) (p f n : ℕ) → numberAll rows fs ms p ≡ done new → numberOf f ms ≡ some n → numberOf f new ≡ some n
-    unfolding numberAll numberOne
-    numbers-stay rows none ms new p f n e h = let w : ms ≡ new = cc in subst (λ (m : Modules). numberOf f m ≡ some n) w h
-    numbers-stay rows (more g gs) ms new p f n e h =
-        let a = onto-done (numberOne (fileOf (valueOf (fixedOf g)) rows) ms p) _ new e in
-        numbers-stay rows gs (a .0) new (p + size g) f n (a .2) (by (fileOf (valueOf (fixedOf g)) rows) (a .0) (a .1))
-      where
-        ask : (g : ℕ) (r : Option (ℕ × Modules)) (m : Modules) → request g ms ≡ r → requested r p ≡ done m → numberOf f m ≡ some n
-        ask g nothing m q e = absurd (let z : _≡_ {A = ℕ} 0 1 = cc in omega arith)
-        ask g (some r) m q e = let w : r .1 ≡ m = cc in subst (λ (m : Modules). numberOf f m ≡ some n) w (request-keeps-numbers g ms q f n h)
-
-        by : (o : Option ℕ) (m : Modules) → numberOne o ms p ≡ done m → numberOf f m ≡ some n
-        by nothing m e = let w : ms ≡ m = cc in subst (λ (m : Modules). numberOf f m ≡ some n) w h
-        by (some g) m e = ask g (request g ms) m refl e
-
     -- the resolved record of each end
     pub record-taken : (forced : List (List ℕ)) (ms : Modules) (c : List ℕ) (ps : List (List ℕ)) (t : State) (gs : Fields) → Ended true i lit c ps t → resolvedAll rows forced ms (append (recordFields 0x80 (t .collected)) (recordFields 0x81 (t .lazy))) 3 ≡ done gs →
         recordFor lit gs ≡ some (propertyFields 0x91 c ps)
@@ -111,7 +90,7 @@ module _ (i lit : List ℕ) (own file : ℕ) (context : contextOf i ≡ four (lo
         recordFor lit gs ≡ some (more (field 0x92 (i ++ 1 ∷ []) none) none)
     record-kept ms c ps t gs h e =
         let w = record-found rows (t .forced) ms lit (endedRecord false i lit c ps) (t .collected) (recordFields 0x81 (t .lazy)) 3 gs (h .0) refl e in
-        w .2 ∙ ap some (namespace-resolved i (w .0) (w .1) (subst (λ (b : Bool). resolvedSpecifiers b (more (field 0x22 i none) none) (w .0) ≡ done (w .1)) (h .1) (w .3)))
+        w .2 ∙ ap some (namespace-made true i (w .0) (w .1) (subst (λ (b : Bool). resolvedSpecifiers b (more (field 0x22 i none) none) (w .0) ≡ done (w .1)) (h .1) (w .3)))
 
     -- ---- The two ends
 
@@ -191,19 +170,15 @@ module _ (i lit : List ℕ) (own file : ℕ) (context : contextOf i ≡ four (lo
         let number = after-done (walkAgain again (u .works) (u .middle)) (λ outs t. Numbered file (x .1 .0 .0) t) (u .outs, u .end) (u .twice)
         (walkAgain-keeps again (λ _. Unit {0}) (Numbered file (x .1 .0 .0)) (numbered-steps again (λ _. Unit {0}) file (x .1 .0 .0)) (numbered-end file (x .1 .0 .0)) (u .works) (u .middle) (imports-any-all (u .works) (λ _. Unit {0}) (λ _. tt)) (x .1 .0 .1 .given)) in
         end-of (takesApart us) k items (u .outs) gs (u .middle) (u .end) new (x .1 .0 .0) refl h (x .1 .0 .1) (x .1 .1) (y .0) (y .1) w
-        (numbers-stay rows (sourcesIn (partsOf (recordsOf (u .end)))) (u .end .modules) new 3 file (x .1 .0 .0) numbered number) resolved
+        (numberAll-keeps rows file (x .1 .0 .0) (sourcesIn (partsOf (recordsOf (u .end)))) (u .end .modules) new 3 numbered number) resolved
 
     -- An accepted extraction, and an accepted resolving of its records as they were written: taken apart or kept
-    pub core : (room : Lengths) (k : ℕ) (items : Fields) (ms new : Modules) (r : Extracted) (gs : Fields) → Items items → Surrounded k items (takesApart (stands items i)) →
-        ((n : ℕ) → OtherBut i lit own file n (stands items i) context named again refl within k items) → passes l room rows items (own, ms) ≡ done r →
+    pub core : (k : ℕ) (items : Fields) (ms new : Modules) (r : Extracted) (gs : Fields) → Items items → Surrounded k items (takesApart (stands items i)) →
+        ((n : ℕ) → OtherBut i lit own file n (stands items i) context named again refl within k items) → Run l rows own items ms r →
         numberAll rows (sourcesIn (partsOf (r .records))) (r .modules) 3 ≡ done new → resolvedAll rows (forcedIn (partsOf (r .records))) new (sourcesIn (partsOf (r .records))) 3 ≡ done gs →
         EndsBy (takesApart (stands items i)) k (stands items i) items (partsOf (r .out)) gs new
-    core room k items ms new r gs shape h d e numbered resolved = go (run-of l rows own room items ms r e) numbered resolved
-      where
-        go : (u : Run l rows own items ms r) → numberAll rows (sourcesIn (partsOf (r .records))) (r .modules) 3 ≡ done new → resolvedAll rows (forcedIn (partsOf (r .records))) new (sourcesIn (partsOf (r .records))) 3 ≡ done gs →
-            EndsBy (takesApart (stands items i)) k (stands items i) items (partsOf (r .out)) gs new
-        go u a b =
-            let q = sym (u .given) in
-            subst (λ (z : Extracted). EndsBy (takesApart (stands items i)) k (stands items i) items (partsOf (z .out)) gs new) (u .given)
-            (run-ends k items ms new r gs shape h d u (subst (λ (z : Extracted). numberAll rows (sourcesIn (partsOf (z .records))) (z .modules) 3 ≡ done new) q a)
-            (sym (ap₂ {C = Outcome Fields} (λ f c. resolvedAll rows f new c 3) (forced-of (u .end)) (sources-of (u .end))) ∙ subst (λ (z : Extracted). resolvedAll rows (forcedIn (partsOf (z .records))) new (sourcesIn (partsOf (z .records))) 3 ≡ done gs) q b))
+    core k items ms new r gs shape h d u a b =
+        let q = sym (u .given) in
+        subst (λ (z : Extracted). EndsBy (takesApart (stands items i)) k (stands items i) items (partsOf (z .out)) gs new) (u .given)
+        (run-ends k items ms new r gs shape h d u (subst (λ (z : Extracted). numberAll rows (sourcesIn (partsOf (z .records))) (z .modules) 3 ≡ done new) q a)
+        (sym (ap₂ {C = Outcome Fields} (λ f c. resolvedAll rows f new c 3) (forced-of (u .end)) (sources-of (u .end))) ∙ subst (λ (z : Extracted). resolvedAll rows (forcedIn (partsOf (z .records))) new (sourcesIn (partsOf (z .records))) 3 ≡ done gs) q b))

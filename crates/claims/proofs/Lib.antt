@@ -15,7 +15,7 @@ pub mod OutLaws
 pub mod OutsLaws
 pub mod RecordLaws
 pub mod ResolvesLaws
-pub mod RunLaws
+pub mod SourcesLaws
 pub mod SettledLaws
 pub mod SpecifierLaws
 pub mod SurroundedLaws

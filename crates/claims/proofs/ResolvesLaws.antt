@@ -1,24 +1,23 @@
 -- An accepted resolving: the source of every import that is not external resolves.
 use Prim.Native.Nat.{ℕ, zero, suc, _+_}
 use mathlib.Core.Path.{_≡_, refl, sym, ap, subst, _∙_}
-use mathlib.Core.Bool.{Bool, true, false, not, cond, _||_, true≢false}
-use mathlib.Core.List.{List, [], _∷_, _++_, map}
-use mathlib.Core.Option.{Option, none as nothing, some}
+use mathlib.Core.Bool.{Bool, true, false, _||_, true≢false}
+use mathlib.Core.List.{List, [], _∷_}
+use mathlib.Core.Option.{some}
 use native.Mathlib.Omega.{arith}
 use lib.Dec.{leb}
 use lib.ListN.{length}
 use Rattle.scope.specs.Modules.{Modules}
 use Rattle.tree.specs.Layout.{same, valueOf}
-use Rattle.tree.specs.Tree.{Field, field, Fields, none, more, tagOf, fixedOf, partsOf, size}
+use Rattle.tree.specs.Tree.{Field, field, Fields, none, more, size}
 use Rattle.tree.proofs.LayoutLaws.{same-equal}
 use Rattle.metadata.specs.Metadata.{append}
-use Rattle.lent.specs.Outcome.{Outcome, done, refused, onto}
+use Rattle.lent.specs.Outcome.{done}
 use Rattle.lent.specs.Lists.{among, isSome}
 use Rattle.lent.specs.Table.{Row, fileOf}
-use Rattle.lent.specs.Fields.{keep, inside}
-use Rattle.lent.proofs.AcceptedLaws.{done-refused, onto-done}
+use Rattle.lent.specs.Fields.{inside}
 use Rattle.extraction_rules.specs.State.{Record, State, Pass, first, second, Setting, change, refuse, setCollected, setTop}
-use Rattle.extraction_rules.specs.First.{external, moduleFor, collectIn, collect, noteSpecifiers, specifiersIn, withContext, importFirst, stays, forget}
+use Rattle.extraction_rules.specs.First.{external, moduleFor, collectIn, collect, noteSpecifiers, specifiersIn, importFirst, forget}
 use Rattle.extraction_rules.specs.Second.{specifiersFrom, extend, loseNamespaces}
 use Rattle.extraction_rules.specs.Walk.{partsFor, ruleFor, after, afterImport, walk, walkAll, walkModule, walkAgain}
 use Rattle.extraction_rules.specs.Records.{recordFields}
@@ -27,7 +26,8 @@ use Rattle.extraction_rules.proofs.ValueLaws.{after-any}
 use Rattle.extraction_rules.proofs.FirstLaws.{source-cases, force-cases, sourcesOf, collect-stays, collect-among, extend-literal, lose-literal, map-sources}
 use Rattle.extraction_rules.proofs.StepLaws.{EndSteps}
 use Rattle.extraction_rules.proofs.WalkLaws.{Steps, walkAll-keeps, walkAgain-keeps, imports-any-all}
-use Rattle.resolving_rules.specs.Resolve.{resolvedRecord, resolvedAll}
+use Rattle.resolving_rules.specs.Resolve.{resolvedAll}
+use Rattle.resolving_rules.proofs.ResolveLaws.{all-made}
 use Rattle.claims.specs.Demand.{itemAt}
 
 module _ (a : List ℕ) where
@@ -102,19 +102,13 @@ module _ (a : List ℕ) where
   again-collects e works s h = walkAgain-keeps e Any Collected (collected-steps e) collected-end works s (imports-any-all works Any (λ _. tt)) h
 
   -- a resolved list has no record whose source is unresolved
-  resolves-record : (o : Option ℕ) (forced : List (List ℕ)) (ms : Modules) (f : Field) (p : ℕ) (g : Field) → resolvedRecord o forced ms f p ≡ done g → isSome o ≡ true
-  unfolding resolvedRecord
-  resolves-record nothing forced ms f p g e = done-refused e
-  resolves-record (some file) forced ms f p g e = refl
-
   pub collected-resolves : (rows : List Row) (forced : List (List ℕ)) (ms : Modules) (l : List Record) (rest : Fields) (p : ℕ) (gs : Fields) → among a (sourcesOf l) ≡ true → resolvedAll rows forced ms (append (recordFields 0x80 l) rest) p ≡ done gs → isSome (fileOf a rows) ≡ true
-  unfolding among recordFields append resolvedAll
+  unfolding among recordFields append
   collected-resolves rows forced ms [] rest p gs h e = absurd (true≢false (sym h))
   collected-resolves rows forced ms (r ∷ l) rest p gs h e =
       let f : Field = field 0x80 (r .literal) (r .specifiers) in
-      let x = onto-done (resolvedRecord (fileOf (valueOf (r .literal)) rows) forced ms f p) _ gs e in
-      let y = onto-done (resolvedAll rows forced ms (append (recordFields 0x80 l) rest) (p + size f)) _ gs (x .2) in
-      go (same a (valueOf (r .literal))) refl h (resolves-record (fileOf (valueOf (r .literal)) rows) forced ms f p (x .0) (x .1)) (λ k. collected-resolves rows forced ms l rest (p + size f) (y .0) k (y .1))
+      let x = all-made rows forced ms f (append (recordFields 0x80 l) rest) p gs e in
+      go (same a (valueOf (r .literal))) refl h (ap isSome (x .3 .resolves)) (λ k. collected-resolves rows forced ms l rest (p + size f) (x .1) k (x .4))
     where
       go : (b : Bool) → same a (valueOf (r .literal)) ≡ b → b || among a (sourcesOf l) ≡ true → isSome (fileOf (valueOf (r .literal)) rows) ≡ true → (among a (sourcesOf l) ≡ true → isSome (fileOf a rows) ≡ true) → isSome (fileOf a rows) ≡ true
       go true q h w ih = ap (λ (v : List ℕ). isSome (fileOf v rows)) (same-equal a (valueOf (r .literal)) q) ∙ w

@@ -1,56 +1,53 @@
 -- Demand 3, first part, for a source that resolves and records that read back: a namespace import is kept whole or taken apart completely.
 use Prim.Native.Nat.{ℕ, zero, suc}
-use mathlib.Core.Path.{_≡_, refl, sym, ap, ap₂, subst, _∙_}
-use mathlib.Core.Logic.{_⊎_, inl, inr}
-use mathlib.Core.Bool.{Bool, true, false, not, cond, _&&_, _||_, true≢false}
-use mathlib.Core.List.{List, [], _∷_}
+use mathlib.Core.Path.{_≡_, refl, sym, ap, subst, _∙_}
+use mathlib.Core.Logic.{inl, inr}
+use mathlib.Core.Bool.{Bool, true, false, not, cond, _&&_, true≢false}
+use mathlib.Core.List.{List}
 use mathlib.Core.Option.{Option, none as nothing, some}
 use native.Mathlib.Omega.{arith}
-use lib.Dec.{eqb}
 use borrow.Author.Tests.{eqb-true}
 use Rattle.tree.proofs.Table.{both-true}
-use Rattle.scope.specs.Id.{require-atom, local, export}
-use Rattle.scope.specs.Modules.{Modules, numberOf, request}
+use Rattle.scope.specs.Id.{require-atom, local}
+use Rattle.scope.specs.Modules.{Modules, request}
 use Rattle.tree.specs.declared.grammar.Set.the-variants.{Module, Records}
 use Rattle.tree.specs.declared.grammar.Rule.{Rule}
 use Rattle.tree.specs.Layout.{same, two, four, idAt, nameOf, contextOf, valueOf}
-use Rattle.tree.specs.Tree.{Field, field, Fields, none, more, tagOf, fixedOf, partsOf, encode}
+use Rattle.tree.specs.Tree.{Field, field, Fields, none, more, tagOf, partsOf, encode}
 use Rattle.tree.specs.Grammar.{ruleOf}
 use Rattle.tree.specs.Read.{read}
-use Rattle.tree.proofs.LayoutLaws.{same-refl, same-equal}
-use Rattle.lent.specs.Outcome.{Outcome, done, refused, onto, refuseIf}
-use Rattle.lent.specs.Lists.{isSome, among, filter}
-use Rattle.lent.specs.Fields.{has, keep, findField}
-use Rattle.lent.specs.Table.{Row, rowsIn, atomsIn, fileOf, tableOf, badTable, repeats}
-use Rattle.lent.specs.Buffer.{fits}
-use Rattle.lent.proofs.AcceptedLaws.{done-inj, onto-done, table-rows}
+use Rattle.tree.proofs.LayoutLaws.{same-equal}
+use Rattle.lent.specs.Outcome.{done}
+use Rattle.lent.specs.Lists.{isSome, among}
+use Rattle.lent.specs.Fields.{has, keep}
+use Rattle.lent.specs.Table.{Row, rowsIn, atomsIn, fileOf}
 use Rattle.extraction_rules.specs.State.{first, second, Setting, start}
 use Rattle.extraction_rules.specs.Walk.{walkModule, walkAgain}
 use Rattle.extraction_rules.specs.Records.{recordFields, recordsOf}
 use Rattle.extraction_rules.proofs.OutcomeLaws.{after-done}
 use Rattle.extraction_rules.specs.First.{external, specifiersIn}
-use Rattle.extraction_rules.specs.Call.{Lent, Lengths, Extracted, badLists, itemsRead, ownModule, setting, passes, extracted}
+use Rattle.extraction_rules.specs.Call.{Lent, Lengths, Extracted, itemsRead, setting, extracted}
 use Rattle.extraction_rules.proofs.AlikeLaws.{RegularAll}
 use Rattle.extraction_rules.proofs.ShapeLaws.{Shaped, ShapedAll, Specifiers, import-parts}
 use Rattle.extraction_rules.proofs.ReadableLaws.{Items}
 use Rattle.extraction_rules.proofs.TableLaws.{Each}
-use Rattle.resolving_rules.specs.Resolve.{sourcesIn, forcedIn, numberAll, resolvedAll}
-use Rattle.resolving_rules.specs.Call.{Lent as LentRecords, Resolved, Numbered, recordsRead, numbered, listed, resolved}
-use Rattle.claims.specs.Stands.{How, stands, isUse, isPlain, properties}
-use Rattle.claims.specs.Placed.{all, importsIn, importsPrecede, sharesNone, localIds, ownLocals, soleNamespace, namespacesOf, fitNamespace, fitNamespaces, wellPlaced}
-use Rattle.claims.specs.Demand.{itemAt, Declares, takes, isUsed, Ends, ResolvesTo, handedOn}
-use Rattle.claims.proofs.WaysLaws.{waysAll}
-use Rattle.claims.proofs.FirstPassLaws.{OtherImport, Behind, Around}
+use Rattle.extraction_rules.proofs.CallLaws.{Run, call-run}
+use Rattle.resolving_rules.specs.Resolve.{sourcesIn, forcedIn, resolvedAll}
+use Rattle.resolving_rules.specs.Call.{Resolved, recordsRead, resolved}
+use Rattle.resolving_rules.proofs.CallLaws.{Listed, call-listed}
+use Rattle.claims.specs.Stands.{How, stands}
+use Rattle.claims.specs.Placed.{all, importsIn, importsPrecede, sharesNone, localIds, ownLocals, soleNamespace, fitNamespace, fitNamespaces, wellPlaced}
+use Rattle.claims.specs.Demand.{itemAt, Declares, takes, Ends, handedOn}
+use Rattle.claims.proofs.FirstPassLaws.{Behind, Around}
 use Rattle.claims.proofs.SettledLaws.{takesApart}
-use Rattle.claims.proofs.OutLaws.{Fine}
 use Rattle.claims.proofs.OutsLaws.{OtherSources, OtherBut}
 use Rattle.claims.proofs.PlacedLaws.{EachImport, fine-placed, fits-placed, ready-placed}
 use Rattle.claims.proofs.SpecifierLaws.{locals-all, whole-specifier}
 use Rattle.claims.proofs.SurroundedLaws.{imports-all, around-well}
 use Rattle.claims.proofs.DefaultLaws.{SpaceIn, space-local, imports-of}
-use Rattle.claims.proofs.RunLaws.{Run, run-of, sources-of}
+use Rattle.claims.proofs.SourcesLaws.{sources-of}
 use Rattle.claims.proofs.ResolvesLaws.{Collected, first-collects, again-collects, collected-resolves}
-use Rattle.claims.proofs.CoreLaws.{Surrounded, EndsBy, core}
+use Rattle.claims.proofs.CoreLaws.{EndsBy, core}
 
 -- ---- Well placed, clause by clause
 
@@ -100,54 +97,6 @@ namespaces-own cs i q = sym (both cs) ∙ ap (keep (has 0x22)) q
         go false false p q h = rw q h
 
 -- ---- The calls, step by step
-
-done-same : {A : Type 0} (o : Outcome A) (a b : A) → o ≡ done a → o ≡ done b → a ≡ b
-done-same o a b p q = done-inj (sym p ∙ q)
-
-own-of : (o : Option (ℕ × Modules)) (own : ℕ × Modules) → o ≡ some own → ownModule o ≡ done own
-own-of nothing own e = absurd (let z : _≡_ {A = ℕ} 0 1 = cc in omega arith)
-own-of (some r) own e = let q : r ≡ own = cc in ap done q
-
-pub passes-of : (l : Lent) (room : Lengths) (ms : Modules) (r : Extracted) (items : Fields) (own : ℕ × Modules) → extracted l room ms ≡ done r → itemsRead (read Module (l .tree)) ≡ done items → request (l .file) ms ≡ some own →
-    passes l room (rowsIn (l .table)) items own ≡ done r
-unfolding extracted
-passes-of l room ms r items own e p q =
-    let a = onto-done (refuseIf (badLists l) 1) _ r e in
-    let b = onto-done (tableOf (l .table)) _ r (a .2) in
-    let c = onto-done (itemsRead (read Module (l .tree))) _ r (b .2) in
-    let d = onto-done (ownModule (request (l .file) ms)) _ r (c .2) in
-    let rows : b .0 ≡ rowsIn (l .table) = table-rows (l .table) (b .0) (b .1) in
-    let is : c .0 ≡ items = done-same (itemsRead (read Module (l .tree))) (c .0) items (c .1) p in
-    let os : d .0 ≡ own = done-same (ownModule (request (l .file) ms)) (d .0) own (d .1) (own-of (request (l .file) ms) own q) in
-    subst (λ (z : ℕ × Modules). passes l room (rowsIn (l .table)) items z ≡ done r) os (subst (λ (z : Fields). passes l room (rowsIn (l .table)) z (d .0) ≡ done r) is (subst (λ (z : List Row). passes l room z (c .0) (d .0) ≡ done r) rows (d .2)))
-
--- what an accepted resolving went through
-pub record Listed (rows : List Row) (cs : Fields) (ms : Modules) (q : Resolved) : Type 0 where
-  pub numbers : numberAll rows (sourcesIn cs) ms 3 ≡ done (q .modules)
-  pub lists : resolvedAll rows (forcedIn cs) (q .modules) (sourcesIn cs) 3 ≡ done (partsOf (q .list))
-
-pub listed-of : (l : LentRecords) (n : ℕ) (ms : Modules) (q : Resolved) (cs : Fields) → resolved l n ms ≡ done q → recordsRead (read Records (l .records)) ≡ done cs → Listed (rowsIn (l .table)) cs ms q
-unfolding resolved numbered listed
-listed-of l n ms q cs e p =
-    let a = onto-done (numbered l ms) _ q e in
-    let b = onto-done (refuseIf (badTable (l .table)) 1) _ (a .0) (a .1) in
-    let c = onto-done (tableOf (l .table)) _ (a .0) (b .2) in
-    let d = onto-done (recordsRead (read Records (l .records))) _ (a .0) (c .2) in
-    let f = onto-done (numberAll (c .0) (sourcesIn (d .0)) ms 3) _ (a .0) (d .2) in
-    let w : record { rows = c .0; records = d .0; modules = f .0 } ≡ a .0 = cc (f .2) in
-    let g = onto-done (resolvedAll (a .0 .rows) (forcedIn (a .0 .records)) (a .0 .modules) (sourcesIn (a .0 .records)) 3) _ q (a .2) in
-    let h = onto-done (fits (field 0x03 [] (g .0)) n) _ q (g .2) in
-    let z : record { modules = a .0 .modules; list = field 0x03 [] (g .0) } ≡ q = cc (h .2) in
-    let rs : a .0 .rows ≡ rowsIn (l .table) = ap (λ (m : Numbered). m .rows) (sym w) ∙ table-rows (l .table) (c .0) (c .1) in
-    let ks : a .0 .records ≡ cs = ap (λ (m : Numbered). m .records) (sym w) ∙ done-same (recordsRead (read Records (l .records))) (d .0) cs (d .1) p in
-    let es : a .0 .modules ≡ q .modules = ap (λ (m : Resolved). m .modules) z in
-    let gs : g .0 ≡ partsOf (q .list) = ap (λ (m : Resolved). partsOf (m .list)) z in
-    let num : numberAll (c .0) (sourcesIn (d .0)) ms 3 ≡ done (f .0) = f .1 in
-    record {
-      numbers = subst (λ (m : Modules). numberAll (rowsIn (l .table)) (sourcesIn cs) ms 3 ≡ done m) (ap (λ (m : Numbered). m .modules) w ∙ es) (subst (λ (m : List Row). numberAll m (sourcesIn cs) ms 3 ≡ done (f .0)) (table-rows (l .table) (c .0) (c .1)) (subst (λ (m : Fields). numberAll (c .0) (sourcesIn m) ms 3 ≡ done (f .0)) (done-same (recordsRead (read Records (l .records))) (d .0) cs (d .1) p) num));
-      lists = subst (λ (m : Fields). resolvedAll (rowsIn (l .table)) (forcedIn cs) (q .modules) (sourcesIn cs) 3 ≡ done m) gs (subst (λ (m : Modules). resolvedAll (rowsIn (l .table)) (forcedIn cs) m (sourcesIn cs) 3 ≡ done (g .0)) es
-          (subst (λ (m : Fields). resolvedAll (rowsIn (l .table)) (forcedIn m) (a .0 .modules) (sourcesIn m) 3 ≡ done (g .0)) ks (subst (λ (m : List Row). resolvedAll m (forcedIn (a .0 .records)) (a .0 .modules) (sourcesIn (a .0 .records)) 3 ≡ done (g .0)) rs (g .1))));
-    }
 
 -- ---- The other sources
 
@@ -229,25 +178,24 @@ resolving-ends l room ms r n q items own accepted resolving reading requesting p
     let locals = space-local (own .0) items in
     let ready = ready-placed i x (own .0) file (m .context) Space locals items (shape .shaped) (w .precede)
     (imports-of (own .0) items (shaped-items items (ruleOf 0x01) (shape .shaped)) (w .share) (imports-all (ownLocals (own .0)) items (w .locals)) (imports-all soleNamespace items (w .soles))) in
-    let u = listed-of (handedOn l r) n (r .modules) q (partsOf (r .records)) resolving readable in
+    let u = call-listed (handedOn l r) n (r .modules) q (partsOf (r .records)) resolving readable in
     subst (λ (b : Bool). Ends b i x k (stands items i) items l r q) (sym (takes-is rows x file (stands items i) res))
     (ends-from (takesApart (stands items i)) i x k file (stands items i) items l r q (own .0) (m .context) (f .0) Space locals res inside inside
-    (core i x (own .0) file (m .context) (f .0) Space locals l rows res inside inside room k items (own .1) (q .modules) r (partsOf (q .list)) shape
+    (core i x (own .0) file (m .context) (f .0) Space locals l rows res inside inside k items (own .1) (q .modules) r (partsOf (q .list)) shape
     (record { around = a .0; clean = a .1; ready = ready; fine = f .1 })
     (λ c. around-sources i x (own .0) file c (stands items i) (m .context) (f .0) (setting second (own .0) l rows) refl inside k items (a .0))
-    (passes-of l room ms r items own accepted reading requesting) (u .numbers) (u .lists)))
+    (call-run l room ms r items own accepted reading requesting) (u .numbers) (u .lists)))
 
 -- a source that does not resolve would have been refused
 some-file : (o : Option ℕ) → isSome o ≡ true → (f : ℕ) × (o ≡ some f)
 some-file nothing h = absurd (true≢false (sym h))
 some-file (some f) h = (f, refl)
 
-pub source-resolves : (l : Lent) (room : Lengths) (r : Extracted) (q : Resolved) (items : Fields) (own : ℕ × Modules) (k : ℕ) (x : List ℕ) (cs : Fields) → passes l room (rowsIn (l .table)) items own ≡ done r →
+pub source-resolves : (l : Lent) (r : Extracted) (q : Resolved) (items : Fields) (own : ℕ × Modules) (k : ℕ) (x : List ℕ) (cs : Fields) → Run l (rowsIn (l .table)) (own .0) items (own .1) r →
     itemAt k items ≡ some (field 0x10 x cs) → among (valueOf x) (atomsIn (l .externals)) ≡ false → Listed (rowsIn (l .table)) (partsOf (r .records)) (r .modules) q → (f : ℕ) × (fileOf (valueOf x) (rowsIn (l .table)) ≡ some f)
 unfolding external
-source-resolves l room r q items own k x cs e w d h =
+source-resolves l r q items own k x cs u w d h =
     let rows = rowsIn (l .table) in
-    let u = run-of l rows (own .0) room items (own .1) r e in
     let a = after-done (walkModule (setting first (own .0) l rows) items (start (own .1))) (λ gs t. Collected (valueOf x) t) (u .works, u .middle) (u .once) (first-collects (valueOf x) (setting first (own .0) l rows) refl k items x cs (start (own .1)) w d refl) in
     let b = after-done (walkAgain (setting second (own .0) l rows) (u .works) (u .middle)) (λ gs t. Collected (valueOf x) t) (u .outs, u .end) (u .twice) (again-collects (valueOf x) (setting second (own .0) l rows) (u .works) (u .middle) a) in
     let c = subst (λ (z : Extracted). resolvedAll rows (forcedIn (partsOf (z .records))) (q .modules) (sourcesIn (partsOf (z .records))) 3 ≡ done (partsOf (q .list))) (sym (u .given)) (h .lists) in
@@ -261,5 +209,5 @@ pub kept-or-apart : (l : Lent) (room : Lengths) (ms : Modules) (r : Extracted) (
     (k : ℕ) (x i : List ℕ) → Declares items k x (more (field 0x22 i none) none) → among (valueOf x) (atomsIn (l .externals)) ≡ false →
     Items items → recordsRead (read Records (encode (r .records))) ≡ done (partsOf (r .records)) → Ends (takes (rowsIn (l .table)) x (stands items i)) i x k (stands items i) items l r q
 kept-or-apart l room ms r n q items own accepted resolving reading requesting placed k x i declares inside shape readable =
-    let f = source-resolves l room r q items own k x (declares .0) (passes-of l room ms r items own accepted reading requesting) (declares .1) inside (listed-of (handedOn l r) n (r .modules) q (partsOf (r .records)) resolving readable) in
+    let f = source-resolves l r q items own k x (declares .0) (call-run l room ms r items own accepted reading requesting) (declares .1) inside (call-listed (handedOn l r) n (r .modules) q (partsOf (r .records)) resolving readable) in
     resolving-ends l room ms r n q items own accepted resolving reading requesting placed k x i declares inside shape readable (f .0) (f .1)

@@ -1,66 +1,41 @@
 -- What an accepted call is made of: the two passes that it ran, and what the second pass's end left.
 use Prim.Native.Nat.{ℕ}
-use mathlib.Core.Path.{_≡_, refl, sym, ap, subst, _∙_}
+use mathlib.Core.Path.{_≡_, refl, sym, ap, _∙_}
 use mathlib.Core.List.{List, [], _∷_, map}
 use mathlib.Core.Option.{Option, none as nothing, some}
 use Rattle.scope.specs.Modules.{Modules, numberOf, request}
 use Rattle.tree.specs.declared.grammar.Set.the-variants.{Module}
 use Rattle.tree.specs.Tree.{Fields}
 use Rattle.tree.specs.Read.{read}
-use Rattle.tree.specs.Layout.{same, valueOf, Bytes}
 use Rattle.lent.specs.Outcome.{Outcome, done, refused, placeless, refuseIf}
-use Rattle.lent.specs.Lists.{find, mapped}
-use Rattle.lent.specs.Table.{Row, rowsIn, atomsIn, tableOf, fileOf}
+use Rattle.lent.specs.Table.{Row, rowsIn, tableOf, fileOf}
 use Rattle.lent.specs.Buffer.{fits}
-use Rattle.lent.proofs.AcceptedLaws.{done-inj, done-refused, onto-done, placeless-done, table-rows}
-use Rattle.extraction_rules.specs.State.{Record, State, first, second, Setting, start}
+use Rattle.lent.proofs.AcceptedLaws.{done-inj, onto-done, placeless-done, table-rows}
+use Rattle.extraction_rules.specs.State.{State, first, second, Setting, start}
 use Rattle.extraction_rules.specs.First.{requested, moduleOf, moduleFor}
 use Rattle.extraction_rules.specs.Second.{wrapModule, wrapAll, loseNamespaces, finish}
 use Rattle.extraction_rules.specs.Walk.{walkModule, walkAgain}
 use Rattle.extraction_rules.specs.Records.{recordsOf}
 use Rattle.extraction_rules.specs.Call.{Lent, Lengths, Extracted, badLists, itemsRead, ownModule, setting, moduleWith, extractedFrom, passes, extracted}
-use Rattle.extraction_rules.proofs.OutcomeLaws.{After, after-bind, after-both, after-weaken, after-done, Of}
-use Rattle.extraction_rules.proofs.FirstLaws.{lose-literal}
-use Rattle.extraction_rules.proofs.TestLaws.{cond-of}
+use Rattle.extraction_rules.proofs.OutcomeLaws.{After, after-bind, after-both, after-weaken, after-done}
 use Rattle.extraction_rules.proofs.StepLaws.{finish-keeps}
 use Rattle.extraction_rules.proofs.SanityLaws.{Numbered, numbered-steps, numbered-end}
-use Rattle.extraction_rules.proofs.RunLaws.{Sane, run-sane}
-use Rattle.extraction_rules.proofs.ReadableLaws.{Items, read-items, run-within}
-use Rattle.extraction_rules.proofs.WholeLaws.{Whole}
-use Rattle.extraction_rules.proofs.RecordsLaws.{run-whole}
-
-own-done : (o : Option (ℕ × Modules)) (r : ℕ × Modules) → ownModule o ≡ done r → o ≡ some r
-own-done nothing r e = done-refused e
-own-done (some q) r e = ap some (done-inj e)
 
 -- ---- Both passes of an accepted call
 
-pub record Run (l : Lent) (ms : Modules) (r : Extracted) : Type 0 where
-  pub items : Fields
-  pub reads : itemsRead (read Module (l .tree)) ≡ done items
-  pub own : ℕ × Modules
-  pub requests : request (l .file) ms ≡ some own
+pub record Run (l : Lent) (rows : List Row) (own : ℕ) (items : Fields) (ms : Modules) (r : Extracted) : Type 0 where
   -- the first pass
   pub works : Fields
   pub middle : State
-  pub one : walkModule (setting first (own .0) l (rowsIn (l .table))) items (start (own .1)) ≡ done (works, middle)
+  pub once : walkModule (setting first own l rows) items (start ms) ≡ done (works, middle)
   -- the second pass, with its end
   pub outs : Fields
   pub end : State
-  pub two : walkAgain (setting second (own .0) l (rowsIn (l .table))) works middle ≡ done (outs, end)
-  pub gives : r ≡ extractedFrom works outs end
-
-record Passed (l : Lent) (rows : List Row) (items : Fields) (own : ℕ × Modules) (r : Extracted) : Type 0 where
-  works : Fields
-  middle : State
-  one : walkModule (setting first (own .0) l rows) items (start (own .1)) ≡ done (works, middle)
-  outs : Fields
-  end : State
-  two : walkAgain (setting second (own .0) l rows) works middle ≡ done (outs, end)
-  gives : r ≡ extractedFrom works outs end
+  pub twice : walkAgain (setting second own l rows) works middle ≡ done (outs, end)
+  pub given : extractedFrom works outs end ≡ r
 
 passes-done : (l : Lent) (room : Lengths) (rows : List Row) (items : Fields) (own : ℕ × Modules) (r : Extracted) →
-    passes l room rows items own ≡ done r → Passed l rows items own r
+    passes l room rows items own ≡ done r → Run l rows (own .0) items (own .1) r
 unfolding passes
 passes-done l room rows items own r e =
     let a = onto-done (walkModule (setting first (own .0) l rows) items (start (own .1))) _ r e in
@@ -71,39 +46,27 @@ passes-done l room rows items own r e =
     record {
       works = a .0 .0;
       middle = a .0 .1;
-      one = a .1;
+      once = a .1;
       outs = c .0 .0;
       end = c .0 .1;
-      two = placeless-done (walkAgain (setting second (own .0) l rows) (a .0 .0) (a .0 .1)) (c .0) (c .1);
-      gives = sym (done-inj (f .2));
+      twice = placeless-done (walkAgain (setting second (own .0) l rows) (a .0 .0) (a .0 .1)) (c .0) (c .1);
+      given = done-inj (f .2);
     }
 
-pub call-run : (l : Lent) (room : Lengths) (ms : Modules) (r : Extracted) → extracted l room ms ≡ done r → Run l ms r
+pub call-run : (l : Lent) (room : Lengths) (ms : Modules) (r : Extracted) (items : Fields) (own : ℕ × Modules) → extracted l room ms ≡ done r →
+    itemsRead (read Module (l .tree)) ≡ done items → request (l .file) ms ≡ some own → Run l (rowsIn (l .table)) (own .0) items (own .1) r
 unfolding extracted
-call-run l room ms r e =
+call-run l room ms r items own e p q =
     let a = onto-done (refuseIf (badLists l) 1) _ r e in
     let b = onto-done (tableOf (l .table)) _ r (a .2) in
     let c = onto-done (itemsRead (read Module (l .tree))) _ r (b .2) in
     let d = onto-done (ownModule (request (l .file) ms)) _ r (c .2) in
-    made (b .0) (c .0) (d .0) (sym (table-rows (l .table) (b .0) (b .1))) (c .1) (own-done (request (l .file) ms) (d .0) (d .1))
-    (passes-done l room (b .0) (c .0) (d .0) r (d .2))
+    passes-done l room (rowsIn (l .table)) items own r
+    (same (b .0) (c .0) (d .0) (table-rows (l .table) (b .0) (b .1)) (done-inj (sym (c .1) ∙ p)) (done-inj (sym (d .1) ∙ ap ownModule q)) (d .2))
   where
-    made : (rows : List Row) (items : Fields) (own : ℕ × Modules) → rowsIn (l .table) ≡ rows → itemsRead (read Module (l .tree)) ≡ done items →
-        request (l .file) ms ≡ some own → Passed l rows items own r → Run l ms r
-    made rows items own t i o p =
-        record {
-          items = items;
-          reads = i;
-          own = own;
-          requests = o;
-          works = p .works;
-          middle = p .middle;
-          one = ap (λ (q : List Row). walkModule (setting first (own .0) l q) items (start (own .1))) t ∙ p .one;
-          outs = p .outs;
-          end = p .end;
-          two = ap (λ (q : List Row). walkAgain (setting second (own .0) l q) (p .works) (p .middle)) t ∙ p .two;
-          gives = p .gives;
-        }
+    same : (rows : List Row) (is : Fields) (o : ℕ × Modules) → rows ≡ rowsIn (l .table) → is ≡ items → o ≡ own →
+        passes l room rows is o ≡ done r → passes l room (rowsIn (l .table)) items own ≡ done r
+    same rows is o t u v h = rw (t, u, v) at h
 
 -- ---- The second pass's end: 'other records lose namespaces'
 
@@ -184,49 +147,3 @@ module _ (e : Setting) where
       let m = done-inj (b .2) in
       let f = after-done (finish e (a .0 .1)) (λ _ t. Finished (a .0 .1) t) (b .0) (b .1) (finish-leaves (a .0 .1)) in
       (a .0 .1, a .1 ∙ ap (λ (x : Fields). done (x, a .0 .1)) (ap (λ (y : Fields × State). y .0) m), rw (ap (λ (y : Fields × State). y .1) m) at f)
-
--- the record of a source loses its namespaces, unless the source is forced
-pub record-lost : (a : List ℕ) (forced : List (List ℕ)) (l : List Record) →
-    find (λ r. same (valueOf (r .literal)) a) (map (loseNamespaces forced) l)
-    ≡ mapped (loseNamespaces forced) (find (λ r. same (valueOf (r .literal)) a) l)
-unfolding find loseNamespaces
-record-lost a forced [] = refl
-record-lost a forced (r ∷ l) =
-    rw (lose-literal forced r, record-lost a forced l)
-    (sym (cond-of (mapped (loseNamespaces forced)) (same (valueOf (r .literal)) a) (some r) (find (λ r. same (valueOf (r .literal)) a) l)))
-
--- ---- What holds in a run
-
-of-done : {A : Type 0} (m : Outcome A) (P : A → Type 0) (a : A) → m ≡ done a → Of m P → P a
-of-done m P a e h = subst (λ (o : Outcome _). Of o P) e h
-
-module _ (l : Lent) (ms : Modules) (r : Extracted) (bytes : Bytes (l .tree)) (run : Run l ms r) where
-  abbrev rows : List Row
-  rows = rowsIn (l .table)
-
-  -- the items that it read, and what the first pass left, are within the grammar
-  pub run-items : Items (run .items)
-  run-items = of-done (itemsRead (read Module (l .tree))) Items (run .items) (run .reads) (read-items (l .tree) bytes)
-
-  pub run-works : Items (run .works)
-  run-works =
-      after-done (walkModule (setting first (run .own .0) l rows) (run .items) (start (run .own .1)))
-      (λ works s. Items works × After (walkAgain (setting second (run .own .0) l rows) works s) (λ outs s′. Items outs)) (run .works, run .middle) (run .one)
-      (run-within l rows (run .own .0) (run .own .1) (run .items) run-items) .0
-
-  -- at its end the records are whole, and the run is sane
-  pub run-end-whole : Whole (run .end)
-  run-end-whole =
-      let two = setting second (run .own .0) l rows in
-      after-done (walkAgain two (run .works) (run .middle)) (λ outs s. Whole s) (run .outs, run .end) (run .two)
-      (after-done (walkModule (setting first (run .own .0) l rows) (run .items) (start (run .own .1)))
-      (λ works s. Whole s × After (walkAgain two works s) (λ outs s′. Whole s′)) (run .works, run .middle) (run .one)
-      (run-whole l rows (run .own .0) (run .own .1) (run .items) run-items) .1)
-
-  pub run-end-sane : Sane (atomsIn (l .externals)) (run .end)
-  run-end-sane =
-      let two = setting second (run .own .0) l rows in
-      after-done (walkAgain two (run .works) (run .middle)) (λ outs s. Sane (atomsIn (l .externals)) s) (run .outs, run .end) (run .two)
-      (after-done (walkModule (setting first (run .own .0) l rows) (run .items) (start (run .own .1)))
-      (λ works s. Sane (atomsIn (l .externals)) s × After (walkAgain two works s) (λ outs s′. Sane (atomsIn (l .externals)) s′)) (run .works, run .middle) (run .one)
-      (run-sane l rows (run .own .0) (run .own .1) (run .items)) .1)

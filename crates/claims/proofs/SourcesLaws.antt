@@ -1,52 +1,16 @@
--- The two passes of an accepted extraction, and the sources in its records.
+-- The sources and the forced sources in an extraction's records.
 use Prim.Native.Nat.{ℕ}
 use mathlib.Core.List.{List, [], _∷_}
 use mathlib.Core.Bool.{false}
 use lib.Dec.{eqb}
-use mathlib.Core.Path.{_≡_, refl, sym, ap, subst, _∙_}
-use Rattle.scope.specs.Modules.{Modules}
-use Rattle.tree.specs.Tree.{Field, Fields, none, more, partsOf}
+use mathlib.Core.Path.{_≡_, refl, ap, _∙_}
+use Rattle.tree.specs.Tree.{Fields, none, more, partsOf}
 use Rattle.metadata.specs.Metadata.{append}
 use Rattle.lent.specs.Fields.{has, keep}
-use Rattle.lent.specs.Outcome.{done, placeless}
-use Rattle.lent.specs.Table.{Row}
-use Rattle.lent.specs.Buffer.{fits}
-use Rattle.lent.proofs.AcceptedLaws.{onto-done, placeless-done}
-use Rattle.extraction_rules.specs.State.{Record, State, first, second, start}
-use Rattle.extraction_rules.specs.Walk.{walkModule, walkAgain}
+use Rattle.extraction_rules.specs.State.{Record, State}
 use Rattle.extraction_rules.specs.Records.{recordFields, forcedFields, recordsOf}
-use Rattle.extraction_rules.specs.Call.{Lent, Lengths, Extracted, setting, moduleWith, extractedFrom, passes}
 use Rattle.extraction_rules.proofs.TableLaws.{Each}
 use Rattle.resolving_rules.specs.Resolve.{sourcesIn, forcedIn}
-
-pub record Run (l : Lent) (rows : List Row) (own : ℕ) (items : Fields) (ms : Modules) (r : Extracted) : Type 0 where
-  pub works : Fields
-  pub middle : State
-  pub outs : Fields
-  pub end : State
-  pub once : walkModule (setting first own l rows) items (start ms) ≡ done (works, middle)
-  pub twice : walkAgain (setting second own l rows) works middle ≡ done (outs, end)
-  pub given : extractedFrom works outs end ≡ r
-
-pub run-of : (l : Lent) (rows : List Row) (own : ℕ) (room : Lengths) (items : Fields) (ms : Modules) (r : Extracted) → passes l room rows items (own, ms) ≡ done r → Run l rows own items ms r
-unfolding passes
-run-of l rows own room items ms r e =
-    let a = onto-done (walkModule (setting first own l rows) items (start ms)) _ r e in
-    let b = onto-done (fits (moduleWith (a .0 .0)) (room .work)) _ r (a .2) in
-    let c = onto-done (placeless (walkAgain (setting second own l rows) (a .0 .0) (a .0 .1))) _ r (b .2) in
-    let f = onto-done (fits (moduleWith (c .0 .0)) (room .out)) _ r (c .2) in
-    let g = onto-done (fits (recordsOf (c .0 .1)) (room .records)) _ r (f .2) in
-    record {
-      works = a .0 .0;
-      middle = a .0 .1;
-      outs = c .0 .0;
-      end = c .0 .1;
-      once = a .1;
-      twice = placeless-done (walkAgain (setting second own l rows) (a .0 .0) (a .0 .1)) (c .0) (c .1);
-      given = cc (g .2);
-    }
-
--- ---- The records
 
 append-all : (fs gs : Fields) → Each (λ f. has 0x83 f ≡ false) fs → sourcesIn (append fs gs) ≡ append fs (sourcesIn gs)
 unfolding append keep
@@ -68,7 +32,6 @@ unfolding append
 append-nothing none = refl
 append-nothing (more f fs) = ap (more f) (append-nothing fs)
 
--- the sources and the forced sources of an extraction's records
 pub sources-of : (s : State) → sourcesIn (partsOf (recordsOf s)) ≡ append (recordFields 0x80 (s .collected)) (recordFields 0x81 (s .lazy))
 unfolding recordsOf
 sources-of s =
