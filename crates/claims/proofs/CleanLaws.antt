@@ -26,7 +26,7 @@ use Rattle.extraction_rules.proofs.OutcomeLaws.{After, after-bind, after-if}
 use Rattle.extraction_rules.proofs.ValueLaws.{after-any}
 use Rattle.extraction_rules.proofs.ListLaws.{All, all-filter, same-not, not-same}
 use Rattle.extraction_rules.proofs.ExactLaws.{width-20}
-use Rattle.extraction_rules.proofs.TableLaws.{Each, each-append}
+use Rattle.extraction_rules.proofs.TableLaws.{Each, each-append, append-none, each-weaken}
 use Rattle.extraction_rules.proofs.SpaceLaws.{Property}
 use Rattle.claims.specs.Stands.{How, imported, otherwise, namedIds, idsIn}
 use Rattle.claims.specs.Demand.{propertyFields}
@@ -75,13 +75,8 @@ unfolding keep
 specs-kept none h = refl
 specs-kept (more f fs) h = rw (h .0) (ap (more f) (specs-kept fs (h .1)))
 
-append-nothing : (fs : Fields) → append fs none ≡ fs
-unfolding append
-append-nothing none = refl
-append-nothing (more f fs) = ap (more f) (append-nothing fs)
-
 pub specs-of : (fs gs : Fields) → Each Spec fs → specifiersIn gs ≡ none → specifiersIn (append fs gs) ≡ fs
-specs-of fs gs h k = keep-append (λ f. not (has 0x2F f)) fs gs ∙ ap₂ {C = Fields} append (specs-kept fs h) k ∙ append-nothing fs
+specs-of fs gs h k = keep-append (λ f. not (has 0x2F f)) fs gs ∙ ap₂ {C = Fields} append (specs-kept fs h) k ∙ append-none fs
 
 pub keep-specs : (ds : Fields) → Each Spec (specifiersIn ds)
 unfolding keep
@@ -171,8 +166,7 @@ module _ (i : List ℕ) (own : ℕ) (context : contextOf i ≡ four (local own))
   specifiers-clean (some n) fs p s h w = notes-clean n fs p s h w
 
   clean-specs : (fs : Fields) → Each CleanSpec fs → Each Spec fs
-  clean-specs none h = tt
-  clean-specs (more f fs) h = (h .0 .1, clean-specs fs (h .1))
+  clean-specs fs h = each-weaken CleanSpec Spec fs (λ f k. k .1) h
 
   -- an import of the literal y in whose specifiers the id does not stand
   abbrev pub Clean : List ℕ → Field → Type 0

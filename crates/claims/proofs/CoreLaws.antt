@@ -1,7 +1,7 @@
 -- A namespace import whose source resolves, in an accepted extraction: the two ends, from what is known of the items around it.
 use Prim.Native.Nat.{ℕ, _+_}
 use mathlib.Core.Path.{_≡_, refl, sym, ap, ap₂, subst, _∙_}
-use mathlib.Core.Bool.{Bool, true, false, _&&_, true≢false}
+use mathlib.Core.Bool.{Bool, true, false, true≢false}
 use mathlib.Core.List.{List, [], _∷_, _++_}
 use mathlib.Core.Option.{some}
 use Rattle.scope.specs.Id.{require-atom, local, export}
@@ -10,6 +10,7 @@ use Rattle.tree.specs.Layout.{same, two, four, nameOf, contextOf, valueOf}
 use Rattle.tree.specs.declared.grammar.Rule.{Rule}
 use Rattle.tree.specs.Grammar.{ruleOf}
 use Rattle.tree.specs.Tree.{Field, field, Fields, none, more, partsOf}
+use Rattle.tree.proofs.Table.{both-true}
 use Rattle.metadata.specs.Metadata.{append}
 use Rattle.lent.specs.Outcome.{Outcome, done}
 use Rattle.lent.specs.Lists.{among, filter}
@@ -22,10 +23,10 @@ use Rattle.extraction_rules.specs.Records.{recordFields, recordsOf}
 use Rattle.extraction_rules.specs.Call.{Lent, Extracted, setting}
 use Rattle.extraction_rules.proofs.OutcomeLaws.{After, after-both, after-done}
 use Rattle.extraction_rules.proofs.ListLaws.{all-weaken}
-use Rattle.extraction_rules.proofs.TableLaws.{Each}
+use Rattle.extraction_rules.proofs.TableLaws.{Each, each-weaken}
 use Rattle.extraction_rules.proofs.SpaceLaws.{Property, Spaces, spaces-say}
 use Rattle.extraction_rules.proofs.SanityLaws.{Numbered, numbered-steps, numbered-end}
-use Rattle.extraction_rules.proofs.ShapeLaws.{Shaped, ShapedAll}
+use Rattle.extraction_rules.proofs.ShapeLaws.{Shaped, ShapedAll, shaped-parts, shaped-each}
 use Rattle.extraction_rules.proofs.ReadableLaws.{Items, run-within}
 use Rattle.extraction_rules.proofs.WalkLaws.{walkAgain-keeps, imports-any-all}
 use Rattle.extraction_rules.proofs.CallLaws.{Run}
@@ -120,24 +121,19 @@ module _ (i lit : List ℕ) (own file : ℕ) (context : contextOf i ≡ four (lo
     -- ---- An accepted extraction and what resolving makes of its records
 
     tidy-at : (n : ℕ) (us : List How) (g : Field) → Shaped g → Tidy i lit own file n us context named g
-    tidy-at n us (field t x cs) h q k = tidy-parts cs i (subst (λ (m : ℕ). ShapedAll cs (ruleOf m)) q (h .1)) k
+    tidy-at n us g h q k = tidy-parts (partsOf g) i (shaped-parts g 0x10 h q) k
 
     tidy-all : (n : ℕ) (us : List How) (gs : Fields) (q : Rule) → ShapedAll gs q → Each (Tidy i lit own file n us context named) gs
-    tidy-all n us none q h = tt
-    tidy-all n us (more g gs) q h = (tidy-at n us g (h .2), tidy-all n us gs (h .0) (h .3))
+    tidy-all n us gs q h = each-weaken Shaped (Tidy i lit own file n us context named) gs (tidy-at n us) (shaped-each gs q h)
 
     -- taken apart where the first argument says so, and kept otherwise
     abbrev pub EndsBy : Bool → ℕ → List How → Fields → Fields → Fields → Modules → Type 0
     EndsBy true k us items outs gs ms = (n : ℕ) × (numberOf file ms ≡ some n) × TakenApart i (four (export n)) lit k (properties us) items outs gs
     EndsBy false k us items outs gs ms = Kept i lit k items outs gs
 
-    split : (a b : Bool) → a && b ≡ true → b ≡ true
-    split true b h = h
-    split false b h = absurd (true≢false (sym h))
-
     -- the usages of an import that is taken apart
     held-usages : (us : List How) (n : ℕ) (s : State) → takesApart us ≡ true → Held i lit own file n us s → usagesOf i (s .usages) ≡ usagesFor i (four (export n)) (properties us)
-    held-usages us n s t h = go (allPlain us) (split (isUsed (filter isUse us)) (allPlain us) t) (h .stood)
+    held-usages us n s t h = go (allPlain us) (both-true (isUsed (filter isUse us)) (allPlain us) t .1) (h .stood)
       where
         go : (b : Bool) → b ≡ true → Stood i (valueOf lit) (four (export n)) b (properties us) s → usagesOf i (s .usages) ≡ usagesFor i (four (export n)) (properties us)
         go true q k = k .1

@@ -12,26 +12,21 @@ use Rattle.scope.specs.Id.{local}
 use Rattle.tree.specs.declared.grammar.Rule.{Rule}
 use Rattle.tree.specs.declared.grammar.Set.the-variants.{Specifier}
 use Rattle.tree.specs.Layout.{same, four, idAt, contextOf, valueOf}
-use Rattle.tree.specs.Tree.{Field, field, Fields, none, more, tagOf, fixedOf, partsOf}
-use Rattle.tree.specs.Grammar.{ruleOf, holdsAt}
+use Rattle.tree.specs.Tree.{Field, Fields, none, more, tagOf, fixedOf, partsOf}
+use Rattle.tree.specs.Grammar.{holdsAt}
 use Rattle.tree.proofs.LayoutLaws.{same-refl, same-equal}
 use Rattle.lent.specs.Lists.{isSome, among}
 use Rattle.lent.specs.Fields.{has, keep, findField, sole}
 use Rattle.extraction_rules.specs.First.{specifiersIn}
-use Rattle.extraction_rules.proofs.ShapeLaws.{Shaped, ShapedAll, Specifiers, import-parts}
+use Rattle.extraction_rules.proofs.ShapeLaws.{Shaped, Specifiers, import-parts, shaped-parts}
 use Rattle.extraction_rules.proofs.TableLaws.{Each}
 use Rattle.extraction_rules.proofs.SpaceLaws.{OfSpace, OfImport}
 use Rattle.claims.specs.Placed.{all, importsIn, sharesNone, localsOf, localIds, ownLocals, soleNamespace}
 use Rattle.claims.specs.Demand.{itemAt}
 use Rattle.claims.proofs.SpecifierLaws.{locals-other, locals-all, whole-specifier}
-use Rattle.claims.proofs.PlacedLaws.{EachImport, EachBut, Apart, shares-apart}
+use Rattle.claims.proofs.PlacedLaws.{EachImport, EachBut, Apart, shares-apart, each-at, but-with}
 
 -- ---- Each, by place
-
-each-at : (P : Field → Type 0) (k : ℕ) (fs : Fields) (f : Field) → Each P fs → itemAt k fs ≡ some f → P f
-each-at P k none f h e = absurd (let z : _≡_ {A = ℕ} 0 1 = cc in omega arith)
-each-at P zero (more g fs) f h e = let q : g ≡ f = cc in subst P q (h .0)
-each-at P (suc k) (more g fs) f h e = each-at P k fs f (h .1) e
 
 each-from : (P : Field → Type 0) (fs : Fields) → ((k : ℕ) (f : Field) → itemAt k fs ≡ some f → P f) → Each P fs
 each-from P none h = tt
@@ -86,24 +81,12 @@ SpaceIn own items j = (contextOf j ≡ four (local own)) × EachImport (NoDefaul
 pub space-local : (own : ℕ) (items : Fields) (j : List ℕ) → SpaceIn own items j → contextOf j ≡ four (local own)
 space-local own items j h = h .0
 
-import-shaped : (f : Field) → tagOf f ≡ 0x10 → Shaped f → ShapedAll (partsOf f) (ruleOf 0x10)
-import-shaped (field t x cs) q h = subst (λ (m : ℕ). ShapedAll cs (ruleOf m)) q (h .1)
-
 apart-default : (j a : List ℕ) (f : Field) → tagOf f ≡ 0x10 → Shaped f → Apart j a f → NoDefault j f
-apart-default j a f t h k = go (specifiersIn (partsOf f)) (import-parts (partsOf f) (import-shaped f t h) .0) (locals-other j (specifiersIn (partsOf f)) (k .1))
+apart-default j a f t h k = go (specifiersIn (partsOf f)) (import-parts (partsOf f) (shaped-parts f 0x10 h t) .0) (locals-other j (specifiersIn (partsOf f)) (k .1))
   where
     go : (fs : Fields) → Specifiers fs → Each (λ s. same (idAt (fixedOf s) 0) j ≡ false) fs → Each (λ s. has 0x21 s ≡ true → same (fixedOf s) j ≡ false) fs
     go none h k = tt
     go (more s fs) h k = ((λ q. ap (λ (y : List ℕ). same y j) (sym (whole-specifier s (inl (eqb-true (tagOf s) 0x21 q)) (h .0 .1))) ∙ k .0), go fs (h .1) (k .1))
-
-but-map : (P Q : Field → Type 0) (k : ℕ) (fs : Fields) → Each Shaped fs → ((f : Field) → tagOf f ≡ 0x10 → Shaped f → P f → Q f) → EachBut P k fs → EachBut Q k fs
-but-map P Q k none w j h = tt
-but-map P Q zero (more f fs) w j h = all-map fs (w .1) h
-  where
-    all-map : (fs : Fields) → Each Shaped fs → EachImport P fs → EachImport Q fs
-    all-map none w h = tt
-    all-map (more f fs) w h = ((λ t. j f t (w .0) (h .0 t)), all-map fs (w .1) (h .1))
-but-map P Q (suc k) (more f fs) w j h = ((λ t. j f t (w .0) (h .0 t)), but-map P Q k fs (w .1) j (h .1))
 
 module _ (own : ℕ) (items : Fields) (shape : Each Shaped items) (share : sharesNone (importsIn items) ≡ true) where
   -- the namespace s of the import f at the place k
@@ -115,7 +98,7 @@ module _ (own : ℕ) (items : Fields) (shape : Each Shaped items) (share : share
       let loc = each-at (λ s. same (contextOf (idAt (fixedOf s) 0)) (four (local own)) ≡ true) m (specifiersIn (partsOf f)) s (locals-all (λ i. same (contextOf i) (four (local own))) (specifiersIn (partsOf f)) own-f) es in (
         ap contextOf (sym w) ∙ same-equal (contextOf (idAt (fixedOf s) 0)) (four (local own)) loc,
         but-fill (NoDefault (fixedOf s)) k items f
-            (but-map (Apart (fixedOf s) (valueOf (fixedOf f))) (NoDefault (fixedOf s)) k items shape (λ g t h a. apart-default (fixedOf s) (valueOf (fixedOf f)) g t h a) (shares-apart (fixedOf s) k items f share e t (rw (one, w, same-refl (fixedOf s)))))
+            (but-with (Apart (fixedOf s) (valueOf (fixedOf f))) Shaped (NoDefault (fixedOf s)) k items (λ g t a h. apart-default (fixedOf s) (valueOf (fixedOf f)) g t h a) (shares-apart (fixedOf s) k items f share e t (rw (one, w, same-refl (fixedOf s)))) shape)
             e (subst (Each (λ g. has 0x21 g ≡ true → same (fixedOf g) (fixedOf s) ≡ false)) (sym one) ((λ z. absurd (let v : _≡_ {A = ℕ} 0x21 0x22 = sym (eqb-true (tagOf s) 0x21 z) ∙ eqb-true (tagOf s) 0x22 q in omega arith)), tt)),
       )
 
@@ -125,7 +108,7 @@ module _ (own : ℕ) (items : Fields) (shape : Each Shaped items) (share : share
 
   of-import : (k : ℕ) (f : Field) → itemAt k items ≡ some f → tagOf f ≡ 0x10 → ownLocals own f ≡ true → soleNamespace f ≡ true → Each (OfImport (SpaceIn own items) own (space-local own items)) (specifiersIn (partsOf f))
   of-import k f e t own-f sole-f =
-      let hs = specifier-shaped (specifiersIn (partsOf f)) (import-parts (partsOf f) (import-shaped f t (each-at Shaped k items f shape e)) .0) in
+      let hs = specifier-shaped (specifiersIn (partsOf f)) (import-parts (partsOf f) (shaped-parts f 0x10 (each-at Shaped k items f shape e) t) .0) in
       each-from (OfImport (SpaceIn own items) own (space-local own items)) (specifiersIn (partsOf f))
       (λ m s es. (
         (λ q. space-of k f m s e t own-f sole-f es q (each-at Shaped m (specifiersIn (partsOf f)) s hs es)),

@@ -5,9 +5,7 @@ use mathlib.Core.Logic.{_⊎_, inl, inr}
 use mathlib.Core.Bool.{Bool, true, false, not, cond, _&&_, _||_, true≢false, and-true}
 use mathlib.Core.List.{List, [], _∷_, _++_, append-nil, append-assoc}
 use mathlib.Core.Option.{Option, none as nothing, some}
-use native.Mathlib.Omega.{arith}
-use lib.Dec.{eqb}
-use borrow.Author.Tests.{eqb-true}
+use borrow.Author.Tests.{eqb-true, ne-eqb}
 use Rattle.scope.specs.Id.{require-atom, local}
 use Rattle.scope.specs.Modules.{Modules}
 use Rattle.tree.specs.Layout.{same, two, four, nameOf, contextOf, valueOf}
@@ -16,13 +14,14 @@ use Rattle.lent.specs.Outcome.{Outcome, done, onto}
 use Rattle.lent.specs.Lists.{find, filter, among}
 use Rattle.lent.specs.Table.{fileOf}
 use Rattle.lent.specs.Fields.{has}
-use Rattle.extraction_rules.specs.State.{State, Pass, first, second, Setting, start, setTop}
+use Rattle.extraction_rules.specs.State.{State, first, Setting, start, setTop}
 use Rattle.extraction_rules.specs.First.{external, specifiersIn, importFirst}
 use Rattle.extraction_rules.specs.Second.{usagesOf}
-use Rattle.extraction_rules.specs.Walk.{Parts, unwalked, member, super, assignment, children, partsFor, ruleFor, after, afterImport, walk, walkAll, walkModule}
+use Rattle.extraction_rules.specs.Walk.{Parts, unwalked, member, super, assignment, children, partsFor, walk, walkAll, walkModule}
 use Rattle.extraction_rules.proofs.OutcomeLaws.{After, after-bind, after-weaken}
 use Rattle.extraction_rules.proofs.AlikeLaws.{RegularAll}
 use Rattle.extraction_rules.proofs.TableLaws.{Each, filter-append}
+use Rattle.extraction_rules.proofs.ValueLaws.{walk-first}
 use Rattle.claims.specs.Stands.{stands, How, idsIn, objectIds, isUse, properties}
 use Rattle.claims.specs.Placed.{all}
 use Rattle.claims.proofs.WaysLaws.{stands-ways, met, ways, waysAll, waysMember, waysAssignment, waysTarget, waysParts}
@@ -44,20 +43,13 @@ abbrev mutual
   QuietAll none = Unit {0}
   QuietAll (more f fs) = Quiet f × QuietAll fs
 
-not-eqb : (t k : ℕ) → (t ≡ k → ⊥) → eqb t k ≡ false
-not-eqb t k h = go (eqb t k) refl
-  where
-    go : (b : Bool) → eqb t k ≡ b → b ≡ false
-    go true q = absurd (h (eqb-true t k q))
-    go false q = refl
-
 mutual
   unfolding ways filter properties
 
   pub quiet-neutral : (f : Field) (i : List ℕ) (object : Bool) → Quiet f → Neutral (ways f i object)
   quiet-neutral (field t x cs) i object h =
       rw (h .2)
-      (neutral-append (met (idsIn t x object) i) (waysAll cs i object) (unused-neutral (idsIn t x object) i (ids-unused t x object (not-eqb t 0x23 (h .0)) (λ q. absurd (h .1 (eqb-true t 0x60 q))))) (quietAll-neutral cs i object (h .3)))
+      (neutral-append (met (idsIn t x object) i) (waysAll cs i object) (unused-neutral (idsIn t x object) i (ids-unused t x object (ne-eqb t 0x23 (h .0)) (λ q. absurd (h .1 (eqb-true t 0x60 q))))) (quietAll-neutral cs i object (h .3)))
 
   pub quietAll-neutral : (fs : Fields) (i : List ℕ) (object : Bool) → QuietAll fs → Neutral (waysAll fs i object)
   quietAll-neutral none i object h = (refl, refl)
@@ -97,18 +89,8 @@ module _ (i lit : List ℕ) (own file : ℕ) where
 
   module _ (e : Setting) (one : e .pass ≡ first) (mine : e .own ≡ own) (res : fileOf (valueOf lit) (e .table) ≡ some file) (inner : external e lit ≡ false)
       (named : same (nameOf i) (two require-atom) ≡ false) (context : contextOf i ≡ four (local own)) where
-    -- a 10 is walked by its own rule alone
-    by-pass : (k : Pass) (y : List ℕ) (ds : Fields) (p : ℕ) (s : State) → k ≡ first → afterImport k e y ds p s ≡ importFirst e y ds p s
-    unfolding afterImport
-    by-pass first y ds p s q = refl
-    by-pass second y ds p s q = absurd (let z : _≡_ {A = ℕ} 0 1 = cc in omega arith)
-
-    pub walk-import : (f : Field) (p : ℕ) (s : State) → tagOf f ≡ 0x10 → walk f e false p s ≡ importFirst e (fixedOf f) (partsOf f) p s
-    unfolding walk partsFor ruleFor after
-    walk-import (field t y ds) p s q = rw q (by-pass (e .pass) y ds p s one)
-
     pub other-unfelt : (f : Field) (p : ℕ) (s : State) → OtherImport f → After (walk f e false p s) (λ g t. Unfelt i lit own file s t)
-    other-unfelt f p s h = rw (walk-import f p s (h .tag)) (import-other i lit own file e (fixedOf f) (partsOf f) p s (h .source) (h .locals) (h .spaces))
+    other-unfelt f p s h = rw (walk-first e one f p s (h .tag)) (import-other i lit own file e (fixedOf f) (partsOf f) p s (h .source) (h .locals) (h .spaces))
 
     other-neutral : (f : Field) → OtherImport f → Neutral (ways f i false)
     other-neutral f h = rw (import-ways f i (h .tag)) (quietAll-neutral (partsOf f) i false (h .quiet))
@@ -135,7 +117,7 @@ module _ (i lit : List ℕ) (own file : ℕ) where
 
     own-known : (f : Field) (p : ℕ) (s : State) → OwnImport f → Before i lit own file s → After (walk f e false p s) (λ g t. Known (ways f i false) t)
     own-known f p s w h =
-        rw (walk-import f p s (w .tag), w .literal)
+        rw (walk-first e one f p s (w .tag), w .literal)
         (after-weaken (importFirst e lit (partsOf f) p s) (λ g t. ((n : ℕ) × Held i lit own file n [] t) × Redeclared i lit own file context (partsOf f) g) (λ g t. Known (ways f i false) t)
         (λ g t k. (k .0 .0, held-neutral i lit own file (k .0 .0) [] (ways f i false) t (rw (import-ways f i (w .tag)) (quietAll-neutral (partsOf f) i false (w .quiet))) (k .0 .1)))
         (import-own i lit own file context e (partsOf f) p s res inner (w .sole) h))

@@ -8,7 +8,7 @@ use mathlib.Core.Option.{Option, none as nothing, some}
 use native.Mathlib.Omega.{arith}
 use lib.Dec.{leb, eqb}
 use lib.ListN.{length, getD}
-use borrow.Author.Tests.{eqb-true}
+use borrow.Author.Tests.{eqb-true, ne-eqb}
 use Rattle.scope.specs.Id.{require-atom, export}
 use Rattle.scope.specs.Modules.{Modules, numberOf, request, requestBy, setMark}
 use Rattle.scope.specs.declared.Mark.the-variants.{Cjs}
@@ -36,7 +36,7 @@ use Rattle.extraction_rules.proofs.AlikeLaws.{Two, RegularAt, Regular, RegularA
 use Rattle.claims.specs.Stands.{How, plain, computed, bare, original, imported, otherwise, idsIn, byMember, objectIds, isUse, isPlain, properties}
 use Rattle.claims.specs.Placed.{all}
 use Rattle.claims.proofs.WaysLaws.{met, ways, waysAll, waysMember, waysAssignment, waysTarget, waysParts, waysObject, object-alike}
-use Rattle.claims.proofs.HowLaws.{ident-neutral, unused-append, allPlain, plain-append, properties-append, properties-skip, Neutral, Unused, unused-neutral, ids-unused, ids-properties}
+use Rattle.claims.proofs.HowLaws.{ident-neutral, unused-append, allPlain, plain-append, properties-append, properties-skip, Neutral, unused-neutral, ids-unused, ids-properties, object-unused}
 
 -- the usages that plain properties leave
 abbrev pub usagesFor : List ℕ → List ℕ → List (List ℕ) → List Usage
@@ -394,13 +394,6 @@ module _ (i lit : List ℕ) (own file n : ℕ) where
       first-member first q us x ds object p s w h = member-held us x ds object p s w h
       first-member second q us x ds object p s w h = absurd (let z : _≡_ {A = ℕ} 0 1 = cc in omega arith)
 
-      not-eqb : (t k : ℕ) → (t ≡ k → ⊥) → eqb t k ≡ false
-      not-eqb t k h = go (eqb t k) refl
-        where
-          go : (b : Bool) → eqb t k ≡ b → b ≡ false
-          go true q = absurd (h (eqb-true t k q))
-          go false q = refl
-
       neutral-held : (us : List How) (t : ℕ) (x : List ℕ) (object : Bool) (s : State) → eqb t 0x23 ≡ false → eqb t 0x60 ≡ false → H us s → H (us ++ met (idsIn t x object) i) s
       neutral-held us t x object s k d h = held-neutral us (met (idsIn t x object) i) s (unused-neutral (idsIn t x object) i (ids-unused t x object k (λ v. absurd (true≢false (sym v ∙ d))))) h
 
@@ -414,11 +407,11 @@ module _ (i lit : List ℕ) (own file n : ℕ) where
           go t v k = rw v (export-held us x object p s k h)
       rule-held declare us t x cs ds object p s q d w h =
           after-bind (declarator e ds p s) _ (λ gs t′. H us t′) (λ g t′. H (us ++ met (idsIn t x object) i) t′) (quiet-declarator e (H us) (held-quiet us) ds p s h) λ gs s h.
-          neutral-held us t x object s (not-eqb t 0x23 (other-rule t 0x23 declare exporting q refl (λ z. omega arith))) (not-eqb t 0x60 (other-rule t 0x60 declare express q refl (λ z. omega arith))) h
+          neutral-held us t x object s (ne-eqb t 0x23 (other-rule t 0x23 declare exporting q refl (λ z. omega arith))) (ne-eqb t 0x60 (other-rule t 0x60 declare express q refl (λ z. omega arith))) h
       rule-held express us t x cs ds object p s q d w h =
-          first-held (e .pass) one us t x ds object p s (not-eqb t 0x63 d) (not-eqb t 0x23 (other-rule t 0x23 express exporting q refl (λ z. omega arith))) (w .ident-whole) h
+          first-held (e .pass) one us t x ds object p s (ne-eqb t 0x63 d) (ne-eqb t 0x23 (other-rule t 0x23 express exporting q refl (λ z. omega arith))) (w .ident-whole) h
       rule-held nil us t x cs ds object p s q d w h =
-          neutral-held us t x object s (not-eqb t 0x23 (other-rule t 0x23 nil exporting q refl (λ z. omega arith))) (not-eqb t 0x60 (other-rule t 0x60 nil express q refl (λ z. omega arith))) h
+          neutral-held us t x object s (ne-eqb t 0x23 (other-rule t 0x23 nil exporting q refl (λ z. omega arith))) (ne-eqb t 0x60 (other-rule t 0x60 nil express q refl (λ z. omega arith))) h
 
       -- what the parts leave to the rule
       abbrev inner : Parts → Fields → Bool → List How
@@ -521,20 +514,11 @@ module _ (i lit : List ℕ) (own file n : ℕ) where
               (λ g t′ v. held-nil us t′ (held-back us (ways (field t x cs) i true) t′ (ident-neutral i t x cs (eqb-true t 0x60 q) (w .0 .ident-bare (eqb-true t 0x60 q))) v)) (k us h)
           go false q = k us h
 
-      object-unused : (cs : Fields) → Unused (objectIds false cs)
-      unfolding objectIds
-      object-unused none = tt
-      object-unused (more o ps) = go (has 0x60 o)
-        where
-          go : (b : Bool) → Unused (cond b ((otherwise, fixedOf o) ∷ []) [])
-          go true = (refl, tt)
-          go false = tt
-
       -- a target's own ids stand in no use
       target-neutral : (t : ℕ) (x : List ℕ) (cs : Fields) → (t ≡ 0x60 → ⊥) → (t ≡ 0x23 → ⊥) → Neutral (met (idsIn t x false ++ objectIds false cs) i)
       target-neutral t x cs d k =
           unused-neutral (idsIn t x false ++ objectIds false cs) i
-          (unused-append (idsIn t x false) (objectIds false cs) (ids-unused t x false (not-eqb t 0x23 k) (λ v. absurd (d (eqb-true t 0x60 v)))) (object-unused cs))
+          (unused-append (idsIn t x false) (objectIds false cs) (ids-unused t x false (ne-eqb t 0x23 k) (λ v. absurd (d (eqb-true t 0x60 v)))) (object-unused cs))
 
       mutual
         unfolding walk ways

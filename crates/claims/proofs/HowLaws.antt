@@ -7,14 +7,15 @@ use native.Mathlib.Omega.{arith}
 use lib.Dec.{eqb}
 use lib.ListN.{getD}
 use Rattle.tree.specs.Layout.{same, idAt}
-use Rattle.tree.specs.Tree.{field, Fields, none}
+use Rattle.tree.specs.Tree.{field, Fields, none, more, fixedOf}
 use Rattle.tree.specs.Grammar.{find}
 use Rattle.extraction_rules.specs.Walk.{partsFor}
 use Rattle.lent.specs.Lists.{filter}
+use Rattle.lent.specs.Fields.{has}
 use Rattle.extraction_rules.proofs.ListLaws.{All}
 use Rattle.extraction_rules.proofs.TableLaws.{filter-append}
 use Rattle.extraction_rules.proofs.TagLaws.{find-any}
-use Rattle.claims.specs.Stands.{How, plain, computed, bare, original, imported, otherwise, firstId, namedIds, originalIds, idsIn, isUse, isPlain, properties}
+use Rattle.claims.specs.Stands.{How, plain, computed, bare, original, imported, otherwise, firstId, namedIds, originalIds, idsIn, isUse, isPlain, properties, objectIds}
 use Rattle.claims.specs.Placed.{all}
 use Rattle.claims.proofs.WaysLaws.{met, ways}
 
@@ -78,6 +79,15 @@ unused-neutral (w ∷ l) i h = go (same (w .1) i) (unused-neutral l i (h .1))
 pub unused-append : (l m : List (How × List ℕ)) → Unused l → Unused m → Unused (l ++ m)
 unused-append [] m h k = k
 unused-append (w ∷ l) m h k = (h .0, unused-append l m (h .1) k)
+
+pub object-unused : (cs : Fields) → Unused (objectIds false cs)
+unfolding objectIds
+object-unused none = tt
+object-unused (more o ps) = go (has 0x60 o)
+  where
+    go : (b : Bool) → Unused (cond b ((otherwise, fixedOf o) ∷ []) [])
+    go true = (refl, tt)
+    go false = tt
 
 abbrev Unplain : List (How × List ℕ) → Type 0
 Unplain l = All (λ h. isPlain (h .0) ≡ false) l

@@ -2,7 +2,7 @@
 use Prim.Native.Nat.{ℕ, _+_, _*_, _%_, _≤_}
 use mathlib.Core.Path.{_≡_, refl, sym, ap, ap₂, subst, _∙_}
 use mathlib.Core.Logic.{_⊎_, inl, inr}
-use mathlib.Core.Bool.{Bool, true, false, not, cond, _&&_, _||_, true≢false, or-assoc}
+use mathlib.Core.Bool.{Bool, true, false, not, cond, _||_, true≢false, or-assoc}
 use mathlib.Core.List.{List, [], _∷_, _++_, map, append-nil, append-assoc}
 use mathlib.Core.Option.{Option, none as nothing, some}
 use native.Mathlib.Omega.{arith}
@@ -18,6 +18,7 @@ use Rattle.tree.specs.Layout.{same, two, four, idAt, nameOf, contextOf, valueOf
 use Rattle.tree.specs.Tree.{Field, field, Fields, none, more, tagOf, fixedOf, partsOf, size}
 use Rattle.tree.specs.Grammar.{within}
 use Rattle.tree.proofs.LayoutLaws.{same-refl, same-equal}
+use Rattle.tree.proofs.Table.{both-true}
 use Rattle.lent.specs.Outcome.{Outcome, done, onto}
 use Rattle.lent.specs.Lists.{find, filter, isSome, mapped, among}
 use Rattle.lent.specs.Fields.{has, findField, inside}
@@ -33,6 +34,7 @@ use Rattle.extraction_rules.proofs.TagLaws.{rule-import, ruleCode, other-rule, 
 use Rattle.extraction_rules.proofs.TableLaws.{recordOf, record-empty, seek, holdsIn, suitsIn, seek-collect, append-none, force-own, force-tables, forgotten-usages, other-imported, other-usages}
 use Rattle.extraction_rules.proofs.QuietLaws.{QuietSteps, quiet-declarator}
 use Rattle.extraction_rules.proofs.AlikeLaws.{Two, RegularAt, Regular, RegularAll, SameBytes, equal, behind, callee, same-other, required-named, callee-bytes, export-front}
+use Rattle.extraction_rules.proofs.TestLaws.{or-neither}
 use Rattle.claims.specs.Stands.{How, plain, computed, bare, original, imported, otherwise, idsIn, byMember, objectIds, isUse, isPlain, isMisplaced, properties}
 use Rattle.claims.specs.Placed.{all}
 use Rattle.claims.proofs.WaysLaws.{met-append, met, ways, waysAll, waysMember, waysAssignment, waysTarget, waysParts, waysObject}
@@ -190,19 +192,11 @@ unfolding among
 among-append b [] m = refl
 among-append b (x ∷ l) m = rw (among-append b l m) (sym (or-assoc (same b x) (among b l) (among b m)))
 
-and-split : (a b : Bool) → a && b ≡ true → (a ≡ true) × (b ≡ true)
-and-split true b h = (refl, h)
-and-split false b h = absurd (true≢false (sym h))
-
-or-split : (a b : Bool) → a || b ≡ false → (a ≡ false) × (b ≡ false)
-or-split true b h = absurd (true≢false h)
-or-split false b h = (refl, h)
-
 pub fine-append : (taken : Bool) (l m : List How) → Fine taken (l ++ m) → Fine taken l × Fine taken m
 fine-append taken l m h =
-    let r = or-split (among (two require-atom) (properties l)) (among (two require-atom) (properties m)) (sym (ap (among (two require-atom)) (properties-append l m) ∙ among-append (two require-atom) (properties l) (properties m)) ∙ h .1) in
-    let f : taken ≡ true → (fits l ≡ true) × (fits m ≡ true) = λ q. and-split (fits l) (fits m) (sym (all-append (λ h. not (isMisplaced h)) l m) ∙ h .2 q) in
-    let p : taken ≡ true → (allPlain l ≡ true) × (allPlain m ≡ true) = λ q. and-split (allPlain l) (allPlain m) (sym (plain-append l m) ∙ h .0 q) in
+    let r = or-neither (among (two require-atom) (properties l)) (among (two require-atom) (properties m)) (sym (ap (among (two require-atom)) (properties-append l m) ∙ among-append (two require-atom) (properties l) (properties m)) ∙ h .1) in
+    let f : taken ≡ true → (fits l ≡ true) × (fits m ≡ true) = λ q. both-true (fits l) (fits m) (sym (all-append (λ h. not (isMisplaced h)) l m) ∙ h .2 q) in
+    let p : taken ≡ true → (allPlain l ≡ true) × (allPlain m ≡ true) = λ q. both-true (allPlain l) (allPlain m) (sym (plain-append l m) ∙ h .0 q) in
     ((λ q. p q .0, r .0, λ q. f q .0), (λ q. p q .1, r .1, λ q. f q .1))
 
 -- ---- The state while the items are walked
@@ -350,7 +344,7 @@ module _ (taken : Bool) (i lit : List ℕ) (own file n : ℕ) (ps : List (List �
 
     not-first : (b y : List ℕ) → among b (y ∷ []) ≡ false → same b y ≡ false
     unfolding among
-    not-first b y h = or-split (same b y) false h .0
+    not-first b y h = or-neither (same b y) false h .0
 
     turn-out : (x : List ℕ) (o q v w : Field) (s : State) (u : Usage) (us : List Usage) (d : List ℕ) → O o w → tagOf w ≡ 0x60 → tagOf q ≡ 0x70 → fixedOf v ≡ fixedOf q → length (fixedOf q) ≡ 2 →
         Fine taken (met (objectIds true (more o (more q none))) i) → At s → usagesOf (fixedOf w) (s .usages) ≡ u ∷ us → importedAs (fixedOf w) (s .imported) ≡ some d →
@@ -555,7 +549,7 @@ module _ (taken : Bool) (i lit : List ℕ) (own file n : ℕ) (ps : List (List �
           misplaced = met-append i named (idsIn t x false) (objectIds false cs) ∙ ap (λ (l : List How). met (idsIn t x false) i ++ l) (rw (r, to, m, same-refl i))
 
           wrong : taken ≡ true → false ≡ true
-          wrong v = and-split (fits (met (idsIn t x false) i)) false (sym (all-append (λ h. not (isMisplaced h)) (met (idsIn t x false) i) (otherwise ∷ [])) ∙ sym (ap fits misplaced) ∙ fine .2 v) .1
+          wrong v = both-true (fits (met (idsIn t x false) i)) false (sym (all-append (λ h. not (isMisplaced h)) (met (idsIn t x false) i) (otherwise ∷ [])) ∙ sym (ap fits misplaced) ∙ fine .2 v) .1
 
       mutual
         unfolding walk ways

@@ -2,7 +2,7 @@
 use Prim.Native.Nat.{ℕ, zero, suc, _+_}
 use mathlib.Core.Path.{_≡_, refl, sym, ap, ap₂, subst, _∙_}
 use mathlib.Core.Logic.{_⊎_, inl, inr}
-use mathlib.Core.Bool.{Bool, true, false, not, cond, _&&_, _||_, true≢false}
+use mathlib.Core.Bool.{Bool, true, false, not, cond, _||_, true≢false}
 use mathlib.Core.List.{List, [], _∷_, _++_, append-nil}
 use mathlib.Core.Option.{Option, none as nothing, some}
 use native.Mathlib.Omega.{arith}
@@ -11,20 +11,22 @@ use borrow.Author.Tests.{eqb-true}
 use Rattle.scope.specs.Id.{require-atom, local, export}
 use Rattle.tree.specs.Layout.{same, two, four, nameOf, contextOf, valueOf}
 use Rattle.tree.specs.Tree.{Field, field, Fields, none, more, tagOf, fixedOf, partsOf, size}
+use Rattle.tree.proofs.Table.{both-true}
 use Rattle.metadata.specs.Metadata.{append}
 use Rattle.lent.specs.Outcome.{Outcome, done, onto}
 use Rattle.lent.specs.Lists.{filter, among}
 use Rattle.lent.specs.Fields.{has, keep, sole}
-use Rattle.extraction_rules.specs.State.{State, Usage, Pass, first, second, Setting, give, setTop}
+use Rattle.extraction_rules.specs.State.{State, Usage, second, Setting, give, setTop}
 use Rattle.extraction_rules.specs.First.{external, importedAs, specifiersIn, attributesIn, withContext, stays}
 use Rattle.extraction_rules.specs.Second.{usagesOf, takeApart, onSole, importSecond, finish}
-use Rattle.extraction_rules.specs.Walk.{partsFor, ruleFor, after, afterImport, walk, walkAll, walkModule, walkAgain}
+use Rattle.extraction_rules.specs.Walk.{partsFor, walk, walkAll, walkModule, walkAgain}
 use Rattle.extraction_rules.proofs.OutcomeLaws.{After, after-bind, after-both, after-weaken, after-if}
 use Rattle.extraction_rules.proofs.ListLaws.{All}
 use Rattle.extraction_rules.proofs.FirstLaws.{source-cases}
 use Rattle.extraction_rules.proofs.AlikeLaws.{RegularAt, Regular, RegularAll, AlikeAll, regularAll-alike}
 use Rattle.extraction_rules.proofs.TableLaws.{Each}
 use Rattle.extraction_rules.proofs.SpaceLaws.{Property}
+use Rattle.extraction_rules.proofs.ValueLaws.{walk-second}
 use Rattle.claims.specs.Stands.{How, idsIn, isUse, properties}
 use Rattle.claims.specs.Demand.{propertyFields, isUsed}
 use Rattle.claims.proofs.WaysLaws.{met, ways, waysAll, waysAll-alike}
@@ -35,7 +37,7 @@ use Rattle.claims.proofs.SettledLaws.{Settled, settled-unfelt, takesApa
 use Rattle.claims.proofs.OutLaws.{Out, OutAll, Turned, Fine, fine-append, Says, At, at-top, walkAll-out}
 use Rattle.claims.proofs.GoneLaws.{outAll-alike}
 use Rattle.claims.proofs.CleanLaws.{Clean, Spec, second-clean, specs-of, no-context, no-specifiers}
-use Rattle.claims.proofs.WorkedLaws.{import-stays, WorkedBehind, Worked}
+use Rattle.claims.proofs.WorkedLaws.{import-stays, WorkedBehind, Worked, keep-more}
 use Rattle.claims.proofs.RecordLaws.{Ended, finish-ended}
 
 -- ---- An import changes neither usages nor imported ids
@@ -100,10 +102,6 @@ keep-regular (more f fs) w = go (stays f) (keep-regular fs (w .1))
     go true h = (w .0, h)
     go false h = h
 
-keep-first : (f : Field) (fs : Fields) → stays f ≡ true → keep stays (more f fs) ≡ more f (keep stays fs)
-unfolding keep
-keep-first f fs q = rw q
-
 -- what stayed stays
 keep-kept : (fs : Fields) → Each (λ f. stays f ≡ true) fs → keep stays fs ≡ fs
 unfolding keep
@@ -149,11 +147,7 @@ module _ (i lit : List ℕ) (own file n : ℕ) (us : List How) (context : contex
   Now s = At taken i lit own file n ps s × All (λ u. Property (u .property)) (s .usages)
 
   taken-used : taken ≡ true → ps ≡ [] → ⊥
-  taken-used t q = true≢false (sym (split (isUsed (filter isUse us)) (allPlain us) t .0) ∙ used-properties us (split (isUsed (filter isUse us)) (allPlain us) t .1) q)
-    where
-      split : (a b : Bool) → a && b ≡ true → (a ≡ true) × (b ≡ true)
-      split true b h = (refl, h)
-      split false b h = absurd (true≢false (sym h))
+  taken-used t q = true≢false (sym (both-true (isUsed (filter isUse us)) (allPlain us) t .0) ∙ used-properties us (both-true (isUsed (filter isUse us)) (allPlain us) t .1) q)
 
   -- the specifiers of the declaration
   abbrev pub ownSpecifiers : Bool → Fields
@@ -177,20 +171,11 @@ module _ (i lit : List ℕ) (own file n : ℕ) (us : List How) (context : contex
   at-same s t u k h = ((settled-unfelt i lit own file taken c ps s t u (h .0 .0), λ j. rw (k .0, k .1) (h .0 .1 j)), rw (k .0) (h .1))
 
   module _ (e : Setting) (two-pass : e .pass ≡ second) (inner : external e lit ≡ false) where
-    by-pass : (k : Pass) (y : List ℕ) (ds : Fields) (p : ℕ) (s : State) → k ≡ second → afterImport k e y ds p s ≡ importSecond e y ds s
-    unfolding afterImport
-    by-pass second y ds p s q = refl
-    by-pass first y ds p s q = absurd (let z : _≡_ {A = ℕ} 0 1 = cc in omega arith)
-
-    walk-again : (f : Field) (p : ℕ) (s : State) → tagOf f ≡ 0x10 → walk f e false p s ≡ importSecond e (fixedOf f) (partsOf f) s
-    unfolding walk partsFor ruleFor after
-    walk-again (field t y ds) p s q = rw q (by-pass (e .pass) y ds p s two-pass)
-
     -- another import
     other-again : (y : List ℕ) (g : Field) (p : ℕ) (s : State) → same (valueOf y) (valueOf lit) ≡ false → Clean i own context y g → All (λ u. Property (u .property)) (s .usages) →
         After (walk g e false p s) (λ h t. Clean i own context y h × Unfelt i lit own file s t × Same s t)
     other-again y g p s d k h =
-        rw (walk-again g p s (k .0), k .1)
+        rw (walk-second e two-pass g p s (k .0), k .1)
         (after-weaken (importSecond e y (partsOf g) s) (λ h t. Clean i own context y h × (Unfelt i lit own file s t × Same s t)) (λ h t. Clean i own context y h × Unfelt i lit own file s t × Same s t) (λ h t w. (w .0, w .1 .0, w .1 .1))
         (after-both (importSecond e y (partsOf g) s) (λ h t. Clean i own context y h) (λ h t. Unfelt i lit own file s t × Same s t) (second-clean i own context e y (partsOf g) s h (k .2))
         (after-both (importSecond e y (partsOf g) s) (λ h t. Unfelt i lit own file s t) (λ h t. Same s t) (second-other i lit own file e y (partsOf g) s d) (second-same e y (partsOf g) s))))
@@ -227,7 +212,7 @@ module _ (i lit : List ℕ) (own file n : ℕ) (us : List How) (context : contex
         (after-weaken (walk (w .1) e false p s) (λ g t. Clean i own context (fixedOf f) g × Unfelt i lit own file s t × Same s t) (λ g t. Clean i own context (fixedOf f) g × Now t) (λ g t k. (k .0, at-same s t (k .1) (k .2) h)) (other-again (fixedOf f) (w .1) p s (d .0 (w .0)) (w .4) (h .1))) λ g s k.
         after-bind (walkAll (w .2) e false (p + size (w .1)) s) _ (λ hs t. At taken i lit own file n ps t × OutsBehind fs (keep stays hs)) (λ hs t. At taken i lit own file n ps t × OutsBehind (more f fs) (keep stays hs))
         (behind-again fs (w .2) (p + size (w .1)) s (w .5) (d .1) (fine-append taken (ways f i false) (waysAll fs i false) fine .1) (k .1)) λ hs s r.
-        (r .0, inl (w .0, g, keep stays hs, keep-first g hs (import-stays g (k .0 .0)), k .0, r .1)))
+        (r .0, inl (w .0, g, keep stays hs, keep-more g hs (import-stays g (k .0 .0)), k .0, r .1)))
 
     -- before its own import
     abbrev pub Early : State → Type 0
@@ -257,7 +242,7 @@ module _ (i lit : List ℕ) (own file n : ℕ) (us : List How) (context : contex
     own-again ds g p s r h =
         let es : Fields = append (more (field 0x22 i none) none) (withContext (r .0) ds) in
         let w : specifiersIn es ≡ more (field 0x22 i none) none = worked-specifiers ds (r .0) in
-        rw (r .1, walk-again (field 0x10 lit es) p s refl)
+        rw (r .1, walk-second e two-pass (field 0x10 lit es) p s refl)
         (after-weaken (importSecond e lit es s) (λ h t. (Settled taken i lit c ps t × Declared i lit own file taken c ps es h) × Same s t) (λ h t. OwnOut h × Now t)
         (λ g t k. (declared-out taken refl es g w (k .0 .1), ((k .0 .0, λ j. rw (k .1 .0, k .1 .1) (h .1 j)), rw (k .1 .0) (h .2))))
         (after-both (importSecond e lit es s) (λ h t. Settled taken i lit c ps t × Declared i lit own file taken c ps es h) (λ h t. Same s t) (second-own i lit own file n us e es s inner (rw w refl) (h .0)) (second-same e lit es s)))
@@ -271,14 +256,14 @@ module _ (i lit : List ℕ) (own file n : ℕ) (us : List How) (context : contex
         (after-bind (walk (w .0) e false p s) _ (λ g t. OwnOut g × Now t) (λ hs t. At taken i lit own file n ps t × Outs zero (more f fs) (keep stays hs)) (own-again (partsOf f) (w .0) p s (w .4) h) λ g s k.
         after-bind (walkAll (w .1) e false (p + size (w .0)) s) _ (λ hs t. At taken i lit own file n ps t × OutsBehind fs (keep stays hs)) (λ hs t. At taken i lit own file n ps t × Outs zero (more f fs) (keep stays hs))
         (behind-again fs (w .1) (p + size (w .0)) s (w .5) d (fine-append taken (ways f i false) (waysAll fs i false) fine .1) (k .1)) λ hs s r.
-        (r .0, (g, keep stays hs, keep-first g hs (import-stays g (ap tagOf (k .0 .1))), w .3, k .0, r .1)))
+        (r .0, (g, keep stays hs, keep-more g hs (import-stays g (ap tagOf (k .0 .1))), w .3, k .0, r .1)))
     around-again (suc k) (more f fs) gs p s w d fine h =
         rw (w .3)
         (after-bind (walk (w .1) e false p s) _ (λ g t. Clean i own context (fixedOf f) g × Early t) (λ hs t. At taken i lit own file n ps t × Outs (suc k) (more f fs) (keep stays hs))
         (after-weaken (walk (w .1) e false p s) (λ g t. Clean i own context (fixedOf f) g × Unfelt i lit own file s t × Same s t) (λ g t. Clean i own context (fixedOf f) g × Early t) (λ g t k. (k .0, early-same s t (k .1) (k .2) h)) (other-again (fixedOf f) (w .1) p s (d .0) (w .4) (h .2))) λ g s q.
         after-bind (walkAll (w .2) e false (p + size (w .1)) s) _ (λ hs t. At taken i lit own file n ps t × Outs k fs (keep stays hs)) (λ hs t. At taken i lit own file n ps t × Outs (suc k) (more f fs) (keep stays hs))
         (around-again k fs (w .2) (p + size (w .1)) s (w .5) (d .1) (fine-append taken (ways f i false) (waysAll fs i false) fine .1) (q .1)) λ hs s r.
-        (r .0, (w .0, g, keep stays hs, keep-first g hs (import-stays g (q .0 .0)), q .0, r .1)))
+        (r .0, (w .0, g, keep stays hs, keep-more g hs (import-stays g (q .0 .0)), q .0, r .1)))
 
     -- the second pass with its end
     pub second-pass : (k : ℕ) (items works : Fields) (s : State) → Worked i lit own file context k items works → OtherBut k items → Fine taken (waysAll items i false) → Early s →

@@ -11,22 +11,21 @@ use borrow.Author.Tests.{eqb-true, eq-eqb}
 use Rattle.tree.proofs.Table.{both-true}
 use Rattle.scope.specs.Id.{require-atom, local}
 use Rattle.tree.specs.declared.grammar.Set.the-variants.{Item}
-use Rattle.tree.specs.declared.grammar.Rule.{Rule}
-use Rattle.tree.specs.declared.grammar.Step.the-variants.{Go}
 use Rattle.tree.specs.Layout.{same, two, four, idAt, nameOf, contextOf, valueOf}
 use Rattle.tree.specs.Tree.{Field, field, Fields, none, more, tagOf, fixedOf, partsOf}
-use Rattle.tree.specs.Grammar.{within, holdsAt, ruleOf, stepAt}
+use Rattle.tree.specs.Grammar.{within, holdsAt, ruleOf}
 use Rattle.tree.proofs.LayoutLaws.{same-refl, same-equal}
 use Rattle.lent.specs.Lists.{filter, isSome, among}
 use Rattle.lent.specs.Fields.{has, keep, findField}
 use Rattle.extraction_rules.specs.First.{specifiersIn}
 use Rattle.extraction_rules.proofs.TestLaws.{or-neither, neither-or, is-false}
-use Rattle.extraction_rules.proofs.RuleLaws.{only-step}
+use Rattle.extraction_rules.proofs.RuleLaws.{or-true}
 use Rattle.extraction_rules.proofs.ShapeLaws.{Shaped, ShapedAll}
 use Rattle.extraction_rules.proofs.AlikeLaws.{Regular, RegularAll}
 use Rattle.extraction_rules.proofs.RegularLaws.{outer, regular}
-use Rattle.extraction_rules.proofs.TableLaws.{Each}
+use Rattle.extraction_rules.proofs.TableLaws.{Each, each-weaken, each-both}
 use Rattle.extraction_rules.proofs.SpaceLaws.{OfImport}
+use Rattle.extraction_rules.proofs.ReadableLaws.{item-step}
 use Rattle.claims.specs.Stands.{How, stands, isUse, isMisplaced, properties}
 use Rattle.claims.specs.Placed.{all, importsIn, importsPrecede, hasSource, hasLocal, sharesNone, localIds, localsOf, fitNamespace, wellPlaced}
 use Rattle.claims.specs.Demand.{itemAt, isUsed}
@@ -48,11 +47,6 @@ item-outer t h n =
     neither-or (eqb t 0x01) _ (item-tag t 0x01 h refl) (neither-or (eqb t 0x02) _ (item-tag t 0x02 h refl) (neither-or (eqb t 0x10) _ n (neither-or (eqb t 0x20) _ (item-tag t 0x20 h refl) (neither-or (eqb t 0x21) _ (item-tag t 0x21 h refl)
     (neither-or (eqb t 0x22) _ (item-tag t 0x22 h refl) (neither-or (eqb t 0x80) _ (item-tag t 0x80 h refl) (item-tag t 0x81 h refl)))))))
 
--- each item of a module, and the module's rule behind it
-item-step : (t : ℕ) (q : Rule) → stepAt (ruleOf 0x01) t ≡ Go q → (holdsAt Item t ≡ true) × (q ≡ ruleOf 0x01)
-unfolding ruleOf within
-item-step t q e = only-step Item t q e
-
 rest-regular : (fs : Fields) → ShapedAll fs (ruleOf 0x01) → findField (has 0x10) fs ≡ nothing → RegularAll fs
 unfolding findField
 rest-regular none h k = tt
@@ -61,6 +55,10 @@ rest-regular (more f fs) h k = go (has 0x10 f) refl k (rest-regular fs)
     go : (b : Bool) → has 0x10 f ≡ b → cond b (some f) (findField (has 0x10) fs) ≡ nothing → (ShapedAll fs (ruleOf 0x01) → findField (has 0x10) fs ≡ nothing → RegularAll fs) → RegularAll (more f fs)
     go true q k ih = absurd (let z : _≡_ {A = ℕ} 0 1 = cc in omega arith)
     go false q k ih = let w = item-step (tagOf f) (h .0) (h .1) in (regular f (item-outer (tagOf f) (w .0) q) (h .2), ih (subst (ShapedAll fs) (w .1) (h .3)) k)
+
+unnot : (b : Bool) → not b ≡ true → b ≡ false
+unnot true h = absurd (true≢false (sym h))
+unnot false h = refl
 
 pub not-some : {A : Type 0} (o : Option A) → not (isSome o) ≡ true → o ≡ nothing
 not-some nothing h = refl
@@ -76,6 +74,19 @@ abbrev pub EachBut : (Field → Type 0) → ℕ → Fields → Type 0
 EachBut P k none = Unit {0}
 EachBut P zero (more f fs) = EachImport P fs
 EachBut P (suc k) (more f fs) = (tagOf f ≡ 0x10 → P f) × EachBut P k fs
+
+-- what is known of the item at a place
+pub each-at : (P : Field → Type 0) (k : ℕ) (fs : Fields) (f : Field) → Each P fs → itemAt k fs ≡ some f → P f
+each-at P k none f h e = absurd (let z : _≡_ {A = ℕ} 0 1 = cc in omega arith)
+each-at P zero (more g fs) f h e = let q : g ≡ f = cc in subst P q (h .0)
+each-at P (suc k) (more g fs) f h e = each-at P k fs f (h .1) e
+
+-- what is known of each item, and of each but one, together
+pub but-with : (P Q R : Field → Type 0) (k : ℕ) (fs : Fields) → ((f : Field) → tagOf f ≡ 0x10 → P f → Q f → R f) → EachBut P k fs → Each Q fs → EachBut R k fs
+but-with P Q R k none j h w = tt
+but-with P Q R zero (more f fs) j h w =
+    each-weaken (λ f. (tagOf f ≡ 0x10 → P f) × Q f) (λ f. tagOf f ≡ 0x10 → R f) fs (λ f k t. j f t (k .0 t) (k .1)) (each-both (λ f. tagOf f ≡ 0x10 → P f) Q fs h (w .1))
+but-with P Q R (suc k) (more f fs) j h w = ((λ t. j f t (h .0 t) (w .0)), but-with P Q R k fs j (h .1) (w .1))
 
 -- 'imports precede other items'
 precede-cases : (f : Field) (fs : Fields) → importsPrecede (more f fs) ≡ true → ((tagOf f ≡ 0x10) × (importsPrecede fs ≡ true)) ⊎ ((has 0x10 f ≡ false) × (findField (has 0x10) fs ≡ nothing))
@@ -155,16 +166,8 @@ fine-placed items i h =
       unnot (same (nameOf i) (two require-atom)) (b .1),
       subst (Fine (takesApart hs)) (stands-ways items i) ((λ t. both-true (isUsed (filter isUse hs)) (allPlain hs) t .1), unnot (among (two require-atom) (properties hs)) (a .1), λ _. b .0),
     )
-  where
-    unnot : (b : Bool) → not b ≡ true → b ≡ false
-    unnot true h = absurd (true≢false (sym h))
-    unnot false h = refl
 
 -- ---- 'share no source or local id'
-
-unnot : (b : Bool) → not b ≡ true → b ≡ false
-unnot true h = absurd (true≢false (sym h))
-unnot false h = refl
 
 -- another source, and no local id i
 abbrev pub Apart : List ℕ → List ℕ → Field → Type 0
@@ -202,12 +205,8 @@ has-at i zero (more g fs) f e t m =
     rw (q, eq-eqb (tagOf f) 0x10 t) (ap (λ (b : Bool). b || hasSource (valueOf (fixedOf f)) (importsIn fs)) (same-refl (valueOf (fixedOf f))), ap (λ (b : Bool). b || hasLocal i (importsIn fs)) m)
 has-at i (suc k) (more g fs) f e t m = go (has 0x10 g) (has-at i k fs f e t m)
   where
-    later : (b c : Bool) → c ≡ true → b || c ≡ true
-    later true c h = refl
-    later false c h = h
-
     go : (b : Bool) → (hasSource (valueOf (fixedOf f)) (importsIn fs) ≡ true) × (hasLocal i (importsIn fs) ≡ true) → (hasSource (valueOf (fixedOf f)) (cond b (g ∷ importsIn fs) (importsIn fs)) ≡ true) × (hasLocal i (cond b (g ∷ importsIn fs) (importsIn fs)) ≡ true)
-    go true h = (later (same (valueOf (fixedOf g)) (valueOf (fixedOf f))) _ (h .0), later (among i (localsOf g)) _ (h .1))
+    go true h = (or-true (same (valueOf (fixedOf g)) (valueOf (fixedOf f))) _ (h .0), or-true (among i (localsOf g)) _ (h .1))
     go false h = h
 
 has-source : (b : List ℕ) (a : List ℕ) (l : List Field) → same b a ≡ true → hasSource a l ≡ hasSource b l

@@ -16,13 +16,13 @@ use Rattle.lent.specs.Outcome.{done}
 use Rattle.lent.specs.Lists.{among, isSome}
 use Rattle.lent.specs.Table.{Row, fileOf}
 use Rattle.lent.specs.Fields.{inside}
-use Rattle.extraction_rules.specs.State.{Record, State, Pass, first, second, Setting, change, refuse, setCollected, setTop}
+use Rattle.extraction_rules.specs.State.{Record, State, first, Setting, change, refuse, setCollected, setTop}
 use Rattle.extraction_rules.specs.First.{external, moduleFor, collectIn, collect, noteSpecifiers, specifiersIn, importFirst, forget}
 use Rattle.extraction_rules.specs.Second.{specifiersFrom, extend, loseNamespaces}
-use Rattle.extraction_rules.specs.Walk.{partsFor, ruleFor, after, afterImport, walk, walkAll, walkModule, walkAgain}
+use Rattle.extraction_rules.specs.Walk.{walk, walkAll, walkModule, walkAgain}
 use Rattle.extraction_rules.specs.Records.{recordFields}
 use Rattle.extraction_rules.proofs.OutcomeLaws.{After, after-bind, after-if}
-use Rattle.extraction_rules.proofs.ValueLaws.{after-any}
+use Rattle.extraction_rules.proofs.ValueLaws.{after-any, walk-first}
 use Rattle.extraction_rules.proofs.FirstLaws.{source-cases, force-cases, sourcesOf, collect-stays, collect-among, extend-literal, lose-literal, map-sources}
 use Rattle.extraction_rules.proofs.StepLaws.{EndSteps}
 use Rattle.extraction_rules.proofs.WalkLaws.{Steps, walkAll-keeps, walkAgain-keeps, imports-any-all}
@@ -74,14 +74,8 @@ module _ (a : List ℕ) where
       (λ _. subst (λ (v : List ℕ). among v (sourcesOf (collectIn r (u .collected))) ≡ true) q (collect-among r (u .collected))) (λ _. tt)) λ _ x z. z)
 
   module _ (e : Setting) (one : e .pass ≡ first) where
-    by-pass : (k : Pass) (y : List ℕ) (ds : Fields) (p : ℕ) (s : State) → k ≡ first → afterImport k e y ds p s ≡ importFirst e y ds p s
-    unfolding afterImport
-    by-pass first y ds p s q = refl
-    by-pass second y ds p s q = absurd (let z : _≡_ {A = ℕ} 0 1 = cc in omega arith)
-
     walk-collects : (x : List ℕ) (cs : Fields) (p : ℕ) (s : State) → external e x ≡ false → valueOf x ≡ a → After (walk (field 0x10 x cs) e false p s) (λ g t. Collected t)
-    unfolding walk partsFor ruleFor after
-    walk-collects x cs p s d q = rw (by-pass (e .pass) x cs p s one) (import-collects e x cs p s d q)
+    walk-collects x cs p s d q = rw (walk-first e one (field 0x10 x cs) p s refl) (import-collects e x cs p s d q)
 
     items-collect : (k : ℕ) (fs : Fields) (x : List ℕ) (cs : Fields) (p : ℕ) (s : State) → itemAt k fs ≡ some (field 0x10 x cs) → external e x ≡ false → valueOf x ≡ a → After (walkAll fs e false p s) (λ gs t. Collected t)
     unfolding walk

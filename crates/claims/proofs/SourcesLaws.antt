@@ -9,7 +9,7 @@ use Rattle.metadata.specs.Metadata.{append}
 use Rattle.lent.specs.Fields.{has, keep}
 use Rattle.extraction_rules.specs.State.{Record, State}
 use Rattle.extraction_rules.specs.Records.{recordFields, forcedFields, recordsOf}
-use Rattle.extraction_rules.proofs.TableLaws.{Each}
+use Rattle.extraction_rules.proofs.TableLaws.{Each, append-none}
 use Rattle.resolving_rules.specs.Resolve.{sourcesIn, forcedIn}
 
 append-all : (fs gs : Fields) → Each (λ f. has 0x83 f ≡ false) fs → sourcesIn (append fs gs) ≡ append fs (sourcesIn gs)
@@ -27,16 +27,11 @@ unfolding keep forcedFields
 forced-none [] = refl
 forced-none (a ∷ l) = forced-none l
 
-append-nothing : (fs : Fields) → append fs none ≡ fs
-unfolding append
-append-nothing none = refl
-append-nothing (more f fs) = ap (more f) (append-nothing fs)
-
 pub sources-of : (s : State) → sourcesIn (partsOf (recordsOf s)) ≡ append (recordFields 0x80 (s .collected)) (recordFields 0x81 (s .lazy))
 unfolding recordsOf
 sources-of s =
     append-all (recordFields 0x80 (s .collected)) _ (records-sources 0x80 (s .collected)) ∙
-    ap (append (recordFields 0x80 (s .collected))) (append-all (recordFields 0x81 (s .lazy)) (forcedFields (s .forced)) (records-sources 0x81 (s .lazy)) ∙ ap (append (recordFields 0x81 (s .lazy))) (forced-none (s .forced)) ∙ append-nothing (recordFields 0x81 (s .lazy)))
+    ap (append (recordFields 0x80 (s .collected))) (append-all (recordFields 0x81 (s .lazy)) (forcedFields (s .forced)) (records-sources 0x81 (s .lazy)) ∙ ap (append (recordFields 0x81 (s .lazy))) (forced-none (s .forced)) ∙ append-none (recordFields 0x81 (s .lazy)))
 
 forced-append : (fs gs : Fields) → Each (λ f. has 0x83 f ≡ false) fs → forcedIn (append fs gs) ≡ forcedIn gs
 unfolding append forcedIn

@@ -138,7 +138,3 @@ module _ (i lit : List ℕ) (own file : ℕ) (context : contextOf i ≡ four (lo
   pub specs-facts : (fs : Fields) → Specifiers fs → Each (λ s. same (idAt (fixedOf s) 0) i ≡ false) fs → Each (λ s. same (contextOf (idAt (fixedOf s) 0)) (four (local own)) ≡ true) fs → Each (λ s. fits (ways s i false) ≡ true) fs → Each SpecFacts fs
   specs-facts none h d c f = tt
   specs-facts (more s fs) h d c f = (spec-facts s (h .0 .0) (h .0 .1) (d .0) (c .0) (f .0), specs-facts fs (h .1) (d .1) (c .1) (f .1))
-
-  pub each-part : (P Q : Field → Type 0) (fs : Fields) → ((s : Field) → P s → Q s) → Each P fs → Each Q fs
-  each-part P Q none k h = tt
-  each-part P Q (more f fs) k h = (k f (h .0), each-part P Q fs k (h .1))

@@ -1,5 +1,5 @@
 -- A well placed tree within the grammar: what the passes need of the items around a namespace's import.
-use Prim.Native.Nat.{ℕ, zero, suc}
+use Prim.Native.Nat.{ℕ}
 use mathlib.Core.Path.{_≡_, refl, sym, ap, ap₂, subst, _∙_}
 use mathlib.Core.Logic.{_⊎_, inl, inr}
 use mathlib.Core.Bool.{Bool, true, false, not, cond, _&&_, _||_, true≢false}
@@ -10,7 +10,6 @@ use lib.Dec.{eqb}
 use borrow.Author.Tests.{eqb-true, eq-eqb}
 use Rattle.tree.proofs.Table.{both-true}
 use Rattle.scope.specs.Id.{require-atom, local}
-use Rattle.tree.specs.declared.grammar.Rule.{Rule}
 use Rattle.tree.specs.Layout.{same, two, four, idAt, nameOf, contextOf, valueOf}
 use Rattle.tree.specs.Tree.{Field, field, Fields, none, more, tagOf, fixedOf, partsOf}
 use Rattle.tree.specs.Grammar.{ruleOf}
@@ -20,8 +19,8 @@ use Rattle.lent.specs.Fields.{has, keep, findField, sole}
 use Rattle.extraction_rules.specs.First.{specifiersIn}
 use Rattle.extraction_rules.proofs.TestLaws.{or-neither}
 use Rattle.extraction_rules.proofs.ListLaws.{not-same}
-use Rattle.extraction_rules.proofs.ShapeLaws.{Shaped, ShapedAll, Specifiers, import-parts}
-use Rattle.extraction_rules.proofs.TableLaws.{Each}
+use Rattle.extraction_rules.proofs.ShapeLaws.{Shaped, ShapedAll, Specifiers, import-parts, shaped-parts, shaped-each}
+use Rattle.extraction_rules.proofs.TableLaws.{each-weaken, each-both}
 use Rattle.claims.specs.Stands.{How, stands}
 use Rattle.claims.specs.Placed.{all, importsIn, importsPrecede, sharesNone, localsOf, localIds, ownLocals, soleNamespace, namespacesOf, fitNamespace, fitNamespaces, wellPlaced}
 use Rattle.claims.specs.Demand.{itemAt}
@@ -32,8 +31,8 @@ use Rattle.claims.proofs.CleanLaws.{CleanSpec, Whole}
 use Rattle.claims.proofs.WorkedLaws.{CleanImport, CleanAround}
 use Rattle.claims.proofs.OutLaws.{fits}
 use Rattle.claims.proofs.TidyLaws.{import-quiet}
-use Rattle.claims.proofs.SpecifierLaws.{fits-each, each-keep, locals-other, locals-all, SpecFacts, specs-facts, each-part}
-use Rattle.claims.proofs.PlacedLaws.{EachImport, EachBut, Apart, Others, shares-apart, around-placed}
+use Rattle.claims.proofs.SpecifierLaws.{fits-each, each-keep, locals-other, locals-all, SpecFacts, specs-facts}
+use Rattle.claims.proofs.PlacedLaws.{EachImport, Apart, Others, shares-apart, around-placed, but-with}
 
 -- of each import of a list of items
 pub imports-all : (t : Field → Bool) (fs : Fields) → all t (importsIn fs) ≡ true → EachImport (λ f. t f ≡ true) fs
@@ -45,27 +44,6 @@ imports-all t (more f fs) h = go (has 0x10 f) refl h (imports-all t fs)
     go true q h ih = let w = both-true (t f) (all t (importsIn fs)) h in ((λ _. w .0), ih (w .1))
     go false q h ih = ((λ z. absurd (true≢false (sym (eq-eqb (tagOf f) 0x10 z) ∙ q))), ih h)
 
--- what is known of each item, and of each but one, together
-but-with : (P Q R : Field → Type 0) (k : ℕ) (fs : Fields) → ((f : Field) → tagOf f ≡ 0x10 → P f → Q f → R f) → EachBut P k fs → Each Q fs → EachBut R k fs
-but-with P Q R k none j h w = tt
-but-with P Q R zero (more f fs) j h w = all-with fs h (w .1)
-  where
-    all-with : (fs : Fields) → EachImport P fs → Each Q fs → EachImport R fs
-    all-with none h w = tt
-    all-with (more f fs) h w = ((λ t. j f t (h .0 t) (w .0)), all-with fs (h .1) (w .1))
-but-with P Q R (suc k) (more f fs) j h w = ((λ t. j f t (h .0 t) (w .0)), but-with P Q R k fs j (h .1) (w .1))
-
-pub each-both : (P Q : Field → Type 0) (fs : Fields) → Each P fs → Each Q fs → Each (λ f. P f × Q f) fs
-each-both P Q none h k = tt
-each-both P Q (more f fs) h k = ((h .0, k .0), each-both P Q fs (h .1) (k .1))
-
-shaped-each : (fs : Fields) (q : Rule) → ShapedAll fs q → Each Shaped fs
-shaped-each none q h = tt
-shaped-each (more f fs) q h = (h .2, shaped-each fs (h .0) (h .3))
-
-import-shaped : (f : Field) → tagOf f ≡ 0x10 → Shaped f → ShapedAll (partsOf f) (ruleOf 0x10)
-import-shaped (field t x cs) q h = subst (λ (m : ℕ). ShapedAll cs (ruleOf m)) q (h .1)
-
 module _ (i lit : List ℕ) (own file : ℕ) (context : contextOf i ≡ four (local own)) where
   -- what is known of every item
   abbrev Known : Field → Type 0
@@ -74,7 +52,7 @@ module _ (i lit : List ℕ) (own file : ℕ) (context : contextOf i ≡ four (lo
   import-others : (f : Field) → tagOf f ≡ 0x10 → Apart i (valueOf lit) f → Known f → Others i lit own file context f
   unfolding ownLocals
   import-others f t a k =
-      let s = import-shaped f t (k .0) in
+      let s = shaped-parts f 0x10 (k .0) t in
       let p = import-parts (partsOf f) s in
       let ws = fits-each (partsOf f) i (subst (λ (l : List How). fits l ≡ true) (import-ways f i t) (k .1 .1)) in
       let w = specs-facts i lit own file context (specifiersIn (partsOf f)) (p .0) (locals-other i (specifiersIn (partsOf f)) (a .1)) (locals-all (λ i. same (contextOf i) (four (local own))) (specifiersIn (partsOf f)) (k .1 .0 t)) (each-keep (λ s. fits (ways s i false) ≡ true) (λ f. not (has 0x2F f)) (partsOf f) ws) in
@@ -82,11 +60,11 @@ module _ (i lit : List ℕ) (own file : ℕ) (context : contextOf i ≡ four (lo
         record {
           tag = t;
           source = a .0;
-          locals = each-part i lit own file context F (OtherLocal i lit own file) (specifiersIn (partsOf f)) (λ s k. k .0) w;
-          spaces = each-part i lit own file context F (OtherSpace i lit own file) (specifiersIn (partsOf f)) (λ s k. k .1 .0) w;
+          locals = each-weaken F (OtherLocal i lit own file) (specifiersIn (partsOf f)) (λ s k. k .0) w;
+          spaces = each-weaken F (OtherSpace i lit own file) (specifiersIn (partsOf f)) (λ s k. k .1 .0) w;
           quiet = import-quiet (partsOf f) s;
         },
-        (each-part i lit own file context F (CleanSpec i own context) (specifiersIn (partsOf f)) (λ s k. k .1 .1 .0) w, each-part i lit own file context F (Whole i own context) (specifiersIn (partsOf f)) (λ s k. k .1 .1 .1) w),
+        (each-weaken F (CleanSpec i own context) (specifiersIn (partsOf f)) (λ s k. k .1 .1 .0) w, each-weaken F (Whole i own context) (specifiersIn (partsOf f)) (λ s k. k .1 .1 .1) w),
       )
 
   -- the namespace's own id is among its locals

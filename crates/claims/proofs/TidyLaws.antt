@@ -25,7 +25,7 @@ use Rattle.extraction_rules.proofs.ListLaws.{All, all-filter}
 use Rattle.extraction_rules.proofs.TagLaws.{find-any}
 use Rattle.extraction_rules.proofs.TableLaws.{Each}
 use Rattle.extraction_rules.proofs.SpaceLaws.{Property}
-use Rattle.extraction_rules.proofs.ShapeLaws.{Shaped, ShapedAll, shaped-none, ImportStep, import-step, specifier-is, specifier-rule, attribute-step, attribute-rule}
+use Rattle.extraction_rules.proofs.ShapeLaws.{Shaped, ShapedAll, shaped-none, ImportStep, import-step, specifier-is, specifier-rule, attribute-step, attribute-rule, shaped-parts}
 use Rattle.claims.specs.Stands.{How, idsIn}
 use Rattle.claims.specs.Demand.{propertyFields}
 use Rattle.claims.proofs.WaysLaws.{met, ways, waysAll}
@@ -60,7 +60,7 @@ tidy-parts none i h k = refl
 tidy-parts (more f fs) i h k = go (import-step (tagOf f) (h .0) (h .1)) k (tidy-parts fs i)
   where
     attributes : (f : Field) → tagOf f ≡ 0x2F → Shaped f → ways f i false ≡ []
-    attributes (field t x cs) q s = block-ways t x cs i q (attributes-ways cs i (subst (λ (m : ℕ). ShapedAll cs (ruleOf m)) q (s .1)))
+    attributes (field t x cs) q s = block-ways t x cs i q (attributes-ways cs i (shaped-parts (field t x cs) 0x2F s q))
 
     go : ImportStep (tagOf f) (h .0) → Each (λ f. ways f i false ≡ []) (cond (not (has 0x2F f)) (more f (specifiersIn fs)) (specifiersIn fs)) →
         (ShapedAll fs (ruleOf 0x10) → Each (λ f. ways f i false ≡ []) (specifiersIn fs) → waysAll fs i false ≡ []) → ways f i false ++ waysAll fs i false ≡ []
@@ -114,7 +114,7 @@ part-quiet (field t x cs) q (inl w) s =
     ((λ z. omega arith), (λ z. omega arith), parts-children t (λ z. omega arith) (λ z. omega arith) (λ z. omega arith) (λ z. omega arith) (λ z. omega arith), rw n tt)
 part-quiet (field t x cs) q (inr w) s =
     let b : t ≡ 0x2F = w .0 in
-    ((λ z. omega arith), (λ z. omega arith), parts-children t (λ z. omega arith) (λ z. omega arith) (λ z. omega arith) (λ z. omega arith) (λ z. omega arith), attributes-quiet cs (subst (λ (m : ℕ). ShapedAll cs (ruleOf m)) b (s .1)))
+    ((λ z. omega arith), (λ z. omega arith), parts-children t (λ z. omega arith) (λ z. omega arith) (λ z. omega arith) (λ z. omega arith) (λ z. omega arith), attributes-quiet cs (shaped-parts (field t x cs) 0x2F s b))
 
 pub import-quiet : (cs : Fields) → ShapedAll cs (ruleOf 0x10) → QuietAll cs
 import-quiet none h = tt

@@ -11,9 +11,8 @@ use Rattle.tree.proofs.Table.{both-true}
 use Rattle.scope.specs.Id.{require-atom, local}
 use Rattle.scope.specs.Modules.{Modules, request}
 use Rattle.tree.specs.declared.grammar.Set.the-variants.{Module, Records}
-use Rattle.tree.specs.declared.grammar.Rule.{Rule}
 use Rattle.tree.specs.Layout.{same, two, four, idAt, nameOf, contextOf, valueOf}
-use Rattle.tree.specs.Tree.{Field, field, Fields, none, more, tagOf, partsOf, encode}
+use Rattle.tree.specs.Tree.{field, Fields, none, more, tagOf, partsOf, encode}
 use Rattle.tree.specs.Grammar.{ruleOf}
 use Rattle.tree.specs.Read.{read}
 use Rattle.tree.proofs.LayoutLaws.{same-equal}
@@ -28,9 +27,8 @@ use Rattle.extraction_rules.proofs.OutcomeLaws.{after-done}
 use Rattle.extraction_rules.specs.First.{external, specifiersIn}
 use Rattle.extraction_rules.specs.Call.{Lent, Lengths, Extracted, itemsRead, setting, extracted}
 use Rattle.extraction_rules.proofs.AlikeLaws.{RegularAll}
-use Rattle.extraction_rules.proofs.ShapeLaws.{Shaped, ShapedAll, Specifiers, import-parts}
+use Rattle.extraction_rules.proofs.ShapeLaws.{Shaped, ShapedAll, Specifiers, import-parts, shaped-parts, shaped-each}
 use Rattle.extraction_rules.proofs.ReadableLaws.{Items}
-use Rattle.extraction_rules.proofs.TableLaws.{Each}
 use Rattle.extraction_rules.proofs.CallLaws.{Run, call-run}
 use Rattle.resolving_rules.specs.Resolve.{sourcesIn, forcedIn, resolvedAll}
 use Rattle.resolving_rules.specs.Call.{Resolved, recordsRead, resolved}
@@ -41,7 +39,7 @@ use Rattle.claims.specs.Demand.{itemAt, Declares, takes, Ends, handedOn}
 use Rattle.claims.proofs.FirstPassLaws.{Behind, Around}
 use Rattle.claims.proofs.SettledLaws.{takesApart}
 use Rattle.claims.proofs.OutsLaws.{OtherSources, OtherBut}
-use Rattle.claims.proofs.PlacedLaws.{EachImport, fine-placed, fits-placed, ready-placed}
+use Rattle.claims.proofs.PlacedLaws.{fine-placed, fits-placed, ready-placed, each-at}
 use Rattle.claims.proofs.SpecifierLaws.{locals-all, whole-specifier}
 use Rattle.claims.proofs.SurroundedLaws.{imports-all, around-well}
 use Rattle.claims.proofs.DefaultLaws.{SpaceIn, space-local, imports-of}
@@ -68,19 +66,6 @@ well-of own items h =
     let d = both-true (importsPrecede items) (sharesNone fs) (c .0) in
     record { precede = d .0; share = d .1; locals = c .1; soles = b .1; fit = a .1 }
 
-import-at : (P : Field → Type 0) (k : ℕ) (fs : Fields) (f : Field) → EachImport P fs → itemAt k fs ≡ some f → tagOf f ≡ 0x10 → P f
-import-at P k none f h e t = absurd (let z : _≡_ {A = ℕ} 0 1 = cc in omega arith)
-import-at P zero (more g fs) f h e t = let q : g ≡ f = cc in subst P q (h .0 (ap tagOf q ∙ t))
-import-at P (suc k) (more g fs) f h e t = import-at P k fs f (h .1) e t
-
-shaped-at : (k : ℕ) (fs : Fields) (f : Field) → ShapedAll fs (ruleOf 0x01) → itemAt k fs ≡ some f → Shaped f
-shaped-at k fs f h e = go k fs (ruleOf 0x01) h e
-  where
-    go : (k : ℕ) (fs : Fields) (q : Rule) → ShapedAll fs q → itemAt k fs ≡ some f → Shaped f
-    go k none q h e = absurd (let z : _≡_ {A = ℕ} 0 1 = cc in omega arith)
-    go zero (more g fs) q h e = let r : g ≡ f = cc in subst Shaped r (h .2)
-    go (suc k) (more g fs) q h e = go k fs (h .0) (h .3) e
-
 -- the namespace of the declaration
 namespaces-own : (cs : Fields) (i : List ℕ) → specifiersIn cs ≡ more (field 0x22 i none) none → keep (has 0x22) cs ≡ more (field 0x22 i none) none
 unfolding keep
@@ -95,8 +80,6 @@ namespaces-own cs i q = sym (both cs) ∙ ap (keep (has 0x22)) q
         go true false p q h = h
         go false true p q h = rw q (ap (more f) h)
         go false false p q h = rw q h
-
--- ---- The calls, step by step
 
 -- ---- The other sources
 
@@ -118,13 +101,6 @@ module _ (i lit : List ℕ) (own file n : ℕ) (us : List How) (context : contex
 
 -- ---- The theorem
 
-shaped-items : (fs : Fields) (q : Rule) → ShapedAll fs q → Each Shaped fs
-shaped-items none q h = tt
-shaped-items (more f fs) q h = (h .2, shaped-items fs (h .0) (h .3))
-
-import-shaped : (f : Field) → tagOf f ≡ 0x10 → Shaped f → ShapedAll (partsOf f) (ruleOf 0x10)
-import-shaped (field t x cs) q h = subst (λ (m : ℕ). ShapedAll cs (ruleOf m)) q (h .1)
-
 -- what the declaration's own clauses of 'well placed' say of i
 pub record Mine (own : ℕ) (items : Fields) (i : List ℕ) : Type 0 where
   pub whole : idAt i 0 ≡ i
@@ -135,12 +111,12 @@ mine-of : (own : ℕ) (items : Fields) (k : ℕ) (x i : List ℕ) (cs : Fields) 
 unfolding ownLocals fitNamespaces localIds all
 mine-of own items k x i cs shape w e q =
     let f = field 0x10 x cs in
-    let s = import-shaped f refl (shaped-at k items f shape e) in
+    let s = shaped-parts f 0x10 (each-at Shaped k items f (shaped-each items (ruleOf 0x01) shape) e) refl in
     let p = subst Specifiers q (import-parts cs s .0) in
     let whole : idAt i 0 ≡ i = whole-specifier (field 0x22 i none) (inr refl) (p .0 .1) in
-    let loc : all (λ i. same (contextOf i) (four (local own))) (localIds (specifiersIn cs)) ≡ true = import-at (λ f. ownLocals own f ≡ true) k items f (imports-all (ownLocals own) items (w .locals)) e refl in
+    let loc : all (λ i. same (contextOf i) (four (local own))) (localIds (specifiersIn cs)) ≡ true = each-at (λ f. tagOf f ≡ 0x10 → ownLocals own f ≡ true) k items f (imports-all (ownLocals own) items (w .locals)) e refl in
     let one = locals-all (λ i. same (contextOf i) (four (local own))) (more (field 0x22 i none) none) (subst (λ (fs : Fields). all (λ i. same (contextOf i) (four (local own))) (localIds fs) ≡ true) q loc) in
-    let fit : all (λ i. fitNamespace (stands items i) i) (localIds (keep (has 0x22) cs)) ≡ true = import-at (λ f. fitNamespaces items f ≡ true) k items f (imports-all (fitNamespaces items) items (w .fit)) e refl in
+    let fit : all (λ i. fitNamespace (stands items i) i) (localIds (keep (has 0x22) cs)) ≡ true = each-at (λ f. tagOf f ≡ 0x10 → fitNamespaces items f ≡ true) k items f (imports-all (fitNamespaces items) items (w .fit)) e refl in
     let two = locals-all (λ i. fitNamespace (stands items i) i) (more (field 0x22 i none) none) (subst (λ (fs : Fields). all (λ i. fitNamespace (stands items i) i) (localIds fs) ≡ true) (namespaces-own cs i q) fit) in
     record {
       whole = whole;
@@ -171,13 +147,14 @@ resolving-ends l room ms r n q items own accepted resolving reading requesting p
     let w = well-of (own .0) items placed in
     let m = mine-of (own .0) items k x i (declares .0) (shape .shaped) w (declares .1) (declares .2) in
     let f = fine-placed items i (m .fit) in
+    let items-shaped = shaped-each items (ruleOf 0x01) (shape .shaped) in
     let a = around-well i x (own .0) file (m .context) k items (declares .0) (shape .shaped) (w .precede) (w .share) (w .locals) (fits-placed items i (m .fit)) (m .whole) (declares .1) (declares .2)
-    (import-shaped (field 0x10 x (declares .0)) refl (shaped-at k items (field 0x10 x (declares .0)) (shape .shaped) (declares .1))) in
+    (shaped-parts (field 0x10 x (declares .0)) 0x10 (each-at Shaped k items (field 0x10 x (declares .0)) items-shaped (declares .1)) refl) in
     let rows = rowsIn (l .table) in
     let Space = SpaceIn (own .0) items in
     let locals = space-local (own .0) items in
     let ready = ready-placed i x (own .0) file (m .context) Space locals items (shape .shaped) (w .precede)
-    (imports-of (own .0) items (shaped-items items (ruleOf 0x01) (shape .shaped)) (w .share) (imports-all (ownLocals (own .0)) items (w .locals)) (imports-all soleNamespace items (w .soles))) in
+    (imports-of (own .0) items items-shaped (w .share) (imports-all (ownLocals (own .0)) items (w .locals)) (imports-all soleNamespace items (w .soles))) in
     let u = call-listed (handedOn l r) n (r .modules) q (partsOf (r .records)) resolving readable in
     subst (λ (b : Bool). Ends b i x k (stands items i) items l r q) (sym (takes-is rows x file (stands items i) res))
     (ends-from (takesApart (stands items i)) i x k file (stands items i) items l r q (own .0) (m .context) (f .0) Space locals res inside inside

@@ -8,7 +8,7 @@ use mathlib.Core.List.{List, [], _∷_, _++_, map, append-nil}
 use native.Mathlib.Omega.{arith}
 use lib.Dec.{eqb}
 use lib.ListN.{length, take, getD}
-use borrow.Author.Tests.{eqb-true}
+use borrow.Author.Tests.{eqb-true, ne-eqb}
 use Rattle.scope.specs.Id.{require-atom}
 use Rattle.tree.specs.Layout.{same, two, idAt, nameOf}
 use Rattle.tree.specs.Tree.{Field, field, Fields, none, more, tagOf, fixedOf, partsOf}
@@ -19,11 +19,11 @@ use Rattle.extraction_rules.specs.Walk.{Parts, unwalked, member, super, assignm
 use Rattle.extraction_rules.proofs.ListLaws.{same-not, not-same, All}
 use Rattle.extraction_rules.proofs.TagLaws.{parts-member, parts-unwalked, parts-assignment}
 use Rattle.extraction_rules.proofs.AlikeLaws.{Two, RegularAt, Regular, RegularAll, SameBytes, equal, behind, callee, same-other}
-use Rattle.claims.specs.Stands.{How, plain, computed, bare, original, imported, otherwise, idsIn, byMember, objectIds, Standing, matching, headOf, tailOf, standings, standingsAll, standingsMember, standingsAssignment, standingsTarget, isUse, isPlain}
+use Rattle.claims.specs.Stands.{How, plain, computed, bare, original, imported, idsIn, byMember, objectIds, Standing, matching, headOf, tailOf, standings, standingsAll, standingsMember, standingsAssignment, standingsTarget, isUse, isPlain}
 use Rattle.claims.specs.Placed.{all}
 use Rattle.claims.specs.Demand.{counted, Unchanged, AsProperty, Rewritten, Every}
 use Rattle.claims.proofs.WaysLaws.{met, ways, waysAll, waysMember, waysAssignment, waysTarget, waysParts, waysObject, standingsParts, met-append}
-use Rattle.claims.proofs.HowLaws.{Unused, unused-append, ids-unused, allPlain}
+use Rattle.claims.proofs.HowLaws.{Unused, unused-append, ids-unused, allPlain, object-unused}
 use Rattle.claims.proofs.OutLaws.{Turned, Unturned, Out, OutAll, out-more, out-none, out-lacking, Fine, fine-append}
 
 -- ---- Every use
@@ -257,33 +257,17 @@ module _ (taken : Bool) (i c : List ℕ) (own : ℕ) (named : same (nameOf i) (t
       let tk : k ≡ 0x70 = ap tagOf eq ∙ h .name in
       rw (to, tk, s .1 .0 .0 .name-bare tk)
 
-  object-unused : (cs : Fields) → Unused (objectIds false cs)
-  unfolding objectIds
-  object-unused none = tt
-  object-unused (more o ps) = go (has 0x60 o)
-    where
-      go : (b : Bool) → Unused (cond b ((otherwise, fixedOf o) ∷ []) [])
-      go true = (refl, tt)
-      go false = tt
-
-  not-eqb : (t k : ℕ) → (t ≡ k → ⊥) → eqb t k ≡ false
-  not-eqb t k h = go (eqb t k) refl
-    where
-      go : (b : Bool) → eqb t k ≡ b → b ≡ false
-      go true q = absurd (h (eqb-true t k q))
-      go false q = refl
-
   -- a target's own ids stand in no use
   target-uses : (t : ℕ) (x : List ℕ) (cs : Fields) (g : Field) → (t ≡ 0x60 → ⊥) → (t ≡ 0x23 → ⊥) → Uses (matching (idsIn t x false ++ objectIds false cs) i (field t x cs) g)
   target-uses t x cs g d k =
       matching-uses (idsIn t x false ++ objectIds false cs) (field t x cs) g
-      (unused-uses (idsIn t x false ++ objectIds false cs) (field t x cs) g (unused-append (idsIn t x false) (objectIds false cs) (ids-unused t x false (not-eqb t 0x23 k) (λ z. absurd (d (eqb-true t 0x60 z)))) (object-unused cs)))
+      (unused-uses (idsIn t x false ++ objectIds false cs) (field t x cs) g (unused-append (idsIn t x false) (objectIds false cs) (ids-unused t x false (ne-eqb t 0x23 k) (λ z. absurd (d (eqb-true t 0x60 z)))) (object-unused cs)))
 
   -- the ids of a 63 itself
   member-ids : (t : ℕ) (x : List ℕ) (cs : Fields) (g : Field) (object : Bool) → t ≡ 0x63 → Uses (matching (idsIn t x object) i (field t x cs) g)
   member-ids t x cs g object q =
       matching-uses (idsIn t x object) (field t x cs) g
-      (unused-uses (idsIn t x object) (field t x cs) g (ids-unused t x object (not-eqb t 0x23 (λ z. let v : _≡_ {A = ℕ} 0x63 0x23 = sym q ∙ z in omega arith)) (λ z. absurd (let v : _≡_ {A = ℕ} 0x63 0x60 = sym q ∙ eqb-true t 0x60 z in omega arith))))
+      (unused-uses (idsIn t x object) (field t x cs) g (ids-unused t x object (ne-eqb t 0x23 (λ z. let v : _≡_ {A = ℕ} 0x63 0x23 = sym q ∙ z in omega arith)) (λ z. absurd (let v : _≡_ {A = ℕ} 0x63 0x60 = sym q ∙ eqb-true t 0x60 z in omega arith))))
 
   abbrev TargetTag : Fields → Type 0
   TargetTag cs = (f : Field) (fs : Fields) → cs ≡ more f fs → (tagOf f ≡ 0x60 → ⊥) × (tagOf f ≡ 0x23 → ⊥)

@@ -6,7 +6,7 @@ use mathlib.Core.Bool.{Bool, true, false, not, cond, _&&_, true≢false}
 use mathlib.Core.List.{List, [], _∷_, _++_, map, append-nil, append-assoc}
 use native.Mathlib.Omega.{arith}
 use lib.Dec.{eqb}
-use lib.ListN.{length, take, drop, getD}
+use lib.ListN.{length, take, drop}
 use borrow.Author.Tests.{eqb-true}
 use Rattle.scope.specs.Id.{require-atom}
 use Rattle.tree.specs.Layout.{same, two, four, idAt, nameOf}
@@ -15,7 +15,7 @@ use Rattle.tree.proofs.LayoutLaws.{same-refl, same-equal}
 use Rattle.lent.specs.Fields.{has}
 use Rattle.extraction_rules.specs.Walk.{Parts, unwalked, member, super, assignment, children, partsFor}
 use Rattle.extraction_rules.proofs.ListLaws.{same-not, not-same}
-use Rattle.extraction_rules.proofs.AlikeLaws.{SameBytes, equal, behind, callee, Alike, AlikeAll, alike-more, alike-none, same-other}
+use Rattle.extraction_rules.proofs.AlikeLaws.{SameBytes, equal, behind, callee, Alike, AlikeAll, alike-more, alike-none, same-other, alike-tag, first-byte}
 use Rattle.claims.specs.Stands.{How, plain, computed, bare, original, imported, otherwise, idsIn, Standing, matching, headOf, tailOf, byMember, objectIds, standings, standingsAll, standingsMember, standingsAssignment, standingsTarget, stands}
 
 -- those of the ids that are i
@@ -163,11 +163,7 @@ module _ (i : List ℕ) (named : same (nameOf i) (two require-atom) ≡ false) w
 
   original-alike : (x y : List ℕ) → take 7 y ≡ take 7 x → (b : Bool) → idsIn 0x23 y b ≡ idsIn 0x23 x b
   unfolding idsIn
-  original-alike x y q b = rw (first y, first x, q)
-    where
-      first : (z : List ℕ) → getD z 0 0 ≡ getD (take 7 z) 0 0
-      first [] = refl
-      first (a ∷ z) = refl
+  original-alike x y q b = rw (first-byte y, first-byte x, q)
 
   ident-alike : (x y : List ℕ) (b : Bool) → nameOf x ≡ two require-atom → nameOf y ≡ two require-atom → met (idsIn 0x60 y b) i ≡ met (idsIn 0x60 x b) i
   unfolding idsIn
@@ -233,9 +229,6 @@ module _ (i : List ℕ) (named : same (nameOf i) (two require-atom) ≡ false) w
   lacking : {A : Type 0} (f : Field) (fs : Fields) → AlikeAll (more f fs) none → A
   lacking f fs h = absurd (let e = h .2 in let z : _≡_ {A = ℕ} 0 1 = cc in omega arith)
 
-  tag-alike : (f g : Field) → Alike f g → tagOf g ≡ tagOf f
-  tag-alike (field t x cs) g h = h .0
-
   mutual
     unfolding ways
 
@@ -258,7 +251,7 @@ module _ (i : List ℕ) (named : same (nameOf i) (two require-atom) ≡ false) w
     waysMember-alike (more f fs) none h = lacking f fs h
     waysMember-alike (more f fs) (more g gs) h =
         let a = alike-more f fs g gs h in
-        rw (tag-alike f g (a .0)) (ap₂ {C = List How} (λ a b. a ++ b) (object-ways (eqb (tagOf f) 0x60) f g (ways-alike f g true (a .0))) (waysAll-alike fs gs false (a .1)))
+        rw (alike-tag f g (a .0)) (ap₂ {C = List How} (λ a b. a ++ b) (object-ways (eqb (tagOf f) 0x60) f g (ways-alike f g true (a .0))) (waysAll-alike fs gs false (a .1)))
 
     waysAssignment-alike : (fs gs : Fields) (object : Bool) → AlikeAll fs gs → waysAssignment gs i object ≡ waysAssignment fs i object
     waysAssignment-alike none none object h = refl

@@ -21,13 +21,13 @@ use Rattle.extraction_rules.specs.State.{State, Pass, first, second, Setting, s
 use Rattle.extraction_rules.specs.First.{external, moduleFor, importedAs, collect, noteId, noteAll, noteSpecifier, noteSpecifiers, specifiersIn, withContext, importFirst, stays}
 use Rattle.extraction_rules.specs.Walk.{walk, walkAll, walkModule}
 use Rattle.extraction_rules.proofs.OutcomeLaws.{After, after-bind, after-weaken}
-use Rattle.extraction_rules.proofs.ValueLaws.{after-any}
+use Rattle.extraction_rules.proofs.ValueLaws.{after-any, walk-first}
 use Rattle.extraction_rules.proofs.AlikeLaws.{RegularAll, Alike, AlikeAll, alike-tag, walkAll-alike}
 use Rattle.extraction_rules.proofs.TableLaws.{Each}
 use Rattle.extraction_rules.proofs.SpaceLaws.{OfImport, Spaces, space-steps, import-space}
 use Rattle.extraction_rules.proofs.ItemsLaws.{items-keep}
 use Rattle.claims.proofs.ImportedLaws.{Before, Redeclared, import-own}
-use Rattle.claims.proofs.FirstPassLaws.{OtherImport, OwnImport, Behind, Around, walk-import}
+use Rattle.claims.proofs.FirstPassLaws.{OtherImport, OwnImport, Behind, Around}
 use Rattle.claims.proofs.CleanLaws.{CleanSpec, Whole, Clean, first-clean}
 
 -- ---- Dropped items
@@ -58,7 +58,7 @@ keep-alike (more f fs) gs h =
     go false true q k = absurd (true≢false q)
     go false false q k = k
 
-keep-more : (f : Field) (fs : Fields) → stays f ≡ true → keep stays (more f fs) ≡ more f (keep stays fs)
+pub keep-more : (f : Field) (fs : Fields) → stays f ≡ true → keep stays (more f fs) ≡ more f (keep stays fs)
 unfolding keep
 keep-more f fs q = rw q
 
@@ -90,7 +90,7 @@ module _ (i lit : List ℕ) (own file : ℕ) (context : contextOf i ≡ four (lo
 
   module _ (e : Setting) (one : e .pass ≡ first) (mine : e .own ≡ own) (res : fileOf (valueOf lit) (e .table) ≡ some file) (inner : external e lit ≡ false) (named : same (nameOf i) (two require-atom) ≡ false) where
     clean-walk : (f : Field) (p : ℕ) (s : State) → tagOf f ≡ 0x10 → CleanImport f → After (walk f e false p s) (λ g t. Clean i own context (fixedOf f) g)
-    clean-walk f p s q h = rw (walk-import i lit own file e one mine res inner named context f p s q) (first-clean i own context e (fixedOf f) (partsOf f) p s (h .0) (h .1))
+    clean-walk f p s q h = rw (walk-first e one f p s q) (first-clean i own context e (fixedOf f) (partsOf f) p s (h .0) (h .1))
 
     -- before *keep*
     abbrev KeptBehind : Fields → Fields → Type 0
@@ -125,7 +125,7 @@ module _ (i lit : List ℕ) (own file : ℕ) (context : contextOf i ≡ four (lo
         (m, ap (λ (f : Fields). field 0x10 lit (append f (withContext m ds))) v))
 
     own-walk : (f : Field) (p : ℕ) (s : State) → OwnImport i lit own file f → After (walk f e false p s) (λ g t. Redeclared i lit own file context (partsOf f) g)
-    own-walk f p s w = rw (walk-import i lit own file e one mine res inner named context f p s (w .tag), w .literal) (own-import (partsOf f) p s (w .sole))
+    own-walk f p s w = rw (walk-first e one f p s (w .tag), w .literal) (own-import (partsOf f) p s (w .sole))
 
     redeclared-tag : (ds : Fields) (g : Field) → Redeclared i lit own file context ds g → tagOf g ≡ 0x10
     redeclared-tag ds g h = ap tagOf (h .1)
@@ -161,7 +161,7 @@ module _ (i lit : List ℕ) (own file : ℕ) (context : contextOf i ≡ four (lo
       ready-spaces none p s r h = h
       ready-spaces (more f fs) p s (inl r) h =
           after-bind (walk f e false p s) _ (λ g t. Spaces Space own locals t) (λ gs t. Spaces Space own locals t)
-          (rw (walk-import i lit own file e one mine res inner named context f p s (r .0)) (import-space Space own locals e (fixedOf f) (partsOf f) p s (r .1) h)) λ g s h.
+          (rw (walk-first e one f p s (r .0)) (import-space Space own locals e (fixedOf f) (partsOf f) p s (r .1) h)) λ g s h.
           after-bind (walkAll fs e false (p + size f) s) _ (λ gs t. Spaces Space own locals t) (λ gs t. Spaces Space own locals t) (ready-spaces fs (p + size f) s (r .2) h) λ gs s h. h
       ready-spaces (more f fs) p s (inr r) h = items-keep e (Spaces Space own locals) (space-steps Space own locals e mine) one (more f fs) false p s r h
 

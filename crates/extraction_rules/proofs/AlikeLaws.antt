@@ -252,7 +252,7 @@ same-other t x y (equal q) h k = q
 same-other t x y (behind q r) h k = absurd (h q)
 same-other t x y (callee q r n w) h k = absurd (k q)
 
-first-byte : (x : List ℕ) → getD x 0 0 ≡ getD (take 7 x) 0 0
+pub first-byte : (x : List ℕ) → getD x 0 0 ≡ getD (take 7 x) 0 0
 first-byte [] = refl
 first-byte (a ∷ x) = refl
 

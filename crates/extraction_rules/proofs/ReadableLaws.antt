@@ -38,18 +38,19 @@ use Rattle.extraction_rules.proofs.WithinLaws.{Results, Widths, widths-
 
 -- ---- A module's items
 
-pub item-step : (t : ℕ) (q : Rule) → stepAt (ruleOf 0x01) t ≡ Go q → q ≡ ruleOf 0x01
+-- each item of a module, and the module's rule behind it
+pub item-step : (t : ℕ) (q : Rule) → stepAt (ruleOf 0x01) t ≡ Go q → (holdsAt Item t ≡ true) × (q ≡ ruleOf 0x01)
 unfolding ruleOf within
-item-step t q e = only-step Item t q e .1
+item-step t q e = only-step Item t q e
 
 -- items may be dropped
 keep-shaped : (t : Field → Bool) (fs : Fields) → ShapedAll fs (ruleOf 0x01) → ShapedAll (keep t fs) (ruleOf 0x01)
 unfolding keep
 keep-shaped t none h = h
-keep-shaped t (more f fs) h = go (t f) (keep-shaped t fs (subst (ShapedAll fs) (item-step (tagOf f) (h .0) (h .1)) (h .3)))
+keep-shaped t (more f fs) h = go (t f) (keep-shaped t fs (subst (ShapedAll fs) (item-step (tagOf f) (h .0) (h .1) .1) (h .3)))
   where
     go : (b : Bool) → ShapedAll (keep t fs) (ruleOf 0x01) → ShapedAll (cond b (more f (keep t fs)) (keep t fs)) (ruleOf 0x01)
-    go true r = (ruleOf 0x01, h .1 ∙ ap Go (item-step (tagOf f) (h .0) (h .1)), h .2, r)
+    go true r = (ruleOf 0x01, h .1 ∙ ap Go (item-step (tagOf f) (h .0) (h .1) .1), h .2, r)
     go false r = r
 
 keep-deep : (t : Field → Bool) (fs : Fields) (k : ℕ) → depths fs ≤ k → depths (keep t fs) ≤ k

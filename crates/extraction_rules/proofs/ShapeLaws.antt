@@ -29,6 +29,7 @@ use Rattle.extraction_rules.specs.Second.{specifiersFrom}
 use Rattle.extraction_rules.proofs.ListLaws.{All}
 use Rattle.extraction_rules.proofs.RuleLaws.{many-step, maybe-step, only-step}
 use Rattle.extraction_rules.proofs.ExactLaws.{width-70, property-exact, attribute-exact}
+use Rattle.extraction_rules.proofs.TableLaws.{Each}
 
 -- ---- Within the grammar
 
@@ -63,6 +64,10 @@ mutual
   shaped-formed-all (more f fs) q l h =
       let z = row-size f fs in
       (h .0, h .1, shaped-formed f (omega arith) (h .2), shaped-formed-all fs (h .0) (omega arith) (h .3))
+
+pub shaped-each : (fs : Fields) (q : Rule) → ShapedAll fs q → Each Shaped fs
+shaped-each none q h = tt
+shaped-each (more f fs) q h = (h .2, shaped-each fs (h .0) (h .3))
 
 -- ---- Steps
 

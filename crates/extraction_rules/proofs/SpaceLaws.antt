@@ -24,7 +24,7 @@ use Rattle.extraction_rules.specs.First.{external, idFrom, requested, mo
 use Rattle.extraction_rules.specs.Second.{usagesOf}
 use Rattle.extraction_rules.proofs.OutcomeLaws.{After, after-bind, after-if}
 use Rattle.extraction_rules.proofs.ListLaws.{All, all-last, all-filter, all-find, all-first, same-not, not-same}
-use Rattle.extraction_rules.proofs.TableLaws.{Each, each-append, find-meets, forgotten-imported, other-imported, noted-own, noted-other, force-tables}
+use Rattle.extraction_rules.proofs.TableLaws.{Each, each-weaken, each-append, find-meets, forgotten-imported, other-imported, noted-own, noted-other, force-tables}
 use Rattle.extraction_rules.proofs.QuietLaws.{QuietSteps}
 use Rattle.extraction_rules.proofs.ItemsLaws.{ItemSteps}
 
@@ -168,12 +168,8 @@ module _ (Space : List ℕ → Type 0) (own : ℕ) (locals : (j : List ℕ) → 
       after-bind (noteSpecifier n f p s) _ (λ g t. Spaces t × OfSpace g) (λ gs t. Spaces t × Each OfSpace gs) (specifier-space n f p s (k .0) h) λ g t w.
       after-bind (noteAll n fs (p + size f) t) _ (λ gs u. Spaces u × Each OfSpace gs) (λ gs t. Spaces t × Each OfSpace gs) (notes-space n fs (p + size f) t (k .1) (w .0)) λ gs u v. (v .0, (w .1, v .1))
 
-  each-space : (fs : Fields) → Each OfImport fs → Each OfSpace fs
-  each-space none k = tt
-  each-space (more f fs) k = (k .0 .0, each-space fs (k .1))
-
   specifiers-space : (o : Option ℕ) (fs : Fields) (p : ℕ) (s : State) → Each OfImport fs → Spaces s → After (noteSpecifiers o fs p s) (λ gs t. Spaces t × Each OfSpace gs)
-  specifiers-space nothing fs p s k h = (h, each-space fs k)
+  specifiers-space nothing fs p s k h = (h, each-weaken OfImport OfSpace fs (λ f k. k .0) k)
   specifiers-space (some n) fs p s k h = notes-space n fs p s k h
 
   module-space : (e : Setting) (a : List ℕ) (p : ℕ) (s : State) → Spaces s → After (moduleFor e a p s) (λ m t. Spaces t)

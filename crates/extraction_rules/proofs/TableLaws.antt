@@ -29,6 +29,14 @@ unfolding append
 each-append P none gs h k = k
 each-append P (more f fs) gs h k = (h .0, each-append P fs gs (h .1) k)
 
+pub each-weaken : (P Q : Field → Type 0) (fs : Fields) → ((f : Field) → P f → Q f) → Each P fs → Each Q fs
+each-weaken P Q none k h = tt
+each-weaken P Q (more f fs) k h = (k f (h .0), each-weaken P Q fs k (h .1))
+
+pub each-both : (P Q : Field → Type 0) (fs : Fields) → Each P fs → Each Q fs → Each (λ f. P f × Q f) fs
+each-both P Q none h k = tt
+each-both P Q (more f fs) h k = ((h .0, k .0), each-both P Q fs (h .1) (k .1))
+
 -- ---- Lists
 
 pub find-filter-none : {A : Type 0} (t q : A → Bool) (l : List A) → ((a : A) → t a ≡ true → q a ≡ false) → find t (filter q l) ≡ nothing

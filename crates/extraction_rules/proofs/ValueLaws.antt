@@ -10,17 +10,27 @@ use borrow.Author.Tests.{eqb-true}
 use Rattle.tree.proofs.Table.{both-true}
 use Rattle.scope.specs.Id.{require-atom}
 use Rattle.tree.specs.Layout.{same, two, nameOf, valueOf}
-use Rattle.tree.specs.Tree.{Field, field, Fields, none, more, tagOf, fixedOf}
+use Rattle.tree.specs.Tree.{Field, field, Fields, none, more, tagOf, fixedOf, partsOf}
 use Rattle.lent.specs.Outcome.{Outcome, done, refused}
 use Rattle.lent.specs.Fields.{has, sole}
 use Rattle.extraction_rules.specs.State.{Record, State, Pass, first, second, Setting}
-use Rattle.extraction_rules.specs.First.{moduleFor, onIdent, usage, argument, notExternal, required, withCallee, markCjs, markRequired, collect, addLazy, require, bindings, requireLazily, declarator}
-use Rattle.extraction_rules.specs.Walk.{afterExpression}
+use Rattle.extraction_rules.specs.First.{moduleFor, onIdent, usage, argument, notExternal, required, withCallee, markCjs, markRequired, collect, addLazy, require, bindings, requireLazily, declarator, importFirst}
+use Rattle.extraction_rules.specs.Second.{importSecond}
+use Rattle.extraction_rules.specs.Walk.{afterExpression, afterImport, ruleFor, after, partsFor, walk}
 use Rattle.extraction_rules.proofs.OutcomeLaws.{After, after-bind, after-if}
 
 pub after-any : {A : Type 0} (m : Outcome (A × State)) → After m (λ a s. Unit {0})
 after-any (done r) = tt
 after-any (refused n p) = tt
+
+-- a 10 is walked by its own rule alone
+pub walk-first : (e : Setting) → e .pass ≡ first → (f : Field) (p : ℕ) (s : State) → tagOf f ≡ 0x10 → walk f e false p s ≡ importFirst e (fixedOf f) (partsOf f) p s
+unfolding walk partsFor ruleFor after afterImport
+walk-first e q (field t x cs) p s h = rw (h, q)
+
+pub walk-second : (e : Setting) → e .pass ≡ second → (f : Field) (p : ℕ) (s : State) → tagOf f ≡ 0x10 → walk f e false p s ≡ importSecond e (fixedOf f) (partsOf f) s
+unfolding walk partsFor ruleFor after afterImport
+walk-second e q (field t x cs) p s h = rw (h, q)
 
 -- the require conditions: a 65 with a callee 60
 pub required-call : (e : Setting) (t : ℕ) (x : List ℕ) (c : Field) (gs : Fields) (l : List ℕ) →
