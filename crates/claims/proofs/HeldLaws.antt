@@ -6,7 +6,7 @@ use mathlib.Core.Bool.{Bool, true, false, not, cond, _&&_, _||_, true≢false, a
 use mathlib.Core.List.{List, [], _∷_, _++_, map, append-nil, append-assoc}
 use mathlib.Core.Option.{Option, none as nothing, some}
 use native.Mathlib.Omega.{arith}
-use lib.Dec.{leb, eqb}
+use lib.Dec.{eqb}
 use lib.ListN.{length, getD}
 use borrow.Author.Tests.{eqb-true, ne-eqb}
 use Rattle.scope.specs.Id.{require-atom, export}
@@ -23,7 +23,7 @@ use Rattle.lent.specs.Lists.{find, filter, isSome, mapped, among}
 use Rattle.lent.specs.Table.{fileOf}
 use Rattle.lent.specs.Fields.{has, findField, inside}
 use Rattle.extraction_rules.specs.State.{Record, Imported, Usage, State, Pass, first, second, Setting, Act, change, refuse, roomFor, setModules, setImported, setUsages, setCollected, setLazy, setTop}
-use Rattle.extraction_rules.specs.First.{idFrom, requested, moduleOf, moduleFor, forceId, onIdent, importedAs, usedRecord, addUsage, useProperty, useFrom, useImported, usage, required, collectIn, require, exportSpecifier, declarator}
+use Rattle.extraction_rules.specs.First.{idFrom, requested, moduleOf, moduleFor, forceId, onIdent, importedAs, usedRecord, useProperty, useFrom, useImported, usage, required, collectIn, require, exportSpecifier, declarator}
 use Rattle.extraction_rules.specs.Second.{usagesOf}
 use Rattle.extraction_rules.specs.Walk.{Rule, import, export as exporting, declare, express, nothing as nil, afterExpression, ruleFor, after, Parts, unwalked, member, super, assignment, children, partsFor, enter, walk, walkAll, walkMember, walkAssignment, walkTarget}
 use Rattle.extraction_rules.proofs.OutcomeLaws.{After, after-bind, after-weaken, after-both, after-if}
@@ -31,7 +31,7 @@ use Rattle.extraction_rules.proofs.ListLaws.{same-not, not-same}
 use Rattle.extraction_rules.proofs.WalkLaws.{walkParts}
 use Rattle.extraction_rules.proofs.TagLaws.{rule-import, ruleCode, other-rule, rule-export, partsCode, other-parts, parts-member, parts-assignment, parts-unwalked}
 use Rattle.extraction_rules.proofs.TableLaws.{recordOf, record-empty, seek, holdsIn, suitsIn, seek-collect, append-none, force-own, force-other, force-tables, forgotten-imported, other-imported, forgotten-usages, other-usages, usages-last, usages-other}
-use Rattle.extraction_rules.proofs.QuietLaws.{QuietSteps, quiet-module, quiet-require, quiet-declarator}
+use Rattle.extraction_rules.proofs.StepLaws.{RequireSteps, enter-keeps, moduleFor-keeps, declarator-keeps, require-keeps, addUsage-keeps}
 use Rattle.extraction_rules.proofs.AlikeLaws.{Two, RegularAt, Regular, RegularAll, SameBytes, Alike, AlikeAll, alike-more, alike-two, walk-alike, walkAll-alike, walkMember-alike, walkAssignment-alike, walkTarget-alike, parts-alike}
 use Rattle.claims.specs.Stands.{How, plain, computed, bare, original, imported, otherwise, idsIn, byMember, objectIds, isUse, isPlain, properties}
 use Rattle.claims.specs.Placed.{all}
@@ -156,24 +156,16 @@ module _ (i lit : List ℕ) (own file n : ℕ) where
         forced = refl;
       }
 
-  pub held-quiet : (us : List How) → QuietSteps (H us)
-  held-quiet us =
+  pub held-requires : (e : Setting) (us : List How) → RequireSteps e (H us)
+  held-requires e us =
       record {
         on-request = λ s f m ms q h. held-unfelt us s (setModules ms s) (unfelt-modules s ms (λ n w. request-keeps-numbers f (s .modules) q file n w)) h;
         on-cjs = λ s m h. held-unfelt us s (setModules (setMark Cjs m (s .modules)) s) (unfelt-modules s (setMark Cjs m (s .modules)) (λ n w. mark-keeps-numbers Cjs m (s .modules) file ∙ w)) h;
-        on-lazy = λ s r h. held-unfelt us s (setLazy (s .lazy ++ (r ∷ [])) s) (record { entry = refl; holders = λ j q. q; holder = refl; suited = refl; number = λ n q. q; context = refl; usages = refl; forced = refl }) h;
-        on-empty = λ s l h. held-unfelt us s (setCollected (collectIn (record { literal = l; specifiers = none }) (s .collected)) s) (unfelt-empty us s l h) h;
+        on-lazy = λ s r b h. held-unfelt us s (setLazy (s .lazy ++ (r ∷ [])) s) (record { entry = refl; holders = λ j q. q; holder = refl; suited = refl; number = λ n q. q; context = refl; usages = refl; forced = refl }) h;
       }
 
   pub held-top : (us : List How) (s : State) (b : Bool) → H us s → H us (setTop b s)
   held-top us s b h = held-unfelt us s (setTop b s) (record { entry = refl; holders = λ j q. q; holder = refl; suited = refl; number = λ n q. q; context = refl; usages = refl; forced = refl }) h
-
-  held-enter : (us : List How) (t : ℕ) (s : State) → H us s → H us (enter t s)
-  held-enter us t s h = go (eqb t 0x45)
-    where
-      go : (b : Bool) → H us (cond b (setTop false s) s)
-      go true = held-top us s false h
-      go false = h
 
   -- another id is forced
   pub unfelt-force : (s : State) (j : List ℕ) → same j i ≡ false → (seek (holdsIn j) (s .collected) ≡ some a → ⊥) → Unfelt i lit own file s (forceId j s)
@@ -264,22 +256,18 @@ module _ (i lit : List ℕ) (own file n : ℕ) where
     unfolding moduleFor
     module-own us p s h = rw (res, request-own (s .modules) (h .given))
 
-    add-held : (us : List How) (u : Usage) (p : ℕ) (s : State) → H us (setUsages (s .usages ++ (u ∷ [])) s) → After (addUsage u p s) (λ r t. H us t)
-    unfolding addUsage
-    add-held us u p s h = after-if (leb (length (s .usages ++ (u ∷ []))) 2048) (change (setUsages (s .usages ++ (u ∷ [])))) (refuse 8 p) s (λ r t. H us t) (λ _. h) (λ _. tt)
-
     -- of another id
     property-other : (us : List How) (o : Option ℕ) (j : List ℕ) (q : Field) (at p : ℕ) (s : State) → same j i ≡ false → H us s → After (useProperty o j q at p s) (λ r t. H us t)
     unfolding useProperty
     property-other us nothing j q at p s d h = h
     property-other us (some m) j q at p s d h =
-        after-if (has 0x72 q) (refuse 7 at) _ s (λ r t. H us t) (λ _. tt) (λ _. add-held us (record { id = j; property = idFrom (fixedOf q) (export m) }) p s (held-usage-other us s (record { id = j; property = idFrom (fixedOf q) (export m) }) d h))
+        after-if (has 0x72 q) (refuse 7 at) _ s (λ r t. H us t) (λ _. tt) (λ _. addUsage-keeps e (H us) (held-requires e us) (record { id = j; property = idFrom (fixedOf q) (export m) }) p s (held-usage-other us s (record { id = j; property = idFrom (fixedOf q) (export m) }) d h))
 
     from-other : (us : List How) (o : Option Record) (j : List ℕ) (q : Field) (at p : ℕ) (s : State) → same j i ≡ false → H us s → After (useFrom o e j q at p s) (λ r t. H us t)
     unfolding useFrom
     from-other us nothing j q at p s d h = h
     from-other us (some r) j q at p s d h =
-        after-bind (moduleFor e (valueOf (r .literal)) p s) _ (λ r t. H us t) (λ r t. H us t) (quiet-module e (H us) (held-quiet us) (valueOf (r .literal)) p s h) λ m s h. property-other us m j q at p s d h
+        after-bind (moduleFor e (valueOf (r .literal)) p s) _ (λ r t. H us t) (λ r t. H us t) (moduleFor-keeps e (H us) (held-requires e us) (valueOf (r .literal)) p s h) λ m s h. property-other us m j q at p s d h
 
     imported-other : (us : List How) (o : Option (List ℕ)) (j : List ℕ) (q : Field) (at p : ℕ) (s : State) → same j i ≡ false → H us s → After (useImported o e j q at p s) (λ r t. H us t)
     unfolding useImported
@@ -295,7 +283,7 @@ module _ (i lit : List ℕ) (own file n : ℕ) where
     from-own us (some r) q at p s w c h =
         let v : valueOf (r .literal) ≡ a = cc in
         rw (v, module-own us p s h)
-        (after-if (has 0x72 q) (refuse 7 at) _ s (λ r t. H (us ++ (plain (fixedOf q) ∷ [])) t) (λ _. tt) (λ _. add-held (us ++ (plain (fixedOf q) ∷ [])) (record { id = i; property = idFrom (fixedOf q) (export n) }) p s (held-usage us s (fixedOf q) c h)))
+        (after-if (has 0x72 q) (refuse 7 at) _ s (λ r t. H (us ++ (plain (fixedOf q) ∷ [])) t) (λ _. tt) (λ _. addUsage-keeps e (H (us ++ (plain (fixedOf q) ∷ []))) (held-requires e (us ++ (plain (fixedOf q) ∷ []))) (record { id = i; property = idFrom (fixedOf q) (export n) }) p s (held-usage us s (fixedOf q) c h)))
 
     -- a 72 is refused
     from-private : (us : List How) (o : Option Record) (q : Field) (at p : ℕ) (s : State) → mapped (λ (r : Record). valueOf (r .literal)) o ≡ some a → has 0x72 q ≡ true → H us s →
@@ -341,7 +329,7 @@ module _ (i lit : List ℕ) (own file n : ℕ) where
     -- ---- The rule of a field, once its parts are walked
 
     then-require : (us : List How) (f : Field) (p : ℕ) (m : Outcome (Unit {0} × State)) → After m (λ r t. H us t) → After (onto m (λ r. require (required e f) e f p (r .1))) (λ g t. H us t)
-    then-require us f p m h = after-bind m _ (λ r t. H us t) (λ g t. H us t) h λ r s h. quiet-require e (H us) (held-quiet us) (required e f) f p s h
+    then-require us f p m h = after-bind m _ (λ r t. H us t) (λ g t. H us t) h λ r s h. require-keeps e (H us) (held-requires e us) (λ s l b h. held-unfelt us s (setCollected (collectIn (record { literal = l; specifiers = none }) (s .collected)) s) (unfelt-empty us s l h) h) f p s h
 
     no-ident : (t : ℕ) (x : List ℕ) (ds : Fields) → eqb t 0x63 ≡ false → onIdent (field t x ds) ≡ nothing
     unfolding onIdent
@@ -406,7 +394,7 @@ module _ (i lit : List ℕ) (own file n : ℕ) where
           go : (t : ℕ) → t ≡ 0x23 → ((getD x 0 0 ≡ 1) × (7 ≤ length x)) ⊎ (getD x 0 0 ≡ 2) → After (exportSpecifier e x p s) (λ g t′. H (us ++ met (idsIn t x object) i) t′)
           go t v k = rw v (export-held us x object p s k h)
       rule-held declare us t x cs ds object p s q d w h =
-          after-bind (declarator e ds p s) _ (λ gs t′. H us t′) (λ g t′. H (us ++ met (idsIn t x object) i) t′) (quiet-declarator e (H us) (held-quiet us) ds p s h) λ gs s h.
+          after-bind (declarator e ds p s) _ (λ gs t′. H us t′) (λ g t′. H (us ++ met (idsIn t x object) i) t′) (declarator-keeps e (H us) (held-requires e us) ds p s h) λ gs s h.
           neutral-held us t x object s (ne-eqb t 0x23 (other-rule t 0x23 declare exporting q refl (λ z. omega arith))) (ne-eqb t 0x60 (other-rule t 0x60 declare express q refl (λ z. omega arith))) h
       rule-held express us t x cs ds object p s q d w h =
           first-held (e .pass) one us t x ds object p s (ne-eqb t 0x63 d) (ne-eqb t 0x23 (other-rule t 0x23 express exporting q refl (λ z. omega arith))) (w .ident-whole) h
@@ -527,7 +515,7 @@ module _ (i lit : List ℕ) (own file n : ℕ) where
         walk-held (field t x cs) us object p s w h =
             after-bind (walkParts (partsFor t) cs e object (inside p x) (enter t s)) _ (λ ds t′. H (us ++ inner (partsFor t) cs object) t′ × AlikeAll cs ds) (λ g t′. H (us ++ (met (idsIn t x object) i ++ waysParts (partsFor t) cs i object)) t′)
             (after-both (walkParts (partsFor t) cs e object (inside p x) (enter t s)) (λ ds t′. H (us ++ inner (partsFor t) cs object) t′) (λ ds t′. AlikeAll cs ds)
-            (parts-held (partsFor t) us cs object (inside p x) (enter t s) (λ b us p s h. walkAll-held cs us b p s (w .1) h) (λ us p s h. walkMember-held cs us p s (w .1) h) (λ q us p s h. walkAssignment-held cs us object p s (w .1) (w .0 .target (parts-assignment t q)) h) (held-enter us t s h))
+            (parts-held (partsFor t) us cs object (inside p x) (enter t s) (λ b us p s h. walkAll-held cs us b p s (w .1) h) (λ us p s h. walkMember-held cs us p s (w .1) h) (λ q us p s h. walkAssignment-held cs us object p s (w .1) (w .0 .target (parts-assignment t q)) h) (enter-keeps (H us) (held-top us) t s h))
             (parts-alike e one (partsFor t) cs object (inside p x) (enter t s) (λ b p s. walkAll-alike e one cs b p s (w .1)) (λ p s. walkMember-alike e one cs p s (w .1)) (λ p s. walkAssignment-alike e one cs object p s (w .1)))) λ ds s y.
             field-held (partsFor t) us t x cs ds object p s refl (w .0) (w .1) (y .1) (y .0)
 

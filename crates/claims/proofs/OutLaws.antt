@@ -21,9 +21,9 @@ use Rattle.tree.proofs.LayoutLaws.{same-refl, same-equal}
 use Rattle.tree.proofs.Table.{both-true}
 use Rattle.lent.specs.Outcome.{Outcome, done, onto}
 use Rattle.lent.specs.Lists.{find, filter, isSome, mapped, among}
-use Rattle.lent.specs.Fields.{has, findField, inside}
-use Rattle.extraction_rules.specs.State.{Record, Usage, State, Pass, first, second, Setting, refuse, setModules, setCollected, setLazy, setTop}
-use Rattle.extraction_rules.specs.First.{idFrom, forceId, onIdent, importedAs, required, withCallee, exportSpecifier, declarator, collectIn}
+use Rattle.lent.specs.Fields.{has, inside}
+use Rattle.extraction_rules.specs.State.{Record, Usage, State, Pass, first, second, Setting, refuse, setModules, setLazy, setTop}
+use Rattle.extraction_rules.specs.First.{idFrom, forceId, onIdent, importedAs, required, withCallee, exportSpecifier, declarator}
 use Rattle.extraction_rules.specs.Second.{usagesOf, asProperty, rewritten}
 use Rattle.extraction_rules.specs.Walk.{Rule, import, export as exporting, declare, express, nothing as nil, afterExpression, ruleFor, after, Parts, unwalked, member, super, assignment, children, partsFor, enter, walk, walkAll, walkMember, walkAssignment, walkTarget}
 use Rattle.extraction_rules.proofs.OutcomeLaws.{After, after-bind, after-weaken, after-both, after-if}
@@ -31,8 +31,8 @@ use Rattle.extraction_rules.proofs.ListLaws.{same-not, not-same, same-swap}
 use Rattle.extraction_rules.proofs.ValueLaws.{required-call, declarator-value}
 use Rattle.extraction_rules.proofs.WalkLaws.{walkParts}
 use Rattle.extraction_rules.proofs.TagLaws.{rule-import, ruleCode, other-rule, rule-export, partsCode, other-parts, parts-member, parts-assignment, parts-unwalked}
-use Rattle.extraction_rules.proofs.TableLaws.{recordOf, record-empty, seek, holdsIn, suitsIn, seek-collect, append-none, force-own, force-tables, forgotten-usages, other-imported, other-usages}
-use Rattle.extraction_rules.proofs.QuietLaws.{QuietSteps, quiet-declarator}
+use Rattle.extraction_rules.proofs.TableLaws.{recordOf, seek, holdsIn, force-own, force-tables, forgotten-usages, other-imported, other-usages}
+use Rattle.extraction_rules.proofs.StepLaws.{RequireSteps, enter-keeps, declarator-keeps}
 use Rattle.extraction_rules.proofs.AlikeLaws.{Two, RegularAt, Regular, RegularAll, SameBytes, equal, behind, callee, same-other, required-named, callee-bytes, export-front}
 use Rattle.extraction_rules.proofs.TestLaws.{or-neither}
 use Rattle.claims.specs.Stands.{How, plain, computed, bare, original, imported, otherwise, idsIn, byMember, objectIds, isUse, isPlain, isMisplaced, properties}
@@ -40,7 +40,7 @@ use Rattle.claims.specs.Placed.{all}
 use Rattle.claims.proofs.WaysLaws.{met-append, met, ways, waysAll, waysMember, waysAssignment, waysTarget, waysParts, waysObject}
 use Rattle.claims.proofs.HowLaws.{all-append, allPlain, plain-append, properties-append, Neutral, Unused, unused-neutral, ids-unused}
 use Rattle.claims.proofs.HeldLaws.{usagesFor, Unfelt, unfelt-modules, unfelt-force}
-use Rattle.claims.proofs.SettledLaws.{settledRecord, Sits, Settled, settled-unfelt}
+use Rattle.claims.proofs.SettledLaws.{Sits, Settled, settled-unfelt}
 
 -- an export context is no local context: one is odd, the other even
 pub export-foreign : (n own : ℕ) → same (four (export n)) (four (local own)) ≡ false
@@ -214,38 +214,16 @@ module _ (taken : Bool) (i lit : List ℕ) (own file n : ℕ) (ps : List (List �
   at-unfelt : (s t : State) → Unfelt i lit own file s t → t .usages ≡ s .usages → t .imported ≡ s .imported → At s → At t
   at-unfelt s t u p q h = (settled-unfelt i lit own file taken c ps s t u (h .0), λ j. rw (p, q) (h .1 j))
 
-  at-empty : (s : State) (l : List ℕ) → At s → Unfelt i lit own file s (setCollected (collectIn (record { literal = l; specifiers = none }) (s .collected)) s)
-  unfolding findField
-  at-empty s l h =
-      record {
-        entry = record-empty a l (settledRecord taken i lit c ps) (s .collected) (h .0 .entry) ∙ sym (h .0 .entry);
-        holders = λ j q. sym (seek-collect (holdsIn j) (record { literal = l; specifiers = none }) (s .collected) refl (λ gs. ap (holdsIn j) (append-none gs))) ∙ q;
-        holder = seek-collect (holdsIn i) (record { literal = l; specifiers = none }) (s .collected) refl (λ gs. ap (holdsIn i) (append-none gs));
-        suited = seek-collect (suitsIn own i) (record { literal = l; specifiers = none }) (s .collected) refl (λ gs. ap (suitsIn own i) (append-none gs));
-        number = λ m q. q;
-        context = refl;
-        usages = refl;
-        forced = refl;
-      }
-
-  pub at-quiet : QuietSteps At
-  at-quiet =
+  at-requires : (e : Setting) → RequireSteps e At
+  at-requires e =
       record {
         on-request = λ s f m ms q h. at-unfelt s (setModules ms s) (unfelt-modules i lit own file n s ms (λ m w. request-keeps-numbers f (s .modules) q file m w)) refl refl h;
         on-cjs = λ s m h. at-unfelt s (setModules (setMark Cjs m (s .modules)) s) (unfelt-modules i lit own file n s (setMark Cjs m (s .modules)) (λ k w. mark-keeps-numbers Cjs m (s .modules) file ∙ w)) refl refl h;
-        on-lazy = λ s r h. at-unfelt s (setLazy (s .lazy ++ (r ∷ [])) s) (record { entry = refl; holders = λ j q. q; holder = refl; suited = refl; number = λ n q. q; context = refl; usages = refl; forced = refl }) refl refl h;
-        on-empty = λ s l h. at-unfelt s (setCollected (collectIn (record { literal = l; specifiers = none }) (s .collected)) s) (at-empty s l h) refl refl h;
+        on-lazy = λ s r b h. at-unfelt s (setLazy (s .lazy ++ (r ∷ [])) s) (record { entry = refl; holders = λ j q. q; holder = refl; suited = refl; number = λ n q. q; context = refl; usages = refl; forced = refl }) refl refl h;
       }
 
   pub at-top : (s : State) (b : Bool) → At s → At (setTop b s)
   at-top s b h = at-unfelt s (setTop b s) (record { entry = refl; holders = λ j q. q; holder = refl; suited = refl; number = λ n q. q; context = refl; usages = refl; forced = refl }) refl refl h
-
-  at-enter : (t : ℕ) (s : State) → At s → At (enter t s)
-  at-enter t s h = go (eqb t 0x45)
-    where
-      go : (b : Bool) → At (cond b (setTop false s) s)
-      go true = at-top s false h
-      go false = h
 
   -- the id itself is forced: only where the import is kept
   settled-force : (s : State) (b : Bool) → b ≡ taken → (b ≡ true → ⊥) → Settled taken i lit c ps s → Settled taken i lit c ps (forceId i s)
@@ -482,7 +460,7 @@ module _ (taken : Bool) (i lit : List ℕ) (own file n : ℕ) (ps : List (List �
           go t cs v b k fine = rw (v, b) (export-out x object p s k (subst (λ (m : ℕ). Fine taken (met (idsIn m x object) i)) v fine) at)
       rule-out declare t x cs ds object p s q d w fine h at =
           after-bind (declarator e ds p s) _ (λ gs t′. At t′ × OA cs gs) (λ g t′. Walked (field t x cs) g t′)
-          (after-both (declarator e ds p s) (λ gs t′. At t′) (λ gs t′. OA cs gs) (quiet-declarator e At at-quiet ds p s at) (declarator-out taken i c own e cs ds p s h)) λ gs s y.
+          (after-both (declarator e ds p s) (λ gs t′. At t′) (λ gs t′. OA cs gs) (declarator-keeps e At (at-requires e) ds p s at) (declarator-out taken i c own e cs ds p s h)) λ gs s y.
           (y .0, out-stays taken i c own t x cs gs d (y .1))
       rule-out express t x cs ds object p s q d w fine h at = plain-expression (e .pass) two-pass t x cs ds object p s d h at
       rule-out nil t x cs ds object p s q d w fine h at = (at, out-stays taken i c own t x cs ds d h)
@@ -558,7 +536,7 @@ module _ (taken : Bool) (i lit : List ℕ) (own file n : ℕ) (ps : List (List �
         walk-out (field t x cs) object p s w fine at =
             after-bind (walkParts (partsFor t) cs e object (inside p x) (enter t s)) _ (λ ds t′. At t′ × OA cs ds) (λ g t′. Walked (field t x cs) g t′)
             (parts-out (partsFor t) t cs object (inside p x) (enter t s) refl (w .0 .no-import) (w .0 .export-bare) (fine-append taken (met (idsIn t x object) i) (waysParts (partsFor t) cs i object) fine .1)
-            (λ b p s fine at. walkAll-out cs b p s (w .1) fine at) (λ p s fine at. walkMember-out cs p s (w .1) fine at) (λ p s fine at. walkAssignment-out cs object p s (w .1) fine at) (at-enter t s at)) λ ds s y.
+            (λ b p s fine at. walkAll-out cs b p s (w .1) fine at) (λ p s fine at. walkMember-out cs p s (w .1) fine at) (λ p s fine at. walkAssignment-out cs object p s (w .1) fine at) (enter-keeps At at-top t s at)) λ ds s y.
             field-out (partsFor t) t x cs ds object p s refl (w .0) (w .1) fine (y .1) (y .0)
 
         pub walkAll-out : (fs : Fields) (object : Bool) (p : ℕ) (s : State) → RegularAll fs → Fine taken (waysAll fs i object) → At s → After (walkAll fs e object p s) (λ gs t. At t × OA fs gs)

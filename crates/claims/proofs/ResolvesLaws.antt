@@ -44,11 +44,9 @@ module _ (a : List ℕ) where
       record {
         common =
             record {
-              on-request = λ s g m ms q h. h;
-              on-cjs = λ s m h. h;
+              requires = record { on-request = λ s g m ms q h. h; on-cjs = λ s m h. h; on-lazy = λ s r b h. h };
               on-force = λ s i h. force-cases i s Collected h (λ r w. h);
               on-top = λ s b h. h;
-              on-lazy = λ s r b h. h;
             };
         one = λ _. record { on-note = λ s m h. h; on-usage = λ s u c w h. h; on-collect = λ s r b h. collect-stays a r (s .collected) h };
         two =

@@ -25,7 +25,6 @@ use Rattle.extraction_rules.proofs.OutcomeLaws.{After, after-bind, after-weaken
 use Rattle.extraction_rules.proofs.ListLaws.{same-not, not-same, same-swap, among-last, among-new}
 use Rattle.extraction_rules.proofs.FirstLaws.{source-cases, extend-literal}
 use Rattle.extraction_rules.proofs.TableLaws.{recordOf, record-empty, record-map, record-extend, seek, holdsIn, suitsIn, seek-collect, seek-extend, extend-own, from-finds, find-append, append-none, suits-append, source-forced, source-other, force-other, force-own, force-tables, other-imported, other-usages, forgotten-usages}
-use Rattle.extraction_rules.proofs.QuietLaws.{QuietSteps}
 use Rattle.claims.specs.Stands.{How, plain, computed, bare, original, imported, otherwise, isUse, isPlain, properties}
 use Rattle.claims.specs.Demand.{propertyFields, isUsed}
 use Rattle.claims.specs.Placed.{all}

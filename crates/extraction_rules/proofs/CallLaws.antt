@@ -8,17 +8,17 @@ use Rattle.tree.specs.declared.grammar.Set.the-variants.{Module}
 use Rattle.tree.specs.Tree.{Fields}
 use Rattle.tree.specs.Read.{read}
 use Rattle.lent.specs.Outcome.{Outcome, done, refused, placeless, refuseIf}
-use Rattle.lent.specs.Table.{Row, rowsIn, tableOf, fileOf}
+use Rattle.lent.specs.Table.{Row, rowsIn, tableOf}
 use Rattle.lent.specs.Buffer.{fits}
 use Rattle.lent.proofs.AcceptedLaws.{done-inj, onto-done, placeless-done, table-rows}
-use Rattle.extraction_rules.specs.State.{State, first, second, Setting, start}
-use Rattle.extraction_rules.specs.First.{requested, moduleOf, moduleFor}
+use Rattle.extraction_rules.specs.State.{State, first, second, Setting, start, setModules}
+use Rattle.extraction_rules.specs.First.{moduleFor}
 use Rattle.extraction_rules.specs.Second.{wrapModule, wrapAll, loseNamespaces, finish}
 use Rattle.extraction_rules.specs.Walk.{walkModule, walkAgain}
 use Rattle.extraction_rules.specs.Records.{recordsOf}
 use Rattle.extraction_rules.specs.Call.{Lent, Lengths, Extracted, badLists, itemsRead, ownModule, setting, moduleWith, extractedFrom, passes, extracted}
 use Rattle.extraction_rules.proofs.OutcomeLaws.{After, after-bind, after-both, after-weaken, after-done}
-use Rattle.extraction_rules.proofs.StepLaws.{finish-keeps}
+use Rattle.extraction_rules.proofs.StepLaws.{finish-keeps, moduleFor-stays}
 use Rattle.extraction_rules.proofs.SanityLaws.{Numbered, numbered-steps, numbered-end}
 
 -- ---- Both passes of an accepted call
@@ -89,16 +89,10 @@ after-each (refused n p) P h = tt
 
 module _ (e : Setting) where
   moduleFor-untouched : (a : List ℕ) (p : ℕ) (s : State) → After (moduleFor e a p s) (λ n t. Untouched s t)
-  unfolding moduleFor
-  moduleFor-untouched a p s = go (fileOf a (e .table))
-    where
-      ask : (r : Option (ℕ × Modules)) → After (requested r p s) (λ n t. Untouched s t)
-      ask nothing = tt
-      ask (some r) = (refl, refl, refl)
-
-      go : (o : Option ℕ) → After (moduleOf o p s) (λ n t. Untouched s t)
-      go nothing = (refl, refl, refl)
-      go (some f) = ask (request f (s .modules))
+  moduleFor-untouched a p s =
+      after-weaken (moduleFor e a p s) (λ n t. Unit {0} × (t ≡ setModules (t .modules) s)) (λ n t. Untouched s t)
+      (λ n t k. (ap (λ (t : State). t .collected) (k .1), ap (λ (t : State). t .forced) (k .1), ap (λ (t : State). t .lazy) (k .1)))
+      (moduleFor-stays e (λ _. Unit {0}) (record { on-request = λ s f n ms q h. h; on-cjs = λ s n h. h; on-lazy = λ s r b h. h }) a p s tt)
 
   wrapModule-untouched : (o : Option ℕ) (s : State) → After (wrapModule o s) (λ n t. Untouched s t)
   unfolding wrapModule
@@ -126,7 +120,7 @@ module _ (e : Setting) where
   finish-numbers : (s : State) → After (finish e s) (λ _ t. (k : (f : ℕ) × (n : ℕ) × (numberOf f (s .modules) ≡ some n)) → numberOf (k .0) (t .modules) ≡ some (k .1))
   finish-numbers s =
       after-each (finish e s) (λ k _ t. numberOf (k .0) (t .modules) ≡ some (k .1))
-      (λ k. finish-keeps e (Numbered (k .0) (k .1)) (numbered-steps e (λ _. Unit {0}) (k .0) (k .1) .common) (numbered-end (k .0) (k .1)) s (k .2))
+      (λ k. finish-keeps e (Numbered (k .0) (k .1)) (numbered-steps e (λ _. Unit {0}) (k .0) (k .1) .common .requires) (numbered-end (k .0) (k .1)) s (k .2))
 
   pub finish-leaves : (s : State) → After (finish e s) (λ _ t. Finished s t)
   finish-leaves s =

@@ -2,52 +2,36 @@
 use Prim.Native.Nat.{ℕ, _+_}
 use mathlib.Core.Path.{_≡_, refl, sym, ap, subst, _∙_}
 use mathlib.Core.Logic.{_⊎_, inl, inr}
-use mathlib.Core.Bool.{Bool, true, false, not, cond, _&&_, _||_, true≢false}
+use mathlib.Core.Bool.{Bool, true, false, not, cond, _&&_, true≢false}
 use mathlib.Core.List.{List, [], _∷_, _++_}
 use mathlib.Core.Option.{Option, none as nothing, some}
 use native.Mathlib.Omega.{arith}
-use lib.Dec.{leb, eqb}
-use lib.ListN.{length, getD}
+use lib.Dec.{eqb}
+use lib.ListN.{length}
 use borrow.Author.Tests.{eqb-true}
 use Rattle.scope.specs.Id.{export}
-use Rattle.scope.specs.Modules.{Modules, request}
-use Rattle.tree.specs.Layout.{idAt, valueOf}
+use Rattle.tree.specs.Layout.{valueOf}
 use Rattle.tree.specs.Tree.{Field, field, Fields, none, more, tagOf, fixedOf, size}
 use Rattle.tree.specs.Grammar.{within}
 use Rattle.lent.specs.Outcome.{Outcome, done, onto}
-use Rattle.lent.specs.Table.{fileOf}
 use Rattle.lent.specs.Fields.{has, inside}
-use Rattle.extraction_rules.specs.State.{Record, Usage, State, Pass, first, second, Setting, change, refuse, setModules, setUsages, setTop}
-use Rattle.extraction_rules.specs.First.{idFrom, requested, moduleOf, moduleFor, forceId, onIdent, importedAs, usedRecord, addUsage, useProperty, useFrom, useImported, usage, required, require, exportSpecifier, declarator}
+use Rattle.extraction_rules.specs.State.{Record, Usage, State, Pass, first, second, Setting, change, refuse, setModules, setUsages}
+use Rattle.extraction_rules.specs.First.{idFrom, moduleFor, forceId, onIdent, importedAs, usedRecord, addUsage, useProperty, useFrom, useImported, usage, require, declarator}
 use Rattle.extraction_rules.specs.Walk.{Rule, import, export as exporting, declare, express, nothing as plain, afterExpression, ruleFor, after, Parts, unwalked, member, super, assignment, children, partsFor, enter, walk, walkAll, walkMember, walkAssignment, walkTarget}
-use Rattle.extraction_rules.proofs.OutcomeLaws.{After, after-bind, after-both, after-if}
-use Rattle.extraction_rules.proofs.StepLaws.{Keeps}
+use Rattle.extraction_rules.proofs.OutcomeLaws.{after-bind, after-both, after-if}
+use Rattle.extraction_rules.proofs.StepLaws.{Keeps, CommonSteps, EmptyKeeps, then-keeps, enter-keeps, moduleFor-stays, addUsage-keeps, require-keeps, declarator-keeps, exportSpecifier-keeps}
 use Rattle.extraction_rules.proofs.WalkLaws.{walkParts}
 use Rattle.extraction_rules.proofs.TagLaws.{rule-import, parts-member}
-use Rattle.extraction_rules.proofs.QuietLaws.{QuietSteps, quiet-require, quiet-declarator}
 use Rattle.extraction_rules.proofs.AlikeLaws.{Two, RegularAt, Regular, RegularAll, AlikeAll, alike-two, regularAll-alike, parts-alike, walkAll-alike, walkMember-alike, walkAssignment-alike}
 
 pub record ItemSteps (e : Setting) (J : State → Type 0) : Type 0 where
-  pub quiet : QuietSteps J
-  pub on-force : (s : State) (i : List ℕ) → J s → J (forceId i s)
-  pub on-top : (s : State) (b : Bool) → J s → J (setTop b s)
+  pub common : CommonSteps e J
+  pub on-empty : EmptyKeeps e J
   -- a usage of the id j: the property p in an export context, and the record that was found
   pub on-usage : (s : State) (j p : List ℕ) (n : ℕ) (r : Record) → usedRecord (e .own) j (s .collected) ≡ some r → length p ≡ 2 → J s →
       J (setUsages (s .usages ++ (record { id = j; property = idFrom p (export n) } ∷ [])) s)
 
 module _ (e : Setting) (J : State → Type 0) (steps : ItemSteps e J) where
-  module-keeps : (a : List ℕ) (p : ℕ) (s : State) → J s → After (moduleFor e a p s) (λ n t. J t × (t .collected ≡ s .collected))
-  unfolding moduleFor
-  module-keeps a p s h = go (fileOf a (e .table))
-    where
-      ask : (f : ℕ) (r : Option (ℕ × Modules)) → request f (s .modules) ≡ r → After (requested r p s) (λ n t. J t × (t .collected ≡ s .collected))
-      ask f nothing q = tt
-      ask f (some r) q = (steps .quiet .on-request s f (r .0) (r .1) q h, refl)
-
-      go : (o : Option ℕ) → After (moduleOf o p s) (λ n t. J t × (t .collected ≡ s .collected))
-      go nothing = (h, refl)
-      go (some f) = ask f (request f (s .modules)) refl
-
   -- a member: 70, 71 or 72, and a 70 of two bytes
   abbrev Member : Field → Type 0
   Member q = ((tagOf q ≡ 0x70) ⊎ ((tagOf q ≡ 0x71) ⊎ (tagOf q ≡ 0x72))) × (tagOf q ≡ 0x70 → length (fixedOf q) ≡ 2)
@@ -58,25 +42,25 @@ module _ (e : Setting) (J : State → Type 0) (steps : ItemSteps e J) where
   two-bytes q (inr (inr k), w) a b = absurd (true≢false (sym (ap (λ (m : ℕ). eqb m 0x72) k) ∙ b))
 
   property-keeps : (o : Option ℕ) (j : List ℕ) (q : Field) (at p : ℕ) (s : State) (r : Record) → usedRecord (e .own) j (s .collected) ≡ some r → Member q → has 0x71 q ≡ false → J s → Keeps J (useProperty o j q at p s)
-  unfolding useProperty addUsage
+  unfolding useProperty
   property-keeps nothing j q at p s r w m a h = h
   property-keeps (some n) j q at p s r w m a h =
       let u : Usage = record { id = j; property = idFrom (fixedOf q) (export n) } in
       after-if (has 0x72 q) (refuse 7 at) (addUsage u p) s (λ r s. J s) (λ _. tt)
-      (λ b. after-if (leb (length (s .usages ++ (u ∷ []))) 2048) (change (setUsages (s .usages ++ (u ∷ [])))) (refuse 8 p) s (λ r s. J s) (λ _. steps .on-usage s j (fixedOf q) n r w (two-bytes q m a b) h) (λ _. tt))
+      (λ b. addUsage-keeps e J (steps .common .requires) u p s (steps .on-usage s j (fixedOf q) n r w (two-bytes q m a b) h))
 
   from-keeps : (o : Option Record) (j : List ℕ) (q : Field) (at p : ℕ) (s : State) → usedRecord (e .own) j (s .collected) ≡ o → Member q → has 0x71 q ≡ false → J s → Keeps J (useFrom o e j q at p s)
   unfolding useFrom
   from-keeps nothing j q at p s w m a h = h
   from-keeps (some r) j q at p s w m a h =
-      after-bind (moduleFor e (valueOf (r .literal)) p s) _ (λ n t. J t × (t .collected ≡ s .collected)) (λ r s. J s) (module-keeps (valueOf (r .literal)) p s h) λ n t k.
-      property-keeps n j q at p t r (ap (usedRecord (e .own) j) (k .1) ∙ w) m a (k .0)
+      after-bind (moduleFor e (valueOf (r .literal)) p s) _ (λ n t. J t × (t ≡ setModules (t .modules) s)) (λ r s. J s) (moduleFor-stays e J (steps .common .requires) (valueOf (r .literal)) p s h) λ n t k.
+      property-keeps n j q at p t r (ap (λ (t : State). usedRecord (e .own) j (t .collected)) (k .1) ∙ w) m a (k .0)
 
   imported-keeps : (o : Option (List ℕ)) (j : List ℕ) (q : Field) (at p : ℕ) (s : State) → Member q → J s → Keeps J (useImported o e j q at p s)
   unfolding useImported
   imported-keeps nothing j q at p s m h = h
   imported-keeps (some k) j q at p s m h =
-      after-if (has 0x71 q) (change (forceId j)) _ s (λ r s. J s) (λ _. steps .on-force s j h) (λ a. from-keeps (usedRecord (e .own) j (s .collected)) j q at p s refl m a h)
+      after-if (has 0x71 q) (change (forceId j)) _ s (λ r s. J s) (λ _. steps .common .on-force s j h) (λ a. from-keeps (usedRecord (e .own) j (s .collected)) j q at p s refl m a h)
 
   usage-pair : (t : ℕ) (x : List ℕ) (ds : Fields) (p : ℕ) (s : State) → (t ≡ 0x63 → Two ds × RegularAll ds) → J s → Keeps J (usage (onIdent (field t x ds)) e p s)
   unfolding usage onIdent
@@ -98,26 +82,18 @@ module _ (e : Setting) (J : State → Type 0) (steps : ItemSteps e J) where
   expression-keeps : (k : Pass) → k ≡ first → (t : ℕ) (x : List ℕ) (ds : Fields) (object : Bool) (p : ℕ) (s : State) → (t ≡ 0x63 → Two ds × RegularAll ds) → J s → Keeps J (afterExpression k e (field t x ds) object p s)
   unfolding afterExpression
   expression-keeps first q t x ds object p s w h =
-      after-if (has 0x60 (field t x ds) && not object) _ _ s (λ r s. J s) (λ _. steps .on-force s x h)
-      (λ _. after-bind (usage (onIdent (field t x ds)) e p s) _ (λ r s. J s) (λ r s. J s) (usage-pair t x ds p s w h) λ _ s h. quiet-require e J (steps .quiet) (required e (field t x ds)) (field t x ds) p s h)
+      after-if (has 0x60 (field t x ds) && not object) _ _ s (λ r s. J s) (λ _. steps .common .on-force s x h)
+      (λ _. then-keeps J (usage (onIdent (field t x ds)) e p s) _ (usage-pair t x ds p s w h) λ _ s h. require-keeps e J (steps .common .requires) (steps .on-empty) (field t x ds) p s h)
   expression-keeps second q t x ds object p s w h = absurd (let z : _≡_ {A = ℕ} 0 1 = cc in omega arith)
 
   module _ (one : e .pass ≡ first) where
     rule-keeps : (r : Rule) (t : ℕ) (x : List ℕ) (cs ds : Fields) (object : Bool) (p : ℕ) (s : State) → ruleFor t ≡ r → RegularAt t x cs → RegularAll cs → AlikeAll cs ds → J s → Keeps J (after r e t x ds object p s)
-    unfolding after exportSpecifier
+    unfolding after
     rule-keeps import t x cs ds object p s q w k a h = absurd (w .no-import (rule-import t q))
-    rule-keeps exporting t x cs ds object p s q w k a h =
-        after-if (eqb (getD x 0 0) 2 || eqb (getD x 7 0) 2) (refuse 6 p) _ s (λ r s. J s) (λ _. tt) (λ _. steps .on-force s (idAt x 1) h)
-    rule-keeps declare t x cs ds object p s q w k a h = after-bind (declarator e ds p s) _ (λ r s. J s) (λ r s. J s) (quiet-declarator e J (steps .quiet) ds p s h) λ ds s h. h
+    rule-keeps exporting t x cs ds object p s q w k a h = exportSpecifier-keeps e J (steps .common) x p s h
+    rule-keeps declare t x cs ds object p s q w k a h = then-keeps J (declarator e ds p s) _ (declarator-keeps e J (steps .common .requires) ds p s h) λ ds s h. h
     rule-keeps express t x cs ds object p s q w k a h = expression-keeps (e .pass) one t x ds object p s (λ z. (alike-two cs ds a (w .member-two z), regularAll-alike cs ds a k)) h
     rule-keeps plain t x cs ds object p s q w k a h = h
-
-    enter-keeps : (t : ℕ) (s : State) → J s → J (enter t s)
-    enter-keeps t s h = go (eqb t 0x45)
-      where
-        go : (b : Bool) → J (cond b (setTop false s) s)
-        go true = steps .on-top s false h
-        go false = h
 
     parts-keep : (v : Parts) (cs : Fields) (object : Bool) (p : ℕ) (s : State) → ((b : Bool) (p : ℕ) (s : State) → J s → Keeps J (walkAll cs e b p s)) → ((p : ℕ) (s : State) → J s → Keeps J (walkMember cs e p s)) →
         ((p : ℕ) (s : State) → J s → Keeps J (walkAssignment cs e object p s)) → J s → Keeps J (walkParts v cs e object p s)
@@ -128,7 +104,7 @@ module _ (e : Setting) (J : State → Type 0) (steps : ItemSteps e J) where
     parts-keep children cs object p s all mem asg h = all object p s h
 
     both-keep : (m : Outcome (Field × State)) (k : State → Outcome (Fields × State)) → Keeps J m → ((s : State) → J s → Keeps J (k s)) → Keeps J (onto m (λ r. onto (k (r .1)) (λ q. done (more (r .0) (q .0), q .1))))
-    both-keep m k h w = after-bind m _ (λ r s. J s) (λ r s. J s) h λ g s h. after-bind (k s) _ (λ r s. J s) (λ r s. J s) (w s h) λ gs s h. h
+    both-keep m k h w = then-keeps J m _ h λ g s h. then-keeps J (k s) _ (w s h) λ gs s h. h
 
     mutual
       unfolding walk
@@ -137,7 +113,7 @@ module _ (e : Setting) (J : State → Type 0) (steps : ItemSteps e J) where
       item-keeps (field t x cs) object p s w h =
           after-bind (walkParts (partsFor t) cs e object (inside p x) (enter t s)) _ (λ ds s. J s × AlikeAll cs ds) (λ g s. J s)
           (after-both (walkParts (partsFor t) cs e object (inside p x) (enter t s)) (λ ds s. J s) (λ ds s. AlikeAll cs ds)
-          (parts-keep (partsFor t) cs object (inside p x) (enter t s) (λ b p s h. items-keep cs b p s (w .1) h) (λ p s h. member-keeps cs p s (w .1) h) (λ p s h. assignment-keeps cs object p s (w .1) h) (enter-keeps t s h))
+          (parts-keep (partsFor t) cs object (inside p x) (enter t s) (λ b p s h. items-keep cs b p s (w .1) h) (λ p s h. member-keeps cs p s (w .1) h) (λ p s h. assignment-keeps cs object p s (w .1) h) (enter-keeps J (steps .common .on-top) t s h))
           (parts-alike e one (partsFor t) cs object (inside p x) (enter t s) (λ b p s. walkAll-alike e one cs b p s (w .1)) (λ p s. walkMember-alike e one cs p s (w .1)) (λ p s. walkAssignment-alike e one cs object p s (w .1)))) λ ds s y.
           rule-keeps (ruleFor t) t x cs ds object p s refl (w .0) (w .1) (y .1) (y .0)
 
@@ -154,4 +130,4 @@ module _ (e : Setting) (J : State → Type 0) (steps : ItemSteps e J) where
       assignment-keeps (more f fs) object p s w h = both-keep (walkTarget f e p s) (walkAll fs e object (p + size f)) (target-keeps f p s (w .0) h) (λ s h. items-keep fs object (p + size f) s (w .1) h)
 
       target-keeps : (f : Field) (p : ℕ) (s : State) → Regular f → J s → Keeps J (walkTarget f e p s)
-      target-keeps (field t x cs) p s w h = after-bind (walkMember cs e (inside p x) s) _ (λ ds s. J s) (λ g s. J s) (member-keeps cs (inside p x) s (w .1) h) λ ds s h. h
+      target-keeps (field t x cs) p s w h = then-keeps J (walkMember cs e (inside p x) s) _ (member-keeps cs (inside p x) s (w .1) h) λ ds s h. h

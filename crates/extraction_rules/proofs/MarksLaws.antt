@@ -64,11 +64,9 @@ unwrapped-steps e ms =
     record {
       common =
           record {
-            on-request = λ s f k ms′ q h n. request-keeps-marks f (s .modules) q Wrapping n ∙ h n;
-            on-cjs = λ s m h n. mark-keeps-kinds Cjs Wrapping m n (s .modules) wrapping-not-cjs ∙ h n;
+            requires = record { on-request = λ s f k ms′ q h n. request-keeps-marks f (s .modules) q Wrapping n ∙ h n; on-cjs = λ s m h n. mark-keeps-kinds Cjs Wrapping m n (s .modules) wrapping-not-cjs ∙ h n; on-lazy = λ s r b h. h };
             on-force = λ s i h. force-cases i s (Unwrapped ms) h (λ r w. h);
             on-top = λ s b h. h;
-            on-lazy = λ s r b h. h;
           };
       one = λ _. record { on-note = λ s m h. h; on-usage = λ s u c w h. h; on-collect = λ s r b h. h };
       two = λ _. record { on-extend = λ s x us h. h; on-source = λ s x b q h. source-cases (valueOf x) s (Unwrapped ms) (λ _. h) h };

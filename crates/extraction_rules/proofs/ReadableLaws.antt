@@ -84,7 +84,7 @@ module _ (e : Setting) where
       after-bind (walkModule e items s) _ (λ gs s′. Results items gs (ruleOf 0x01) × Widths s′)
       (λ gs s′. Results items gs (ruleOf 0x01) × Widths s′) (module-results items s h w) λ gs s a.
       after-bind (finish e s) _ (λ _ s′. Widths s′) (λ gs s′. Results items gs (ruleOf 0x01) × Widths s′)
-      (finish-keeps e Widths (widths-common e) (record { on-wrap = λ s n w. w; on-lose = λ s w. w }) s (a .1)) λ _ s w. (a .0, w)
+      (finish-keeps e Widths (widths-common e .requires) (record { on-wrap = λ s n w. w; on-lose = λ s w. w }) s (a .1)) λ _ s w. (a .0, w)
 
 -- items within the grammar, in a module at most 64 deep
 pub record Items (fs : Fields) : Type 0 where

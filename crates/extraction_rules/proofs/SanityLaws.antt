@@ -31,11 +31,9 @@ numbered-steps e P f n =
     record {
       common =
           record {
-            on-request = λ s g m ms q h. request-keeps-numbers g (s .modules) q f n h;
-            on-cjs = λ s m h. mark-keeps-numbers Cjs m (s .modules) f ∙ h;
+            requires = record { on-request = λ s g m ms q h. request-keeps-numbers g (s .modules) q f n h; on-cjs = λ s m h. mark-keeps-numbers Cjs m (s .modules) f ∙ h; on-lazy = λ s r b h. h };
             on-force = λ s i h. force-cases i s (Numbered f n) h (λ r w. h);
             on-top = λ s b h. h;
-            on-lazy = λ s r b h. h;
           };
       one = λ _. record { on-note = λ s m h. h; on-usage = λ s u c w h. h; on-collect = λ s r b h. h };
       two = λ _. record { on-extend = λ s x us h. h; on-source = λ s x b q h. source-cases (valueOf x) s (Numbered f n) (λ _. h) h };
@@ -55,11 +53,9 @@ distinct-steps e P =
     record {
       common =
           record {
-            on-request = λ s g m ms q h. h;
-            on-cjs = λ s m h. h;
+            requires = record { on-request = λ s g m ms q h. h; on-cjs = λ s m h. h; on-lazy = λ s r b h. h };
             on-force = λ s i h. force-cases i s DistinctSources h (λ r w. h);
             on-top = λ s b h. h;
-            on-lazy = λ s r b h. h;
           };
       one =
           λ _. record {
@@ -103,11 +99,9 @@ own-steps e P =
     record {
       common =
           record {
-            on-request = λ s g m ms q h. h;
-            on-cjs = λ s m h. h;
+            requires = record { on-request = λ s g m ms q h. h; on-cjs = λ s m h. h; on-lazy = λ s r b h. (h .0, all-last (λ r. among (valueOf (r .literal)) (e .externals) ≡ false) (s .lazy) r (h .1) b) };
             on-force = λ s i h. force-cases i s J h (λ r w. h);
             on-top = λ s b h. h;
-            on-lazy = λ s r b h. (h .0, all-last (λ r. among (valueOf (r .literal)) (e .externals) ≡ false) (s .lazy) r (h .1) b);
           };
       one =
           λ _. record {
@@ -151,11 +145,9 @@ imported-steps e P =
     record {
       common =
           record {
-            on-request = λ s g m ms q h. h;
-            on-cjs = λ s m h. h;
+            requires = record { on-request = λ s g m ms q h. h; on-cjs = λ s m h. h; on-lazy = λ s r b h. h };
             on-force = λ s i h. force-cases i s UsagesImported (forget-imported i s h) (λ r w. forget-imported i s h);
             on-top = λ s b h. h;
-            on-lazy = λ s r b h. h;
           };
       one =
           λ _. record {
@@ -192,7 +184,7 @@ forced-force s i h =
 pub forced-steps-first : (e : Setting) (P : List ℕ → Type 0) → e .pass ≡ first → Steps e P ForcedCollected
 forced-steps-first e P k =
     record {
-      common = record { on-request = λ s g m ms q h. h; on-cjs = λ s m h. h; on-force = forced-force; on-top = λ s b h. h; on-lazy = λ s r b h. h };
+      common = record { requires = record { on-request = λ s g m ms q h. h; on-cjs = λ s m h. h; on-lazy = λ s r b h. h }; on-force = forced-force; on-top = λ s b h. h };
       one =
           λ _. record {
             on-note = λ s m h. h;
@@ -218,8 +210,7 @@ forced-steps-second e sources k =
     record {
       common =
           record {
-            on-request = λ s g m ms q h. h;
-            on-cjs = λ s m h. h;
+            requires = record { on-request = λ s g m ms q h. h; on-cjs = λ s m h. h; on-lazy = λ s r b h. h };
             on-force = λ s i h. force-cases i s (ForcedAmong sources) h
                 (λ r w. (
                   h .0,
@@ -227,7 +218,6 @@ forced-steps-second e sources k =
                       (ap (among (valueOf (r .literal))) (sym (h .0)) ∙ found-among (holdsNamespace i) (s .collected) r w),
                 ));
             on-top = λ s b h. h;
-            on-lazy = λ s r b h. h;
           };
       one = λ q. first-second q k;
       two =

@@ -10,23 +10,21 @@ use lib.Dec.{leb, eqb}
 use lib.ListN.{length, getD, take, drop}
 use Rattle.tree.proofs.Table.{both-true}
 use Rattle.scope.specs.Id.{local, export}
-use Rattle.scope.specs.Modules.{Modules, request}
 use Rattle.tree.specs.Layout.{same, four, idAt, nameOf, contextOf, valueOf}
 use Rattle.tree.specs.Tree.{Field, field, Fields, none, more, tagOf, fixedOf, partsOf, size}
 use Rattle.tree.proofs.LayoutLaws.{same-refl, same-equal}
 use Rattle.metadata.specs.Metadata.{append}
 use Rattle.lent.specs.Outcome.{Outcome, done, onto}
 use Rattle.lent.specs.Lists.{find, filter, mapped}
-use Rattle.lent.specs.Table.{fileOf}
 use Rattle.lent.specs.Fields.{has, findField, inside}
 use Rattle.extraction_rules.specs.State.{Record, Imported, Usage, State, Pass, first, second, Setting, give, change, refuse, setModules, setImported, setCollected}
-use Rattle.extraction_rules.specs.First.{external, idFrom, requested, moduleOf, moduleFor, forceId, importedAs, suits, usedRecord, collectIn, collect, noteIn, noteId, outsideName, noteNamed, notedContext, noteSpecifier, noteAll, noteSpecifiers, specifiersIn, withContext, importFirst}
+use Rattle.extraction_rules.specs.First.{external, idFrom, moduleFor, forceId, importedAs, suits, usedRecord, collectIn, collect, noteIn, noteId, outsideName, noteNamed, notedContext, noteSpecifier, noteAll, noteSpecifiers, specifiersIn, withContext, importFirst}
 use Rattle.extraction_rules.specs.Second.{usagesOf}
 use Rattle.extraction_rules.proofs.OutcomeLaws.{After, after-bind, after-if}
 use Rattle.extraction_rules.proofs.ListLaws.{All, all-last, all-filter, all-find, all-first, same-not, not-same}
 use Rattle.extraction_rules.proofs.TableLaws.{Each, each-weaken, each-append, find-meets, forgotten-imported, other-imported, noted-own, noted-other, force-tables}
-use Rattle.extraction_rules.proofs.QuietLaws.{QuietSteps}
 use Rattle.extraction_rules.proofs.ItemsLaws.{ItemSteps}
+use Rattle.extraction_rules.proofs.StepLaws.{RequireSteps, moduleFor-keeps}
 
 -- an id is its name and its context
 pub same-id : (i j : List ℕ) → nameOf i ≡ nameOf j → contextOf i ≡ contextOf j → i ≡ j
@@ -105,21 +103,19 @@ module _ (Space : List ℕ → Type 0) (own : ℕ) (locals : (j : List ℕ) → 
       go j false q (inl w) = inl (other-imported j i (s .imported) q ∙ w)
       go j false q (inr w) = inr (w .0, other-imported j i (s .imported) q ∙ w .1)
 
-  pub space-quiet : QuietSteps Spaces
-  space-quiet =
+  pub space-requires : (e : Setting) → RequireSteps e Spaces
+  space-requires e =
       record {
         on-request = λ s f m ms q h. record { records = h .records; imports = h .imports; usages = h .usages };
         on-cjs = λ s m h. record { records = h .records; imports = h .imports; usages = h .usages };
-        on-lazy = λ s r h. record { records = h .records; imports = h .imports; usages = h .usages };
-        on-empty = λ s l h. record { records = collect-space (record { literal = l; specifiers = none }) (s .collected) tt (h .records); imports = h .imports; usages = h .usages };
+        on-lazy = λ s r b h. record { records = h .records; imports = h .imports; usages = h .usages };
       }
 
   pub space-steps : (e : Setting) → e .own ≡ own → ItemSteps e Spaces
   space-steps e mine =
       record {
-        quiet = space-quiet;
-        on-force = λ s i h. space-force s i h;
-        on-top = λ s b h. record { records = h .records; imports = h .imports; usages = h .usages };
+        common = record { requires = space-requires e; on-force = λ s i h. space-force s i h; on-top = λ s b h. record { records = h .records; imports = h .imports; usages = h .usages } };
+        on-empty = λ s l b h. record { records = collect-space (record { literal = l; specifiers = none }) (s .collected) tt (h .records); imports = h .imports; usages = h .usages };
         on-usage = λ s j p n r w len h.
             record {
               records = h .records;
@@ -172,23 +168,11 @@ module _ (Space : List ℕ → Type 0) (own : ℕ) (locals : (j : List ℕ) → 
   specifiers-space nothing fs p s k h = (h, each-weaken OfImport OfSpace fs (λ f k. k .0) k)
   specifiers-space (some n) fs p s k h = notes-space n fs p s k h
 
-  module-space : (e : Setting) (a : List ℕ) (p : ℕ) (s : State) → Spaces s → After (moduleFor e a p s) (λ m t. Spaces t)
-  unfolding moduleFor
-  module-space e a p s h = go (fileOf a (e .table))
-    where
-      ask : (r : Option (ℕ × Modules)) → After (requested r p s) (λ m t. Spaces t)
-      ask nothing = tt
-      ask (some r) = record { records = h .records; imports = h .imports; usages = h .usages }
-
-      go : (o : Option ℕ) → After (moduleOf o p s) (λ m t. Spaces t)
-      go nothing = h
-      go (some f) = ask (request f (s .modules))
-
   pub import-space : (e : Setting) (y : List ℕ) (ds : Fields) (p : ℕ) (s : State) → Each OfImport (specifiersIn ds) → Spaces s → After (importFirst e y ds p s) (λ g t. Spaces t)
   unfolding importFirst collect
   import-space e y ds p s k h =
       after-if (external e y) (give (field 0x10 y ds)) _ s (λ g t. Spaces t) (λ _. h)
-      (λ _. after-bind (moduleFor e (valueOf y) p s) _ (λ m t. Spaces t) (λ g t. Spaces t) (module-space e (valueOf y) p s h) λ m t h.
+      (λ _. after-bind (moduleFor e (valueOf y) p s) _ (λ m t. Spaces t) (λ g t. Spaces t) (moduleFor-keeps e Spaces (space-requires e) (valueOf y) p s h) λ m t h.
       after-bind (noteSpecifiers m (specifiersIn ds) (inside p y) t) _ (λ gs u. Spaces u × Each OfSpace gs) (λ g t. Spaces t) (specifiers-space m (specifiersIn ds) (inside p y) t k h) λ gs u v.
       let r : Record = record { literal = y; specifiers = gs } in
       after-bind (collect r p u) _ (λ _ x. Spaces x) (λ g t. Spaces t)

@@ -7,13 +7,11 @@ use lib.Dec.{eqb}
 use borrow.Author.Tests.{eqb-true, ne-eqb}
 use Rattle.tree.specs.Tree.{Field, field, Fields, none, more, size}
 use Rattle.tree.specs.Grammar.{expressionTag}
-use Rattle.lent.specs.Outcome.{Outcome, onto}
 use Rattle.lent.specs.Fields.{inside}
 use Rattle.extraction_rules.specs.State.{State, first, second, Setting, Act, give, setTop}
 use Rattle.extraction_rules.specs.Second.{finish}
 use Rattle.extraction_rules.specs.Walk.{Rule, import, export, declare, express, nothing, ruleFor, Parts, unwalked, member, super, assignment, children, partsFor, enter, walk, walkAll, walkMember, walkAssignment, walkTarget, walkModule, walkAgain}
-use Rattle.extraction_rules.proofs.OutcomeLaws.{after-bind}
-use Rattle.extraction_rules.proofs.StepLaws.{CommonSteps, FirstSteps, SecondSteps, EndSteps, Keeps, after-keeps, finish-keeps}
+use Rattle.extraction_rules.proofs.StepLaws.{CommonSteps, FirstSteps, SecondSteps, EndSteps, Keeps, after-keeps, finish-keeps, then-keeps, enter-keeps}
 
 -- ---- Tags
 
@@ -163,11 +161,14 @@ both-steps e P J K a b =
     record {
       common =
           record {
-            on-request = λ s f n ms q h. (c .on-request s f n ms q (h .0), d .on-request s f n ms q (h .1));
-            on-cjs = λ s n h. (c .on-cjs s n (h .0), d .on-cjs s n (h .1));
+            requires =
+                record {
+                  on-request = λ s f n ms q h. (c .requires .on-request s f n ms q (h .0), d .requires .on-request s f n ms q (h .1));
+                  on-cjs = λ s n h. (c .requires .on-cjs s n (h .0), d .requires .on-cjs s n (h .1));
+                  on-lazy = λ s r w h. (c .requires .on-lazy s r w (h .0), d .requires .on-lazy s r w (h .1));
+                };
             on-force = λ s i h. (c .on-force s i (h .0), d .on-force s i (h .1));
             on-top = λ s t h. (c .on-top s t (h .0), d .on-top s t (h .1));
-            on-lazy = λ s r w h. (c .on-lazy s r w (h .0), d .on-lazy s r w (h .1));
           };
       one =
           λ k.
@@ -192,17 +193,6 @@ pub both-end : (J K : State → Type 0) → EndSteps J → EndSteps K → EndSte
 both-end J K a b = record { on-wrap = λ s n h. (a .on-wrap s n (h .0), b .on-wrap s n (h .1)); on-lose = λ s h. (a .on-lose s (h .0), b .on-lose s (h .1)) }
 
 module _ (e : Setting) (P : List ℕ → Type 0) (J : State → Type 0) (steps : Steps e P J) where
-  then-keeps : {A B : Type 0} (m : Outcome (A × State)) (f : A × State → Outcome (B × State)) → Keeps J m →
-      ((a : A) (s : State) → J s → Keeps J (f (a, s))) → Keeps J (onto m f)
-  then-keeps m f h k = after-bind m f (λ r s. J s) (λ r s. J s) h k
-
-  enter-keeps : (t : ℕ) (s : State) → J s → J (enter t s)
-  enter-keeps t s h = go (eqb t 0x45)
-    where
-      go : (b : Bool) → J (cond b (setTop false s) s)
-      go true = steps .common .on-top s false h
-      go false = h
-
   -- a walk of parts
   abbrev WalkKeeps : (ℕ → Act Fields) → Type 0
   WalkKeeps m = (p : ℕ) (s : State) → J s → Keeps J (m p s)
@@ -222,41 +212,41 @@ module _ (e : Setting) (P : List ℕ → Type 0) (J : State → Type 0) (steps :
 
     pub walk-keeps : (f : Field) (object : Bool) (p : ℕ) (s : State) → Imports f P → J s → Keeps J (walk f e object p s)
     walk-keeps (field t x cs) object p s i h =
-        then-keeps (walkParts (partsFor t) cs e object (inside p x) (enter t s)) _
+        then-keeps J (walkParts (partsFor t) cs e object (inside p x) (enter t s)) _
         (parts-keep (partsFor t) cs object (inside p x) (enter t s) (i .1)
         (λ i b p s h. walkAll-keeps cs b p s i h) (λ i p s h. walkMember-keeps cs p s i h)
-        (λ i p s h. walkAssignment-keeps cs object p s i h) (enter-keeps t s h)) λ ds s h.
+        (λ i p s h. walkAssignment-keeps cs object p s i h) (enter-keeps J (steps .common .on-top) t s h)) λ ds s h.
         after-keeps e J (steps .common) P (steps .one) (steps .two) (ruleFor t) t x ds object p s (λ q. i .0 (rule-tag t import q)) h
 
     pub walkAll-keeps : (fs : Fields) (object : Bool) (p : ℕ) (s : State) → ImportsAll fs P → J s → Keeps J (walkAll fs e object p s)
     walkAll-keeps none object p s i h = h
     walkAll-keeps (more f fs) object p s i h =
-        then-keeps (walk f e object p s) _ (walk-keeps f object p s (i .0) h) λ g s h.
-        then-keeps (walkAll fs e object (p + size f) s) _ (walkAll-keeps fs object (p + size f) s (i .1) h) λ gs s h. h
+        then-keeps J (walk f e object p s) _ (walk-keeps f object p s (i .0) h) λ g s h.
+        then-keeps J (walkAll fs e object (p + size f) s) _ (walkAll-keeps fs object (p + size f) s (i .1) h) λ gs s h. h
 
     walkMember-keeps : (fs : Fields) (p : ℕ) (s : State) → ImportsAll fs P → J s → Keeps J (walkMember fs e p s)
     walkMember-keeps none p s i h = h
     walkMember-keeps (more f fs) p s i h =
-        then-keeps (walk f e true p s) _ (walk-keeps f true p s (i .0) h) λ g s h.
-        then-keeps (walkAll fs e false (p + size f) s) _ (walkAll-keeps fs false (p + size f) s (i .1) h) λ gs s h. h
+        then-keeps J (walk f e true p s) _ (walk-keeps f true p s (i .0) h) λ g s h.
+        then-keeps J (walkAll fs e false (p + size f) s) _ (walkAll-keeps fs false (p + size f) s (i .1) h) λ gs s h. h
 
     walkAssignment-keeps : (fs : Fields) (object : Bool) (p : ℕ) (s : State) → ImportsAssignment fs P → J s → Keeps J (walkAssignment fs e object p s)
     walkAssignment-keeps none object p s i h = h
     walkAssignment-keeps (more f fs) object p s i h =
-        then-keeps (walkTarget f e p s) _ (walkTarget-keeps f p s (i .0) h) λ g s h.
-        then-keeps (walkAll fs e object (p + size f) s) _ (walkAll-keeps fs object (p + size f) s (i .1) h) λ gs s h. h
+        then-keeps J (walkTarget f e p s) _ (walkTarget-keeps f p s (i .0) h) λ g s h.
+        then-keeps J (walkAll fs e object (p + size f) s) _ (walkAll-keeps fs object (p + size f) s (i .1) h) λ gs s h. h
 
     walkTarget-keeps : (f : Field) (p : ℕ) (s : State) → ImportsTarget f P → J s → Keeps J (walkTarget f e p s)
     walkTarget-keeps (field t x cs) p s i h =
-        then-keeps (walkMember cs e (inside p x) s) _ (walkMember-keeps cs (inside p x) s i h) λ ds s h. h
+        then-keeps J (walkMember cs e (inside p x) s) _ (walkMember-keeps cs (inside p x) s i h) λ ds s h. h
 
   pub walkModule-keeps : (items : Fields) (s : State) → ImportsAll items P → J s → Keeps J (walkModule e items s)
   unfolding walkModule
-  walkModule-keeps items s i h = then-keeps (walkAll items e false 3 (setTop true s)) _
+  walkModule-keeps items s i h = then-keeps J (walkAll items e false 3 (setTop true s)) _
       (walkAll-keeps items false 3 (setTop true s) i (steps .common .on-top s true h)) λ gs s h. h
 
   pub walkAgain-keeps : EndSteps J → (items : Fields) (s : State) → ImportsAll items P → J s → Keeps J (walkAgain e items s)
   unfolding walkAgain
   walkAgain-keeps end items s i h =
-      then-keeps (walkModule e items s) _ (walkModule-keeps items s i h) λ gs s h. then-keeps (finish e s) _
-      (finish-keeps e J (steps .common) end s h) λ _ s h. h
+      then-keeps J (walkModule e items s) _ (walkModule-keeps items s i h) λ gs s h. then-keeps J (finish e s) _
+      (finish-keeps e J (steps .common .requires) end s h) λ _ s h. h

@@ -22,14 +22,14 @@ use Rattle.lent.specs.Outcome.{Outcome, onto}
 use Rattle.lent.specs.Lists.{among}
 use Rattle.lent.specs.Fields.{has, keep, sole, inside}
 use Rattle.lent.specs.Table.{fileOf}
-use Rattle.extraction_rules.specs.State.{Record, Imported, Usage, State, Pass, first, second, Setting, Act, give, change, refuse, roomFor, setImported, setUsages, setCollected, setLazy, setForced, setTop}
+use Rattle.extraction_rules.specs.State.{Record, Imported, Usage, State, Pass, first, second, Setting, Act, give, change, refuse, roomFor, setImported, setUsages, setCollected, setLazy, setForced}
 use Rattle.extraction_rules.specs.First.{external, idFrom, requested, moduleOf, moduleFor, holdsNamespace, forget, forceId, onIdent, importedAs, usedRecord, addUsage, useProperty, useFrom, useImported, usage, argument, notExternal, required, markCjs, markRequired, collectIn, collect, addLazy, require, noteIn, noteId, noteNamed, notedContext, noteSpecifier, noteAll, noteSpecifiers, specifiersIn, importFirst, exportSpecifier, Binding, bound, left, below, bindingOf, bindings, bindingsAll, bindingsFirst, requireLazily, declarator}
 use Rattle.extraction_rules.specs.Second.{usagesOf, specifiersFrom, extend, takeApart, onSole, importSecond, wrapModule, wrapAll, loseNamespaces, finish}
 use Rattle.extraction_rules.specs.Walk.{Rule as Kind, import, export as exporting, declare, express, nothing as plain, ruleFor, afterExpression, afterImport, after, Parts, unwalked, member, super, assignment, children, partsFor, enter, walk, walkAll, walkMember, walkAssignment, walkTarget}
 use Rattle.extraction_rules.proofs.OutcomeLaws.{After, after-bind, after-both, after-if}
 use Rattle.extraction_rules.proofs.ListLaws.{All, all-last, all-map, all-find}
 use Rattle.extraction_rules.proofs.FirstLaws.{source-cases, force-cases}
-use Rattle.extraction_rules.proofs.StepLaws.{Keeps, moduleFor-keeps}
+use Rattle.extraction_rules.proofs.StepLaws.{Keeps, moduleFor-keeps, enter-keeps}
 use Rattle.extraction_rules.proofs.WalkLaws.{rule-tag, parts-tag, parts-other, walkParts}
 use Rattle.extraction_rules.proofs.RuleLaws.{inRule, takesTarget, step-without, rule-targets}
 use Rattle.extraction_rules.proofs.ExactLaws.{plain-is, property-exact}
@@ -350,7 +350,7 @@ module _ (e : Setting) where
   importFirst-whole x ds p s k m w h =
       after-if (external e x) (give (field 0x10 x ds)) _ s (λ r s. Whole s) (λ _. h)
       (λ _. after-bind (moduleFor e (valueOf x) p s) _ (λ n s. Widths s × Whole s) (λ r s. Whole s)
-      (after-both (moduleFor e (valueOf x) p s) (λ n s. Widths s) (λ n s. Whole s) (moduleFor-keeps e Widths (widths-common e) (valueOf x) p s w)
+      (after-both (moduleFor e (valueOf x) p s) (λ n s. Widths s) (λ n s. Whole s) (moduleFor-keeps e Widths (widths-common e .requires) (valueOf x) p s w)
       (moduleFor-whole (valueOf x) p s h)) λ n s a.
       after-bind (noteSpecifiers n (specifiersIn ds) (inside p x) s) _ (λ gs s. (Specifiers gs × Widths s) × Whole s) (λ r s. Whole s)
       (after-both (noteSpecifiers n (specifiersIn ds) (inside p x) s) (λ gs s. Specifiers gs × Widths s) (λ gs s. Whole s)
@@ -421,11 +421,7 @@ module _ (e : Setting) where
   after-whole plain t x ds object p s v k m w h = h
 
   enter-whole : (t : ℕ) (s : State) → Whole s → Whole (enter t s)
-  enter-whole t s h = go (eqb t 0x45)
-    where
-      go : (b : Bool) → Whole (cond b (setTop false s) s)
-      go true = h
-      go false = h
+  enter-whole t s h = enter-keeps Whole (λ s b h. h) t s h
 
   -- one field, then the rest of a row
   row-whole : (m : Act Field) (n : Act Fields) (s : State) (f : Field) → After (m s) (λ g s′. Result f g × Widths s′) → Keeps Whole (m s) →

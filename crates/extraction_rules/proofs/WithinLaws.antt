@@ -23,14 +23,14 @@ use Rattle.metadata.specs.Metadata.{append}
 use Rattle.lent.specs.Outcome.{onto}
 use Rattle.lent.specs.Lists.{find, mapped, among}
 use Rattle.lent.specs.Fields.{has, sole, inside}
-use Rattle.extraction_rules.specs.State.{Imported, Usage, State, Pass, first, second, Setting, Act, give, refuse, setTop}
+use Rattle.extraction_rules.specs.State.{Imported, Usage, State, Pass, first, second, Setting, Act, give, refuse}
 use Rattle.extraction_rules.specs.First.{external, idFrom, moduleFor, forget, onIdent, importedAs, required, withCallee, collect, noteIn, noteId, noteNamed, outsideName, notedContext, noteSpecifier, noteAll, noteSpecifiers, specifiersIn, attributesIn, withContext, importFirst, exportedName, exportSpecifier, declarator}
 use Rattle.extraction_rules.specs.Second.{usagesOf, specifiersFrom, takeApart, onSole, importSecond, asProperty, rewritten}
 use Rattle.extraction_rules.specs.Walk.{Rule as Kind, import, export as exporting, declare, express, nothing as plain, ruleFor, afterExpression, afterImport, after, Parts, unwalked, member, super, assignment, children, partsFor, enter, walk, walkAll, walkMember, walkAssignment, walkTarget}
 use Rattle.extraction_rules.proofs.OutcomeLaws.{After, after-bind, after-both, after-if}
 use Rattle.extraction_rules.proofs.ListLaws.{All, all-last, all-filter, all-find}
 use Rattle.extraction_rules.proofs.FirstLaws.{source-cases, force-cases}
-use Rattle.extraction_rules.proofs.StepLaws.{CommonSteps, Keeps, moduleFor-keeps, collect-keeps, noteId-keeps, exportSpecifier-keeps, declarator-keeps, expression-keeps}
+use Rattle.extraction_rules.proofs.StepLaws.{CommonSteps, Keeps, moduleFor-keeps, collect-keeps, noteId-keeps, exportSpecifier-keeps, declarator-keeps, expression-keeps, enter-keeps}
 use Rattle.extraction_rules.proofs.WalkLaws.{rule-tag, parts-tag, parts-other, walkParts}
 use Rattle.extraction_rules.proofs.ValueLaws.{required-call, Called, first-expression, declarator-value}
 use Rattle.extraction_rules.proofs.RuleLaws.{inRule, step-without, takesTarget, takesImport, turned-step, no-module, no-import, rule-targets, rule-imports}
@@ -118,11 +118,9 @@ pub widths-common : (e : Setting) → CommonSteps e Widths
 unfolding forget
 widths-common e =
     record {
-      on-request = λ s g m ms q h. h;
-      on-cjs = λ s m h. h;
+      requires = record { on-request = λ s g m ms q h. h; on-cjs = λ s m h. h; on-lazy = λ s r b h. h };
       on-force = λ s i h. force-cases i s Widths (widths-forget i s h) (λ r w. widths-forget i s h);
       on-top = λ s b h. h;
-      on-lazy = λ s r b h. h;
     }
 
 all-note : (P : Imported → Type 0) (m : Imported) (l : List Imported) → P m → All P l → All P (noteIn m l)
@@ -277,7 +275,7 @@ module _ (e : Setting) where
 
   -- '10, not external', first pass
   noteId-widths : (m : Imported) (p : ℕ) (s : State) → length (m .context) ≡ 4 → Widths s → Keeps Widths (noteId m p s)
-  noteId-widths m p s k w = noteId-keeps e Widths (widths-common e) m p s (all-note (λ m. length (m .context) ≡ 4) m (s .imported) k (w .0), w .1)
+  noteId-widths m p s k w = noteId-keeps e Widths (widths-common e .requires) m p s (all-note (λ m. length (m .context) ≡ 4) m (s .imported) k (w .0), w .1)
 
   noted-width : (n : ℕ) (f : Field) → Shaped f → length (notedContext n f) ≡ 4
   noted-width n (field t x cs) h = go (eqb t 0x21) refl
@@ -329,12 +327,12 @@ module _ (e : Setting) where
   importFirst-within x cs ds p s h k w =
       after-if (external e x) (give (field 0x10 x ds)) _ s (λ g s′. Result (field 0x10 x cs) g × Widths s′) (λ _. (import-result x cs ds h k, w))
       (λ _. after-bind (moduleFor e (valueOf x) p s) _ (λ n s′. Widths s′) (λ g s′. Result (field 0x10 x cs) g × Widths s′)
-      (moduleFor-keeps e Widths (widths-common e) (valueOf x) p s w) λ n s w.
+      (moduleFor-keeps e Widths (widths-common e .requires) (valueOf x) p s w) λ n s w.
       after-bind (noteSpecifiers n (specifiersIn ds) (inside p x) s) _ (λ gs s′. Specifiers gs × Widths s′)
       (λ g s′. Result (field 0x10 x cs) g × Widths s′)
       (noteSpecifiers-within n (specifiersIn ds) (inside p x) s (import-parts ds k .0) w) λ gs s a.
       after-bind (collect (record { literal = x; specifiers = gs }) p s) _ (λ _ s′. Widths s′) (λ g s′. Result (field 0x10 x cs) g × Widths s′)
-      (collect-keeps e Widths (widths-common e) (record { literal = x; specifiers = gs }) p s (a .1)) λ _ s w.
+      (collect-keeps e Widths (widths-common e .requires) (record { literal = x; specifiers = gs }) p s (a .1)) λ _ s w.
       (import-result x cs (append gs (withContext n ds)) h (import-from gs (withContext n ds) (a .0) (context-shaped n ds k)), w))
 
   -- ---- The second pass
@@ -437,16 +435,12 @@ module _ (e : Setting) where
   after-within declare t x cs ds object p s v h n k w =
       after-bind (declarator e ds p s) _ (λ gs s′. Result (field t x cs) (field t x gs) × Widths s′) (Walked (field t x cs))
       (after-both (declarator e ds p s) (λ gs s′. Result (field t x cs) (field t x gs)) (λ gs s′. Widths s′)
-      (declared-result t x cs ds p s h n k) (declarator-keeps e Widths (widths-common e) ds p s w)) λ gs s a. a
+      (declared-result t x cs ds p s h n k) (declarator-keeps e Widths (widths-common e .requires) ds p s w)) λ gs s a. a
   after-within express t x cs ds object p s v h n k w = expression-within (e .pass) (field t x cs) t x ds object p s (field-result t x cs ds h n k) w
   after-within plain t x cs ds object p s v h n k w = (field-result t x cs ds h n k, w)
 
   pub enter-widths : (t : ℕ) (s : State) → Widths s → Widths (enter t s)
-  enter-widths t s w = go (eqb t 0x45)
-    where
-      go : (b : Bool) → Widths (cond b (setTop false s) s)
-      go true = w
-      go false = w
+  enter-widths t s w = enter-keeps Widths (λ s b w. w) t s w
 
   -- one field, then the rest of a row
   row-within : (m : Act Field) (n : Act Fields) (s : State) (f : Field) (fs : Fields) (q q′ : Rule) → After (m s) (Walked f) →
