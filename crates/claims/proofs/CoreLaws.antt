@@ -29,7 +29,7 @@ use Rattle.extraction_rules.proofs.SanityLaws.{Numbered, numbered-steps, number
 use Rattle.extraction_rules.proofs.ShapeLaws.{Shaped, ShapedAll, shaped-parts, shaped-each}
 use Rattle.extraction_rules.proofs.ReadableLaws.{Items, run-within}
 use Rattle.extraction_rules.proofs.WalkLaws.{walkAgain-keeps, imports-any-all}
-use Rattle.extraction_rules.proofs.CallLaws.{Run}
+use Rattle.extraction_rules.proofs.CallLaws.{Run, run-both}
 use Rattle.resolving_rules.specs.Resolve.{sourcesIn, forcedIn, numberAll, resolvedSpecifiers, resolvedAll}
 use Rattle.resolving_rules.proofs.ResolveLaws.{numberAll-keeps, namespace-made}
 use Rattle.claims.specs.Stands.{How, stands, isUse, properties}
@@ -161,8 +161,7 @@ module _ (i lit : List ℕ) (own file : ℕ) (context : contextOf i ≡ four (lo
         let x = after-done (walkModule one items (start ms)) (λ works s. Worked i lit own file context k items works × (((n : ℕ) × Held i lit own file n us s) × Spaces Space own locals s)) (u .works, u .middle) (u .once) (first-all k items ms h) in
         let y = after-done (walkAgain again (u .works) (u .middle)) (λ outs t. Outs i lit own file (x .1 .0 .0) us context named k items outs × Ended (takesApart us) i lit (four (export (x .1 .0 .0))) (properties us) t) (u .outs, u .end) (u .twice)
         (second-all k items (u .works) (u .middle) (x .1 .0 .0) h (d (x .1 .0 .0)) (x .0) (x .1 .0 .1) (x .1 .1)) in
-        let v = after-done (walkModule one items (start ms)) (λ works s. Items works × After (walkAgain again works s) (λ outs t. Items outs)) (u .works, u .middle) (u .once) (run-within l rows own ms items shape) in
-        let w = after-done (walkAgain again (u .works) (u .middle)) (λ outs t. Items outs) (u .outs, u .end) (u .twice) (v .1) in
+        let w = run-both l rows own items ms r u (λ works s. Items works) (λ outs t. Items outs) (run-within l rows own ms items shape) .1 in
         let number = after-done (walkAgain again (u .works) (u .middle)) (λ outs t. Numbered file (x .1 .0 .0) t) (u .outs, u .end) (u .twice)
         (walkAgain-keeps again (λ _. Unit {0}) (Numbered file (x .1 .0 .0)) (numbered-steps again (λ _. Unit {0}) file (x .1 .0 .0)) (numbered-end file (x .1 .0 .0)) (u .works) (u .middle) (imports-any-all (u .works) (λ _. Unit {0}) (λ _. tt)) (x .1 .0 .1 .given)) in
         end-of (takesApart us) k items (u .outs) gs (u .middle) (u .end) new (x .1 .0 .0) refl h (x .1 .0 .1) (x .1 .1) (y .0) (y .1) w

@@ -1,13 +1,12 @@
 -- Demand 3, first part: a namespace import is kept whole or taken apart completely.
 use Prim.Native.Nat.{ℕ}
-use mathlib.Core.Path.{_≡_, ap, subst}
-use Rattle.tree.specs.Tree.{Fields}
-use Rattle.tree.specs.declared.grammar.Set.the-variants.{Records}
+use mathlib.Core.Path.{_≡_, ap}
+use Rattle.tree.specs.declared.grammar.Set.the-variants.{Records, Module}
 use Rattle.tree.specs.Read.{read}
-use Rattle.lent.specs.Outcome.{Outcome}
-use Rattle.extraction_rules.proofs.OutcomeLaws.{Of}
+use Rattle.extraction_rules.proofs.OutcomeLaws.{of-done}
 use Rattle.extraction_rules.proofs.ReadableLaws.{Items, read-items}
 use Rattle.extraction_rules.proofs.RecordsLaws.{call-records}
+use Rattle.extraction_rules.specs.Call.{itemsRead}
 use Rattle.resolving_rules.specs.Call.{recordsRead}
 use Rattle.claims.specs.Demand.{KeptOrApart}
 use Rattle.claims.proofs.TopLaws.{kept-or-apart}
@@ -15,4 +14,4 @@ use Rattle.claims.proofs.TopLaws.{kept-or-apart}
 pub kept-whole-or-apart : KeptOrApart
 kept-whole-or-apart l room ms r n q items own e v bs reading requesting placed k x i d inside =
     kept-or-apart l room ms r n q items own e v reading requesting placed k x i d inside
-    (subst (λ (o : Outcome Fields). Of o Items) reading (read-items (l .tree) bs)) (ap recordsRead (call-records l room ms bs r e))
+    (of-done (itemsRead (read Module (l .tree))) Items items reading (read-items (l .tree) bs)) (ap recordsRead (call-records l room ms bs r e))

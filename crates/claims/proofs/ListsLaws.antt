@@ -13,16 +13,15 @@ use Rattle.scope.specs.declared.Mark.{Mark}
 use Rattle.scope.specs.declared.Mark.the-variants.{Loaded, Stored, Cjs, Wrapping}
 use Rattle.scope.specs.Modules.{Modules, Left, request, generatedBy, gen, isMarked, setMark, given, marking}
 use Rattle.scope.proofs.Laws.{request-keeps-marks, mark-keeps-kinds}
-use Rattle.tree.specs.declared.grammar.Set.the-variants.{Records}
 use Rattle.tree.specs.Tree.{Fields, none, more, size}
-use Rattle.tree.specs.Read.{read}
-use Rattle.lent.specs.Outcome.{Outcome, done, refused, refuseIf}
-use Rattle.lent.specs.Table.{Row, rowsIn, fileOf, badTable, tableOf}
+use Rattle.lent.specs.Outcome.{Outcome, done, refused}
+use Rattle.lent.specs.Table.{Row, rowsIn, fileOf}
 use Rattle.extraction_rules.specs.Call.{Extracted, modulesAfter, extracted, extraction}
-use Rattle.extraction_rules.proofs.OutcomeLaws.{Of, of-onto}
-use Rattle.extraction_rules.proofs.MarksLaws.{SameMarks, MarksForced, mark-adds, of-skip, extraction-marks}
+use Rattle.extraction_rules.proofs.OutcomeLaws.{Of, of-each, of-done, of-onto}
+use Rattle.extraction_rules.proofs.MarksLaws.{SameMarks, MarksForced, mark-adds, extraction-marks}
 use Rattle.resolving_rules.specs.Resolve.{sourcesIn, sourceOf, requested, numberOne, numberAll}
-use Rattle.resolving_rules.specs.Call.{Lent as LentRecords, Numbered, recordsRead, numbered, modulesAfter as numbersAfter, resolving}
+use Rattle.resolving_rules.specs.Call.{Lent as LentRecords, Numbered, numbered, modulesAfter as numbersAfter, resolving}
+use Rattle.resolving_rules.proofs.CallLaws.{numbered-made}
 use Rattle.claims.specs.Lists.{Call, requests, sets, reads, readsEsm, extracts, resolves, after, afterAll, forcedTo, wraps, wrapsAny, MarkedExactly}
 
 -- a call that wraps nothing
@@ -75,13 +74,9 @@ numberAll-marks rows (more f fs) ms p =
     same-marks-onto ms new (numberAll rows fs new (p + size f)) h (numberAll-marks rows fs new (p + size f))
 
 numbered-marks : (l : LentRecords) (ms : Modules) → Of (numbered l ms) (λ q. SameMarks ms (q .modules))
-unfolding numbered
 numbered-marks l ms =
-    let Q : Numbered → Type 0 = λ q. SameMarks ms (q .modules) in
-    of-skip (refuseIf (badTable (l .table)) 1) _ Q λ _.
-    of-skip (tableOf (l .table)) _ Q λ rows.
-    of-skip (recordsRead (read Records (l .records))) _ Q λ cs.
-    of-onto (numberAll rows (sourcesIn cs) ms 3) _ (SameMarks ms) Q (numberAll-marks rows (sourcesIn cs) ms 3) λ new h. h
+    of-each (numbered l ms) _ λ q e.
+    of-done (numberAll (q .rows) (sourcesIn (q .records)) ms 3) (SameMarks ms) (q .modules) (numbered-made l ms q e .2) (numberAll-marks (q .rows) (sourcesIn (q .records)) ms 3)
 
 numbers-marked : (n : ℕ) (ms : Modules) (o : Outcome Numbered) → Of o (λ q. SameMarks ms (q .modules)) →
     isMarked Wrapping n (numbersAfter o ms) ≡ isMarked Wrapping n ms

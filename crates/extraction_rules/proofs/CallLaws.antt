@@ -1,16 +1,18 @@
 -- What an accepted call is made of: the two passes that it ran, and what the second pass's end left.
 use Prim.Native.Nat.{ℕ}
-use mathlib.Core.Path.{_≡_, refl, sym, ap, _∙_}
+use mathlib.Core.Path.{_≡_, refl, sym, ap, _∙_, subst}
+use mathlib.Core.Bool.{true}
 use mathlib.Core.List.{List, [], _∷_, map}
 use mathlib.Core.Option.{Option, none as nothing, some}
 use Rattle.scope.specs.Modules.{Modules, numberOf, request}
 use Rattle.tree.specs.declared.grammar.Set.the-variants.{Module}
-use Rattle.tree.specs.Tree.{Fields}
+use Rattle.tree.specs.Tree.{Fields, size}
 use Rattle.tree.specs.Read.{read}
+use Rattle.writer.specs.Finished.{hasRoom}
 use Rattle.lent.specs.Outcome.{Outcome, done, refused, placeless, refuseIf}
 use Rattle.lent.specs.Table.{Row, rowsIn, tableOf}
 use Rattle.lent.specs.Buffer.{fits}
-use Rattle.lent.proofs.AcceptedLaws.{done-inj, onto-done, placeless-done, table-rows}
+use Rattle.lent.proofs.AcceptedLaws.{done-inj, onto-done, placeless-done, table-rows, done-refused, fits-room}
 use Rattle.extraction_rules.specs.State.{State, first, second, Setting, start, setModules}
 use Rattle.extraction_rules.specs.First.{moduleFor}
 use Rattle.extraction_rules.specs.Second.{wrapModule, wrapAll, loseNamespaces, finish}
@@ -24,14 +26,18 @@ use Rattle.extraction_rules.proofs.SanityLaws.{Numbered, numbered-steps
 -- ---- Both passes of an accepted call
 
 pub record Run (l : Lent) (rows : List Row) (own : ℕ) (items : Fields) (ms : Modules) (r : Extracted) : Type 0 where
+  pub room : Lengths
   -- the first pass
   pub works : Fields
   pub middle : State
   pub once : walkModule (setting first own l rows) items (start ms) ≡ done (works, middle)
+  pub work-room : hasRoom (size (moduleWith works)) (room .work) ≡ true
   -- the second pass, with its end
   pub outs : Fields
   pub end : State
   pub twice : walkAgain (setting second own l rows) works middle ≡ done (outs, end)
+  pub out-room : hasRoom (size (moduleWith outs)) (room .out) ≡ true
+  pub records-room : hasRoom (size (recordsOf end)) (room .records) ≡ true
   pub given : extractedFrom works outs end ≡ r
 
 passes-done : (l : Lent) (room : Lengths) (rows : List Row) (items : Fields) (own : ℕ × Modules) (r : Extracted) →
@@ -44,29 +50,61 @@ passes-done l room rows items own r e =
     let d = onto-done (fits (moduleWith (c .0 .0)) (room .out)) _ r (c .2) in
     let f = onto-done (fits (recordsOf (c .0 .1)) (room .records)) _ r (d .2) in
     record {
+      room = room;
       works = a .0 .0;
       middle = a .0 .1;
       once = a .1;
+      work-room = fits-room (moduleWith (a .0 .0)) (room .work) (b .0) (b .1);
       outs = c .0 .0;
       end = c .0 .1;
       twice = placeless-done (walkAgain (setting second (own .0) l rows) (a .0 .0) (a .0 .1)) (c .0) (c .1);
+      out-room = fits-room (moduleWith (c .0 .0)) (room .out) (d .0) (d .1);
+      records-room = fits-room (recordsOf (c .0 .1)) (room .records) (f .0) (f .1);
       given = done-inj (f .2);
     }
 
-pub call-run : (l : Lent) (room : Lengths) (ms : Modules) (r : Extracted) (items : Fields) (own : ℕ × Modules) → extracted l room ms ≡ done r →
-    itemsRead (read Module (l .tree)) ≡ done items → request (l .file) ms ≡ some own → Run l (rowsIn (l .table)) (own .0) items (own .1) r
+own-done : (o : Option (ℕ × Modules)) (r : ℕ × Modules) → ownModule o ≡ done r → o ≡ some r
+own-done nothing r e = done-refused e
+own-done (some q) r e = ap some (done-inj e)
+
+-- the items that the call read, its own module, and its passes
+pub record Made (l : Lent) (ms : Modules) (r : Extracted) : Type 0 where
+  pub items : Fields
+  pub reads : itemsRead (read Module (l .tree)) ≡ done items
+  pub own : ℕ × Modules
+  pub requests : request (l .file) ms ≡ some own
+  pub run : Run l (rowsIn (l .table)) (own .0) items (own .1) r
+
+pub call-made : (l : Lent) (room : Lengths) (ms : Modules) (r : Extracted) → extracted l room ms ≡ done r → Made l ms r
 unfolding extracted
-call-run l room ms r items own e p q =
+call-made l room ms r e =
     let a = onto-done (refuseIf (badLists l) 1) _ r e in
     let b = onto-done (tableOf (l .table)) _ r (a .2) in
     let c = onto-done (itemsRead (read Module (l .tree))) _ r (b .2) in
     let d = onto-done (ownModule (request (l .file) ms)) _ r (c .2) in
-    passes-done l room (rowsIn (l .table)) items own r
-    (same (b .0) (c .0) (d .0) (table-rows (l .table) (b .0) (b .1)) (done-inj (sym (c .1) ∙ p)) (done-inj (sym (d .1) ∙ ap ownModule q)) (d .2))
-  where
-    same : (rows : List Row) (is : Fields) (o : ℕ × Modules) → rows ≡ rowsIn (l .table) → is ≡ items → o ≡ own →
-        passes l room rows is o ≡ done r → passes l room (rowsIn (l .table)) items own ≡ done r
-    same rows is o t u v h = rw (t, u, v) at h
+    record {
+      items = c .0;
+      reads = c .1;
+      own = d .0;
+      requests = own-done (request (l .file) ms) (d .0) (d .1);
+      run = subst (λ (rows : List Row). Run l rows (d .0 .0) (c .0) (d .0 .1) r) (table-rows (l .table) (b .0) (b .1)) (passes-done l room (b .0) (c .0) (d .0) r (d .2));
+    }
+
+-- the same for items and a module that are known
+pub call-run : (l : Lent) (room : Lengths) (ms : Modules) (r : Extracted) (items : Fields) (own : ℕ × Modules) → extracted l room ms ≡ done r →
+    itemsRead (read Module (l .tree)) ≡ done items → request (l .file) ms ≡ some own → Run l (rowsIn (l .table)) (own .0) items (own .1) r
+call-run l room ms r items own e p q =
+    let m = call-made l room ms r e in
+    let i : m .items ≡ items = done-inj (sym (m .reads) ∙ p) in
+    let o : m .own ≡ own = done-inj (ap ownModule (sym (m .requests) ∙ q)) in
+    subst (λ (o : ℕ × Modules). Run l (rowsIn (l .table)) (o .0) items (o .1) r) o (subst (λ (fs : Fields). Run l (rowsIn (l .table)) (m .own .0) fs (m .own .1) r) i (m .run))
+
+-- what both passes say of a run
+pub run-both : (l : Lent) (rows : List Row) (own : ℕ) (items : Fields) (ms : Modules) (r : Extracted) (u : Run l rows own items ms r) (P Q : Fields → State → Type 0) →
+    After (walkModule (setting first own l rows) items (start ms)) (λ works s. P works s × After (walkAgain (setting second own l rows) works s) Q) → P (u .works) (u .middle) × Q (u .outs) (u .end)
+run-both l rows own items ms r u P Q h =
+    let a = after-done (walkModule (setting first own l rows) items (start ms)) (λ works s. P works s × After (walkAgain (setting second own l rows) works s) Q) (u .works, u .middle) (u .once) h in
+    (a .0, after-done (walkAgain (setting second own l rows) (u .works) (u .middle)) Q (u .outs, u .end) (u .twice) (a .1))
 
 -- ---- The second pass's end: 'other records lose namespaces'
 

@@ -2,7 +2,7 @@
 -- leaves all other wrapping marks. Document 01, 'Second pass': "At the end forced sources get the wrapping mark if they resolve".
 use Prim.Native.Nat.{ℕ, _<_}
 use native.Mathlib.Omega.{arith}
-use mathlib.Core.Path.{_≡_, refl, sym, ap, _∙_}
+use mathlib.Core.Path.{_≡_, refl, sym, ap, _∙_, subst}
 use mathlib.Core.Bool.{Bool, true, false, cond, _||_, or-true, or-false, or-assoc}
 use mathlib.Core.List.{List, [], _∷_}
 use mathlib.Core.Option.{Option, none as nothing, some, bind, Option·elim}
@@ -13,26 +13,23 @@ use Rattle.scope.specs.Modules.{Modules, numberOf, request, isMarked, setMark}
 use Rattle.scope.specs.declared.Mark.{Mark}
 use Rattle.scope.specs.declared.Mark.the-variants.{Cjs, Wrapping}
 use Rattle.scope.proofs.Laws.{number-below, request-keeps-marks, request-keeps-numbers, request-numbers, mark-keeps-numbers, mark-marks, mark-keeps-modules, mark-keeps-kinds}
-use Rattle.tree.specs.declared.grammar.Set.the-variants.{Module}
 use Rattle.tree.specs.Layout.{valueOf}
 use Rattle.tree.specs.Tree.{Fields, field}
-use Rattle.tree.specs.Read.{read}
 use Rattle.metadata.specs.Metadata.{append}
-use Rattle.lent.specs.Outcome.{Outcome, onto, placeless, refuseIf}
+use Rattle.lent.specs.Outcome.{onto}
 use Rattle.lent.specs.Lists.{find, isSome}
-use Rattle.lent.specs.Table.{Row, rowsIn, fileOf, tableOf}
-use Rattle.lent.specs.Buffer.{fits}
-use Rattle.lent.proofs.AcceptedLaws.{table-rows}
+use Rattle.lent.specs.Table.{Row, rowsIn, fileOf}
 use Rattle.extraction_rules.specs.State.{Record, State, first, second, Setting, start, setModules}
 use Rattle.extraction_rules.specs.First.{requested, moduleOf, moduleFor, forget}
 use Rattle.extraction_rules.specs.Second.{wrapModule, wrapAll, finish}
 use Rattle.extraction_rules.specs.Walk.{walkModule, walkAgain}
 use Rattle.extraction_rules.specs.Records.{recordFields, forcedFields, recordsOf}
-use Rattle.extraction_rules.specs.Call.{Lent, Lengths, Extracted, badLists, itemsRead, ownModule, setting, moduleWith, passes, extracted}
+use Rattle.extraction_rules.specs.Call.{Lent, Lengths, Extracted, setting, extracted}
 use Rattle.extraction_rules.specs.Reach.{isModuleOf, reaches}
-use Rattle.extraction_rules.proofs.OutcomeLaws.{After, after-bind, after-weaken, Of, of-each, of-onto, of-any, of-after, of-placeless}
+use Rattle.extraction_rules.proofs.OutcomeLaws.{After, after-bind, after-weaken, Of, of-each, after-done}
 use Rattle.extraction_rules.proofs.FirstLaws.{source-cases, force-cases}
 use Rattle.extraction_rules.proofs.WalkLaws.{Steps, imports-any-all, walkModule-keeps}
+use Rattle.extraction_rules.proofs.CallLaws.{call-made}
 
 -- ---- One mark
 
@@ -171,43 +168,19 @@ again-marks e items ms s h =
     (λ _ s′ w n. w .1 .marks n ∙ ap (λ (b : Bool). b || reaches n (e .table) (s′ .modules) (s .forced)) (k n) ∙ rw (w .0)))
     (λ _ s′ q. q)
 
-abbrev Marks : List Row → Modules → Extracted → Type 0
-Marks rows ms r = MarksForced rows ms (r .forced) (r .modules)
-
--- a step of which nothing is asked, then the rest
-pub of-skip : {A B : Type 0} (m : Outcome A) (f : A → Outcome B) (Q : B → Type 0) → ((a : A) → Of (f a) Q) → Of (onto m f) Q
-of-skip m f Q k = of-onto m f (λ _. Unit {0}) Q (of-any m) (λ a _. k a)
-
-passes-marks : (l : Lent) (room : Lengths) (rows : List Row) (items : Fields) (own : ℕ × Modules) (ms : Modules) → SameMarks ms (own .1) →
-    Of (passes l room rows items own) (Marks rows ms)
-unfolding passes
-passes-marks l room rows items own ms h =
-    let one = walkModule (setting first (own .0) l rows) items (start (own .1)) in
-    of-onto one _ (λ r. Unwrapped ms (r .1)) (Marks rows ms)
-    (of-after one (λ gs s. Unwrapped ms s) (walk-unwrapped (setting first (own .0) l rows) items ms (start (own .1)) h)) λ r k.
-    let two = walkAgain (setting second (own .0) l rows) (r .0) (r .1) in
-    of-skip (fits (moduleWith (r .0)) (room .work)) _ (Marks rows ms) λ _.
-    of-onto (placeless two) _ (λ q. MarksForced rows ms (q .1 .forced) (q .1 .modules)) (Marks rows ms)
-    (of-placeless two (λ q. MarksForced rows ms (q .1 .forced) (q .1 .modules))
-    (of-after two (λ gs s. MarksForced rows ms (s .forced) (s .modules)) (again-marks (setting second (own .0) l rows) (r .0) ms (r .1) k))) λ q m.
-    of-skip (fits (moduleWith (q .0)) (room .out)) _ (Marks rows ms) λ _.
-    of-skip (fits (recordsOf (q .1)) (room .records)) _ (Marks rows ms) λ _. m
-
-own-marks : (f : ℕ) (ms : Modules) (o : Option (ℕ × Modules)) → request f ms ≡ o → Of (ownModule o) (λ own. SameMarks ms (own .1))
-own-marks f ms nothing q = tt
-own-marks f ms (some own) q = λ n. request-keeps-marks f ms q Wrapping n
-
 -- an accepted extraction adds exactly the wrapping marks of the modules that its table names for its forced sources
 pub extraction-marks : (l : Lent) (room : Lengths) (ms : Modules) →
     Of (extracted l room ms) (λ r. MarksForced (rowsIn (l .table)) ms (r .forced) (r .modules))
-unfolding extracted
 extraction-marks l room ms =
-    let Q : Extracted → Type 0 = Marks (rowsIn (l .table)) ms in
-    of-skip (refuseIf (badLists l) 1) _ Q λ _.
-    of-onto (tableOf (l .table)) _ (λ rows. rows ≡ rowsIn (l .table)) Q (of-each (tableOf (l .table)) _ (table-rows (l .table))) λ rows e.
-    of-skip (itemsRead (read Module (l .tree))) _ Q λ items.
-    of-onto (ownModule (request (l .file) ms)) _ (λ own. SameMarks ms (own .1)) Q (own-marks (l .file) ms (request (l .file) ms) refl) λ own h.
-    rw (← e) (passes-marks l room rows items own ms h)
+    of-each (extracted l room ms) _ λ r e.
+    let m = call-made l room ms r e in
+    let u = m .run in
+    let one = setting first (m .own .0) l (rowsIn (l .table)) in
+    let two = setting second (m .own .0) l (rowsIn (l .table)) in
+    let a = after-done (walkModule one (m .items) (start (m .own .1))) (λ works s. Unwrapped ms s) (u .works, u .middle) (u .once)
+    (walk-unwrapped one (m .items) ms (start (m .own .1)) (request-keeps-marks (l .file) ms (m .requests) Wrapping)) in
+    subst (λ (z : Extracted). MarksForced (rowsIn (l .table)) ms (z .forced) (z .modules)) (u .given)
+    (after-done (walkAgain two (u .works) (u .middle)) (λ outs s. MarksForced (rowsIn (l .table)) ms (s .forced) (s .modules)) (u .outs, u .end) (u .twice) (again-marks two (u .works) ms (u .middle) a))
 
 -- ---- What a call forces is what its 83s hold
 
@@ -216,19 +189,7 @@ Recorded r =
     (c : List Record) × (z : List Record)
     × (r .records ≡ field 0x02 [] (append (recordFields 0x80 c) (append (recordFields 0x81 z) (forcedFields (r .forced)))))
 
-passes-recorded : (l : Lent) (room : Lengths) (rows : List Row) (items : Fields) (own : ℕ × Modules) → Of (passes l room rows items own) Recorded
-unfolding passes recordsOf
-passes-recorded l room rows items own =
-    of-skip (walkModule (setting first (own .0) l rows) items (start (own .1))) _ Recorded λ r.
-    of-skip (fits (moduleWith (r .0)) (room .work)) _ Recorded λ _.
-    of-skip (placeless (walkAgain (setting second (own .0) l rows) (r .0) (r .1))) _ Recorded λ q.
-    of-skip (fits (moduleWith (q .0)) (room .out)) _ Recorded λ _.
-    of-skip (fits (recordsOf (q .1)) (room .records)) _ Recorded λ _. (q .1 .collected, q .1 .lazy, refl)
-
 pub forced-recorded : (l : Lent) (room : Lengths) (ms : Modules) → Of (extracted l room ms) Recorded
-unfolding extracted
+unfolding recordsOf
 forced-recorded l room ms =
-    of-skip (refuseIf (badLists l) 1) _ Recorded λ _.
-    of-skip (tableOf (l .table)) _ Recorded λ rows.
-    of-skip (itemsRead (read Module (l .tree))) _ Recorded λ items.
-    of-skip (ownModule (request (l .file) ms)) _ Recorded λ own. passes-recorded l room rows items own
+    of-each (extracted l room ms) Recorded λ r e. let u = call-made l room ms r e .run in subst Recorded (u .given) (u .end .collected, u .end .lazy, refl)

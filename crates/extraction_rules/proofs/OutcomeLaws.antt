@@ -1,7 +1,7 @@
 -- What holds of the value and the state of a step that is not refused.
 use mathlib.Core.Path.{_≡_, refl, subst}
 use mathlib.Core.Bool.{Bool, true, false, cond}
-use Rattle.lent.specs.Outcome.{Outcome, done, refused, onto, placeless}
+use Rattle.lent.specs.Outcome.{Outcome, done, refused, onto}
 use Rattle.extraction_rules.specs.State.{State, Act}
 
 -- P holds of the value and the state, if the step is not refused
@@ -44,19 +44,11 @@ pub of-each : {A : Type 0} (m : Outcome A) (P : A → Type 0) → ((a : A) → m
 of-each (done a) P h = h a refl
 of-each (refused n p) P h = tt
 
+-- of a call that gave a
+pub of-done : {A : Type 0} (m : Outcome A) (P : A → Type 0) (a : A) → m ≡ done a → Of m P → P a
+of-done m P a e h = subst (λ (o : Outcome _). Of o P) e h
+
 pub of-onto : {A B : Type 0} (m : Outcome A) (f : A → Outcome B) (P : A → Type 0) (Q : B → Type 0) → Of m P →
     ((a : A) → P a → Of (f a) Q) → Of (onto m f) Q
 of-onto (done a) f P Q h k = k a h
 of-onto (refused n p) f P Q h k = tt
-
-pub of-any : {A : Type 0} (m : Outcome A) → Of m (λ a. Unit {0})
-of-any (done a) = tt
-of-any (refused n p) = tt
-
-pub of-after : {A : Type 0} (m : Outcome (A × State)) (P : A → State → Type 0) → After m P → Of m (λ r. P (r .0) (r .1))
-of-after (done r) P h = h
-of-after (refused n p) P h = tt
-
-pub of-placeless : {A : Type 0} (m : Outcome A) (P : A → Type 0) → Of m P → Of (placeless m) P
-of-placeless (done r) P h = h
-of-placeless (refused n p) P h = tt

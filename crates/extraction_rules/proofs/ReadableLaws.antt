@@ -1,12 +1,12 @@
 -- What a pass leaves can be read: *work* after the first, *out* after the second, whenever there is room for them.
 use Prim.Native.Nat.{ℕ, _≤_, min}
 use mathlib.Core.Path.{_≡_, refl, ap, subst, _∙_}
-use mathlib.Core.Bool.{Bool, true, false, not, cond}
+use mathlib.Core.Bool.{Bool, true, false, cond}
 use mathlib.Core.List.{List, []}
 use native.Mathlib.Omega.{arith}
 use native.Mathlib.Nat.{min-le-left}
 use borrow.Author.Tests.{leb-true, eqb-true}
-use Rattle.scope.specs.Modules.{Modules, request}
+use Rattle.scope.specs.Modules.{Modules}
 use Rattle.tree.specs.declared.grammar.Set.the-variants.{Module, Item}
 use Rattle.tree.specs.declared.grammar.Rule.{Rule}
 use Rattle.tree.specs.declared.grammar.Step.the-variants.{Go}
@@ -20,21 +20,20 @@ use Rattle.tree.proofs.TreeLaws.{depth-parts, depth-first, depth-rest, depth-mo
 use Rattle.tree.proofs.SoundLaws.{read-sound}
 use Rattle.tree.proofs.CompleteLaws.{read-complete}
 use Rattle.writer.specs.Finished.{hasRoom}
-use Rattle.lent.specs.Outcome.{Outcome, done, placeless, refuseIf}
+use Rattle.lent.specs.Outcome.{done}
 use Rattle.lent.specs.Fields.{keep}
-use Rattle.lent.specs.Table.{Row, tableOf}
-use Rattle.lent.specs.Buffer.{fits}
+use Rattle.lent.specs.Table.{Row, rowsIn}
 use Rattle.extraction_rules.specs.State.{State, first, second, Setting, start, setTop}
 use Rattle.extraction_rules.specs.First.{stays}
 use Rattle.extraction_rules.specs.Second.{finish}
 use Rattle.extraction_rules.specs.Walk.{walkAll, walkModule, walkAgain}
-use Rattle.extraction_rules.specs.Records.{recordsOf}
-use Rattle.extraction_rules.specs.Call.{Lent, Lengths, Extracted, badLists, itemsRead, ownModule, setting, moduleWith, passes, extracted}
-use Rattle.extraction_rules.proofs.OutcomeLaws.{After, after-bind, after-weaken, Of, of-onto, of-any, of-after, of-placeless}
+use Rattle.extraction_rules.specs.Call.{Lent, Lengths, Extracted, itemsRead, setting, moduleWith, extracted}
+use Rattle.extraction_rules.proofs.OutcomeLaws.{After, after-bind, after-weaken, Of, of-done}
 use Rattle.extraction_rules.proofs.StepLaws.{finish-keeps}
 use Rattle.extraction_rules.proofs.RuleLaws.{only-step, rule-targets}
 use Rattle.extraction_rules.proofs.ShapeLaws.{ShapedAll, formed-shaped-all, shaped-formed}
 use Rattle.extraction_rules.proofs.WithinLaws.{Results, Widths, widths-common, walkAll-within}
+use Rattle.extraction_rules.proofs.CallLaws.{Made, call-made, run-both}
 
 -- ---- A module's items
 
@@ -191,51 +190,20 @@ read-items s bs = go (read Module s) refl
         subst (λ (g : Field). Items (partsOf g)) q (module-items (w .0) (w .2))
     go (unread w p) e = tt
 
-pub fits-room : (f : Field) (room : ℕ) → Of (fits f room) (λ _. hasRoom (size f) room ≡ true)
-unfolding fits
-fits-room f room = go (hasRoom (size f) room)
-  where
-    go : (b : Bool) → Of (refuseIf (not b) 9) (λ _. b ≡ true)
-    go true = refl
-    go false = tt
-
 -- *work* and *out* of an accepted call can be read
 abbrev pub Readable : Field → Type 0
 Readable f = read Module (encode f) ≡ fine (more f none)
 
-passes-readable : (l : Lent) (room : Lengths) (rows : List Row) (items : Fields) (own : ℕ × Modules) → Items items →
-    Of (passes l room rows items own) (λ r. Readable (r .work) × Readable (r .out))
-unfolding passes
-passes-readable l room rows items own h =
-    let one = setting first (own .0) l rows in
-    let two = setting second (own .0) l rows in
-    of-onto (walkModule one items (start (own .1))) _ (λ a. Items (a .0) × After (walkAgain two (a .0) (a .1)) (λ outs s′. Items outs)) Q
-    (of-after (walkModule one items (start (own .1))) (λ works s. Items works × After (walkAgain two works s) (λ outs s′. Items outs))
-    (run-within l rows (own .0) (own .1) items h)) λ a i.
-    of-onto (fits (moduleWith (a .0)) (room .work)) _ (λ _. hasRoom (size (moduleWith (a .0))) (room .work) ≡ true) Q
-    (fits-room (moduleWith (a .0)) (room .work)) λ _ v.
-    of-onto (placeless (walkAgain two (a .0) (a .1))) _ (λ b. Items (b .0)) Q
-    (of-placeless (walkAgain two (a .0) (a .1)) (λ b. Items (b .0)) (of-after (walkAgain two (a .0) (a .1)) (λ outs s′. Items outs) (i .1))) λ b j.
-    of-onto (fits (moduleWith (b .0)) (room .out)) _ (λ _. hasRoom (size (moduleWith (b .0))) (room .out) ≡ true) Q
-    (fits-room (moduleWith (b .0)) (room .out)) λ _ w.
-    of-onto (fits (recordsOf (b .1)) (room .records)) _ (λ _. Unit {0}) Q (of-any (fits (recordsOf (b .1)) (room .records))) λ _ _.
-    (items-readable (a .0) (room .work) (i .0) v, items-readable (b .0) (room .out) j w)
-  where
-    Q : Extracted → Type 0
-    Q r = Readable (r .work) × Readable (r .out)
+-- the items that an accepted call read are within the grammar
+pub made-items : (l : Lent) (ms : Modules) (r : Extracted) → Bytes (l .tree) → (m : Made l ms r) → Items (m .items)
+made-items l ms r bs m = of-done (itemsRead (read Module (l .tree))) Items (m .items) (m .reads) (read-items (l .tree) bs)
 
 pub call-readable : (l : Lent) (room : Lengths) (ms : Modules) → Bytes (l .tree) → (r : Extracted) → extracted l room ms ≡ done r →
     Readable (r .work) × Readable (r .out)
-unfolding extracted
-call-readable l room ms bs r e = subst (λ (o : Outcome Extracted). Of o (λ r. Readable (r .work) × Readable (r .out))) e all
-  where
-    Q : Extracted → Type 0
-    Q r = Readable (r .work) × Readable (r .out)
-
-    all : Of (extracted l room ms) (λ r. Readable (r .work) × Readable (r .out))
-    all =
-        of-onto (refuseIf (badLists l) 1) _ (λ _. Unit {0}) Q (of-any (refuseIf (badLists l) 1)) λ _ _.
-        of-onto (tableOf (l .table)) _ (λ _. Unit {0}) Q (of-any (tableOf (l .table))) λ rows _.
-        of-onto (itemsRead (read Module (l .tree))) _ Items Q (read-items (l .tree) bs) λ items h.
-        of-onto (ownModule (request (l .file) ms)) _ (λ _. Unit {0}) Q (of-any (ownModule (request (l .file) ms))) λ own _.
-        passes-readable l room rows items own h
+call-readable l room ms bs r e =
+    let m = call-made l room ms r e in
+    let u = m .run in
+    let rows = rowsIn (l .table) in
+    let w = run-both l rows (m .own .0) (m .items) (m .own .1) r u (λ works s. Items works) (λ outs s. Items outs) (run-within l rows (m .own .0) (m .own .1) (m .items) (made-items l ms r bs m)) in
+    subst (λ (z : Extracted). Readable (z .work) × Readable (z .out)) (u .given)
+    (items-readable (u .works) (u .room .work) (w .0) (u .work-room), items-readable (u .outs) (u .room .out) (w .1) (u .out-room))

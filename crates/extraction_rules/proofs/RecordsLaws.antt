@@ -5,8 +5,8 @@ use mathlib.Core.Bool.{true, false}
 use mathlib.Core.List.{List, [], _∷_}
 use native.Mathlib.Omega.{arith}
 use lib.ListN.{length}
-use Rattle.scope.specs.Modules.{Modules, request}
-use Rattle.tree.specs.declared.grammar.Set.the-variants.{Module, Specifier, Records, Lazy, Dynamic, Forced}
+use Rattle.scope.specs.Modules.{Modules}
+use Rattle.tree.specs.declared.grammar.Set.the-variants.{Specifier, Records, Lazy, Dynamic, Forced}
 use Rattle.tree.specs.declared.grammar.Slot.the-variants.{Nothing, Many}
 use Rattle.tree.specs.declared.grammar.Rule.{Rule}
 use Rattle.tree.specs.declared.grammar.Step.the-variants.{Go}
@@ -21,22 +21,22 @@ use Rattle.tree.proofs.TreeLaws.{depth-parts, depth-none, depth-first, depth-re
 use Rattle.tree.proofs.CompleteLaws.{read-complete}
 use Rattle.writer.specs.Finished.{hasRoom}
 use Rattle.metadata.specs.Metadata.{append}
-use Rattle.lent.specs.Outcome.{Outcome, done, placeless, refuseIf}
-use Rattle.lent.specs.Table.{Row, tableOf}
-use Rattle.lent.specs.Buffer.{fits}
+use Rattle.lent.specs.Outcome.{done}
+use Rattle.lent.specs.Table.{Row, rowsIn}
 use Rattle.extraction_rules.specs.State.{Record, State, first, second, Setting, start, setTop}
 use Rattle.extraction_rules.specs.Second.{finish}
 use Rattle.extraction_rules.specs.Walk.{walkAll, walkModule, walkAgain}
 use Rattle.extraction_rules.specs.Records.{recordFields, forcedFields, recordsOf}
-use Rattle.extraction_rules.specs.Call.{Lent, Lengths, Extracted, badLists, itemsRead, ownModule, setting, moduleWith, passes, extracted}
-use Rattle.extraction_rules.proofs.OutcomeLaws.{After, after-bind, after-both, after-weaken, Of, of-onto, of-any, of-after, of-placeless}
+use Rattle.extraction_rules.specs.Call.{Lent, Lengths, Extracted, setting, extracted}
+use Rattle.extraction_rules.proofs.OutcomeLaws.{After, after-bind, after-both, after-weaken}
 use Rattle.extraction_rules.proofs.ListLaws.{All}
 use Rattle.extraction_rules.proofs.StepLaws.{Keeps}
 use Rattle.extraction_rules.proofs.RuleLaws.{rule-targets}
 use Rattle.extraction_rules.proofs.ShapeLaws.{ShapedAll, Specifiers, shaped-formed, specifier-rule, leaf-depth}
 use Rattle.extraction_rules.proofs.WithinLaws.{Results, Widths}
-use Rattle.extraction_rules.proofs.ReadableLaws.{Items, module-results, start-widths, read-items, fits-room, room-size}
+use Rattle.extraction_rules.proofs.ReadableLaws.{Items, module-results, start-widths, room-size, made-items}
 use Rattle.extraction_rules.proofs.WholeLaws.{WholeRecord, Whole, walkAll-whole, finish-whole}
+use Rattle.extraction_rules.proofs.CallLaws.{call-made, run-both}
 
 -- ---- Rows
 
@@ -178,38 +178,13 @@ run-whole l rows own ms items h =
 
 -- ---- The call
 
-passes-records : (l : Lent) (room : Lengths) (rows : List Row) (items : Fields) (own : ℕ × Modules) → Items items →
-    Of (passes l room rows items own) (λ r. ReadBack (r .records))
-unfolding passes
-passes-records l room rows items own h =
-    let one = setting first (own .0) l rows in
-    let two = setting second (own .0) l rows in
-    of-onto (walkModule one items (start (own .1))) _ (λ a. Whole (a .1) × After (walkAgain two (a .0) (a .1)) (λ outs s′. Whole s′)) Q
-    (of-after (walkModule one items (start (own .1))) (λ works s. Whole s × After (walkAgain two works s) (λ outs s′. Whole s′))
-    (run-whole l rows (own .0) (own .1) items h)) λ a i.
-    of-onto (fits (moduleWith (a .0)) (room .work)) _ (λ _. Unit {0}) Q (of-any (fits (moduleWith (a .0)) (room .work))) λ _ _.
-    of-onto (placeless (walkAgain two (a .0) (a .1))) _ (λ b. Whole (b .1)) Q
-    (of-placeless (walkAgain two (a .0) (a .1)) (λ b. Whole (b .1)) (of-after (walkAgain two (a .0) (a .1)) (λ outs s′. Whole s′) (i .1))) λ b j.
-    of-onto (fits (moduleWith (b .0)) (room .out)) _ (λ _. Unit {0}) Q (of-any (fits (moduleWith (b .0)) (room .out))) λ _ _.
-    of-onto (fits (recordsOf (b .1)) (room .records)) _ (λ _. hasRoom (size (recordsOf (b .1))) (room .records) ≡ true) Q
-    (fits-room (recordsOf (b .1)) (room .records)) λ _ w. records-readable (b .1) (room .records) j w
-  where
-    Q : Extracted → Type 0
-    Q r = ReadBack (r .records)
-
 -- the records of an accepted call can be read
 pub call-records : (l : Lent) (room : Lengths) (ms : Modules) → Bytes (l .tree) → (r : Extracted) → extracted l room ms ≡ done r →
     ReadBack (r .records)
-unfolding extracted
-call-records l room ms bs r e = subst (λ (o : Outcome Extracted). Of o (λ r. ReadBack (r .records))) e all
-  where
-    Q : Extracted → Type 0
-    Q r = ReadBack (r .records)
-
-    all : Of (extracted l room ms) (λ r. ReadBack (r .records))
-    all =
-        of-onto (refuseIf (badLists l) 1) _ (λ _. Unit {0}) Q (of-any (refuseIf (badLists l) 1)) λ _ _.
-        of-onto (tableOf (l .table)) _ (λ _. Unit {0}) Q (of-any (tableOf (l .table))) λ rows _.
-        of-onto (itemsRead (read Module (l .tree))) _ Items Q (read-items (l .tree) bs) λ items h.
-        of-onto (ownModule (request (l .file) ms)) _ (λ _. Unit {0}) Q (of-any (ownModule (request (l .file) ms))) λ own _.
-        passes-records l room rows items own h
+call-records l room ms bs r e =
+    let m = call-made l room ms r e in
+    let u = m .run in
+    let rows = rowsIn (l .table) in
+    subst (λ (z : Extracted). ReadBack (z .records)) (u .given)
+    (records-readable (u .end) (u .room .records)
+    (run-both l rows (m .own .0) (m .items) (m .own .1) r u (λ works s. Whole s) (λ outs s. Whole s) (run-whole l rows (m .own .0) (m .own .1) (m .items) (made-items l ms r bs m)) .1) (u .records-room))

@@ -3,32 +3,29 @@ use Prim.Native.Nat.{ℕ}
 use mathlib.Core.Path.{_≡_, refl, subst}
 use mathlib.Core.Bool.{Bool, true}
 use mathlib.Core.List.{List, _∷_, _++_}
-use mathlib.Core.Option.{Option, none as nothing, some}
-use Rattle.scope.specs.Modules.{Modules, numberOf, request}
+use mathlib.Core.Option.{some}
+use Rattle.scope.specs.Modules.{Modules, numberOf}
 use Rattle.scope.proofs.Laws.{request-keeps-numbers}
-use Rattle.tree.specs.declared.grammar.Set.the-variants.{Module}
 use Rattle.tree.specs.Layout.{same}
 use Rattle.tree.specs.Tree.{Field, field, Fields, none, fixedOf}
-use Rattle.tree.specs.Read.{read}
 use Rattle.tree.proofs.LayoutLaws.{same-equal}
 use Rattle.lent.specs.Lists.{among}
-use Rattle.lent.specs.Outcome.{Outcome, done, placeless, refuseIf}
-use Rattle.lent.specs.Table.{Row, tableOf}
-use Rattle.lent.specs.Buffer.{fits}
+use Rattle.lent.specs.Outcome.{done}
+use Rattle.lent.specs.Table.{Row, rowsIn}
 use Rattle.extraction_rules.specs.State.{Usage, State, first, second, Setting, start}
 use Rattle.extraction_rules.specs.Second.{usagesOf, asProperty, rewritten}
 use Rattle.extraction_rules.specs.First.{importedAs}
 use Rattle.lent.specs.Fields.{has}
 use Rattle.extraction_rules.specs.Walk.{walk, walkModule, walkAgain}
-use Rattle.extraction_rules.specs.Records.{recordsOf}
-use Rattle.extraction_rules.specs.Call.{Lent, Lengths, Extracted, badLists, itemsRead, ownModule, setting, moduleWith, passes, extracted}
-use Rattle.extraction_rules.proofs.OutcomeLaws.{After, after-weaken, after-both, Of, of-onto, of-any, of-after, of-placeless}
+use Rattle.extraction_rules.specs.Call.{Lent, Lengths, Extracted, setting, extracted}
+use Rattle.extraction_rules.proofs.OutcomeLaws.{After, after-weaken, after-both}
 use Rattle.extraction_rules.proofs.ListLaws.{All, all-first}
 use Rattle.extraction_rules.proofs.FirstLaws.{sourcesOf, IsImported}
 use Rattle.extraction_rules.proofs.StepLaws.{EndSteps}
 use Rattle.extraction_rules.proofs.WalkLaws.{Steps, both-steps, both-end, walk-keeps, Imports, imports-any, ImportsAll, imports-any-all, walkModule-keeps, walkAgain-keeps}
 use Rattle.extraction_rules.proofs.SanityLaws.{Numbered, numbered-steps, numbered-end, DistinctSources, distinct-steps, distinct-end, OwnSources, own-steps, own-end, UsagesImported, imported-steps, imported-end, ForcedCollected, forced-steps-first, Known, ForcedAmong, forced-steps-second, forced-end}
 use Rattle.extraction_rules.proofs.ImportsLaws.{walkModule-known}
+use Rattle.extraction_rules.proofs.CallLaws.{call-made, run-both}
 
 abbrev AnyLiteral : List ℕ → Type 0
 AnyLiteral x = Unit {0}
@@ -165,44 +162,12 @@ run-keeps-numbers l rows own s items f n h =
     ))
     (walkModule-keeps one AnyLiteral (Numbered f n) (numbered-steps one AnyLiteral f n) items s (imports-any-all items AnyLiteral (λ x. tt)) h)
 
-passes-keep-numbers : (l : Lent) (room : Lengths) (rows : List Row) (items : Fields) (own : ℕ × Modules) (f n : ℕ) → numberOf f (own .1) ≡ some n →
-    Of (passes l room rows items own) (λ r. numberOf f (r .modules) ≡ some n)
-unfolding passes
-passes-keep-numbers l room rows items own f n h =
-    let one = setting first (own .0) l rows in
-    let two = setting second (own .0) l rows in
-    of-onto (walkModule one items (start (own .1))) _
-    (λ r. (numberOf f (r .1 .modules) ≡ some n) × After (walkAgain two (r .0) (r .1)) (λ outs s″. numberOf f (s″ .modules) ≡ some n))
-    (λ r. numberOf f (r .modules) ≡ some n)
-    (of-after (walkModule one items (start (own .1)))
-    (λ works s′. (numberOf f (s′ .modules) ≡ some n) × After (walkAgain two works s′) (λ outs s″. numberOf f (s″ .modules) ≡ some n))
-    (run-keeps-numbers l rows (own .0) (start (own .1)) items f n h)) λ r w.
-    of-onto (fits (moduleWith (r .0)) (room .work)) _ (λ _. Unit {0}) (λ r. numberOf f (r .modules) ≡ some n)
-    (of-any (fits (moduleWith (r .0)) (room .work))) λ _ _.
-    of-onto (placeless (walkAgain two (r .0) (r .1))) _ (λ q. numberOf f (q .1 .modules) ≡ some n) (λ r. numberOf f (r .modules) ≡ some n)
-    (of-placeless (walkAgain two (r .0) (r .1)) (λ q. numberOf f (q .1 .modules) ≡ some n)
-    (of-after (walkAgain two (r .0) (r .1)) (λ outs s″. numberOf f (s″ .modules) ≡ some n) (w .1))) λ q v.
-    of-onto (fits (moduleWith (q .0)) (room .out)) _ (λ _. Unit {0}) (λ r. numberOf f (r .modules) ≡ some n)
-    (of-any (fits (moduleWith (q .0)) (room .out))) λ _ _.
-    of-onto (fits (recordsOf (q .1)) (room .records)) _ (λ _. Unit {0}) (λ r. numberOf f (r .modules) ≡ some n)
-    (of-any (fits (recordsOf (q .1)) (room .records))) λ _ _. v
-
-own-keeps-numbers : (g : ℕ) (ms : Modules) (f n : ℕ) → numberOf f ms ≡ some n → (o : Option (ℕ × Modules)) → request g ms ≡ o →
-    Of (ownModule o) (λ own. numberOf f (own .1) ≡ some n)
-own-keeps-numbers g ms f n h nothing q = tt
-own-keeps-numbers g ms f n h (some own) q = request-keeps-numbers g ms q f n h
-
 -- no accepted call changes a number that was given
 pub call-keeps-numbers : (l : Lent) (room : Lengths) (ms : Modules) (f n : ℕ) → numberOf f ms ≡ some n → (r : Extracted) →
     extracted l room ms ≡ done r → numberOf f (r .modules) ≡ some n
-unfolding extracted
-call-keeps-numbers l room ms f n h r e = subst (λ (o : Outcome Extracted). Of o (λ r. numberOf f (r .modules) ≡ some n)) e all
-  where
-    all : Of (extracted l room ms) (λ r. numberOf f (r .modules) ≡ some n)
-    all =
-        of-onto (refuseIf (badLists l) 1) _ (λ _. Unit {0}) (λ r. numberOf f (r .modules) ≡ some n) (of-any (refuseIf (badLists l) 1)) λ _ _.
-        of-onto (tableOf (l .table)) _ (λ _. Unit {0}) (λ r. numberOf f (r .modules) ≡ some n) (of-any (tableOf (l .table))) λ rows _.
-        of-onto (itemsRead (read Module (l .tree))) _ (λ _. Unit {0}) (λ r. numberOf f (r .modules) ≡ some n)
-        (of-any (itemsRead (read Module (l .tree)))) λ items _.
-        of-onto (ownModule (request (l .file) ms)) _ (λ own. numberOf f (own .1) ≡ some n) (λ r. numberOf f (r .modules) ≡ some n)
-        (own-keeps-numbers (l .file) ms f n h (request (l .file) ms) refl) λ own w. passes-keep-numbers l room rows items own f n w
+call-keeps-numbers l room ms f n h r e =
+    let m = call-made l room ms r e in
+    let rows = rowsIn (l .table) in
+    subst (λ (z : Extracted). numberOf f (z .modules) ≡ some n) (m .run .given)
+    (run-both l rows (m .own .0) (m .items) (m .own .1) r (m .run) (λ works s. Numbered f n s) (λ outs s. Numbered f n s)
+    (run-keeps-numbers l rows (m .own .0) (start (m .own .1)) (m .items) f n (request-keeps-numbers (l .file) ms (m .requests) f n h)) .1)

@@ -1,9 +1,13 @@
 -- What an accepted outcome says of the steps that gave it.
 use Prim.Native.Nat.{ℕ}
 use mathlib.Core.Path.{_≡_, refl, sym}
+use mathlib.Core.Bool.{Bool, true, false, not}
 use mathlib.Core.List.{List}
 use native.Mathlib.Omega.{arith}
 use Rattle.lent.specs.Outcome.{Outcome, done, refused, onto, placeless, refuseIf}
+use Rattle.tree.specs.Tree.{Field, size}
+use Rattle.writer.specs.Finished.{hasRoom}
+use Rattle.lent.specs.Buffer.{fits}
 use Rattle.lent.specs.Table.{Row, rowsIn, repeats, tableOf}
 
 pub done-inj : {A : Type 0} {a b : A} → done a ≡ done b → a ≡ b
@@ -25,3 +29,12 @@ placeless-done (refused n p) a e = done-refused e
 pub table-rows : (t : List ℕ) (rows : List Row) → tableOf t ≡ done rows → rows ≡ rowsIn t
 unfolding tableOf
 table-rows t rows e = sym (done-inj (onto-done (refuseIf (repeats (rowsIn t)) 2) _ rows e .2))
+
+-- a field that was accepted has room
+pub fits-room : (f : Field) (room : ℕ) (u : Unit {0}) → fits f room ≡ done u → hasRoom (size f) room ≡ true
+unfolding fits
+fits-room f room u e = go (hasRoom (size f) room) e
+  where
+    go : (b : Bool) → refuseIf (not b) 9 ≡ done u → b ≡ true
+    go true e = refl
+    go false e = done-refused e

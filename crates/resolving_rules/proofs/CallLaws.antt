@@ -24,7 +24,7 @@ numbers-same : (ms : Modules) (a b : List Row) (fs gs : Fields) (m n : Modules) 
     numberAll a (sourcesIn fs) ms 3 ≡ done m → numberAll b (sourcesIn gs) ms 3 ≡ done n
 numbers-same ms a b fs gs m n u v w h = rw (u, v, w) at h
 
-numbered-made : (l : Lent) (ms : Modules) (q : Numbered) → numbered l ms ≡ done q →
+pub numbered-made : (l : Lent) (ms : Modules) (q : Numbered) → numbered l ms ≡ done q →
     (q .rows ≡ rowsIn (l .table)) × (recordsRead (read Records (l .records)) ≡ done (q .records))
     × (numberAll (q .rows) (sourcesIn (q .records)) ms 3 ≡ done (q .modules))
 unfolding numbered
