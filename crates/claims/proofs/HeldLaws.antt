@@ -261,7 +261,7 @@ module _ (i lit : List ℕ) (own file n : ℕ) where
     unfolding useProperty
     property-other us nothing j q at p s d h = h
     property-other us (some m) j q at p s d h =
-        after-if (has 0x72 q) (refuse 7 at) _ s (λ r t. H us t) (λ _. tt) (λ _. addUsage-keeps e (H us) (held-requires e us) (record { id = j; property = idFrom (fixedOf q) (export m) }) p s (held-usage-other us s (record { id = j; property = idFrom (fixedOf q) (export m) }) d h))
+        after-if (has 0x72 q) (refuse 7 at) _ s (λ r t. H us t) (λ _. tt) (λ _. addUsage-keeps (H us) (record { id = j; property = idFrom (fixedOf q) (export m) }) p s (held-usage-other us s (record { id = j; property = idFrom (fixedOf q) (export m) }) d h))
 
     from-other : (us : List How) (o : Option Record) (j : List ℕ) (q : Field) (at p : ℕ) (s : State) → same j i ≡ false → H us s → After (useFrom o e j q at p s) (λ r t. H us t)
     unfolding useFrom
@@ -283,7 +283,7 @@ module _ (i lit : List ℕ) (own file n : ℕ) where
     from-own us (some r) q at p s w c h =
         let v : valueOf (r .literal) ≡ a = cc in
         rw (v, module-own us p s h)
-        (after-if (has 0x72 q) (refuse 7 at) _ s (λ r t. H (us ++ (plain (fixedOf q) ∷ [])) t) (λ _. tt) (λ _. addUsage-keeps e (H (us ++ (plain (fixedOf q) ∷ []))) (held-requires e (us ++ (plain (fixedOf q) ∷ []))) (record { id = i; property = idFrom (fixedOf q) (export n) }) p s (held-usage us s (fixedOf q) c h)))
+        (after-if (has 0x72 q) (refuse 7 at) _ s (λ r t. H (us ++ (plain (fixedOf q) ∷ [])) t) (λ _. tt) (λ _. addUsage-keeps (H (us ++ (plain (fixedOf q) ∷ []))) (record { id = i; property = idFrom (fixedOf q) (export n) }) p s (held-usage us s (fixedOf q) c h)))
 
     -- a 72 is refused
     from-private : (us : List How) (o : Option Record) (q : Field) (at p : ℕ) (s : State) → mapped (λ (r : Record). valueOf (r .literal)) o ≡ some a → has 0x72 q ≡ true → H us s →

@@ -128,9 +128,8 @@ after-each (refused n p) P h = tt
 module _ (e : Setting) where
   moduleFor-untouched : (a : List ℕ) (p : ℕ) (s : State) → After (moduleFor e a p s) (λ n t. Untouched s t)
   moduleFor-untouched a p s =
-      after-weaken (moduleFor e a p s) (λ n t. Unit {0} × (t ≡ setModules (t .modules) s)) (λ n t. Untouched s t)
-      (λ n t k. (ap (λ (t : State). t .collected) (k .1), ap (λ (t : State). t .forced) (k .1), ap (λ (t : State). t .lazy) (k .1)))
-      (moduleFor-stays e (λ _. Unit {0}) (record { on-request = λ s f n ms q h. h; on-cjs = λ s n h. h; on-lazy = λ s r b h. h }) a p s tt)
+      after-weaken (moduleFor e a p s) (λ n t. t ≡ setModules (t .modules) s) (λ n t. Untouched s t)
+      (λ n t k. (ap (λ (t : State). t .collected) k, ap (λ (t : State). t .forced) k, ap (λ (t : State). t .lazy) k)) (moduleFor-stays e a p s)
 
   wrapModule-untouched : (o : Option ℕ) (s : State) → After (wrapModule o s) (λ n t. Untouched s t)
   unfolding wrapModule

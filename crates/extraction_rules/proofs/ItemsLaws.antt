@@ -19,7 +19,7 @@ use Rattle.extraction_rules.specs.State.{Record, Usage, State, Pass, fir
 use Rattle.extraction_rules.specs.First.{idFrom, moduleFor, forceId, onIdent, importedAs, usedRecord, addUsage, useProperty, useFrom, useImported, usage, require, declarator}
 use Rattle.extraction_rules.specs.Walk.{Rule, import, export as exporting, declare, express, nothing as plain, afterExpression, ruleFor, after, Parts, unwalked, member, super, assignment, children, partsFor, enter, walk, walkAll, walkMember, walkAssignment, walkTarget}
 use Rattle.extraction_rules.proofs.OutcomeLaws.{after-bind, after-both, after-if}
-use Rattle.extraction_rules.proofs.StepLaws.{Keeps, CommonSteps, EmptyKeeps, then-keeps, enter-keeps, moduleFor-stays, addUsage-keeps, require-keeps, declarator-keeps, exportSpecifier-keeps}
+use Rattle.extraction_rules.proofs.StepLaws.{Keeps, CommonSteps, EmptyKeeps, then-keeps, enter-keeps, moduleFor-stays, addUsage-keeps, require-keeps, declarator-keeps, exportSpecifier-keeps, moduleFor-keeps}
 use Rattle.extraction_rules.proofs.WalkLaws.{walkParts}
 use Rattle.extraction_rules.proofs.TagLaws.{rule-import, parts-member}
 use Rattle.extraction_rules.proofs.AlikeLaws.{Two, RegularAt, Regular, RegularAll, AlikeAll, alike-two, regularAll-alike, parts-alike, walkAll-alike, walkMember-alike, walkAssignment-alike}
@@ -47,13 +47,13 @@ module _ (e : Setting) (J : State → Type 0) (steps : ItemSteps e J) where
   property-keeps (some n) j q at p s r w m a h =
       let u : Usage = record { id = j; property = idFrom (fixedOf q) (export n) } in
       after-if (has 0x72 q) (refuse 7 at) (addUsage u p) s (λ r s. J s) (λ _. tt)
-      (λ b. addUsage-keeps e J (steps .common .requires) u p s (steps .on-usage s j (fixedOf q) n r w (two-bytes q m a b) h))
+      (λ b. addUsage-keeps J u p s (steps .on-usage s j (fixedOf q) n r w (two-bytes q m a b) h))
 
   from-keeps : (o : Option Record) (j : List ℕ) (q : Field) (at p : ℕ) (s : State) → usedRecord (e .own) j (s .collected) ≡ o → Member q → has 0x71 q ≡ false → J s → Keeps J (useFrom o e j q at p s)
   unfolding useFrom
   from-keeps nothing j q at p s w m a h = h
   from-keeps (some r) j q at p s w m a h =
-      after-bind (moduleFor e (valueOf (r .literal)) p s) _ (λ n t. J t × (t ≡ setModules (t .modules) s)) (λ r s. J s) (moduleFor-stays e J (steps .common .requires) (valueOf (r .literal)) p s h) λ n t k.
+      after-bind (moduleFor e (valueOf (r .literal)) p s) _ (λ n t. J t × (t ≡ setModules (t .modules) s)) (λ r s. J s) (after-both (moduleFor e (valueOf (r .literal)) p s) (λ n t. J t) (λ n t. t ≡ setModules (t .modules) s) (moduleFor-keeps e J (steps .common .requires) (valueOf (r .literal)) p s h) (moduleFor-stays e (valueOf (r .literal)) p s)) λ n t k.
       property-keeps n j q at p t r (ap (λ (t : State). usedRecord (e .own) j (t .collected)) (k .1) ∙ w) m a (k .0)
 
   imported-keeps : (o : Option (List ℕ)) (j : List ℕ) (q : Field) (at p : ℕ) (s : State) → Member q → J s → Keeps J (useImported o e j q at p s)

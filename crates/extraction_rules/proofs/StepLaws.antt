@@ -20,7 +20,7 @@ use Rattle.extraction_rules.specs.State.{Record, Imported, Usage, State,
 use Rattle.extraction_rules.specs.First.{external, idFrom, requested, moduleOf, moduleFor, forceSource, forceId, onIdent, importedAs, usedRecord, addUsage, useProperty, useFrom, useImported, usage, argument, notExternal, required, markCjs, markRequired, collectIn, collect, addLazy, require, noteIn, noteId, noteNamed, noteSpecifier, notedContext, noteAll, noteSpecifiers, specifiersIn, importFirst, exportSpecifier, bindings, requireLazily, declarator}
 use Rattle.extraction_rules.specs.Second.{usagesOf, specifiersFrom, extend, takeApart, onSole, importSecond, wrapModule, wrapAll, loseNamespaces, finish}
 use Rattle.extraction_rules.specs.Walk.{Rule, import, export as exporting, declare, express, nothing as plain, afterExpression, afterImport, after, enter}
-use Rattle.extraction_rules.proofs.OutcomeLaws.{After, after-bind, after-if, after-weaken}
+use Rattle.extraction_rules.proofs.OutcomeLaws.{After, after-bind, after-if, after-both}
 use Rattle.extraction_rules.proofs.TestLaws.{or-neither}
 
 -- ---- The elementary steps
@@ -100,34 +100,27 @@ enter-keeps J k t s h = go (eqb t 0x45)
     go true = k s false h
     go false = h
 
-module _ (e : Setting) (J : State → Type 0) (c : RequireSteps e J) where
-  -- the module of a source: only modules change
-  pub moduleFor-stays : (a : List ℕ) (p : ℕ) (s : State) → J s → After (moduleFor e a p s) (λ n t. J t × (t ≡ setModules (t .modules) s))
-  unfolding moduleFor
-  moduleFor-stays a p s h = go (fileOf a (e .table))
-    where
-      ask : (f : ℕ) (r : Option (ℕ × Modules)) → request f (s .modules) ≡ r → After (requested r p s) (λ n t. J t × (t ≡ setModules (t .modules) s))
-      ask f nothing q = tt
-      ask f (some r) q = (c .on-request s f (r .0) (r .1) q h, refl)
+-- the module of a source: only modules change
+pub moduleFor-stays : (e : Setting) (a : List ℕ) (p : ℕ) (s : State) → After (moduleFor e a p s) (λ n t. t ≡ setModules (t .modules) s)
+unfolding moduleFor
+moduleFor-stays e a p s = go (fileOf a (e .table))
+  where
+    ask : (r : Option (ℕ × Modules)) → After (requested r p s) (λ n t. t ≡ setModules (t .modules) s)
+    ask nothing = tt
+    ask (some r) = refl
 
-      go : (o : Option ℕ) → After (moduleOf o p s) (λ n t. J t × (t ≡ setModules (t .modules) s))
-      go nothing = (h, refl)
-      go (some f) = ask f (request f (s .modules)) refl
+    go : (o : Option ℕ) → After (moduleOf o p s) (λ n t. t ≡ setModules (t .modules) s)
+    go nothing = refl
+    go (some f) = ask (request f (s .modules))
 
-  pub moduleFor-keeps : (a : List ℕ) (p : ℕ) (s : State) → J s → Keeps J (moduleFor e a p s)
-  moduleFor-keeps a p s h = after-weaken (moduleFor e a p s) (λ n t. J t × (t ≡ setModules (t .modules) s)) (λ r s. J s) (λ n t k. k .0) (moduleFor-stays a p s h)
-
-  room-keeps : (n most p : ℕ) (f : State → State) (s : State) → J (f s) → Keeps J (roomFor n most p f s)
+-- the tables, one by one
+module _ (J : State → Type 0) where
+  pub room-keeps : (n most p : ℕ) (f : State → State) (s : State) → J (f s) → Keeps J (roomFor n most p f s)
   room-keeps n most p f s h = after-if (leb n most) (change f) (refuse 8 p) s (λ r s. J s) (λ _. h) (λ _. tt)
 
-  -- the tables, one by one
   pub addUsage-keeps : (u : Usage) (p : ℕ) (s : State) → J (setUsages (s .usages ++ (u ∷ [])) s) → Keeps J (addUsage u p s)
   unfolding addUsage
   addUsage-keeps u p s h = room-keeps (length (s .usages ++ (u ∷ []))) 2048 p (setUsages (s .usages ++ (u ∷ []))) s h
-
-  addLazy-keeps : (r : Record) (p : ℕ) (s : State) → external e (r .literal) ≡ false → J s → Keeps J (addLazy r p s)
-  unfolding addLazy
-  addLazy-keeps r p s b h = room-keeps (length (s .lazy ++ (r ∷ []))) 1024 p (setLazy (s .lazy ++ (r ∷ []))) s (c .on-lazy s r b h)
 
   pub collect-keeps : (r : Record) (p : ℕ) (s : State) → J (setCollected (collectIn r (s .collected)) s) → Keeps J (collect r p s)
   unfolding collect
@@ -136,6 +129,45 @@ module _ (e : Setting) (J : State → Type 0) (c : RequireSteps e J) where
   pub noteId-keeps : (m : Imported) (p : ℕ) (s : State) → J (setImported (noteIn m (s .imported)) s) → Keeps J (noteId m p s)
   unfolding noteId
   noteId-keeps m p s h = room-keeps (length (noteIn m (s .imported))) 512 p (setImported (noteIn m (s .imported))) s h
+
+  noteSpecifier-keeps : ((s : State) (m : Imported) → J s → J (setImported (noteIn m (s .imported)) s)) →
+      (n : ℕ) (f : Field) (p : ℕ) (s : State) → J s → Keeps J (noteSpecifier n f p s)
+  unfolding noteSpecifier noteNamed
+  noteSpecifier-keeps k n f p s h =
+      after-if (has 0x20 f) (noteNamed n (fixedOf f) p) _ s (λ r s. J s)
+      (λ _. after-if (eqb (getD (fixedOf f) 6 0) 2) (refuse 6 p) _ s (λ r s. J s) (λ _. tt)
+      (λ _. then-keeps J (noteId (record { id = idAt (fixedOf f) 0; context = four (export n) }) p s) _ (noteId-keeps _ p s (k s _ h)) λ _ s h. h))
+      (λ _. then-keeps J (noteId (record { id = fixedOf f; context = notedContext n f }) p s) _ (noteId-keeps _ p s (k s _ h)) λ _ s h. h)
+
+  noteAll-keeps : ((s : State) (m : Imported) → J s → J (setImported (noteIn m (s .imported)) s)) →
+      (n : ℕ) (fs : Fields) (p : ℕ) (s : State) → J s → Keeps J (noteAll n fs p s)
+  unfolding noteAll
+  noteAll-keeps k n none p s h = h
+  noteAll-keeps k n (more f fs) p s h =
+      then-keeps J (noteSpecifier n f p s) _ (noteSpecifier-keeps k n f p s h) λ g s h. then-keeps J (noteAll n fs (p + size f) s) _
+      (noteAll-keeps k n fs (p + size f) s h) λ gs s h. h
+
+  pub noteSpecifiers-keeps : ((s : State) (m : Imported) → J s → J (setImported (noteIn m (s .imported)) s)) →
+      (o : Option ℕ) (fs : Fields) (p : ℕ) (s : State) → J s → Keeps J (noteSpecifiers o fs p s)
+  noteSpecifiers-keeps k nothing fs p s h = h
+  noteSpecifiers-keeps k (some n) fs p s h = noteAll-keeps k n fs p s h
+
+module _ (e : Setting) (J : State → Type 0) (c : RequireSteps e J) where
+  pub moduleFor-keeps : (a : List ℕ) (p : ℕ) (s : State) → J s → Keeps J (moduleFor e a p s)
+  unfolding moduleFor
+  moduleFor-keeps a p s h = go (fileOf a (e .table))
+    where
+      ask : (f : ℕ) (r : Option (ℕ × Modules)) → request f (s .modules) ≡ r → Keeps J (requested r p s)
+      ask f nothing q = tt
+      ask f (some r) q = c .on-request s f (r .0) (r .1) q h
+
+      go : (o : Option ℕ) → Keeps J (moduleOf o p s)
+      go nothing = h
+      go (some f) = ask f (request f (s .modules)) refl
+
+  addLazy-keeps : (r : Record) (p : ℕ) (s : State) → external e (r .literal) ≡ false → J s → Keeps J (addLazy r p s)
+  unfolding addLazy
+  addLazy-keeps r p s b h = room-keeps J (length (s .lazy ++ (r ∷ []))) 1024 p (setLazy (s .lazy ++ (r ∷ []))) s (c .on-lazy s r b h)
 
   markCjs-keeps : (o : Option ℕ) (f : Field) (s : State) → J s → Keeps J (markCjs o f s)
   unfolding markCjs
@@ -167,7 +199,7 @@ module _ (e : Setting) (J : State → Type 0) (c : RequireSteps e J) where
       let r : Record = record { literal = l; specifiers = none } in
       then-keeps J (markRequired e l f p s) _ (markRequired-keeps l f p s h) λ g s h.
       then-keeps J (cond (s .top) (collect r p) (addLazy r p) s) _
-      (after-if (s .top) (collect r p) (addLazy r p) s (λ r s. J s) (λ _. collect-keeps r p s (k s l (required-own e f l w) h))
+      (after-if (s .top) (collect r p) (addLazy r p) s (λ r s. J s) (λ _. collect-keeps J r p s (k s l (required-own e f l w) h))
       (λ _. addLazy-keeps r p s (required-own e f l w) h)) λ _ s h. h
 
   pub require-keeps : EmptyKeeps e J → (f : Field) (p : ℕ) (s : State) → J s → Keeps J (require (required e f) e f p s)
@@ -175,35 +207,13 @@ module _ (e : Setting) (J : State → Type 0) (c : RequireSteps e J) where
 
   -- ---- '10, not external'
 
-  noteSpecifier-keeps : ((s : State) (m : Imported) → J s → J (setImported (noteIn m (s .imported)) s)) →
-      (n : ℕ) (f : Field) (p : ℕ) (s : State) → J s → Keeps J (noteSpecifier n f p s)
-  unfolding noteSpecifier noteNamed
-  noteSpecifier-keeps k n f p s h =
-      after-if (has 0x20 f) (noteNamed n (fixedOf f) p) _ s (λ r s. J s)
-      (λ _. after-if (eqb (getD (fixedOf f) 6 0) 2) (refuse 6 p) _ s (λ r s. J s) (λ _. tt)
-      (λ _. then-keeps J (noteId (record { id = idAt (fixedOf f) 0; context = four (export n) }) p s) _ (noteId-keeps _ p s (k s _ h)) λ _ s h. h))
-      (λ _. then-keeps J (noteId (record { id = fixedOf f; context = notedContext n f }) p s) _ (noteId-keeps _ p s (k s _ h)) λ _ s h. h)
-
-  noteAll-keeps : ((s : State) (m : Imported) → J s → J (setImported (noteIn m (s .imported)) s)) →
-      (n : ℕ) (fs : Fields) (p : ℕ) (s : State) → J s → Keeps J (noteAll n fs p s)
-  unfolding noteAll
-  noteAll-keeps k n none p s h = h
-  noteAll-keeps k n (more f fs) p s h =
-      then-keeps J (noteSpecifier n f p s) _ (noteSpecifier-keeps k n f p s h) λ g s h. then-keeps J (noteAll n fs (p + size f) s) _
-      (noteAll-keeps k n fs (p + size f) s h) λ gs s h. h
-
-  noteSpecifiers-keeps : ((s : State) (m : Imported) → J s → J (setImported (noteIn m (s .imported)) s)) →
-      (o : Option ℕ) (fs : Fields) (p : ℕ) (s : State) → J s → Keeps J (noteSpecifiers o fs p s)
-  noteSpecifiers-keeps k nothing fs p s h = h
-  noteSpecifiers-keeps k (some n) fs p s h = noteAll-keeps k n fs p s h
-
   importFirst-keeps : FirstSteps e J → (x : List ℕ) (cs : Fields) (p : ℕ) (s : State) → J s → Keeps J (importFirst e x cs p s)
   unfolding importFirst
   importFirst-keeps one x cs p s h =
       after-if (external e x) (give (field 0x10 x cs)) _ s (λ r s. J s) (λ _. h)
       (λ b. then-keeps J (moduleFor e (valueOf x) p s) _ (moduleFor-keeps (valueOf x) p s h) λ n s h.
-      then-keeps J (noteSpecifiers n (specifiersIn cs) (inside p x) s) _ (noteSpecifiers-keeps (one .on-note) n (specifiersIn cs) (inside p x) s h) λ fs s h.
-      then-keeps J (collect (record { literal = x; specifiers = fs }) p s) _ (collect-keeps _ p s (one .on-collect s _ b h)) λ _ s h. h)
+      then-keeps J (noteSpecifiers n (specifiersIn cs) (inside p x) s) _ (noteSpecifiers-keeps J (one .on-note) n (specifiersIn cs) (inside p x) s h) λ fs s h.
+      then-keeps J (collect (record { literal = x; specifiers = fs }) p s) _ (collect-keeps J _ p s (one .on-collect s _ b h)) λ _ s h. h)
 
   -- ---- The second pass
 
@@ -260,7 +270,7 @@ module _ (e : Setting) (J : State → Type 0) (c : CommonSteps e J) where
   unfolding useProperty
   useProperty-keeps nothing i q at p s k w u h = h
   useProperty-keeps (some n) i q at p s k w u h =
-      after-if (has 0x72 q) (refuse 7 at) _ s (λ r s. J s) (λ _. tt) (λ b. addUsage-keeps e J (c .requires) _ p s (u b s n k w h))
+      after-if (has 0x72 q) (refuse 7 at) _ s (λ r s. J s) (λ _. tt) (λ b. addUsage-keeps J _ p s (u b s n k w h))
 
   useFrom-keeps : (o : Option Record) (i : List ℕ) (q : Field) (at p : ℕ) (s : State) (k : List ℕ) → importedAs i (s .imported) ≡ some k →
       (has 0x72 q ≡ false → UseKeeps i q) → J s → Keeps J (useFrom o e i q at p s)
@@ -268,7 +278,7 @@ module _ (e : Setting) (J : State → Type 0) (c : CommonSteps e J) where
   useFrom-keeps nothing i q at p s k w u h = h
   useFrom-keeps (some r) i q at p s k w u h =
       after-bind (moduleFor e (valueOf (r .literal)) p s) _ (λ n t. J t × (t ≡ setModules (t .modules) s)) (λ r s. J s)
-      (moduleFor-stays e J (c .requires) (valueOf (r .literal)) p s h) λ n t j.
+      (after-both (moduleFor e (valueOf (r .literal)) p s) (λ n t. J t) (λ n t. t ≡ setModules (t .modules) s) (moduleFor-keeps e J (c .requires) (valueOf (r .literal)) p s h) (moduleFor-stays e (valueOf (r .literal)) p s)) λ n t j.
       useProperty-keeps n i q at p t k (ap (λ (t : State). importedAs i (t .imported)) (j .1) ∙ w) u (j .0)
 
   useImported-keeps : (o : Option (List ℕ)) (i : List ℕ) (q : Field) (at p : ℕ) (s : State) → importedAs i (s .imported) ≡ o →

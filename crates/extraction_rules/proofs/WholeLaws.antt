@@ -5,31 +5,29 @@ use mathlib.Core.Bool.{Bool, true, false, not, cond, _&&_, _||_}
 use mathlib.Core.List.{List, [], _∷_, _++_}
 use mathlib.Core.Option.{Option, none as nothing, some}
 use native.Mathlib.Omega.{arith}
-use lib.Dec.{leb, eqb}
+use lib.Dec.{eqb}
 use lib.ListN.{length, getD}
 use lib.Seq.{length-slice, length-take-le}
 use borrow.Author.Tests.{eqb-true}
-use Rattle.scope.specs.Id.{require-atom, export}
-use Rattle.scope.specs.Modules.{Modules, request}
+use Rattle.scope.specs.Id.{require-atom}
 use Rattle.tree.specs.declared.grammar.Rule.{Rule}
-use Rattle.tree.specs.Layout.{skipAt, literalEnd, same, two, four, idAt, nameOf, valueOf, sameLiteral}
+use Rattle.tree.specs.Layout.{skipAt, literalEnd, same, two, idAt, nameOf, valueOf, sameLiteral}
 use Rattle.tree.specs.Access.{valueAt, pieceAt, fixedAt}
 use Rattle.tree.specs.Tree.{Field, field, Fields, none, more, tagOf, fixedOf, size}
 use Rattle.tree.specs.Grammar.{piecesOf, ruleOf}
 use Rattle.tree.specs.Within.{Exact}
 use Rattle.metadata.specs.Metadata.{append}
-use Rattle.lent.specs.Outcome.{Outcome, onto}
+use Rattle.lent.specs.Outcome.{onto}
 use Rattle.lent.specs.Lists.{among}
 use Rattle.lent.specs.Fields.{has, keep, sole, inside}
-use Rattle.lent.specs.Table.{fileOf}
-use Rattle.extraction_rules.specs.State.{Record, Imported, Usage, State, Pass, first, second, Setting, Act, give, change, refuse, roomFor, setImported, setUsages, setCollected, setLazy, setForced}
-use Rattle.extraction_rules.specs.First.{external, idFrom, requested, moduleOf, moduleFor, holdsNamespace, forget, forceId, onIdent, importedAs, usedRecord, addUsage, useProperty, useFrom, useImported, usage, argument, notExternal, required, markCjs, markRequired, collectIn, collect, addLazy, require, noteIn, noteId, noteNamed, notedContext, noteSpecifier, noteAll, noteSpecifiers, specifiersIn, importFirst, exportSpecifier, Binding, bound, left, below, bindingOf, bindings, bindingsAll, bindingsFirst, requireLazily, declarator}
+use Rattle.extraction_rules.specs.State.{Record, Usage, State, Pass, first, second, Setting, Act, give, change, refuse, setLazy, setForced, setModules}
+use Rattle.extraction_rules.specs.First.{external, moduleFor, holdsNamespace, forget, forceId, onIdent, importedAs, usedRecord, useProperty, useFrom, useImported, usage, argument, notExternal, required, markCjs, markRequired, collectIn, collect, addLazy, require, noteSpecifiers, specifiersIn, importFirst, exportSpecifier, Binding, bound, left, below, bindingOf, bindings, bindingsAll, bindingsFirst, requireLazily, declarator}
 use Rattle.extraction_rules.specs.Second.{usagesOf, specifiersFrom, extend, takeApart, onSole, importSecond, wrapModule, wrapAll, loseNamespaces, finish}
 use Rattle.extraction_rules.specs.Walk.{Rule as Kind, import, export as exporting, declare, express, nothing as plain, ruleFor, afterExpression, afterImport, after, Parts, unwalked, member, super, assignment, children, partsFor, enter, walk, walkAll, walkMember, walkAssignment, walkTarget}
-use Rattle.extraction_rules.proofs.OutcomeLaws.{After, after-bind, after-both, after-if}
+use Rattle.extraction_rules.proofs.OutcomeLaws.{After, after-bind, after-both, after-if, after-weaken}
 use Rattle.extraction_rules.proofs.ListLaws.{All, all-last, all-map, all-find}
 use Rattle.extraction_rules.proofs.FirstLaws.{source-cases, force-cases}
-use Rattle.extraction_rules.proofs.StepLaws.{Keeps, moduleFor-keeps, enter-keeps}
+use Rattle.extraction_rules.proofs.StepLaws.{Keeps, moduleFor-keeps, enter-keeps, then-keeps, room-keeps, addUsage-keeps, collect-keeps, noteSpecifiers-keeps, moduleFor-stays}
 use Rattle.extraction_rules.proofs.WalkLaws.{rule-tag, parts-tag, parts-other, walkParts}
 use Rattle.extraction_rules.proofs.RuleLaws.{inRule, takesTarget, step-without, rule-targets}
 use Rattle.extraction_rules.proofs.ExactLaws.{plain-is, property-exact}
@@ -213,37 +211,19 @@ force-whole i s h =
 -- ---- The rules
 
 module _ (e : Setting) where
-  next : {A B : Type 0} (m : Outcome (A × State)) (f : A × State → Outcome (B × State)) → Keeps Whole m →
-      ((a : A) (s : State) → Whole s → Keeps Whole (f (a, s))) → Keeps Whole (onto m f)
-  next m f h k = after-bind m f (λ r s. Whole s) (λ r s. Whole s) h k
-
   moduleFor-whole : (a : List ℕ) (p : ℕ) (s : State) → Whole s → Keeps Whole (moduleFor e a p s)
-  unfolding moduleFor
-  moduleFor-whole a p s h = go (fileOf a (e .table))
-    where
-      ask : (r : Option (ℕ × Modules)) → Keeps Whole (requested r p s)
-      ask nothing = tt
-      ask (some r) = h
-
-      go : (o : Option ℕ) → Keeps Whole (moduleOf o p s)
-      go nothing = h
-      go (some f) = ask (request f (s .modules))
-
-  room-whole : (n most p : ℕ) (f : State → State) (s : State) → Whole (f s) → Keeps Whole (roomFor n most p f s)
-  room-whole n most p f s h = after-if (leb n most) (change f) (refuse 8 p) s (λ r s. Whole s) (λ _. h) (λ _. tt)
+  moduleFor-whole a p s h = after-weaken (moduleFor e a p s) (λ n t. t ≡ setModules (t .modules) s) (λ r s. Whole s) (λ n t k. subst Whole (sym k) h) (moduleFor-stays e a p s)
 
   useProperty-whole : (o : Option ℕ) (i : List ℕ) (q : Field) (at p : ℕ) (s : State) → Whole s → Keeps Whole (useProperty o i q at p s)
-  unfolding useProperty addUsage
+  unfolding useProperty
   useProperty-whole nothing i q at p s h = h
-  useProperty-whole (some n) i q at p s h =
-      let l : List Usage = s .usages ++ (record { id = i; property = idFrom (fixedOf q) (export n) } ∷ []) in
-      after-if (has 0x72 q) (refuse 7 at) _ s (λ r s. Whole s) (λ _. tt) (λ _. room-whole (length l) 2048 p (setUsages l) s h)
+  useProperty-whole (some n) i q at p s h = after-if (has 0x72 q) (refuse 7 at) _ s (λ r s. Whole s) (λ _. tt) (λ _. addUsage-keeps Whole _ p s h)
 
   useFrom-whole : (o : Option Record) (i : List ℕ) (q : Field) (at p : ℕ) (s : State) → Whole s → Keeps Whole (useFrom o e i q at p s)
   unfolding useFrom
   useFrom-whole nothing i q at p s h = h
   useFrom-whole (some r) i q at p s h =
-      next (moduleFor e (valueOf (r .literal)) p s) _ (moduleFor-whole (valueOf (r .literal)) p s h) λ n s h. useProperty-whole n i q at p s h
+      then-keeps Whole (moduleFor e (valueOf (r .literal)) p s) _ (moduleFor-whole (valueOf (r .literal)) p s h) λ n s h. useProperty-whole n i q at p s h
 
   useImported-whole : (o : Option (List ℕ)) (i : List ℕ) (q : Field) (at p : ℕ) (s : State) → Whole s → Keeps Whole (useImported o e i q at p s)
   unfolding useImported
@@ -265,18 +245,15 @@ module _ (e : Setting) where
 
   markRequired-whole : (l : List ℕ) (f : Field) (p : ℕ) (s : State) → Whole s → Keeps Whole (markRequired e l f p s)
   unfolding markRequired
-  markRequired-whole l f p s h = next (moduleFor e (valueOf l) p s) _ (moduleFor-whole (valueOf l) p s h) λ n s h. markCjs-whole n f s h
+  markRequired-whole l f p s h = then-keeps Whole (moduleFor e (valueOf l) p s) _ (moduleFor-whole (valueOf l) p s h) λ n s h. markCjs-whole n f s h
 
   addLazy-whole : (r : Record) (p : ℕ) (s : State) → WholeRecord r → Whole s → Keeps Whole (addLazy r p s)
   unfolding addLazy
   addLazy-whole r p s k h =
-      room-whole (length (s .lazy ++ (r ∷ []))) 1024 p (setLazy (s .lazy ++ (r ∷ []))) s (h .0, all-last WholeRecord (s .lazy) r (h .1) k, h .2)
+      room-keeps Whole (length (s .lazy ++ (r ∷ []))) 1024 p (setLazy (s .lazy ++ (r ∷ []))) s (h .0, all-last WholeRecord (s .lazy) r (h .1) k, h .2)
 
   collect-whole : (r : Record) (p : ℕ) (s : State) → WholeRecord r → Whole s → Keeps Whole (collect r p s)
-  unfolding collect
-  collect-whole r p s k h =
-      room-whole (length (collectIn r (s .collected))) 256 p (setCollected (collectIn r (s .collected))) s
-      (collectIn-whole r (s .collected) k (h .0), h .1, h .2)
+  collect-whole r p s k h = collect-keeps Whole r p s (collectIn-whole r (s .collected) k (h .0), h .1, h .2)
 
   require-whole : (o : Option (List ℕ)) (f : Field) (p : ℕ) (s : State) → ((l : List ℕ) → o ≡ some l → length l ≡ 6) → Whole s →
       Keeps Whole (require o e f p s)
@@ -284,8 +261,8 @@ module _ (e : Setting) where
   require-whole nothing f p s k h = h
   require-whole (some l) f p s k h =
       let r : Record = record { literal = l; specifiers = none } in
-      next (markRequired e l f p s) _ (markRequired-whole l f p s h) λ g s h.
-      next (cond (s .top) (collect r p) (addLazy r p) s) _
+      then-keeps Whole (markRequired e l f p s) _ (markRequired-whole l f p s h) λ g s h.
+      then-keeps Whole (cond (s .top) (collect r p) (addLazy r p) s) _
       (after-if (s .top) (collect r p) (addLazy r p) s (λ r s. Whole s) (λ _. collect-whole r p s (k l refl, tt) h)
       (λ _. addLazy-whole r p s (k l refl, tt) h)) λ _ s h. h
 
@@ -299,15 +276,15 @@ module _ (e : Setting) where
   unfolding requireLazily
   requireLazily-whole nothing q i p s k m h = h
   requireLazily-whole (some l) q i p s k m h =
-      next (markRequired e l i p s) _ (markRequired-whole l i p s h) λ j s h.
-      next (addLazy (record { literal = l; specifiers = bindings q }) p s) _ (addLazy-whole _ p s (k l refl, bindings-whole q m) h) λ _ s h. h
+      then-keeps Whole (markRequired e l i p s) _ (markRequired-whole l i p s h) λ j s h.
+      then-keeps Whole (addLazy (record { literal = l; specifiers = bindings q }) p s) _ (addLazy-whole _ p s (k l refl, bindings-whole q m) h) λ _ s h. h
 
   declarator-whole : (cs : Fields) (r : Rule) (p : ℕ) (s : State) → ShapedAll cs r → Whole s → Keeps Whole (declarator e cs p s)
   unfolding declarator
   declarator-whole none r p s k h = h
   declarator-whole (more q none) r p s k h = h
   declarator-whole (more q (more i rest)) r p s k h =
-      next (requireLazily (required e i) e q i p s) _
+      then-keeps Whole (requireLazily (required e i) e q i p s) _
       (requireLazily-whole (required e i) q i p s (λ l w. required-width e i l (k .3 .2) w) (k .2) h) λ j s h. h
 
   expression-whole : (j : Pass) (f : Field) (object : Bool) (p : ℕ) (s : State) → Shaped f → Whole s →
@@ -315,34 +292,11 @@ module _ (e : Setting) where
   unfolding afterExpression
   expression-whole first f object p s k h =
       after-if (has 0x60 f && not object) _ _ s (λ r s. Whole s) (λ _. force-whole (fixedOf f) s h)
-      (λ _. next (usage (onIdent f) e p s) _ (usage-whole (onIdent f) p s h) λ _ s h.
+      (λ _. then-keeps Whole (usage (onIdent f) e p s) _ (usage-whole (onIdent f) p s h) λ _ s h.
       require-whole (required e f) f p s (λ l w. required-width e f l k w) h)
   expression-whole second f object p s k h = h
 
   -- ---- '10, not external'
-
-  noteId-whole : (m : Imported) (p : ℕ) (s : State) → Whole s → Keeps Whole (noteId m p s)
-  unfolding noteId
-  noteId-whole m p s h = room-whole (length (noteIn m (s .imported))) 512 p (setImported (noteIn m (s .imported))) s h
-
-  noteSpecifier-whole : (n : ℕ) (f : Field) (p : ℕ) (s : State) → Whole s → Keeps Whole (noteSpecifier n f p s)
-  unfolding noteSpecifier noteNamed
-  noteSpecifier-whole n f p s h =
-      after-if (has 0x20 f) (noteNamed n (fixedOf f) p) _ s (λ r s. Whole s)
-      (λ _. after-if (eqb (getD (fixedOf f) 6 0) 2) (refuse 6 p) _ s (λ r s. Whole s) (λ _. tt)
-      (λ _. next (noteId (record { id = idAt (fixedOf f) 0; context = four (export n) }) p s) _ (noteId-whole _ p s h) λ _ s h. h))
-      (λ _. next (noteId (record { id = fixedOf f; context = notedContext n f }) p s) _ (noteId-whole _ p s h) λ _ s h. h)
-
-  noteAll-whole : (n : ℕ) (fs : Fields) (p : ℕ) (s : State) → Whole s → Keeps Whole (noteAll n fs p s)
-  unfolding noteAll
-  noteAll-whole n none p s h = h
-  noteAll-whole n (more f fs) p s h =
-      next (noteSpecifier n f p s) _ (noteSpecifier-whole n f p s h) λ g s h.
-      next (noteAll n fs (p + size f) s) _ (noteAll-whole n fs (p + size f) s h) λ gs s h. h
-
-  noteSpecifiers-whole : (o : Option ℕ) (fs : Fields) (p : ℕ) (s : State) → Whole s → Keeps Whole (noteSpecifiers o fs p s)
-  noteSpecifiers-whole nothing fs p s h = h
-  noteSpecifiers-whole (some n) fs p s h = noteAll-whole n fs p s h
 
   importFirst-whole : (x : List ℕ) (ds : Fields) (p : ℕ) (s : State) → Exact 0x10 x → ShapedAll ds (ruleOf 0x10) → Widths s → Whole s →
       Keeps Whole (importFirst e x ds p s)
@@ -355,8 +309,8 @@ module _ (e : Setting) where
       after-bind (noteSpecifiers n (specifiersIn ds) (inside p x) s) _ (λ gs s. (Specifiers gs × Widths s) × Whole s) (λ r s. Whole s)
       (after-both (noteSpecifiers n (specifiersIn ds) (inside p x) s) (λ gs s. Specifiers gs × Widths s) (λ gs s. Whole s)
       (noteSpecifiers-within e n (specifiersIn ds) (inside p x) s (import-parts ds m .0) (a .0))
-      (noteSpecifiers-whole n (specifiersIn ds) (inside p x) s (a .1))) λ gs s b.
-      next (collect (record { literal = x; specifiers = gs }) p s) _ (collect-whole _ p s (width-10 x k, b .0 .0) (b .1)) λ _ s h. h)
+      (noteSpecifiers-keeps Whole (λ s m h. h) n (specifiersIn ds) (inside p x) s (a .1))) λ gs s b.
+      then-keeps Whole (collect (record { literal = x; specifiers = gs }) p s) _ (collect-whole _ p s (width-10 x k, b .0 .0) (b .1)) λ _ s h. h)
 
   -- ---- The second pass
 
@@ -395,7 +349,7 @@ module _ (e : Setting) where
   unfolding wrapAll wrapModule
   wrapAll-whole [] s h = h
   wrapAll-whole (a ∷ l) s h =
-      next (moduleFor e a 0 s) _ (moduleFor-whole a 0 s h) λ n s h. next (wrapModule n s) _ (wrap n s h) λ _ s h. wrapAll-whole l s h
+      then-keeps Whole (moduleFor e a 0 s) _ (moduleFor-whole a 0 s h) λ n s h. then-keeps Whole (wrapModule n s) _ (wrap n s h) λ _ s h. wrapAll-whole l s h
     where
       wrap : (o : Option ℕ) (s : State) → Whole s → Keeps Whole (wrapModule o s)
       wrap nothing s h = h
@@ -404,7 +358,7 @@ module _ (e : Setting) where
   pub finish-whole : (s : State) → Whole s → Keeps Whole (finish e s)
   unfolding finish
   finish-whole s h =
-      next (wrapAll e (s .forced) s) _ (wrapAll-whole (s .forced) s h) λ _ s h.
+      then-keeps Whole (wrapAll e (s .forced) s) _ (wrapAll-whole (s .forced) s h) λ _ s h.
       (all-map WholeRecord WholeRecord (loseNamespaces (s .forced)) (s .collected) (λ r w. lose-whole (s .forced) r w) (h .0), h .1, h .2)
 
   -- ---- The walk
@@ -416,7 +370,7 @@ module _ (e : Setting) where
       let q = rule-tag t import v in
       import-whole (e .pass) x ds p s (subst (λ (u : ℕ). Exact u x) q k) (subst (λ (u : ℕ). ShapedAll ds (ruleOf u)) q m) w h
   after-whole exporting t x ds object p s v k m w h = exportSpecifier-whole x p s h
-  after-whole declare t x ds object p s v k m w h = next (declarator e ds p s) _ (declarator-whole ds (ruleOf t) p s m h) λ gs s h. h
+  after-whole declare t x ds object p s v k m w h = then-keeps Whole (declarator e ds p s) _ (declarator-whole ds (ruleOf t) p s m h) λ gs s h. h
   after-whole express t x ds object p s v k m w h = expression-whole (e .pass) (field t x ds) object p s (k, m) h
   after-whole plain t x ds object p s v k m w h = h
 
@@ -429,7 +383,7 @@ module _ (e : Setting) where
       Keeps Whole (onto (m s) (λ r. onto (n (r .1)) (λ u. give (more (r .0) (u .0)) (u .1))))
   row-whole m n s f a b k =
       after-bind (m s) _ (λ g s′. (Result f g × Widths s′) × Whole s′) (λ r s. Whole s)
-      (after-both (m s) (λ g s′. Result f g × Widths s′) (λ g s′. Whole s′) a b) λ g s c. next (n s) _ (k s (c .0 .1) (c .1)) λ gs s h. h
+      (after-both (m s) (λ g s′. Result f g × Widths s′) (λ g s′. Whole s′) a b) λ g s c. then-keeps Whole (n s) _ (k s (c .0 .1) (c .1)) λ gs s h. h
 
   abbrev RowWhole : (ℕ → Act Fields) → Fields → Type 0
   RowWhole m cs = (q : Rule) → inRule takesTarget q ≡ false → ShapedAll cs q → (p : ℕ) (s : State) → Widths s → Whole s → Keeps Whole (m p s)
@@ -493,10 +447,10 @@ module _ (e : Setting) where
         after-bind (walkTarget f e p s) _ (λ g s′. ((Result f g × (tagOf g ≡ tagOf f)) × Widths s′) × Whole s′) (λ r s. Whole s)
         (after-both (walkTarget f e p s) (λ g s′. (Result f g × (tagOf g ≡ tagOf f)) × Widths s′) (λ g s′. Whole s′)
         (walkTarget-within e f p s (k .2) (n .0) (n .1) w) (walkTarget-whole f p s (k .2) (n .1) w h)) λ g s₁ a.
-        next (walkAll fs e object (p + size f) s₁) _
+        then-keeps Whole (walkAll fs e object (p + size f) s₁) _
         (walkAll-whole fs (k .0) object (p + size f) s₁ (value-row e (k .0) (i .1)) (k .3) (a .0 .1) (a .1)) λ gs s h. h
 
     walkTarget-whole : (f : Field) (p : ℕ) (s : State) → Shaped f → eqb (tagOf f) 0x66 ≡ false → Widths s → Whole s →
         Keeps Whole (walkTarget f e p s)
     walkTarget-whole (field t x cs) p s k m w h =
-        next (walkMember cs e (inside p x) s) _ (walkMember-whole cs (ruleOf t) (inside p x) s (rule-targets t m) (k .1) w h) λ ds s h. h
+        then-keeps Whole (walkMember cs e (inside p x) s) _ (walkMember-whole cs (ruleOf t) (inside p x) s (rule-targets t m) (k .1) w h) λ ds s h. h

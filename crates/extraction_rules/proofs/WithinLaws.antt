@@ -275,7 +275,7 @@ module _ (e : Setting) where
 
   -- '10, not external', first pass
   noteId-widths : (m : Imported) (p : ℕ) (s : State) → length (m .context) ≡ 4 → Widths s → Keeps Widths (noteId m p s)
-  noteId-widths m p s k w = noteId-keeps e Widths (widths-common e .requires) m p s (all-note (λ m. length (m .context) ≡ 4) m (s .imported) k (w .0), w .1)
+  noteId-widths m p s k w = noteId-keeps Widths m p s (all-note (λ m. length (m .context) ≡ 4) m (s .imported) k (w .0), w .1)
 
   noted-width : (n : ℕ) (f : Field) → Shaped f → length (notedContext n f) ≡ 4
   noted-width n (field t x cs) h = go (eqb t 0x21) refl
@@ -332,7 +332,7 @@ module _ (e : Setting) where
       (λ g s′. Result (field 0x10 x cs) g × Widths s′)
       (noteSpecifiers-within n (specifiersIn ds) (inside p x) s (import-parts ds k .0) w) λ gs s a.
       after-bind (collect (record { literal = x; specifiers = gs }) p s) _ (λ _ s′. Widths s′) (λ g s′. Result (field 0x10 x cs) g × Widths s′)
-      (collect-keeps e Widths (widths-common e .requires) (record { literal = x; specifiers = gs }) p s (a .1)) λ _ s w.
+      (collect-keeps Widths (record { literal = x; specifiers = gs }) p s (a .1)) λ _ s w.
       (import-result x cs (append gs (withContext n ds)) h (import-from gs (withContext n ds) (a .0) (context-shaped n ds k)), w))
 
   -- ---- The second pass
