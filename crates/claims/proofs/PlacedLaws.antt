@@ -10,19 +10,18 @@ use lib.Dec.{leb, eqb}
 use borrow.Author.Tests.{eqb-true, eq-eqb}
 use Rattle.tree.proofs.Table.{both-true}
 use Rattle.scope.specs.Id.{require-atom, local}
-use Rattle.tree.specs.declared.grammar.Set.the-variants.{Item}
 use Rattle.tree.specs.Layout.{same, two, four, idAt, nameOf, contextOf, valueOf}
 use Rattle.tree.specs.Tree.{Field, field, Fields, none, more, tagOf, fixedOf, partsOf}
-use Rattle.tree.specs.Grammar.{within, holdsAt, ruleOf}
+use Rattle.tree.specs.Grammar.{ruleOf}
 use Rattle.tree.proofs.LayoutLaws.{same-refl, same-equal}
 use Rattle.lent.specs.Lists.{filter, isSome, among}
 use Rattle.lent.specs.Fields.{has, keep, findField}
 use Rattle.extraction_rules.specs.First.{specifiersIn}
-use Rattle.extraction_rules.proofs.TestLaws.{or-neither, neither-or, is-false}
+use Rattle.extraction_rules.proofs.TestLaws.{or-neither, is-false}
 use Rattle.extraction_rules.proofs.RuleLaws.{or-true}
 use Rattle.extraction_rules.proofs.ShapeLaws.{Shaped, ShapedAll}
 use Rattle.extraction_rules.proofs.AlikeLaws.{Regular, RegularAll}
-use Rattle.extraction_rules.proofs.RegularLaws.{outer, regular}
+use Rattle.extraction_rules.proofs.RegularLaws.{regular, item-outer}
 use Rattle.extraction_rules.proofs.TableLaws.{Each, each-weaken, each-both}
 use Rattle.extraction_rules.proofs.SpaceLaws.{OfImport}
 use Rattle.extraction_rules.proofs.ReadableLaws.{item-step}
@@ -37,15 +36,6 @@ use Rattle.claims.proofs.SettledLaws.{takesApart}
 use Rattle.claims.proofs.OutLaws.{fits, Fine}
 
 -- ---- Items that are no imports
-
-item-tag : (t u : ℕ) → holdsAt Item t ≡ true → holdsAt Item u ≡ false → eqb t u ≡ false
-item-tag t u h k = is-false (eqb t u) (λ z. true≢false (sym h ∙ ap (holdsAt Item) (eqb-true t u z) ∙ k))
-
-item-outer : (t : ℕ) → holdsAt Item t ≡ true → eqb t 0x10 ≡ false → outer t ≡ false
-unfolding holdsAt within
-item-outer t h n =
-    neither-or (eqb t 0x01) _ (item-tag t 0x01 h refl) (neither-or (eqb t 0x02) _ (item-tag t 0x02 h refl) (neither-or (eqb t 0x10) _ n (neither-or (eqb t 0x20) _ (item-tag t 0x20 h refl) (neither-or (eqb t 0x21) _ (item-tag t 0x21 h refl)
-    (neither-or (eqb t 0x22) _ (item-tag t 0x22 h refl) (neither-or (eqb t 0x80) _ (item-tag t 0x80 h refl) (item-tag t 0x81 h refl)))))))
 
 rest-regular : (fs : Fields) → ShapedAll fs (ruleOf 0x01) → findField (has 0x10) fs ≡ nothing → RegularAll fs
 unfolding findField

@@ -51,7 +51,7 @@ module _ (a : List ℕ) where
         one = λ _. record { on-note = λ s m h. h; on-usage = λ s u c w h. h; on-collect = λ s r b h. collect-stays a r (s .collected) h };
         two =
             λ _. record {
-              on-extend = λ s x us h. rw (map-sources (extend x (specifiersFrom us)) (s .collected) (extend-literal x (specifiersFrom us))) h;
+              on-extend = λ s x us q h. rw (map-sources (extend x (specifiersFrom us)) (s .collected) (extend-literal x (specifiersFrom us))) h;
               on-source = λ s x b q h. source-cases (valueOf x) s Collected (λ _. h) h;
             };
       }

@@ -66,7 +66,7 @@ unwrapped-steps e ms =
             on-top = λ s b h. h;
           };
       one = λ _. record { on-note = λ s m h. h; on-usage = λ s u c w h. h; on-collect = λ s r b h. h };
-      two = λ _. record { on-extend = λ s x us h. h; on-source = λ s x b q h. source-cases (valueOf x) s (Unwrapped ms) (λ _. h) h };
+      two = λ _. record { on-extend = λ s x us q h. h; on-source = λ s x b q h. source-cases (valueOf x) s (Unwrapped ms) (λ _. h) h };
     }
 
 walk-unwrapped : (e : Setting) (items : Fields) (ms : Modules) (s : State) → Unwrapped ms s →

@@ -11,7 +11,7 @@ use lib.Seq.{take-at}
 use borrow.Author.Tests.{eqb-true, eqb-false, leb-true}
 use Rattle.tree.proofs.Table.{both-true}
 use Rattle.tree.specs.declared.grammar.Set.{Set}
-use Rattle.tree.specs.declared.grammar.Set.the-variants.{Expression, Member}
+use Rattle.tree.specs.declared.grammar.Set.the-variants.{Item, Expression, Member}
 use Rattle.tree.specs.declared.grammar.Slot.the-variants.{Nothing, One}
 use Rattle.tree.specs.declared.grammar.Rule.{Rule}
 use Rattle.tree.specs.declared.grammar.Step.the-variants.{Go}
@@ -165,3 +165,13 @@ mutual
   regular-all : (fs : Fields) (q : Rule) → inRule takesOuter q ≡ false → ShapedAll fs q → RegularAll fs
   regular-all none q n h = tt
   regular-all (more f fs) q n h = (regular f (part-outer q (h .0) (tagOf f) n (h .1)) (h .2), regular-all fs (h .0) (step-without takesOuter q (h .0) (tagOf f) n (h .1)) (h .3))
+
+-- an item of a module that is no import
+item-tag : (t u : ℕ) → holdsAt Item t ≡ true → holdsAt Item u ≡ false → eqb t u ≡ false
+item-tag t u h k = is-false (eqb t u) (λ z. true≢false (sym h ∙ ap (holdsAt Item) (eqb-true t u z) ∙ k))
+
+pub item-outer : (t : ℕ) → holdsAt Item t ≡ true → eqb t 0x10 ≡ false → outer t ≡ false
+unfolding holdsAt within
+item-outer t h n =
+    neither-or (eqb t 0x01) _ (item-tag t 0x01 h refl) (neither-or (eqb t 0x02) _ (item-tag t 0x02 h refl) (neither-or (eqb t 0x10) _ n (neither-or (eqb t 0x20) _ (item-tag t 0x20 h refl) (neither-or (eqb t 0x21) _ (item-tag t 0x21 h refl)
+    (neither-or (eqb t 0x22) _ (item-tag t 0x22 h refl) (neither-or (eqb t 0x80) _ (item-tag t 0x80 h refl) (item-tag t 0x81 h refl)))))))

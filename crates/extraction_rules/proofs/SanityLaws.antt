@@ -36,7 +36,7 @@ numbered-steps e P f n =
             on-top = λ s b h. h;
           };
       one = λ _. record { on-note = λ s m h. h; on-usage = λ s u c w h. h; on-collect = λ s r b h. h };
-      two = λ _. record { on-extend = λ s x us h. h; on-source = λ s x b q h. source-cases (valueOf x) s (Numbered f n) (λ _. h) h };
+      two = λ _. record { on-extend = λ s x us q h. h; on-source = λ s x b q h. source-cases (valueOf x) s (Numbered f n) (λ _. h) h };
     }
 
 pub numbered-end : (f n : ℕ) → EndSteps (Numbered f n)
@@ -66,7 +66,7 @@ distinct-steps e P =
           };
       two =
           λ _. record {
-            on-extend = λ s x us h. rw (map-sources (extend x (specifiersFrom us)) (s .collected) (extend-literal x (specifiersFrom us))) h;
+            on-extend = λ s x us q h. rw (map-sources (extend x (specifiersFrom us)) (s .collected) (extend-literal x (specifiersFrom us))) h;
             on-source = λ s x b q h. source-cases (valueOf x) s DistinctSources (λ _. h) h;
           };
     }
@@ -111,7 +111,7 @@ own-steps e P =
           };
       two =
           λ _. record {
-            on-extend = λ s x us h. (
+            on-extend = λ s x us q h. (
               own-map (e .externals) (extend x (specifiersFrom us)) (s .collected)
                   (extend-literal x (specifiersFrom us)) (h .0),
               h .1,
@@ -156,7 +156,7 @@ imported-steps e P =
             on-usage = λ s u c w h. all-last (λ u. IsImported (u .id) (s .imported)) (s .usages) u h (c, w);
             on-collect = λ s r b h. h;
           };
-      two = λ _. record { on-extend = λ s x us h. h; on-source = λ s x b q h. source-cases (valueOf x) s UsagesImported (λ _. h) h };
+      two = λ _. record { on-extend = λ s x us q h. h; on-source = λ s x b q h. source-cases (valueOf x) s UsagesImported (λ _. h) h };
     }
 
 pub imported-end : EndSteps UsagesImported
@@ -222,7 +222,7 @@ forced-steps-second e sources k =
       one = λ q. first-second q k;
       two =
           λ _. record {
-            on-extend = λ s x us h. (map-sources (extend x (specifiersFrom us)) (s .collected) (extend-literal x (specifiersFrom us)) ∙ h .0, h .1);
+            on-extend = λ s x us q h. (map-sources (extend x (specifiersFrom us)) (s .collected) (extend-literal x (specifiersFrom us)) ∙ h .0, h .1);
             on-source = λ s x b q h. source-cases (valueOf x) s (ForcedAmong sources) (λ _. h)
                 (h .0, all-last (λ a. among a sources ≡ true) (s .forced) (valueOf x) (h .1) (q b));
           };

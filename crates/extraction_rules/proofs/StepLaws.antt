@@ -47,9 +47,9 @@ pub record FirstSteps (e : Setting) (J : State → Type 0) : Type 0 where
   pub on-usage : (s : State) (u : Usage) (c : List ℕ) → importedAs (u .id) (s .imported) ≡ some c → J s → J (setUsages (s .usages ++ (u ∷ [])) s)
   pub on-collect : (s : State) (r : Record) → external e (r .literal) ≡ false → J s → J (setCollected (collectIn r (s .collected)) s)
 
--- steps of the second pass: the records of a literal are extended, the source of an import of which P holds is forced
+-- steps of the second pass: the records of the literal of an import of which P holds are extended, its source is forced
 pub record SecondSteps (e : Setting) (P : List ℕ → Type 0) (J : State → Type 0) : Type 0 where
-  pub on-extend : (s : State) (x : List ℕ) (us : List Usage) → J s → J (setCollected (map (extend x (specifiersFrom us)) (s .collected)) s)
+  pub on-extend : (s : State) (x : List ℕ) (us : List Usage) → P x → J s → J (setCollected (map (extend x (specifiersFrom us)) (s .collected)) s)
   pub on-source : (s : State) (x : List ℕ) → external e x ≡ false → P x → J s → J (forceSource (valueOf x) s)
 
 -- steps of the second pass's end: a module is marked for wrapping, records lose their namespaces
@@ -221,7 +221,7 @@ module _ (e : Setting) (J : State → Type 0) (c : RequireSteps e J) where
       external e x ≡ false → P x → J s → Keeps J (takeApart us x cs s)
   unfolding takeApart
   takeApart-keeps P two [] x cs s b q h = two .on-source s x b q h
-  takeApart-keeps P two (u ∷ us) x cs s b q h = two .on-extend s x (u ∷ us) h
+  takeApart-keeps P two (u ∷ us) x cs s b q h = two .on-extend s x (u ∷ us) q h
 
   onSole-keeps : (P : List ℕ → Type 0) → SecondSteps e P J → (o : Option Field) (x : List ℕ) (cs : Fields) (s : State) →
       external e x ≡ false → P x → J s → Keeps J (onSole o x cs s)

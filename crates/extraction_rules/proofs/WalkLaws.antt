@@ -184,7 +184,7 @@ both-steps e P J K a b =
           let f = a .two k in
           let g = b .two k in
           record {
-            on-extend = λ s x us h. (f .on-extend s x us (h .0), g .on-extend s x us (h .1));
+            on-extend = λ s x us p h. (f .on-extend s x us p (h .0), g .on-extend s x us p (h .1));
             on-source = λ s x w p h. (f .on-source s x w p (h .0), g .on-source s x w p (h .1));
           };
     }

@@ -93,7 +93,7 @@ bound-width t x e h = go (eqb t 0x50) (eqb t 0x54) (eqb t 0x55) refl refl e
     go false false false v w e = absurd (let z = ap code e in omega arith)
 
 -- 'naming the pattern's binding ids', by what kind of pattern it is
-abbrev bindingsBy : Binding → List ℕ → Fields → Fields
+abbrev pub bindingsBy : Binding → List ℕ → Fields → Fields
 bindingsBy b x cs = elim b [
   | bound ↦ more (field 0x20 (idAt x 0 ++ 0 ∷ []) none) none
   | left ↦ bindingsFirst cs
@@ -138,7 +138,7 @@ argument-whole : (o : Option Field) (l : List ℕ) → ((f : Field) → o ≡ so
 unfolding argument
 argument-whole nothing l h e = absurd (let z : _≡_ {A = ℕ} 0 1 = cc in omega arith)
 argument-whole (some (field t x none)) l h e = absurd (let z : _≡_ {A = ℕ} 0 1 = cc in omega arith)
-argument-whole (some (field t x (more f fs))) l h e = go (same x (0 ∷ [])) (has 0x61 f) refl e
+argument-whole (some (field t x (more f fs))) l h e = go (eqb t 0x75 && same x (0 ∷ [])) (has 0x61 f) refl e
   where
     go : (a b : Bool) → has 0x61 f ≡ b → cond {A = Option (List ℕ)} (a && b) (some (fixedOf f)) nothing ≡ some l → length l ≡ 6
     go true true w e =

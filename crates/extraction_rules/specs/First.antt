@@ -115,7 +115,7 @@ usage (some m) e p = λ s. useImported (importedAs (fixedOf (m .0)) (s .imported
 unfoldable pub argument : Option Field → Option (List ℕ)
 argument nothing = nothing
 argument (some (field t x none)) = nothing
-argument (some (field t x (more f fs))) = cond (same x (0 ∷ []) && has 0x61 f) (some (fixedOf f)) nothing
+argument (some (field t x (more f fs))) = cond (eqb t 0x75 && same x (0 ∷ []) && has 0x61 f) (some (fixedOf f)) nothing
 
 unfoldable pub notExternal : Setting → Option (List ℕ) → Option (List ℕ)
 notExternal e nothing = nothing

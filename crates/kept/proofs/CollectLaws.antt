@@ -2,7 +2,7 @@
 use Prim.Native.Nat.{ℕ, zero, suc, _+_, _-_, _%_, _≤_, _<_}
 use native.Mathlib.Omega.{arith}
 use mathlib.Core.Path.{_≡_, refl, sym, ap, subst, _∙_}
-use mathlib.Core.Bool.{Bool, true, false, cond}
+use mathlib.Core.Bool.{Bool, true, false, cond, _||_}
 use mathlib.Core.List.{List, [], _∷_, _++_, map, map-append}
 use mathlib.Core.Option.{Option, none as nothing, some}
 use lib.ListN.{length}
@@ -11,11 +11,12 @@ use Rattle.tables.specs.Only.{Only}
 use Rattle.tree.specs.Layout.{same, valueOf}
 use Rattle.tree.specs.Tree.{Fields, none}
 use Rattle.metadata.specs.Metadata.{append}
+use Rattle.lent.specs.Lists.{among}
 use Rattle.lent.specs.Fields.{findField}
 use Rattle.lent.specs.Outcome.{done, refused}
 use Rattle.extraction_rules.specs.State.{Record, State, setCollected}
 use Rattle.extraction_rules.specs.First.{holdsNamespace, collectIn, collect}
-use Rattle.kept.specs.Kept.{id-limit, records, tableOf, held, Good, idOf, Brief, brief, briefOf, indexOf, namespacesIn, countNamespaces, Shows}
+use Rattle.kept.specs.Kept.{At, id-limit, records, tableOf, held, Good, idOf, Brief, brief, briefOf, indexOf, namespacesIn, countNamespaces, sourcesIn, Shows}
 use Rattle.kept.specs.Does.{extendAt, Gathered, Collects}
 use Rattle.kept.specs.declared.Place.the-variants.{Index, NoRoom}
 use Rattle.kept.proofs.ListLaws.{below-append, length-more, first-below}
@@ -74,16 +75,16 @@ length-extend (suc i) fs (q ∷ l) = ap suc (length-extend i fs l)
 -- ---- The record that is found
 
 module _ (x : ℕ) (h : x < id-limit) {t : List ℕ} (g : Good t) where
-  value-index : {s : State} → Shows t s →
+  value-index : {y : At} {s : State} → Shows y t s →
       firstIn (x - x % 4294967296) (x - x % 4294967296 + 4294967295) (rows (tableOf records) t) ≡ indexOf (equalValue (idOf x)) (s .collected)
   unfolding brief briefOf
-  value-index {s} w =
+  value-index {s = s} w =
       let q : Brief → Bool = λ b. same (valueOf (b .literal)) (valueOf (idOf x)) in
       sym (index-row (λ (r : Row). q (briefOf r)) _ _ _ _ (λ r k. same-name (r .0) x k h ∙ name-range (r .0) x) (rows (tableOf records) t) (g .below records))
       ∙ index-map q briefOf (rows (tableOf records) t) ∙ ap (indexOf q) (w .collected) ∙ sym (index-map q brief (s .collected))
 
   gathered-again : (i : ℕ) → some i ≡ firstIn (x - x % 4294967296) (x - x % 4294967296 + 4294967295) (rows (tableOf records) t) →
-      (s : State) → Shows t s → Gathered (idOf x) i s t
+      {y : At} (s : State) → Shows y t s → Gathered y (idOf x) i s t
   unfolding collect
   gathered-again i e s w =
       let r = room-for records g in
@@ -103,7 +104,7 @@ module _ (x : ℕ) (h : x < id-limit) {t : List ℕ} (g : Good t) where
       record {
         good = g;
         below = λ j p. let z : i ≡ j = cc in let b = first-below _ _ (rows (tableOf records) t) i (sym e) in omega arith;
-        made = λ j p s w. let z : i ≡ j = cc in subst (λ (k : ℕ). Gathered (idOf x) k s t) z (gathered-again i e s w);
+        made = λ j p {y} s w. let z : i ≡ j = cc in subst (λ (k : ℕ). Gathered y (idOf x) k s t) z (gathered-again i e s w);
         full = λ p s w fs q. absurd (let z : _≡_ {A = ℕ} 0 1 = cc in omega arith);
       }
 
@@ -114,9 +115,19 @@ module _ (x : ℕ) (h : x < id-limit) {t : List ℕ} (g : Good t) where
   namespaces-more y [] = refl
   namespaces-more y (q ∷ l) = ap (λ (n : ℕ). countNamespaces (q .specifiers) + n) (namespaces-more y l)
 
+  sources-more : (y : List ℕ) (l : List Record) (a : List ℕ) → among a (sourcesIn l) ≡ true → among a (sourcesIn (l ++ (record { literal = y; specifiers = none } ∷ []))) ≡ true
+  unfolding among
+  sources-more y [] a e = absurd (let z : _≡_ {A = ℕ} 0 1 = cc in omega arith)
+  sources-more y (q ∷ l) a e = by (same a (valueOf (q .literal))) (sources-more y l a) e
+    where
+      by : (b : Bool) → (among a (sourcesIn l) ≡ true → among a (sourcesIn (l ++ (record { literal = y; specifiers = none } ∷ []))) ≡ true) →
+          (b || among a (sourcesIn l)) ≡ true → (b || among a (sourcesIn (l ++ (record { literal = y; specifiers = none } ∷ [])))) ≡ true
+      by true h f = refl
+      by false h f = h f
+
   gathered-new : {t' : List ℕ} → nothing ≡ firstIn (x - x % 4294967296) (x - x % 4294967296 + 4294967295) (rows (tableOf records) t) →
       rows (tableOf records) t' ≡ rows (tableOf records) t ++ ((x, 0) ∷ []) → held records t < 256 → Only (tableOf records) t t' →
-      (s : State) → Shows t s → Gathered (idOf x) (held records t) s t'
+      {y : At} (s : State) → Shows y t s → Gathered y (idOf x) (held records t) s t'
   unfolding collect brief briefOf holdsNamespace findField
   gathered-new {t'} e f k o s w =
       let n = held-shown w in
@@ -128,7 +139,7 @@ module _ (x : ℕ) (h : x < id-limit) {t : List ℕ} (g : Good t) where
             (ap (map briefOf) f ∙ map-append briefOf (rows (tableOf records) t) ((x, 0) ∷ []) ∙ ap (λ (m : List Brief). m ++ (briefOf (x, 0) ∷ [])) (w .collected)
             ∙ sym (map-append brief (s .collected) (record { literal = idOf x; specifiers = none } ∷ [])))
             (λ i. index-more (holdsNamespace (idOf i)) (s .collected) (record { literal = idOf x; specifiers = none }) refl)
-            (namespaces-more (idOf x) (s .collected));
+            (namespaces-more (idOf x) (s .collected)) (sources-more (idOf x) (s .collected));
         is = λ fs p.
             let l = collectIn (record { literal = idOf x; specifiers = fs }) (s .collected) in
             let c = collect-new (idOf x) fs (s .collected) (sym (e ∙ value-index w)) in
@@ -145,12 +156,12 @@ module _ (x : ℕ) (h : x < id-limit) {t : List ℕ} (g : Good t) where
       record {
         good = good-kept records g o f (omega arith) (below-append _ _ (rows (tableOf records) t) (x, 0) (g .below records) h (omega arith));
         below = λ j p. let z : i ≡ j = cc in omega arith;
-        made = λ j p s w. let z : held records t ≡ j = cc in subst (λ (y : ℕ). Gathered (idOf x) y s t') z (gathered-new e f k o s w);
+        made = λ j p {y} s w. let z : held records t ≡ j = cc in subst (λ (n : ℕ). Gathered y (idOf x) n s t') z (gathered-new e f k o s w);
         full = λ p s w fs q. absurd (let z : _≡_ {A = ℕ} 0 1 = cc in omega arith);
       }
 
   collect-refused : nothing ≡ firstIn (x - x % 4294967296) (x - x % 4294967296 + 4294967295) (rows (tableOf records) t) → 256 ≤ held records t →
-      (s : State) → Shows t s → (fs : Fields) (p : ℕ) → collect (record { literal = idOf x; specifiers = fs }) p s ≡ refused 8 p
+      {y : At} (s : State) → Shows y t s → (fs : Fields) (p : ℕ) → collect (record { literal = idOf x; specifiers = fs }) p s ≡ refused 8 p
   unfolding collect
   collect-refused e k s w fs p =
       let n = held-shown w in

@@ -1,5 +1,5 @@
 -- The array after a record got a specifier more: a namespace is one row more, and the record's first where it had none.
-use Prim.Native.Nat.{ℕ, _+_, _<_}
+use Prim.Native.Nat.{ℕ, _+_, _≤_, _<_}
 use native.Mathlib.Omega.{arith}
 use mathlib.Core.Path.{_≡_, refl, sym, ap, _∙_}
 use mathlib.Core.Bool.{Bool, true, false}
@@ -8,13 +8,15 @@ use lib.ListN.{length, getD}
 use Rattle.tables.specs.Rows.{rows, leastOf, withValue}
 use Rattle.tables.specs.Only.{Only}
 use Rattle.tree.specs.Tree.{Field, none, more, fixedOf}
+use Rattle.lent.specs.Lists.{among}
 use Rattle.lent.specs.Fields.{has}
 use Rattle.extraction_rules.specs.State.{State, setCollected}
-use Rattle.kept.specs.Kept.{id-limit, Kind, imports, uses, records, namespaces, lazies, forces, tableOf, top-cell, held, Good, idOf, importedOf, usageOf, brief, briefOf, literalOf, atomOf, flag, namespacesIn, Shows}
+use Rattle.kept.specs.Kept.{At, id-limit, Kind, imports, uses, records, namespaces, lazies, forces, modules, tableOf, top-cell, held, Good, idOf, importedOf, usageOf, brief, briefOf, lazyOf, atomOf, moduleOf, flag, namespacesIn, Shows}
 use Rattle.kept.specs.Does.{extendAt, Extends}
 use Rattle.kept.proofs.ListLaws.{below-append, below-value, length-more, length-value, rowOf}
 use Rattle.kept.proofs.FrameLaws.{one?, others-kept, good-kept, room-for, shows-collected}
 use Rattle.kept.proofs.RecordLaws.{held-shown}
+use Rattle.kept.proofs.SourcedLaws.{sourced-collected, extendAt-sources}
 use Rattle.kept.proofs.NamespaceLaws.{namespaces-extended, holders-extended, brief-other, brief-again, briefs-first, briefs-kept, holders-other}
 
 -- all tables but records and namespaces are kept
@@ -24,8 +26,8 @@ record Rest (t t' : List ℕ) : Type 0 where
 
 module _ (k i : ℕ) {t t' : List ℕ} (h : k < id-limit) (b : i < held records t) (o : Rest t t')
     (e : rows (tableOf namespaces) t' ≡ rows (tableOf namespaces) t ++ ((k, i) ∷ [])) where
-  shows-extended : (s : State) (f : Field) → has 0x22 f ≡ true → fixedOf f ≡ idOf k → Shows t s →
-      map briefOf (rows (tableOf records) t') ≡ map brief (extendAt i (more f none) (s .collected)) → Shows t' (setCollected (extendAt i (more f none) (s .collected)) s)
+  shows-extended : {y : At} (s : State) (f : Field) → has 0x22 f ≡ true → fixedOf f ≡ idOf k → Shows y t s →
+      map briefOf (rows (tableOf records) t') ≡ map brief (extendAt i (more f none) (s .collected)) → Shows y t' (setCollected (extendAt i (more f none) (s .collected)) s)
   shows-extended s f tag x w c =
       let n = held-shown w in
       let b' : i < length (s .collected) = omega arith in
@@ -37,9 +39,11 @@ module _ (k i : ℕ) {t t' : List ℕ} (h : k < id-limit) (b : i < held records 
         met =
             ap length e ∙ length-more (rows (tableOf namespaces) t) (k, i) ∙ ap (λ (j : ℕ). j + 1) (w .met)
             ∙ ap (λ (z : Bool). namespacesIn (s .collected) + flag z) (sym tag) ∙ sym (namespaces-extended i f (s .collected) b');
-        lazy = ap (map literalOf) (o .rest lazies refl refl) ∙ w .lazy;
+        lazy = ap (map (lazyOf _)) (o .rest lazies refl refl) ∙ w .lazy;
         forced = ap (map atomOf) (o .rest forces refl refl) ∙ w .forced;
         top = o .top-rest ∙ w .top;
+        modules = ap (map moduleOf) (o .rest modules refl refl) ∙ w .modules;
+        sourced = sourced-collected (w .sourced) (λ a d. ap (among a) (extendAt-sources i (more f none) (s .collected)) ∙ d);
       }
 
 module _ (k i : ℕ) {t m : List ℕ} (g : Good t) (h : k < id-limit) (b : i < held records t) (n : held namespaces t < 3641)
@@ -60,7 +64,7 @@ module _ (k i : ℕ) {t m : List ℕ} (g : Good t) (h : k < id-limit) (b : i < h
       record {
         good = met-good;
         kept = ap length met-records;
-        shows = λ s f tag x w.
+        shows = λ s f tag x full w.
             shows-extended k i h b (record { rest = λ c q r. p .rows-kept c r; top-rest = p .top-kept }) e s f tag x w
             (briefs-kept i f (rows (tableOf records) m) (s .collected) (λ q u. brief-again f (rowOf (rows (tableOf records) m) i) q u z) (ap (map briefOf) met-records ∙ w .collected));
       }
@@ -76,18 +80,23 @@ module _ (k i : ℕ) {t m : List ℕ} (g : Good t) (h : k < id-limit) (b : i < h
       record {
         good = good-kept records met-good v u (omega arith) (below-value _ _ (rows (tableOf records) m) i (k + 1) (met-good .below records) (omega arith));
         kept = ap length u ∙ l ∙ ap length met-records;
-        shows = λ s f tag x w.
+        shows = λ s f tag x full w.
             shows-extended k i h b (record { rest = λ c y d. q .rows-kept c y ∙ p .rows-kept c d; top-rest = q .top-kept ∙ p .top-kept })
             (q .rows-kept namespaces refl ∙ e) s f tag x w
             (ap (map briefOf) u ∙ briefs-first i k f (rows (tableOf records) m) (s .collected) tag x (ap (map briefOf) met-records ∙ w .collected) z);
       }
 
+-- there was room: a full table shows no state that asks for more
+pub extended-full : (i : ℕ) (x : List ℕ) {t : List ℕ} → Good t → 3641 ≤ held namespaces t → Extends i x t t
+extended-full i x g n = record { good = g; kept = refl; shows = λ s f tag e m w. absurd (let k = w .met in omega arith) }
+
 -- a specifier that is no namespace is nothing to the array
-pub extended-other : {t : List ℕ} {s : State} (i : ℕ) (f : Field) → has 0x22 f ≡ false → Shows t s → i < length (s .collected) →
-    Shows t (setCollected (extendAt i (more f none) (s .collected)) s)
+pub extended-other : {y : At} {t : List ℕ} {s : State} (i : ℕ) (f : Field) → has 0x22 f ≡ false → Shows y t s → i < length (s .collected) →
+    Shows y t (setCollected (extendAt i (more f none) (s .collected)) s)
 extended-other {t} {s} i f e w b =
     let n = namespaces-extended i f (s .collected) b in
     let z : flag (has 0x22 f) ≡ 0 = ap flag e in
     shows-collected w (record { rows-kept = λ m h. refl; top-kept = refl })
     (briefs-kept i f (rows (tableOf records) t) (s .collected) (λ q u. brief-other f q e) (w .collected))
     (λ k. holders-other (idOf k) i f (s .collected) e) (omega arith)
+    (λ a d. ap (among a) (extendAt-sources i (more f none) (s .collected)) ∙ d)

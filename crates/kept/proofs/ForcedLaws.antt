@@ -15,12 +15,13 @@ use Rattle.tree.proofs.LayoutLaws.{same-refl, same-equal, same-two}
 use Rattle.lent.specs.Lists.{find, isSome, among}
 use Rattle.extraction_rules.specs.State.{Record, State, setForced}
 use Rattle.extraction_rules.specs.First.{holdsNamespace, forceSource, forceHolder, forget, forceId}
-use Rattle.kept.specs.Kept.{records, forces, tableOf, Below, held, Good, atomOf, Shows, Shown}
-use Rattle.kept.specs.Does.{Tells, Turns, sourceOf, sourcesIn, Once, Sources, Forcible}
+use Rattle.kept.specs.Kept.{At, records, forces, tableOf, Below, held, Good, atomOf, sourcesIn, Once, Sourced, Shows}
+use Rattle.kept.specs.Does.{Tells, Turns, Forces, sourceOf}
 use Rattle.kept.proofs.IdLaws.{between-one}
 use Rattle.kept.proofs.ListLaws.{below-append, length-more}
 use Rattle.kept.proofs.FrameLaws.{others-kept, good-kept, room-for, shows-forced}
 use Rattle.kept.proofs.RecordLaws.{held-shown}
+use Rattle.kept.proofs.SourcedLaws.{or-right, find-among, sourced-force}
 
 -- ---- The search
 
@@ -53,10 +54,6 @@ forced-told {t} {a} {o} g h e =
     }
 
 -- ---- The room
-
-pub or-right : (x y : Bool) → y ≡ true → (x || y) ≡ true
-or-right true y e = refl
-or-right false y e = e
 
 remove : List ℕ → List (List ℕ) → List (List ℕ)
 remove a [] = []
@@ -100,41 +97,46 @@ once-fits (a ∷ l) m o h =
         by true p = let u : true ≡ false = sym e ∙ ap (λ (k : List ℕ). among k l) (same-equal b a p) ∙ o .0 in absurd (let w : _≡_ {A = ℕ} 0 1 = cc in omega arith)
         by false p = refl
 
-pub room-to-force : {t : List ℕ} {a : List ℕ} → Good t → Forcible a t → Tells (λ s. among a (s .forced)) t false → held forces t < 256
+-- so there is room for one more
+room-to-force : {y : At} {t : List ℕ} {s : State} (a : List ℕ) → Good t → Shows y t s → among a (sourcesIn (s .collected)) ≡ true → among a (s .forced) ≡ false →
+    held forces t < 256
 unfolding Once among
-room-to-force {t} {a} g f n =
-    let s = f .sources .state in
-    let w = f .sources .shows in
+room-to-force {t = t} {s} a g w f n =
     let r = room-for records g in
     let c = held-shown w in
     let k = length-map (s .collected) (λ (q : Record). valueOf (q .literal)) in
     let j : held forces t ≡ length (s .forced) = sym (length-map (rows (tableOf forces) t) atomOf) ∙ ap length (w .forced) in
-    let fit = once-fits (a ∷ s .forced) (sourcesIn (s .collected)) (sym (n .is s w), f .sources .sourced .once) (λ b e. by b (same b a) refl e) in
+    let fit = once-fits (a ∷ s .forced) (sourcesIn (s .collected)) (n, w .sourced .once) (λ b e. by b (same b a) refl e) in
     omega arith
   where
-    by : (b : List ℕ) (x : Bool) → same b a ≡ x → (x || among b (f .sources .state .forced)) ≡ true → among b (sourcesIn (f .sources .state .collected)) ≡ true
-    by b true p e = ap (λ (y : List ℕ). among y (sourcesIn (f .sources .state .collected))) (same-equal b a p) ∙ f .source
-    by b false p e = f .sources .sourced .from b e
+    by : (b : List ℕ) (x : Bool) → same b a ≡ x → (x || among b (s .forced)) ≡ true → among b (sourcesIn (s .collected)) ≡ true
+    by b true p e = ap (λ (y : List ℕ). among y (sourcesIn (s .collected))) (same-equal b a p) ∙ f
+    by b false p e = w .sourced .from b e
 
 -- ---- A source is forced
 
-pub force-again : {t : List ℕ} (a : List ℕ) → Good t → Tells (λ s. among a (s .forced)) t true → Turns (forceSource a) t t
-unfolding forceSource
-force-again {t} a g n =
-    record { good = g; shows = λ s w. subst (λ (b : Bool). Shows t (cond b s (setForced (s .forced ++ (a ∷ [])) s))) (n .is s w) w }
+module _ {t : List ℕ} (a : ℕ) (g : Good t) where
+  pub force-again : Tells (λ s. among (two a) (s .forced)) t true → Forces (two a) t t
+  unfolding forceSource
+  force-again n =
+      record { good = g; shows = λ {x = y} s f w. subst (λ (b : Bool). Shows y t (cond b s (setForced (s .forced ++ (two a ∷ [])) s))) (n .is s w) w }
 
-pub force-new : {t t' : List ℕ} (a : ℕ) → Good t → a < 65536 → Tells (λ s. among (two a) (s .forced)) t false → held forces t < 256 →
-    rows (tableOf forces) t' ≡ rows (tableOf forces) t ++ ((a, 0) ∷ []) → Only (tableOf forces) t t' → Turns (forceSource (two a)) t t'
-unfolding forceSource
-force-new {t} {t'} a g h n k e o =
-    let m = length-more (rows (tableOf forces) t) (a, 0) in
-    record {
-      good = good-kept forces g o e (omega arith) (below-append _ _ (rows (tableOf forces) t) (a, 0) (g .below forces) h (omega arith));
-      shows = λ s w.
-          subst (λ (b : Bool). Shows t' (cond b s (setForced (s .forced ++ (two a ∷ [])) s))) (n .is s w)
-          (shows-forced w (others-kept forces g o)
-          (ap (map atomOf) e ∙ map-append atomOf (rows (tableOf forces) t) ((a, 0) ∷ []) ∙ ap (λ (l : List (List ℕ)). l ++ (two a ∷ [])) (w .forced)));
-    }
+  pub force-new : {t' : List ℕ} → a < 65536 → Tells (λ s. among (two a) (s .forced)) t false → held forces t < 256 →
+      rows (tableOf forces) t' ≡ rows (tableOf forces) t ++ ((a, 0) ∷ []) → Only (tableOf forces) t t' → Forces (two a) t t'
+  unfolding forceSource
+  force-new {t'} h n k e o =
+      let m = length-more (rows (tableOf forces) t) (a, 0) in
+      record {
+        good = good-kept forces g o e (omega arith) (below-append _ _ (rows (tableOf forces) t) (a, 0) (g .below forces) h (omega arith));
+        shows = λ {x = y} s f w.
+            subst (λ (b : Bool). Shows y t' (cond b s (setForced (s .forced ++ (two a ∷ [])) s))) (n .is s w)
+            (shows-forced w (others-kept forces g o)
+            (ap (map atomOf) e ∙ map-append atomOf (rows (tableOf forces) t) ((a, 0) ∷ []) ∙ ap (λ (l : List (List ℕ)). l ++ (two a ∷ [])) (w .forced))
+            (subst (λ (b : Bool). Sourced (cond b s (setForced (s .forced ++ (two a ∷ [])) s))) (sym (n .is s w)) (sourced-force (two a) (w .sourced) f)));
+      }
+
+  pub force-full : Tells (λ s. among (two a) (s .forced)) t false → 256 ≤ held forces t → Forces (two a) t t
+  force-full n k = record { good = g; shows = λ s f w. absurd (let r = room-to-force (two a) g w f (sym (n .is s w)) in omega arith) }
 
 -- ---- An id is forced
 
@@ -146,29 +148,7 @@ holder-some : (o : Option Record) (s : State) (x : List ℕ) → some x ≡ sour
 holder-some nothing s x e = absurd (let z : _≡_ {A = ℕ} 0 1 = cc in omega arith)
 holder-some (some r) s x e = let z : valueOf (r .literal) ≡ x = cc in ap (λ (y : List ℕ). forceSource y s) z
 
-pub find-among : (p : Record → Bool) (l : List Record) (x : List ℕ) → some x ≡ sourceOf (find p l) → among x (sourcesIn l) ≡ true
-unfolding find among
-find-among p [] x e = absurd (let z : _≡_ {A = ℕ} 0 1 = cc in omega arith)
-find-among p (r ∷ l) x e = by (p r) (find-among p l x) e
-  where
-    by : (b : Bool) → (some x ≡ sourceOf (find p l) → among x (sourcesIn l) ≡ true) → some x ≡ sourceOf (cond b (some r) (find p l)) →
-        (same x (valueOf (r .literal)) || among x (sourcesIn l)) ≡ true
-    by true h f = let z : x ≡ valueOf (r .literal) = cc in ap (λ (k : Bool). k || among x (sourcesIn l)) (ap (same x) (sym z) ∙ same-refl x)
-    by false h f = or-right (same x (valueOf (r .literal))) (among x (sourcesIn l)) (h f)
-
 module _ {t m : List ℕ} (i : List ℕ) (u : Turns (forget i) t m) where
-  pub forgotten-shown : Sources t → Shown m
-  forgotten-shown f = record { state = forget i (f .state); shows = u .shows (f .state) (f .shows) }
-
-  pub forgotten-forcible : {x : List ℕ} → Sources t → Tells (λ s. sourceOf (find (holdsNamespace i) (s .collected))) m (some x) → Forcible x m
-  unfolding forget
-  forgotten-forcible {x} f n =
-      let w = u .shows (f .state) (f .shows) in
-      record {
-        sources = record { state = forget i (f .state); shows = w; sourced = record { once = f .sourced .once; from = f .sourced .from } };
-        source = find-among (holdsNamespace i) (f .state .collected) x (n .is (forget i (f .state)) w);
-      }
-
   pub forced-none : Tells (λ s. sourceOf (find (holdsNamespace i) (s .collected))) m nothing → Turns (forceId i) t m
   unfolding forceId forget
   forced-none n =
@@ -176,15 +156,17 @@ module _ {t m : List ℕ} (i : List ℕ) (u : Turns (forget i) t m) where
         good = u .good;
         shows = λ s w.
             let v = u .shows s w in
-            subst (Shows m) (sym (holder-none (find (holdsNamespace i) (s .collected)) (forget i s) (n .is (forget i s) v))) v;
+            subst (Shows _ m) (sym (holder-none (find (holdsNamespace i) (s .collected)) (forget i s) (n .is (forget i s) v))) v;
       }
 
-  pub forced-some : {t' x : List ℕ} → Tells (λ s. sourceOf (find (holdsNamespace i) (s .collected))) m (some x) → Turns (forceSource x) m t' → Turns (forceId i) t t'
+  pub forced-some : {t' x : List ℕ} → Tells (λ s. sourceOf (find (holdsNamespace i) (s .collected))) m (some x) → Forces x m t' → Turns (forceId i) t t'
   unfolding forceId forget
   forced-some {t'} {x} n f =
       record {
         good = f .good;
         shows = λ s w.
             let v = u .shows s w in
-            subst (Shows t') (sym (holder-some (find (holdsNamespace i) (s .collected)) (forget i s) x (n .is (forget i s) v))) (f .shows (forget i s) v);
+            let e = n .is (forget i s) v in
+            subst (Shows _ t') (sym (holder-some (find (holdsNamespace i) (s .collected)) (forget i s) x e))
+            (f .shows (forget i s) (find-among (holdsNamespace i) (s .collected) x e) v);
       }

@@ -8,14 +8,16 @@ use lib.Dec.{leb, ltb, eqb}
 use lib.ListN.{length, getD}
 use borrow.Author.Tests.{leb-true, ltb-true, eqb-true, eqb-false, not-true}
 use Rattle.tree.proofs.Table.{both-true}
+use Rattle.scope.specs.Modules.{Modules}
 use Rattle.tables.specs.declared.Table.{Table}
 use Rattle.tables.specs.Rows.{Row, rows, Lies, leastOf}
 use Rattle.tables.specs.Only.{Outside, Only, Apart}
 use Rattle.tables.proofs.RowLaws.{rows-length}
 use Rattle.tables.proofs.OnlyLaws.{apart-rows, apart-lies}
-use Rattle.extraction_rules.specs.State.{Record, Imported, Usage, State, setImported, setUsages, setCollected, setLazy, setForced}
+use Rattle.extraction_rules.specs.State.{Record, Imported, Usage, State, setImported, setUsages, setCollected, setLazy, setForced, setModules}
+use Rattle.lent.specs.Lists.{among}
 use Rattle.extraction_rules.specs.First.{holdsNamespace}
-use Rattle.kept.specs.Kept.{Kind, imports, uses, records, namespaces, lazies, forces, tableOf, top-cell, keyLimit, valueLimit, Below, Good, Shows, idOf, importedOf, usageOf, brief, briefOf, indexOf, namespacesIn, placesIn, literalOf, atomOf}
+use Rattle.kept.specs.Kept.{Kind, imports, uses, records, namespaces, lazies, forces, modules, tableOf, top-cell, InLimits, Good, At, Sourced, Shows, idOf, importedOf, usageOf, brief, briefOf, indexOf, namespacesIn, sourcesIn, lazyOf, atomOf, moduleOf}
 
 -- ---- Tables apart
 
@@ -54,22 +56,24 @@ apart-by b c e =
 abbrev pub one? : Kind → Kind → Bool
 one? k m = eqb (tableOf k .count) (tableOf m .count)
 
-pub each : (P : Kind → Type 0) → P imports → P uses → P records → P namespaces → P lazies → P forces → (k : Kind) → P k
-each P a b c d e f imports = a
-each P a b c d e f uses = b
-each P a b c d e f records = c
-each P a b c d e f namespaces = d
-each P a b c d e f lazies = e
-each P a b c d e f forces = f
+pub each : (P : Kind → Type 0) → P imports → P uses → P records → P namespaces → P lazies → P forces → P modules → (k : Kind) → P k
+each P a b c d e f g imports = a
+each P a b c d e f g uses = b
+each P a b c d e f g records = c
+each P a b c d e f g namespaces = d
+each P a b c d e f g lazies = e
+each P a b c d e f g forces = f
+each P a b c d e f g modules = g
 
 laid-out : (k m : Kind) → (one? k m || apart? (tableOf k) (tableOf m)) ≡ true
 unfolding apart?
-laid-out imports = each _ refl refl refl refl refl refl
-laid-out uses = each _ refl refl refl refl refl refl
-laid-out records = each _ refl refl refl refl refl refl
-laid-out namespaces = each _ refl refl refl refl refl refl
-laid-out lazies = each _ refl refl refl refl refl refl
-laid-out forces = each _ refl refl refl refl refl refl
+laid-out imports = each _ refl refl refl refl refl refl refl
+laid-out uses = each _ refl refl refl refl refl refl refl
+laid-out records = each _ refl refl refl refl refl refl refl
+laid-out namespaces = each _ refl refl refl refl refl refl refl
+laid-out lazies = each _ refl refl refl refl refl refl refl
+laid-out forces = each _ refl refl refl refl refl refl refl
+laid-out modules = each _ refl refl refl refl refl refl refl
 
 or-true : (x y : Bool) → (x || y) ≡ true → x ≡ false → y ≡ true
 or-true true y e f = absurd (let z : _≡_ {A = ℕ} 0 1 = cc in omega arith)
@@ -79,11 +83,11 @@ pub kinds-apart : (k m : Kind) → one? k m ≡ false → Apart (tableOf k) (tab
 kinds-apart k m e = apart-by (tableOf k) (tableOf m) (or-true _ _ (laid-out k m) e)
 
 kindAt : ℕ → Kind
-kindAt n = cond (eqb n 0) imports (cond (eqb n 1) uses (cond (eqb n 2) records (cond (eqb n 3) namespaces (cond (eqb n 4) lazies forces))))
+kindAt n = cond (eqb n 0) imports (cond (eqb n 1) uses (cond (eqb n 2) records (cond (eqb n 3) namespaces (cond (eqb n 4) lazies (cond (eqb n 5) forces modules)))))
 
 kind-at : (k : Kind) → kindAt (tableOf k .count) ≡ k
 unfolding kindAt
-kind-at = each _ refl refl refl refl refl refl
+kind-at = each _ refl refl refl refl refl refl refl
 
 kinds-one : (k m : Kind) → one? k m ≡ true → k ≡ m
 kinds-one k m e = sym (kind-at k) ∙ ap kindAt (eqb-true _ _ e) ∙ kind-at m
@@ -92,7 +96,7 @@ outside-below : (b : Table) (i : ℕ) → (i ≡ b .count → ⊥) → i < b .ba
 outside-below b i n h = record { cell = n; row = λ p q. omega arith }
 
 top-outside : (k : Kind) → Outside (tableOf k) top-cell
-top-outside = each _ (outside-below _ _ (λ e. omega arith) (omega arith)) (outside-below _ _ (λ e. omega arith) (omega arith))
+top-outside = each _ (outside-below _ _ (λ e. omega arith) (omega arith)) (outside-below _ _ (λ e. omega arith) (omega arith)) (outside-below _ _ (λ e. omega arith) (omega arith))
     (outside-below _ _ (λ e. omega arith) (omega arith)) (outside-below _ _ (λ e. omega arith) (omega arith))
     (outside-below _ _ (λ e. omega arith) (omega arith)) (outside-below _ _ (λ e. omega arith) (omega arith))
 
@@ -118,7 +122,7 @@ lies-kept {b} {t} {t'} l o h =
 
 -- the array stays good where the rows of the table stay inside its room and its limits
 pub good-kept : (k : Kind) {t t' : List ℕ} {l : List Row} → Good t → Only (tableOf k) t t' → rows (tableOf k) t' ≡ l → length l ≤ tableOf k .room →
-    Below (keyLimit k) (valueLimit k) l → Good t'
+    InLimits k l → Good t'
 good-kept k {t} {t'} {l} g o e n b =
     record { lies = λ m. lies m (one? k m) refl; below = λ m. limits m (one? k m) refl }
   where
@@ -126,22 +130,18 @@ good-kept k {t} {t'} {l} g o e n b =
     lies m true h = subst (λ (x : Kind). Lies (tableOf x) t') (kinds-one k m h) (lies-kept (g .lies k) o (rw e n))
     lies m false h = apart-lies (kinds-apart k m h) o (g .lies m)
 
-    limits : (m : Kind) (x : Bool) → one? k m ≡ x → Below (keyLimit m) (valueLimit m) (rows (tableOf m) t')
-    limits m true h = subst (λ (x : Kind). Below (keyLimit x) (valueLimit x) (rows (tableOf x) t')) (kinds-one k m h) (subst (Below (keyLimit k) (valueLimit k)) (sym e) b)
-    limits m false h = subst (Below (keyLimit m) (valueLimit m)) (sym (others-kept k g o .rows-kept m h)) (g .below m)
+    limits : (m : Kind) (x : Bool) → one? k m ≡ x → InLimits m (rows (tableOf m) t')
+    limits m true h = subst (λ (x : Kind). InLimits x (rows (tableOf x) t')) (kinds-one k m h) (subst (InLimits k) (sym e) b)
+    limits m false h = subst (InLimits m) (sym (others-kept k g o .rows-kept m h)) (g .below m)
 
 -- how many rows a good array holds
 pub room-for : (k : Kind) {t : List ℕ} → Good t → length (rows (tableOf k) t) ≤ tableOf k .room
 room-for k {t} g = let n = rows-length (tableOf k) t in let h = g .lies k .held in omega arith
 
-pub places-kept : (k : Kind) {t t' : List ℕ} → one? k lazies ≡ false → Good t → Only (tableOf k) t t' → placesIn t' ≡ placesIn t
-unfolding placesIn
-places-kept k e g o = ap (map (λ (r : Row). r .1)) (others-kept k g o .rows-kept lazies e)
-
 -- ---- What is shown
 
-module _ {t t' : List ℕ} {s : State} (w : Shows t s) where
-  pub shows-imported : {x : List Imported} → Others imports t t' → map importedOf (rows (tableOf imports) t') ≡ x → Shows t' (setImported x s)
+module _ {x : At} {t t' : List ℕ} {s : State} (w : Shows x t s) where
+  pub shows-imported : {y : List Imported} → Others imports t t' → map importedOf (rows (tableOf imports) t') ≡ y → Shows x t' (setImported y s)
   shows-imported o e =
       record {
         imported = e;
@@ -149,12 +149,14 @@ module _ {t t' : List ℕ} {s : State} (w : Shows t s) where
         collected = ap (map briefOf) (o .rows-kept records refl) ∙ w .collected;
         holders = λ n h. ap (leastOf n) (o .rows-kept namespaces refl) ∙ w .holders n h;
         met = ap length (o .rows-kept namespaces refl) ∙ w .met;
-        lazy = ap (map literalOf) (o .rows-kept lazies refl) ∙ w .lazy;
+        lazy = ap (map (lazyOf x)) (o .rows-kept lazies refl) ∙ w .lazy;
         forced = ap (map atomOf) (o .rows-kept forces refl) ∙ w .forced;
         top = o .top-kept ∙ w .top;
+        modules = ap (map moduleOf) (o .rows-kept modules refl) ∙ w .modules;
+        sourced = record { once = w .sourced .once; from = w .sourced .from };
       }
 
-  pub shows-usages : {x : List Usage} → Others uses t t' → map usageOf (rows (tableOf uses) t') ≡ x → Shows t' (setUsages x s)
+  pub shows-usages : {y : List Usage} → Others uses t t' → map usageOf (rows (tableOf uses) t') ≡ y → Shows x t' (setUsages y s)
   shows-usages o e =
       record {
         imported = ap (map importedOf) (o .rows-kept imports refl) ∙ w .imported;
@@ -162,40 +164,46 @@ module _ {t t' : List ℕ} {s : State} (w : Shows t s) where
         collected = ap (map briefOf) (o .rows-kept records refl) ∙ w .collected;
         holders = λ n h. ap (leastOf n) (o .rows-kept namespaces refl) ∙ w .holders n h;
         met = ap length (o .rows-kept namespaces refl) ∙ w .met;
-        lazy = ap (map literalOf) (o .rows-kept lazies refl) ∙ w .lazy;
+        lazy = ap (map (lazyOf x)) (o .rows-kept lazies refl) ∙ w .lazy;
         forced = ap (map atomOf) (o .rows-kept forces refl) ∙ w .forced;
         top = o .top-kept ∙ w .top;
+        modules = ap (map moduleOf) (o .rows-kept modules refl) ∙ w .modules;
+        sourced = record { once = w .sourced .once; from = w .sourced .from };
       }
 
-  pub shows-collected : {x : List Record} → Others records t t' → map briefOf (rows (tableOf records) t') ≡ map brief x →
-      ((n : ℕ) → indexOf (holdsNamespace (idOf n)) x ≡ indexOf (holdsNamespace (idOf n)) (s .collected)) → namespacesIn x ≡ namespacesIn (s .collected) →
-      Shows t' (setCollected x s)
-  shows-collected o e f n =
+  pub shows-collected : {y : List Record} → Others records t t' → map briefOf (rows (tableOf records) t') ≡ map brief y →
+      ((n : ℕ) → indexOf (holdsNamespace (idOf n)) y ≡ indexOf (holdsNamespace (idOf n)) (s .collected)) → namespacesIn y ≡ namespacesIn (s .collected) →
+      ((a : List ℕ) → among a (sourcesIn (s .collected)) ≡ true → among a (sourcesIn y) ≡ true) → Shows x t' (setCollected y s)
+  shows-collected o e f n h =
       record {
         imported = ap (map importedOf) (o .rows-kept imports refl) ∙ w .imported;
         usages = ap (map usageOf) (o .rows-kept uses refl) ∙ w .usages;
         collected = e;
         holders = λ i h. ap (leastOf i) (o .rows-kept namespaces refl) ∙ w .holders i h ∙ sym (f i);
         met = ap length (o .rows-kept namespaces refl) ∙ w .met ∙ sym n;
-        lazy = ap (map literalOf) (o .rows-kept lazies refl) ∙ w .lazy;
+        lazy = ap (map (lazyOf x)) (o .rows-kept lazies refl) ∙ w .lazy;
         forced = ap (map atomOf) (o .rows-kept forces refl) ∙ w .forced;
         top = o .top-kept ∙ w .top;
+        modules = ap (map moduleOf) (o .rows-kept modules refl) ∙ w .modules;
+        sourced = record { once = w .sourced .once; from = λ a k. h a (w .sourced .from a k) };
       }
 
-  pub shows-forced : {x : List (List ℕ)} → Others forces t t' → map atomOf (rows (tableOf forces) t') ≡ x → Shows t' (setForced x s)
-  shows-forced o e =
+  pub shows-forced : {y : List (List ℕ)} → Others forces t t' → map atomOf (rows (tableOf forces) t') ≡ y → Sourced (setForced y s) → Shows x t' (setForced y s)
+  shows-forced o e h =
       record {
         imported = ap (map importedOf) (o .rows-kept imports refl) ∙ w .imported;
         usages = ap (map usageOf) (o .rows-kept uses refl) ∙ w .usages;
         collected = ap (map briefOf) (o .rows-kept records refl) ∙ w .collected;
         holders = λ n h. ap (leastOf n) (o .rows-kept namespaces refl) ∙ w .holders n h;
         met = ap length (o .rows-kept namespaces refl) ∙ w .met;
-        lazy = ap (map literalOf) (o .rows-kept lazies refl) ∙ w .lazy;
+        lazy = ap (map (lazyOf x)) (o .rows-kept lazies refl) ∙ w .lazy;
         forced = e;
         top = o .top-kept ∙ w .top;
+        modules = ap (map moduleOf) (o .rows-kept modules refl) ∙ w .modules;
+        sourced = h;
       }
 
-  pub shows-lazy : {x : List Record} → Others lazies t t' → map literalOf (rows (tableOf lazies) t') ≡ map (λ r. r .literal) x → Shows t' (setLazy x s)
+  pub shows-lazy : {y : List Record} → Others lazies t t' → map (lazyOf x) (rows (tableOf lazies) t') ≡ y → Shows x t' (setLazy y s)
   shows-lazy o e =
       record {
         imported = ap (map importedOf) (o .rows-kept imports refl) ∙ w .imported;
@@ -206,4 +214,21 @@ module _ {t t' : List ℕ} {s : State} (w : Shows t s) where
         lazy = e;
         forced = ap (map atomOf) (o .rows-kept forces refl) ∙ w .forced;
         top = o .top-kept ∙ w .top;
+        modules = ap (map moduleOf) (o .rows-kept modules refl) ∙ w .modules;
+        sourced = record { once = w .sourced .once; from = w .sourced .from };
+      }
+
+  pub shows-modules : {y : Modules} → Others modules t t' → map moduleOf (rows (tableOf modules) t') ≡ y → Shows x t' (setModules y s)
+  shows-modules o e =
+      record {
+        imported = ap (map importedOf) (o .rows-kept imports refl) ∙ w .imported;
+        usages = ap (map usageOf) (o .rows-kept uses refl) ∙ w .usages;
+        collected = ap (map briefOf) (o .rows-kept records refl) ∙ w .collected;
+        holders = λ n h. ap (leastOf n) (o .rows-kept namespaces refl) ∙ w .holders n h;
+        met = ap length (o .rows-kept namespaces refl) ∙ w .met;
+        lazy = ap (map (lazyOf x)) (o .rows-kept lazies refl) ∙ w .lazy;
+        forced = ap (map atomOf) (o .rows-kept forces refl) ∙ w .forced;
+        top = o .top-kept ∙ w .top;
+        modules = e;
+        sourced = record { once = w .sourced .once; from = w .sourced .from };
       }

@@ -15,7 +15,7 @@ use Rattle.lent.specs.Lists.{mapped}
 use Rattle.lent.specs.Outcome.{done, refused}
 use Rattle.extraction_rules.specs.State.{Imported, State, roomFor, setImported}
 use Rattle.extraction_rules.specs.First.{importedAs, noteIn, noteId}
-use Rattle.kept.specs.Kept.{id-limit, imports, tableOf, Below, Good, Shows, idOf, importedOf}
+use Rattle.kept.specs.Kept.{At, id-limit, imports, tableOf, Below, Good, Shows, idOf, importedOf}
 use Rattle.kept.specs.Does.{Tells, Did, Acts}
 use Rattle.kept.specs.declared.Room.the-variants.{Made, Full}
 use Rattle.kept.proofs.IdLaws.{same-id, same-key, between-one}
@@ -84,12 +84,12 @@ below-noted none k c x v l b p q = below-append x v l (k, c) b p q
 below-noted (some i) k c x v l b p q = below-value x v l i c b q
 
 module _ {t : List ℕ} {k c : ℕ} (g : Good t) (h : k < id-limit) (hc : c < 4294967296) where
-  noted-shown : (s : State) → Shows t s →
+  noted-shown : {y : At} (s : State) → Shows y t s →
       map importedOf (noted (firstIn k k (rows (tableOf imports) t)) k c (rows (tableOf imports) t)) ≡ noteIn (importedOf (k, c)) (s .imported)
   noted-shown s w = sym (note-rows k c _ (rows (tableOf imports) t) h (g .below imports)) ∙ ap (noteIn (importedOf (k, c))) (w .imported)
 
   noted-done : {t' : List ℕ} → rows (tableOf imports) t' ≡ noted (firstIn k k (rows (tableOf imports) t)) k c (rows (tableOf imports) t) →
-      length (rows (tableOf imports) t') ≤ 512 → Only (tableOf imports) t t' → (s : State) (p : ℕ) → Shows t s → Did (noteId (importedOf (k, c)) p s) t'
+      length (rows (tableOf imports) t') ≤ 512 → Only (tableOf imports) t t' → {y : At} (s : State) (p : ℕ) → Shows y t s → Did y (noteId (importedOf (k, c)) p s) t'
   unfolding noteId
   noted-done {t'} e n o s p w =
       let x = noteIn (importedOf (k, c)) (s .imported) in
@@ -125,7 +125,7 @@ module _ {t : List ℕ} {k c : ℕ} (g : Good t) (h : k < id-limit) (hc : c < 42
       let n = length-more (rows (tableOf imports) t) (k, c) in
       noted-acts {o = none} f e (omega arith) only
 
-  note-refused : none ≡ firstIn k k (rows (tableOf imports) t) → 512 ≤ length (rows (tableOf imports) t) → (s : State) (p : ℕ) → Shows t s →
+  note-refused : none ≡ firstIn k k (rows (tableOf imports) t) → 512 ≤ length (rows (tableOf imports) t) → {y : At} (s : State) (p : ℕ) → Shows y t s →
       noteId (importedOf (k, c)) p s ≡ refused 8 p
   unfolding noteId
   note-refused f m s p w =

@@ -1,6 +1,7 @@
 -- Numbers and the bytes that they stand for (IdLaws, IdentLaws); rows and the lists of the rules (ListLaws, IndexLaws); what a change of one table leaves
--- alone (FrameLaws); for each function the array that shows the rule's state (ImportedLaws to RestLaws); and laws on the rules' state for
--- callers: specifiers one by one (NamespaceLaws, ExtendLaws), forced sources (SourcedLaws), the second pass (SecondLaws).
+-- alone (FrameLaws); for each function the array that shows the rule's state (ImportedLaws to ModulesLaws); and laws on the rules' state for
+-- callers: specifiers one by one (NamespaceLaws, ExtendLaws), forced sources (SourcedLaws), the second pass (SecondLaws). What stands at a
+-- place of a list (PlaceLaws).
 pub mod IdLaws
 pub mod IdentLaws
 pub mod ListLaws
@@ -14,5 +15,7 @@ pub mod NamespaceLaws
 pub mod ExtendLaws
 pub mod ForcedLaws
 pub mod RestLaws
+pub mod ModulesLaws
 pub mod SourcedLaws
 pub mod SecondLaws
+pub mod PlaceLaws

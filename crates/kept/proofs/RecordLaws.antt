@@ -18,14 +18,14 @@ use Rattle.lent.specs.Lists.{find, mapped}
 use Rattle.lent.specs.Fields.{has, findField}
 use Rattle.extraction_rules.specs.State.{Record, State}
 use Rattle.extraction_rules.specs.First.{holdsNamespace, suits, usedRecord}
-use Rattle.kept.specs.Kept.{id-limit, records, namespaces, tableOf, held, Good, idOf, Brief, brief, briefOf, namespaceOf, indexOf, Shows, Shown}
+use Rattle.kept.specs.Kept.{At, id-limit, records, namespaces, tableOf, held, Good, idOf, Brief, brief, briefOf, namespaceOf, indexOf, Shows}
 use Rattle.kept.specs.Does.{Tells, sourceOf, sourceAt}
 use Rattle.kept.proofs.IdLaws.{id-name, id-context, between-one}
 use Rattle.kept.proofs.IndexLaws.{index-map, index-same, index-value, find-index, index-below, getD-map}
 
 -- ---- The source of the record at a place
 
-sources-shown : {t : List ℕ} {s : State} → Shows t s → map (λ (r : Record). valueOf (r .literal)) (s .collected) ≡ map (λ (r : Row). valueOf (idOf (r .0))) (rows (tableOf records) t)
+sources-shown : {y : At} {t : List ℕ} {s : State} → Shows y t s → map (λ (r : Record). valueOf (r .literal)) (s .collected) ≡ map (λ (r : Row). valueOf (idOf (r .0))) (rows (tableOf records) t)
 unfolding brief briefOf
 sources-shown {t} {s} w =
     sym (map-map (λ (b : Brief). valueOf (b .literal)) brief (s .collected)) ∙ ap (map (λ (b : Brief). valueOf (b .literal))) (sym (w .collected))
@@ -37,7 +37,7 @@ unfolding sourceAt
 placed t nothing = refl
 placed t (some i) = ap some (getD-map (λ (r : Row). valueOf (idOf (r .0))) (rows (tableOf records) t) i (0, 0))
 
-pub source-found : {t : List ℕ} {s : State} (p : Record → Bool) (o : Option ℕ) → Shows t s → o ≡ indexOf p (s .collected) →
+pub source-found : {y : At} {t : List ℕ} {s : State} (p : Record → Bool) (o : Option ℕ) → Shows y t s → o ≡ indexOf p (s .collected) →
     mapped (sourceAt t) o ≡ sourceOf (find p (s .collected))
 source-found {t} {s} p o w e =
     sym (placed t o) ∙ ap (mapped (λ i. getD (map (λ (r : Row). valueOf (idOf (r .0))) (rows (tableOf records) t)) i (valueOf (idOf 0)))) e
@@ -45,16 +45,21 @@ source-found {t} {s} p o w e =
     ∙ sym (find-index p (λ (r : Record). valueOf (r .literal)) (valueOf (idOf 0)) (s .collected))
 
 -- as many records as rows
-pub held-shown : {t : List ℕ} {s : State} → Shows t s → held records t ≡ length (s .collected)
+pub held-shown : {y : At} {t : List ℕ} {s : State} → Shows y t s → held records t ≡ length (s .collected)
 held-shown {t} {s} w = sym (length-map (rows (tableOf records) t) briefOf) ∙ ap length (w .collected) ∙ length-map (s .collected) brief
 
 -- ---- The first that holds a namespace
 
-pub holder-below : {t : List ℕ} {id i : ℕ} → Shown t → id < id-limit → some i ≡ leastOf id (rows (tableOf namespaces) t) → i < held records t
-holder-below {t} {id} {i} w h e =
-    let b = index-below (holdsNamespace (idOf id)) (w .state .collected) i (sym (e ∙ w .shows .holders id h)) in
-    let n = held-shown (w .shows) in
+holder-below : {y : At} {t : List ℕ} {s : State} {id i : ℕ} → Shows y t s → id < id-limit → some i ≡ leastOf id (rows (tableOf namespaces) t) → i < held records t
+holder-below {s = s} {id} {i} w h e =
+    let b = index-below (holdsNamespace (idOf id)) (s .collected) i (sym (e ∙ w .holders id h)) in
+    let n = held-shown w in
     omega arith
+
+-- no place past the records is shown
+pub holder-past : {t : List ℕ} {id i : ℕ} → id < id-limit → some i ≡ leastOf id (rows (tableOf namespaces) t) → held records t ≤ i →
+    Tells (λ s. sourceOf (find (holdsNamespace (idOf id)) (s .collected))) t nothing
+holder-past h e p = record { is = λ s w. absurd (let b = holder-below w h e in omega arith) }
 
 pub holder-told : {t : List ℕ} {id : ℕ} {o : Option ℕ} → id < id-limit → o ≡ leastOf id (rows (tableOf namespaces) t) →
     Tells (λ s. sourceOf (find (holdsNamespace (idOf id)) (s .collected))) t (mapped (sourceAt t) o)
@@ -149,7 +154,7 @@ suits-id own id (suc m) o a b e =
     ∙ sym (between-one id m) ∙ between-suc id id m
 
 module _ {t : List ℕ} (g : Good t) (own id lo hi : ℕ) (h : (n : ℕ) → n < 281474976710657 → suitsFirst own (idOf id) (namespaceOf n) ≡ between lo hi n) where
-  used-index : (s : State) → Shows t s →
+  used-index : {y : At} (s : State) → Shows y t s →
       firstIn lo hi (map flip (rows (tableOf records) t)) ≡ indexOf (λ r. suits own (idOf id) (findField (has 0x22) (r .specifiers))) (s .collected)
   unfolding brief briefOf
   used-index s w =

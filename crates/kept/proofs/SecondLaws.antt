@@ -8,14 +8,15 @@ use mathlib.Core.Option.{Option, none as nothing, some}
 use Rattle.tree.specs.Layout.{same, sameLiteral}
 use Rattle.tree.specs.Tree.{Field, Fields, none, more, fixedOf}
 use Rattle.metadata.specs.Metadata.{append}
-use Rattle.lent.specs.Lists.{isSome, mapped}
+use Rattle.lent.specs.Lists.{isSome, mapped, among}
 use Rattle.lent.specs.Fields.{has, findField}
 use Rattle.extraction_rules.specs.State.{Record, Usage, State, setCollected}
 use Rattle.extraction_rules.specs.First.{holdsNamespace}
 use Rattle.extraction_rules.specs.Second.{specifiersFrom, extend}
-use Rattle.kept.specs.Kept.{idOf, brief, flag, countNamespaces, namespacesIn, Shows}
+use Rattle.kept.specs.Kept.{At, idOf, brief, flag, countNamespaces, namespacesIn, Shows}
 use Rattle.kept.proofs.IndexLaws.{index-map, index-same}
 use Rattle.kept.proofs.FrameLaws.{shows-collected}
+use Rattle.kept.proofs.SourcedLaws.{extend-sources}
 
 flag-zero : (b : Bool) → flag b ≡ 0 → b ≡ false
 flag-zero true e = absurd (omega arith)
@@ -76,10 +77,10 @@ module _ (fs : Fields) (z : countNamespaces fs ≡ 0) where
   namespaces-behind x (r ∷ l) = ap₂ _+_ (extend-by (λ (q : Record). countNamespaces (q .specifiers)) x r (count-behind (r .specifiers))) (namespaces-behind x l)
 
   -- 'appended to the record whose LITERAL is equal'
-  pub shows-extended : {t : List ℕ} {s : State} (x : List ℕ) → Shows t s → Shows t (setCollected (map (extend x fs) (s .collected)) s)
+  pub shows-extended : {y : At} {t : List ℕ} {s : State} (x : List ℕ) → Shows y t s → Shows y t (setCollected (map (extend x fs) (s .collected)) s)
   shows-extended {t} {s} x w =
       shows-collected w (record { rows-kept = λ m h. refl; top-kept = refl }) (w .collected ∙ sym (briefs-behind x (s .collected)))
       (λ n.
       sym (index-map (holdsNamespace (idOf n)) (extend x fs) (s .collected))
       ∙ index-same (λ r. holdsNamespace (idOf n) (extend x fs r)) (holdsNamespace (idOf n)) (λ r. extend-by (holdsNamespace (idOf n)) x r (holds-behind (idOf n) r)) (s .collected))
-      (namespaces-behind x (s .collected))
+      (namespaces-behind x (s .collected)) (λ a k. ap (among a) (extend-sources x fs (s .collected)) ∙ k)

@@ -1,5 +1,5 @@
 -- In every state of the rules forced sources are sources of collected records, each once.
-use Prim.Native.Nat.{ℕ}
+use Prim.Native.Nat.{ℕ, zero, suc}
 use native.Mathlib.Omega.{arith}
 use mathlib.Core.Path.{_≡_, refl, sym, ap, _∙_}
 use mathlib.Core.Bool.{Bool, true, false, cond, _||_}
@@ -14,12 +14,27 @@ use Rattle.lent.specs.Lists.{find, among}
 use Rattle.extraction_rules.specs.State.{Record, State, start, setForced, setCollected}
 use Rattle.extraction_rules.specs.First.{holdsNamespace, forceSource, forceHolder, forget, forceId, collectIn}
 use Rattle.extraction_rules.specs.Second.{extend}
-use Rattle.kept.specs.Does.{sourceOf, sourcesIn, Once, Sourced}
-use Rattle.kept.proofs.ForcedLaws.{find-among}
+use Rattle.kept.specs.Kept.{sourcesIn, Once, Sourced}
+use Rattle.kept.specs.Does.{sourceOf, extendAt}
 
 pub sourced-start : (ms : Modules) → Sourced (start ms)
 unfolding Once among
 sourced-start ms = record { once = tt; from = λ a e. absurd (let z : _≡_ {A = ℕ} 0 1 = cc in omega arith) }
+
+pub or-right : (x y : Bool) → y ≡ true → (x || y) ≡ true
+or-right true y e = refl
+or-right false y e = e
+
+-- the source of a record that is found is one of theirs
+pub find-among : (p : Record → Bool) (l : List Record) (x : List ℕ) → some x ≡ sourceOf (find p l) → among x (sourcesIn l) ≡ true
+unfolding find among
+find-among p [] x e = absurd (let z : _≡_ {A = ℕ} 0 1 = cc in omega arith)
+find-among p (r ∷ l) x e = by (p r) (find-among p l x) e
+  where
+    by : (b : Bool) → (some x ≡ sourceOf (find p l) → among x (sourcesIn l) ≡ true) → some x ≡ sourceOf (cond b (some r) (find p l)) →
+        (same x (valueOf (r .literal)) || among x (sourcesIn l)) ≡ true
+    by true h f = let z : x ≡ valueOf (r .literal) = cc in ap (λ (k : Bool). k || among x (sourcesIn l)) (ap (same x) (sym z) ∙ same-refl x)
+    by false h f = or-right (same x (valueOf (r .literal))) (among x (sourcesIn l)) (h f)
 
 -- ---- A source is forced
 
@@ -108,3 +123,9 @@ extend-sources x fs (r ∷ l) = by (sameLiteral (r .literal) x) (extend-sources 
         valueOf ((cond b (record { literal = r .literal; specifiers = append (r .specifiers) fs }) r) .literal) ∷ sourcesIn (map (extend x fs) l) ≡ valueOf (r .literal) ∷ sourcesIn l
     by true e = ap (λ (m : List (List ℕ)). valueOf (r .literal) ∷ m) e
     by false e = ap (λ (m : List (List ℕ)). valueOf (r .literal) ∷ m) e
+
+pub extendAt-sources : (i : ℕ) (fs : Fields) (l : List Record) → sourcesIn (extendAt i fs l) ≡ sourcesIn l
+unfolding extendAt
+extendAt-sources i fs [] = refl
+extendAt-sources zero fs (r ∷ l) = refl
+extendAt-sources (suc i) fs (r ∷ l) = ap (λ (m : List (List ℕ)). valueOf (r .literal) ∷ m) (extendAt-sources i fs l)

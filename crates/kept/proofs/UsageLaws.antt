@@ -18,7 +18,7 @@ use Rattle.lent.specs.Outcome.{refused}
 use Rattle.extraction_rules.specs.State.{Imported, Usage, State, setUsages}
 use Rattle.extraction_rules.specs.First.{forget, addUsage}
 use Rattle.extraction_rules.specs.Second.{usagesOf}
-use Rattle.kept.specs.Kept.{id-limit, Kind, imports, uses, tableOf, Below, held, Good, Shows, idOf, importedOf, usageOf}
+use Rattle.kept.specs.Kept.{At, InLimits, id-limit, Kind, imports, uses, tableOf, Below, held, Good, Shows, idOf, importedOf, usageOf}
 use Rattle.kept.specs.Does.{Tells, Turns, Did, Acts, Lists, any}
 use Rattle.kept.specs.declared.Room.the-variants.{Made, Full}
 use Rattle.kept.proofs.IdLaws.{same-id, same-key}
@@ -47,7 +47,7 @@ usages-told {t} {id} {o} g h e =
 
 module _ (k q : ℕ) {t : List ℕ} (g : Good t) where
   usage-done : {t' : List ℕ} → rows (tableOf uses) t' ≡ rows (tableOf uses) t ++ ((k, q) ∷ []) → length (rows (tableOf uses) t) < 2048 →
-      Only (tableOf uses) t t' → (s : State) (p : ℕ) → Shows t s → Did (addUsage (usageOf (k, q)) p s) t'
+      Only (tableOf uses) t t' → {y : At} (s : State) (p : ℕ) → Shows y t s → Did y (addUsage (usageOf (k, q)) p s) t'
   unfolding addUsage
   usage-done {t'} e n o s p w =
       let l = rows (tableOf uses) t in
@@ -72,7 +72,7 @@ module _ (k q : ℕ) {t : List ℕ} (g : Good t) where
         full = λ r s p w. absurd (let z : _≡_ {A = ℕ} 0 1 = cc in omega arith);
       }
 
-  usage-refused : 2048 ≤ length (rows (tableOf uses) t) → (s : State) (p : ℕ) → Shows t s → addUsage (usageOf (k, q)) p s ≡ refused 8 p
+  usage-refused : 2048 ≤ length (rows (tableOf uses) t) → {y : At} (s : State) (p : ℕ) → Shows y t s → addUsage (usageOf (k, q)) p s ≡ refused 8 p
   unfolding addUsage
   usage-refused n s p w =
       let l = rows (tableOf uses) t in
@@ -87,21 +87,25 @@ module _ (k q : ℕ) {t : List ℕ} (g : Good t) where
 
 -- ---- An id is forgotten
 
-pub dropped-good : (k : Kind) (id : ℕ) {t t' : List ℕ} → Good t → rows (tableOf k) t' ≡ without id (rows (tableOf k) t) → Only (tableOf k) t t' → Good t'
-dropped-good k id {t} {t'} g e o =
+dropped-good : (k : Kind) (id : ℕ) {t t' : List ℕ} → Good t → rows (tableOf k) t' ≡ without id (rows (tableOf k) t) → Only (tableOf k) t t' →
+    InLimits k (without id (rows (tableOf k) t)) → Good t'
+dropped-good k id {t} {t'} g e o b =
     let n = length-without id (rows (tableOf k) t) in
     let r = room-for k g in
-    good-kept k g o e (omega arith) (below-without _ _ id (rows (tableOf k) t) (g .below k))
+    good-kept k g o e (omega arith) b
+
+pub uses-dropped : (id : ℕ) {t t' : List ℕ} → Good t → rows (tableOf uses) t' ≡ without id (rows (tableOf uses) t) → Only (tableOf uses) t t' → Good t'
+uses-dropped id {t} g e o = dropped-good uses id g e o (below-without _ _ id (rows (tableOf uses) t) (g .below uses))
 
 pub forgotten : {t m t' : List ℕ} {id : ℕ} → Good t → id < id-limit →
     rows (tableOf uses) m ≡ without id (rows (tableOf uses) t) → Only (tableOf uses) t m →
     rows (tableOf imports) t' ≡ without id (rows (tableOf imports) m) → Only (tableOf imports) m t' → Turns (forget (idOf id)) t t'
 unfolding forget
 forgotten {t} {m} {t'} {id} g h e o f q =
-    let gm = dropped-good uses id g e o in
+    let gm = uses-dropped id g e o in
     let others = others-kept uses g o in
     record {
-      good = dropped-good imports id gm f q;
+      good = dropped-good imports id gm f q (below-without _ _ id (rows (tableOf imports) m) (gm .below imports));
       shows = λ s w.
           shows-imported (shows-usages w others
           (ap (map usageOf) e ∙ sym (filter-rows (λ (u : Usage). not (same (u .id) (idOf id))) usageOf id id-limit _ (λ r k. ap not (same-id (r .0) id k h)) (rows (tableOf uses) t) (g .below uses))
@@ -117,14 +121,14 @@ pub usages-counted : {t : List ℕ} {n : ℕ} → n ≡ held uses t → Tells (�
 usages-counted {t} e = record { is = λ s w. e ∙ sym (length-map (rows (tableOf uses) t) usageOf) ∙ ap length (w .usages) }
 
 module _ (id i : ℕ) {t : List ℕ} (g : Good t) (h : id < id-limit) (b : i < held uses t) where
-  usages-onward : (s : State) → Shows t s → drop i (s .usages) ≡ usageOf (rowOf (rows (tableOf uses) t) i) ∷ drop (i + 1) (s .usages)
+  usages-onward : {y : At} (s : State) → Shows y t s → drop i (s .usages) ≡ usageOf (rowOf (rows (tableOf uses) t) i) ∷ drop (i + 1) (s .usages)
   usages-onward s w =
       let l = rows (tableOf uses) t in
       let n : length (s .usages) ≡ length l = sym (ap length (w .usages)) ∙ length-map l usageOf in
       drop-cons (s .usages) i (usageOf (0, 0)) (omega arith)
       ∙ ap₂ (λ (u : Usage) (j : ℕ). u ∷ drop j (s .usages)) (ap (λ (m : List Usage). getD m i (usageOf (0, 0))) (sym (w .usages)) ∙ getD-map usageOf l i (0, 0)) (sym (add-one i))
 
-  usage-step : (x : Bool) → same (idOf (rowOf (rows (tableOf uses) t) i .0)) (idOf id) ≡ x → (s : State) → Shows t s →
+  usage-step : (x : Bool) → same (idOf (rowOf (rows (tableOf uses) t) i .0)) (idOf id) ≡ x → {y : At} (s : State) → Shows y t s →
       usagesOf (idOf id) (drop i (s .usages)) ≡
       cond x (usageOf (rowOf (rows (tableOf uses) t) i) ∷ usagesOf (idOf id) (drop (i + 1) (s .usages))) (usagesOf (idOf id) (drop (i + 1) (s .usages)))
   unfolding usagesOf filter

@@ -12,10 +12,11 @@ use Rattle.lent.specs.Outcome.{Outcome, done, refused}
 use Rattle.tree.specs.Layout.{two, four, valueOf}
 use Rattle.tree.specs.Tree.{Field, Fields, none, more, fixedOf}
 use Rattle.metadata.specs.Metadata.{append}
+use Rattle.scope.specs.declared.id.ModuleId.{ModuleId}
 use Rattle.extraction_rules.specs.State.{Record, Usage, State, Act, setCollected}
-use Rattle.extraction_rules.specs.First.{collect}
+use Rattle.extraction_rules.specs.First.{collect, forceSource}
 use Rattle.extraction_rules.specs.Second.{usagesOf}
-use Rattle.kept.specs.Kept.{id-limit, records, tableOf, held, Good, idOf, Shows}
+use Rattle.kept.specs.Kept.{id-limit, records, tableOf, held, Good, idOf, At, namespacesIn, sourcesIn, Shows}
 use Rattle.kept.specs.declared.Context.{Context}
 use Rattle.kept.specs.declared.Context.the-variants.{Of, Nowhere}
 use Rattle.kept.specs.declared.Source.{Source}
@@ -26,27 +27,39 @@ use Rattle.kept.specs.declared.Place.{Place}
 use Rattle.kept.specs.declared.Place.the-variants.{Index, NoRoom}
 use Rattle.kept.specs.declared.Room.{Room}
 use Rattle.kept.specs.declared.Room.the-variants.{Made, Full}
+use Rattle.kept.specs.declared.Module.{Module}
+use Rattle.kept.specs.declared.Module.the-variants.{Is as Numbered, Unresolved, TooMany}
 
 -- the answer is f of every state that the array shows
 pub record Tells {A : Type 0} (f : State → A) (t : List ℕ) (a : A) : Type 0 where
-  pub is : (s : State) → Shows t s → a ≡ f s
+  pub is : {x : At} (s : State) → Shows x t s → a ≡ f s
+
+-- the list f of every state that the array shows has an entry at i, and g of it is b
+pub record Holds {A B : Type 0} (f : State → List A) (g : A → B) (i : ℕ) (t : List ℕ) (b : At → B) : Type 0 where
+  pub is : {x : At} (s : State) → Shows x t s → (a : A) × (g a ≡ b x) × (drop i (f s) ≡ a ∷ drop (i + 1) (f s))
 
 -- each state that the array shows is changed by f
 pub record Turns (f : State → State) (t t' : List ℕ) : Type 0 where
   pub good : Good t'
-  pub shows : (s : State) → Shows t s → Shows t' (f s)
+  pub shows : {x : At} (s : State) → Shows x t s → Shows x t' (f s)
 
 -- a step was done, and the array shows its state
-pub record Did (o : Outcome (Unit {0} × State)) (t : List ℕ) : Type 0 where
+pub record Did (x : At) (o : Outcome (Unit {0} × State)) (t : List ℕ) : Type 0 where
   pub state : State
   pub is : o ≡ done (tt, state)
-  pub shows : Shows t state
+  pub shows : Shows x t state
 
 -- a rule with its place is followed, or refused with 8
 pub record Acts (act : ℕ → Act (Unit {0})) (t t' : List ℕ) (r : Room) : Type 0 where
   pub good : Good t'
-  pub made : r ≡ Made → (s : State) (p : ℕ) → Shows t s → Did (act p s) t'
-  pub full : r ≡ Full → (s : State) (p : ℕ) → Shows t s → act p s ≡ refused 8 p
+  pub made : r ≡ Made → {x : At} (s : State) (p : ℕ) → Shows x t s → Did x (act p s) t'
+  pub full : r ≡ Full → {x : At} (s : State) (p : ℕ) → Shows x t s → act p s ≡ refused 8 p
+
+-- the same, for a rule that takes what stands at a place
+pub record ActsAt (place : ℕ) (act : Fields → ℕ → Act (Unit {0})) (t t' : List ℕ) (r : Room) : Type 0 where
+  pub good : Good t'
+  pub made : r ≡ Made → {x : At} (s : State) (p : ℕ) → Shows x t s → Did x (act (x place) p s) t'
+  pub full : r ≡ Full → {x : At} (s : State) (p : ℕ) → Shows x t s → act (x place) p s ≡ refused 8 p
 
 -- ---- Usages
 
@@ -57,7 +70,7 @@ listed x Other l = l
 -- the usages of an id from a place on, by what stands at that place
 pub record Lists (x : List ℕ) (i : ℕ) (t : List ℕ) (r : Property) : Type 0 where
   pub small : (q : ℕ) → r ≡ Is q → q < id-limit
-  pub is : (s : State) → Shows t s → usagesOf x (drop i (s .usages)) ≡ listed x r (usagesOf x (drop (i + 1) (s .usages)))
+  pub is : {y : At} (s : State) → Shows y t s → usagesOf x (drop i (s .usages)) ≡ listed x r (usagesOf x (drop (i + 1) (s .usages)))
 
 -- ---- Records
 
@@ -68,22 +81,23 @@ extendAt zero fs (r ∷ l) = record { literal = r .literal; specifiers = append 
 extendAt (suc i) fs (r ∷ l) = r ∷ extendAt i fs l
 
 -- the record of a literal stands at a place, before its specifiers come: collecting gives it these
-pub record Gathered (x : List ℕ) (i : ℕ) (s : State) (t : List ℕ) : Type 0 where
+pub record Gathered (y : At) (x : List ℕ) (i : ℕ) (s : State) (t : List ℕ) : Type 0 where
   pub list : List Record
-  pub shows : Shows t (setCollected list s)
+  pub shows : Shows y t (setCollected list s)
   pub is : (fs : Fields) (p : ℕ) → collect (record { literal = x; specifiers = fs }) p s ≡ done (tt, setCollected (extendAt i fs list) s)
 
 pub record Collects (x : List ℕ) (t t' : List ℕ) (r : Place) : Type 0 where
   pub good : Good t'
   pub below : (i : ℕ) → r ≡ Index i → i < held records t'
-  pub made : (i : ℕ) → r ≡ Index i → (s : State) → Shows t s → Gathered x i s t'
-  pub full : r ≡ NoRoom → (s : State) → Shows t s → (fs : Fields) (p : ℕ) → collect (record { literal = x; specifiers = fs }) p s ≡ refused 8 p
+  pub made : (i : ℕ) → r ≡ Index i → {y : At} (s : State) → Shows y t s → Gathered y x i s t'
+  pub full : r ≡ NoRoom → {y : At} (s : State) → Shows y t s → (fs : Fields) (p : ℕ) → collect (record { literal = x; specifiers = fs }) p s ≡ refused 8 p
 
 -- the record at a place gets a 22 more
 pub record Extends (i : ℕ) (x : List ℕ) (t t' : List ℕ) : Type 0 where
   pub good : Good t'
   pub kept : held records t' ≡ held records t
-  pub shows : (s : State) (f : Field) → has 0x22 f ≡ true → fixedOf f ≡ x → Shows t s → Shows t' (setCollected (extendAt i (more f none) (s .collected)) s)
+  pub shows : {y : At} (s : State) (f : Field) → has 0x22 f ≡ true → fixedOf f ≡ x → namespacesIn (s .collected) < 3641 → Shows y t s →
+      Shows y t' (setCollected (extendAt i (more f none) (s .collected)) s)
 
 -- the source of a record, and of the one at a place in the array
 abbrev pub sourceOf : Option Record → Option (List ℕ)
@@ -94,28 +108,25 @@ sourceAt t i = valueOf (idOf (getD (rows (tableOf records) t) i (0, 0) .0))
 
 -- ---- Forced sources
 
-abbrev pub sourcesIn : List Record → List (List ℕ)
-sourcesIn l = map (λ r. valueOf (r .literal)) l
+-- where a source is that of a collected record, it is forced
+pub record Forces (a : List ℕ) (t t' : List ℕ) : Type 0 where
+  pub good : Good t'
+  pub shows : {x : At} (s : State) → among a (sourcesIn (s .collected)) ≡ true → Shows x t s → Shows x t' (forceSource a s)
 
--- each stands once
-unfoldable pub Once : List (List ℕ) → Type 0
-Once [] = Unit
-Once (a ∷ l) = (among a l ≡ false) × Once l
+-- ---- Modules
 
--- forced sources are sources of collected records, each once: so their table has room for all
-pub record Sourced (s : State) : Type 0 where
-  pub once : Once (s .forced)
-  pub from : (a : List ℕ) → among a (s .forced) ≡ true → among a (sourcesIn (s .collected)) ≡ true
-
--- the array shows a state whose forced sources are sources, and the source of one of its records is to be forced
-pub record Sources (t : List ℕ) : Type 0 where
+-- a step gave a value, and the array shows its state
+pub record Gave {A : Type 0} (x : At) (o : Outcome (A × State)) (a : A) (t : List ℕ) : Type 0 where
   pub state : State
-  pub shows : Shows t state
-  pub sourced : Sourced state
+  pub is : o ≡ done (a, state)
+  pub shows : Shows x t state
 
-pub record Forcible (a : List ℕ) (t : List ℕ) : Type 0 where
-  pub sources : Sources t
-  pub source : among a (sourcesIn (sources .state .collected)) ≡ true
+-- a source is resolved by a rule with its place, or refused with 5
+pub record Resolves (act : ℕ → Act (Option ℕ)) (t t' : List ℕ) (r : Module) : Type 0 where
+  pub good : Good t'
+  pub number : (n : ModuleId) → r ≡ Numbered n → {x : At} (s : State) (p : ℕ) → Shows x t s → Gave x (act p s) (some (n .0)) t'
+  pub unresolved : r ≡ Unresolved → {x : At} (s : State) (p : ℕ) → Shows x t s → Gave x (act p s) nothing t'
+  pub full : r ≡ TooMany → {x : At} (s : State) (p : ℕ) → Shows x t s → act p s ≡ refused 5 p
 
 -- ---- What answers stand for
 

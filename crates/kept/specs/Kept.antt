@@ -8,9 +8,11 @@ use mathlib.Core.Option.{Option, none as nothing, some}
 use lib.ListN.{length, getD}
 use Rattle.tables.specs.Rows.{Row, rows, Lies, next, leastOf}
 use Rattle.tables.specs.declared.Table.{Table}
-use Rattle.tree.specs.Layout.{two, four}
+use Rattle.scope.specs.Modules.{Module}
+use Rattle.scope.specs.Kept.{moduleBy}
+use Rattle.tree.specs.Layout.{two, four, valueOf}
 use Rattle.tree.specs.Tree.{Fields, none, more, fixedOf}
-use Rattle.lent.specs.Lists.{mapped}
+use Rattle.lent.specs.Lists.{mapped, among}
 use Rattle.lent.specs.Fields.{has, findField}
 use Rattle.extraction_rules.specs.State.{Record, Imported, Usage, State}
 use Rattle.extraction_rules.specs.First.{holdsNamespace}
@@ -18,53 +20,51 @@ use Rattle.extraction_rules.specs.First.{holdsNamespace}
 -- ---- The layout
 
 pub data Kind : Type 0 where
-  imports uses records namespaces lazies forces : Kind
+  imports uses records namespaces lazies forces modules : Kind
 
--- the counts stand in cells 0 to 5, *top* in cell 6, and then the rows; the rooms are document 01's limits (row 8), and 'at most one
+-- the counts stand in cells 0 to 6, *top* in cell 7, and then the rows; the rooms are document 01's limits (rows 5 and 8), and 'at most one
 -- namespace for 9 bytes of tree'
 abbrev pub tableOf : Kind → Table
-tableOf imports = record { count = 0; base = 7; room = 512 }
-tableOf uses = record { count = 1; base = 1031; room = 2048 }
-tableOf records = record { count = 2; base = 5127; room = 256 }
-tableOf namespaces = record { count = 3; base = 5639; room = 3641 }
-tableOf lazies = record { count = 4; base = 12921; room = 1024 }
-tableOf forces = record { count = 5; base = 14969; room = 256 }
+tableOf imports = record { count = 0; base = 8; room = 512 }
+tableOf uses = record { count = 1; base = 1032; room = 2048 }
+tableOf records = record { count = 2; base = 5128; room = 256 }
+tableOf namespaces = record { count = 3; base = 5640; room = 3641 }
+tableOf lazies = record { count = 4; base = 12922; room = 1024 }
+tableOf forces = record { count = 5; base = 14970; room = 256 }
+tableOf modules = record { count = 6; base = 15482; room = 256 }
 
 abbrev pub top-cell : ℕ
-top-cell = 6
+top-cell = 7
 
 abbrev pub cells : ℕ
-cells = 15481
+cells = 15994
 
 -- an id, a literal or a property in one number: 2^48
 abbrev pub id-limit : ℕ
 id-limit = 281474976710656
 
--- keys and values of each table are below these
-abbrev pub keyLimit : Kind → ℕ
-keyLimit imports = id-limit
-keyLimit uses = id-limit
-keyLimit records = id-limit
-keyLimit namespaces = id-limit
-keyLimit lazies = id-limit
-keyLimit forces = 65536
-
-abbrev pub valueLimit : Kind → ℕ
-valueLimit imports = 4294967296
-valueLimit uses = id-limit
-valueLimit records = 281474976710657
-valueLimit namespaces = 256
-valueLimit lazies = 65536
-valueLimit forces = 1
+-- a place in the tree, or 2^16 and a place in *work*
+abbrev pub place-limit : ℕ
+place-limit = 131072
 
 unfoldable pub Below : ℕ → ℕ → List Row → Type 0
 Below k v [] = Unit
 Below k v (r ∷ l) = (r .0 < k) × (r .1 < v) × Below k v l
 
+-- keys and values of the tables; every number stands for a file and every number for marks
+abbrev pub InLimits : Kind → List Row → Type 0
+InLimits imports l = Below id-limit 4294967296 l
+InLimits uses l = Below id-limit id-limit l
+InLimits records l = Below id-limit 281474976710657 l
+InLimits namespaces l = Below id-limit 256 l
+InLimits lazies l = Below id-limit place-limit l
+InLimits forces l = Below 65536 1 l
+InLimits modules l = Unit
+
 -- the tables lie in the array, with numbers inside their limits
 pub record Good (t : List ℕ) : Type 0 where
   pub lies : (k : Kind) → Lies (tableOf k) t
-  pub below : (k : Kind) → Below (keyLimit k) (valueLimit k) (rows (tableOf k) t)
+  pub below : (k : Kind) → InLimits k (rows (tableOf k) t)
 
 -- how many rows a table holds
 abbrev pub held : Kind → List ℕ → ℕ
@@ -118,29 +118,46 @@ unfoldable pub namespacesIn : List Record → ℕ
 namespacesIn [] = 0
 namespacesIn (r ∷ l) = countNamespaces (r .specifiers) + namespacesIn l
 
--- (literal, place); (atom, 0)
-abbrev pub literalOf : Row → List ℕ
-literalOf r = idOf (r .0)
+-- (literal, place): the specifiers of a lazy record are those at its place
+abbrev pub At : Type 0
+At = ℕ → Fields
 
+abbrev pub lazyOf : At → Row → Record
+lazyOf x r = record { literal = idOf (r .0); specifiers = x (r .1) }
+
+-- (atom, 0)
 abbrev pub atomOf : Row → List ℕ
 atomOf r = two (r .0)
 
--- where the patterns of the lazy records stand
-unfoldable pub placesIn : List ℕ → List ℕ
-placesIn t = map (λ r. r .1) (rows (tableOf lazies) t)
+-- (file, marks)
+abbrev pub moduleOf : Row → Module
+moduleOf r = moduleBy (r .0) (r .1)
 
--- of a record the array shows its literal, its first namespace, and, with the namespaces met, which record is the first to hold one
-pub record Shows (t : List ℕ) (s : State) : Type 0 where
+-- ---- Forced sources
+
+abbrev pub sourcesIn : List Record → List (List ℕ)
+sourcesIn l = map (λ r. valueOf (r .literal)) l
+
+-- each stands once
+unfoldable pub Once : List (List ℕ) → Type 0
+Once [] = Unit
+Once (a ∷ l) = (among a l ≡ false) × Once l
+
+-- forced sources are sources of collected records, each once: so their table has room for all
+pub record Sourced (s : State) : Type 0 where
+  pub once : Once (s .forced)
+  pub from : (a : List ℕ) → among a (s .forced) ≡ true → among a (sourcesIn (s .collected)) ≡ true
+
+-- of a collected record the array shows its literal, its first namespace, and, with the namespaces met, which record is the first to hold
+-- one; of a lazy one its literal and, by what stands at its place, its specifiers
+pub record Shows (x : At) (t : List ℕ) (s : State) : Type 0 where
   pub imported : map importedOf (rows (tableOf imports) t) ≡ s .imported
   pub usages : map usageOf (rows (tableOf uses) t) ≡ s .usages
   pub collected : map briefOf (rows (tableOf records) t) ≡ map brief (s .collected)
   pub holders : (n : ℕ) → n < id-limit → leastOf n (rows (tableOf namespaces) t) ≡ indexOf (holdsNamespace (idOf n)) (s .collected)
   pub met : held namespaces t ≡ namespacesIn (s .collected)
-  pub lazy : map literalOf (rows (tableOf lazies) t) ≡ map (λ r. r .literal) (s .lazy)
+  pub lazy : map (lazyOf x) (rows (tableOf lazies) t) ≡ s .lazy
   pub forced : map atomOf (rows (tableOf forces) t) ≡ s .forced
   pub top : getD t top-cell 0 ≡ flag (s .top)
-
--- the array shows some state
-pub record Shown (t : List ℕ) : Type 0 where
-  pub state : State
-  pub shows : Shows t state
+  pub modules : map moduleOf (rows (tableOf modules) t) ≡ s .modules
+  pub sourced : Sourced s

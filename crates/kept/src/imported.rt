@@ -5,7 +5,7 @@ ghost use lib.ListN.{length};
 ghost use Rattle.tree.specs.Layout.{four};
 ghost use Rattle.extraction_rules.specs.First.{importedAs, noteId, forget as forgotten, addUsage};
 ghost use Rattle.extraction_rules.specs.Second.{usagesOf};
-ghost use Rattle.kept.specs.Kept.{placesIn, id-limit, Good, idOf, uses, held};
+ghost use Rattle.kept.specs.Kept.{id-limit, Good, idOf, uses, held};
 ghost use Rattle.kept.specs.Does.{Tells, Turns, Acts, Lists, contextBy, any};
 use crate::Context;
 use crate::IMPORTS;
@@ -30,7 +30,7 @@ pub fn imported_as(t: &[u64], id: u64) -> Context
 // An id is noted as imported; noting it again takes no place.
 pub fn note_id(t: &mut [u64], id: u64, c: SyntaxContext) -> Room
     requires { ⌜ Good (now t) × (id < id-limit) ⌝ }
-    ensures { λ r. ⌜ Acts (noteId (record { id = idOf id; context = four (c .0) })) (now (t .entry)) (now (t .exit)) r × (placesIn (now (t .exit)) ≡ placesIn (now (t .entry))) ⌝ }
+    ensures { λ r. ⌜ Acts (noteId (record { id = idOf id; context = four (c .0) })) (now (t .entry)) (now (t .exit)) r ⌝ }
 {
     let entry = tables::find(t, IMPORTS, id, id);
     let context = c.0 as u64;
@@ -53,7 +53,7 @@ pub fn note_id(t: &mut [u64], id: u64, c: SyntaxContext) -> Room
 // An id's imported entry and its usages are dropped.
 pub fn forget(t: &mut [u64], id: u64)
     requires { ⌜ Good (now t) × (id < id-limit) ⌝ }
-    ensures { λ _. ⌜ Turns (forgotten (idOf id)) (now (t .entry)) (now (t .exit)) × (placesIn (now (t .exit)) ≡ placesIn (now (t .entry))) ⌝ }
+    ensures { λ _. ⌜ Turns (forgotten (idOf id)) (now (t .entry)) (now (t .exit)) ⌝ }
 {
     tables::drop_key(t, USES, id);
     tables::drop_key(t, IMPORTS, id);
@@ -62,7 +62,7 @@ pub fn forget(t: &mut [u64], id: u64)
 // A usage of an id is appended.
 pub fn add_usage(t: &mut [u64], id: u64, property: u64) -> Room
     requires { ⌜ Good (now t) × (id < id-limit) × (property < id-limit) ⌝ }
-    ensures { λ r. ⌜ Acts (addUsage (record { id = idOf id; property = idOf property })) (now (t .entry)) (now (t .exit)) r × (placesIn (now (t .exit)) ≡ placesIn (now (t .entry))) ⌝ }
+    ensures { λ r. ⌜ Acts (addUsage (record { id = idOf id; property = idOf property })) (now (t .entry)) (now (t .exit)) r ⌝ }
 {
     if tables::count_of(t, USES) < 2048 {
         tables::push(t, USES, id, property);

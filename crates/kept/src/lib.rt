@@ -4,44 +4,52 @@ pub mod imported; // imported ids and usages
 pub mod records; // collected records and their namespaces
 pub mod forced; // forced sources
 pub mod rest; // lazy records, and the flag top
+pub mod modules; // the scope's modules
 
 use scope::id::Atom;
+use scope::id::ModuleId;
 use scope::id::SyntaxContext;
 use tables::Table;
 
 pub const IMPORTS: Table = Table {
     count: 0,
-    base: 7,
+    base: 8,
     room: 512,
 };
 
 pub const USES: Table = Table {
     count: 1,
-    base: 1031,
+    base: 1032,
     room: 2048,
 };
 
 pub const RECORDS: Table = Table {
     count: 2,
-    base: 5127,
+    base: 5128,
     room: 256,
 };
 
 pub const NAMESPACES: Table = Table {
     count: 3,
-    base: 5639,
+    base: 5640,
     room: 3641,
 };
 
 pub const LAZIES: Table = Table {
     count: 4,
-    base: 12921,
+    base: 12922,
     room: 1024,
 };
 
 pub const FORCES: Table = Table {
     count: 5,
-    base: 14969,
+    base: 14970,
+    room: 256,
+};
+
+pub const MODULES: Table = Table {
+    count: 6,
+    base: 15482,
     room: 256,
 };
 
@@ -73,4 +81,11 @@ pub enum Property {
 pub enum Place {
     Index(usize),
     NoRoom,
+}
+
+// The module of a source: its number, or none, or a 257th file.
+pub enum Module {
+    Is(ModuleId),
+    Unresolved,
+    TooMany,
 }

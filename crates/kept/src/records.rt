@@ -3,10 +3,11 @@ ghost use mathlib.Core.Path.{_≡_};
 ghost use mathlib.Core.Option.{some};
 ghost use Prim.Native.Nat.{ℕ, _<_};
 ghost use Rattle.tables.specs.Rows.{placeBy};
+ghost use lib.ListN.{length};
 ghost use Rattle.lent.specs.Lists.{find, mapped};
 ghost use Rattle.extraction_rules.specs.First.{usedRecord, holdsNamespace};
-ghost use Rattle.kept.specs.Kept.{placesIn, id-limit, Good, Shown, idOf, records, namespaces, held};
-ghost use Rattle.kept.specs.Does.{Tells, sourceBy, sourceOf, sourceAt, Collects, Extends};
+ghost use Rattle.kept.specs.Kept.{id-limit, Good, idOf, records, held};
+ghost use Rattle.kept.specs.Does.{Tells, Holds, sourceBy, sourceOf, sourceAt, Collects, Extends};
 use crate::NAMESPACES;
 use crate::Place;
 use crate::RECORDS;
@@ -45,12 +46,16 @@ pub fn used_record(t: &[u64], own: ModuleId, id: u64) -> Source
 
 // The source of the first record that holds a namespace.
 pub fn holder(t: &[u64], id: u64) -> Source
-    requires { ⌜ Good (now t) × Shown (now t) × (id < id-limit) ⌝ }
+    requires { ⌜ Good (now t) × (id < id-limit) ⌝ }
     ensures { λ r. ⌜ Tells (λ s. sourceOf (find (holdsNamespace (idOf id)) (s .collected))) (now (t .entry)) (sourceBy r) ⌝ }
 {
     let least = tables::least_value(t, NAMESPACES, id);
     match least {
-        Least::Some(i) => source_at(t, Found::At(i as usize)),
+        Least::Some(i) => if (i as usize) < tables::count_of(t, RECORDS) {
+            source_at(t, Found::At(i as usize))
+        } else {
+            Source::Nothing
+        },
         Least::None => Source::Nothing,
     }
 }
@@ -58,7 +63,7 @@ pub fn holder(t: &[u64], id: u64) -> Source
 // The record of a literal's value, or a new one.
 pub fn collect(t: &mut [u64], literal: u64) -> Place
     requires { ⌜ Good (now t) × (literal < id-limit) ⌝ }
-    ensures { λ r. ⌜ Collects (idOf literal) (now (t .entry)) (now (t .exit)) r × (placesIn (now (t .exit)) ≡ placesIn (now (t .entry))) ⌝ }
+    ensures { λ r. ⌜ Collects (idOf literal) (now (t .entry)) (now (t .exit)) r ⌝ }
 {
     let low = literal - literal % 4294967296;
     let found = tables::find(t, RECORDS, low, low + 4294967295);
@@ -76,13 +81,32 @@ pub fn collect(t: &mut [u64], literal: u64) -> Place
     }
 }
 
-// A record gets a namespace more.
+// A record gets a namespace more; a tree of 32,768 bytes has no more than there is room for.
 pub fn add_namespace(t: &mut [u64], i: usize, id: u64)
-    requires { ⌜ Good (now t) × (i < held records (now t)) × (held namespaces (now t) < 3641) × (id < id-limit) ⌝ }
-    ensures { λ _. ⌜ Extends i (idOf id) (now (t .entry)) (now (t .exit)) × (placesIn (now (t .exit)) ≡ placesIn (now (t .entry))) ⌝ }
+    requires { ⌜ Good (now t) × (i < held records (now t)) × (id < id-limit) ⌝ }
+    ensures { λ _. ⌜ Extends i (idOf id) (now (t .entry)) (now (t .exit)) ⌝ }
 {
+    if 3641 <= tables::count_of(t, NAMESPACES) {
+        return;
+    }
     tables::push(t, NAMESPACES, id, i as u64);
     if tables::value_of(t, RECORDS, i) == 0 {
         tables::set_value(t, RECORDS, i, id + 1);
     }
+}
+
+// How many records are collected.
+pub fn count_records(t: &[u64]) -> usize
+    requires { ⌜ Good (now t) ⌝ }
+    ensures { λ r. ⌜ Tells (λ s. length (s .collected)) (now (t .entry)) r × (r ≡ held records (now (t .entry))) ⌝ }
+{
+    tables::count_of(t, RECORDS)
+}
+
+// The literal of the record at a place.
+pub fn record_literal(t: &[u64], i: usize) -> u64
+    requires { ⌜ Good (now t) × (i < held records (now t)) ⌝ }
+    ensures { λ r. ⌜ (r < id-limit) × Holds (λ s. s .collected) (λ q. q .literal) i (now (t .entry)) (λ _. idOf r) ⌝ }
+{
+    tables::key_of(t, RECORDS, i)
 }

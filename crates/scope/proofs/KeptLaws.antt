@@ -1,9 +1,9 @@
 -- What a store into the arrays of a scope does to the modules that they stand for.
-use Prim.Native.Nat.{ℕ, zero, suc, _+_, _-_, _*_, _≤_, _<_, min}
+use Prim.Native.Nat.{ℕ, zero, suc, _+_, _-_, _*_, _/_, _%_, _≤_, _<_, min}
 use native.Mathlib.Omega.{arith}
 use native.Mathlib.Nat.{add-zero, add-suc}
 use mathlib.Core.Path.{_≡_, refl, sym, ap, _∙_}
-use mathlib.Core.Bool.{Bool, true, false}
+use mathlib.Core.Bool.{Bool, true, false, cond}
 use mathlib.Core.List.{List, [], _∷_, _++_, map}
 use mathlib.Core.Option.{Option, none, some}
 use mathlib.Core.Logic.{⊎-elim}
@@ -15,8 +15,8 @@ use lib.Seq.{getD-set-same, getD-set-other, getD-take, drop-cons}
 use Rattle.scope.specs.declared.Mark.{Mark}
 use Rattle.scope.specs.declared.Mark.the-variants.{Loaded, Stored, Cjs, Wrapping}
 use Rattle.scope.specs.Modules.{Module, Modules, next, placeOf, numberOf, Generated, generatedBy, gen, filesIn, Left, requestAll, unmarked, withMark, marked, setMark, isMarked}
-use Rattle.scope.proofs.Laws.{gen-added, request-all-more, request-all-stops}
-use Rattle.scope.specs.Kept.{rankOf, slotOf, moduleAt, stored, modulesFrom, modulesOf, placeBy, generated, fileRefusal}
+use Rattle.scope.proofs.Laws.{gen-added, request-all-more, request-all-stops, cells-agree, cells-more}
+use Rattle.scope.specs.Kept.{rankOf, slotOf, moduleAt, stored, modulesFrom, modulesOf, modulesIn, placeBy, generated, fileRefusal}
 use Rattle.scope.specs.declared.id.FileName.{FileName}
 use Rattle.scope.specs.declared.Scope.{Scope}
 use Rattle.scope.specs.declared.Place.{Place}
@@ -95,53 +95,120 @@ from-set c (suc k) n (suc i) fs ms l h b =
 
 -- ---- One module more
 
-abbrev pub cleared : List Bool → ℕ → List Bool
-cleared ms n = set (set (set (set ms (slotOf Loaded n) false) (slotOf Stored n) false) (slotOf Cjs n) false) (slotOf Wrapping n) false
+-- the marks with module n's set to these
+abbrev pub remarked : List Bool → ℕ → Bool → Bool → Bool → Bool → List Bool
+remarked ms n a b c d = set (set (set (set ms (slotOf Loaded n) a) (slotOf Stored n) b) (slotOf Cjs n) c) (slotOf Wrapping n) d
 
-module _ (ms : List Bool) (n : ℕ) (l : length ms ≡ 1024) (h : n < 256) where
+module _ (ms : List Bool) (n : ℕ) (a b c d : Bool) (l : length ms ≡ 1024) (h : n < 256) where
   abbrev one : List Bool
-  one = set ms (slotOf Loaded n) false
+  one = set ms (slotOf Loaded n) a
 
   abbrev two : List Bool
-  two = set one (slotOf Stored n) false
+  two = set one (slotOf Stored n) b
 
   abbrev three : List Bool
-  three = set two (slotOf Cjs n) false
+  three = set two (slotOf Cjs n) c
 
-  unset : (d : Mark) → getD (cleared ms n) (slotOf d n) false ≡ false
-  unset Wrapping = slot-same three Wrapping n false (simp length-set l) h (omega arith)
-  unset Cjs = slot-other three Wrapping Cjs n n false h h (λ e _. omega arith) ∙ slot-same two Cjs n false (simp length-set l) h (omega arith)
-  unset Stored =
-      slot-other three Wrapping Stored n n false h h (λ e _. omega arith) ∙
-      slot-other two Cjs Stored n n false h h (λ e _. omega arith) ∙
-      slot-same one Stored n false (simp length-set l) h (omega arith)
-  unset Loaded =
-      slot-other three Wrapping Loaded n n false h h (λ e _. omega arith) ∙
-      slot-other two Cjs Loaded n n false h h (λ e _. omega arith) ∙
-      slot-other one Stored Loaded n n false h h (λ e _. omega arith) ∙
-      slot-same ms Loaded n false l h (omega arith)
+  abbrev four : List Bool
+  four = remarked ms n a b c d
 
-  module-unmarked : (fs : List ℕ) (f : ℕ) → n < length fs → moduleAt (set fs n f) (cleared ms n) n ≡ unmarked f
-  module-unmarked fs f k = cc (getD-set-same fs n f 0 k, unset Loaded, unset Stored, unset Cjs, unset Wrapping)
+  mark-cjs : getD four (slotOf Cjs n) false ≡ c
+  mark-cjs = slot-other three Wrapping Cjs n n d h h (λ e _. omega arith) ∙ slot-same two Cjs n c (simp length-set l) h (omega arith)
 
-  module-kept : (fs : List ℕ) (f j : ℕ) → j < n → moduleAt (set fs n f) (cleared ms n) j ≡ moduleAt fs ms j
+  mark-stored : getD four (slotOf Stored n) false ≡ b
+  mark-stored =
+      slot-other three Wrapping Stored n n d h h (λ e _. omega arith) ∙
+      slot-other two Cjs Stored n n c h h (λ e _. omega arith) ∙
+      slot-same one Stored n b (simp length-set l) h (omega arith)
+
+  mark-loaded : getD four (slotOf Loaded n) false ≡ a
+  mark-loaded =
+      slot-other three Wrapping Loaded n n d h h (λ e _. omega arith) ∙
+      slot-other two Cjs Loaded n n c h h (λ e _. omega arith) ∙
+      slot-other one Stored Loaded n n b h h (λ e _. omega arith) ∙
+      slot-same ms Loaded n a l h (omega arith)
+
+  module-put : (fs : List ℕ) (f : ℕ) → n < length fs → moduleAt (set fs n f) four n ≡ record { file = f; loaded = a; stored = b; cjs = c; wrapping = d }
+  module-put fs f k = cc (getD-set-same fs n f 0 k, mark-loaded, mark-stored, mark-cjs, slot-same three Wrapping n d (simp length-set l) h (omega arith))
+
+  module-kept : (fs : List ℕ) (f j : ℕ) → j < n → moduleAt (set fs n f) four j ≡ moduleAt fs ms j
   module-kept fs f j k =
       let e : j ≡ n → ⊥ = λ z. omega arith in
       let g = getD-set-other fs n j f 0 e in
-      let a = module-other fs ms Loaded n j false h (omega arith) e in
-      let b = module-other fs one Stored n j false h (omega arith) e in
-      let d = module-other fs two Cjs n j false h (omega arith) e in
-      let w = module-other fs three Wrapping n j false h (omega arith) e in
-      ap (λ (x : ℕ). record { file = x; loaded = getD (cleared ms n) (slotOf Loaded j) false; stored = getD (cleared ms n) (slotOf Stored j) false; cjs = getD (cleared ms n) (slotOf Cjs j) false; wrapping = getD (cleared ms n) (slotOf Wrapping j) false }) g ∙ w ∙ d ∙ b ∙ a
+      let p = module-other fs ms Loaded n j a h (omega arith) e in
+      let q = module-other fs one Stored n j b h (omega arith) e in
+      let r = module-other fs two Cjs n j c h (omega arith) e in
+      let w = module-other fs three Wrapping n j d h (omega arith) e in
+      ap (λ (x : ℕ). record { file = x; loaded = getD four (slotOf Loaded j) false; stored = getD four (slotOf Stored j) false; cjs = getD four (slotOf Cjs j) false; wrapping = getD four (slotOf Wrapping j) false }) g ∙ w ∙ r ∙ q ∙ p
 
-  pub from-added : (fs : List ℕ) (f : ℕ) → n < length fs → modulesFrom (min (n + 1) 256) 0 (set fs n f) (cleared ms n) ≡ modulesFrom n 0 fs ms ++ (unmarked f ∷ [])
-  from-added fs f k =
-      let e : min (n + 1) 256 ≡ suc n = omega arith in
-      let m = from-more n 0 (set fs n f) (cleared ms n) in
-      let a = from-agree n 0 fs (set fs n f) ms (cleared ms n) (λ j p q. module-kept fs f j (omega arith)) in
-      let u = module-unmarked fs f k in
+  pub from-put : (fs : List ℕ) (f : ℕ) → n < length fs →
+      modulesFrom (suc n) 0 (set fs n f) four ≡ modulesFrom n 0 fs ms ++ (record { file = f; loaded = a; stored = b; cjs = c; wrapping = d } ∷ [])
+  from-put fs f k =
+      let m = from-more n 0 (set fs n f) four in
+      let o = from-agree n 0 fs (set fs n f) ms four (λ j p q. module-kept fs f j (omega arith)) in
+      let u = module-put fs f k in
       let z : 0 + n ≡ n = omega arith in
       cc
+
+pub from-added : (ms : List Bool) (n : ℕ) → length ms ≡ 1024 → n < 256 → (fs : List ℕ) (f : ℕ) → n < length fs →
+    modulesFrom (min (n + 1) 256) 0 (set fs n f) (remarked ms n false false false false) ≡ modulesFrom n 0 fs ms ++ (unmarked f ∷ [])
+from-added ms n l h fs f k =
+    let e : min (n + 1) 256 ≡ suc n = omega arith in
+    let m = from-put ms n false false false false l h fs f k in
+    cc
+
+-- ---- Modules in cells
+
+-- a module is taken from its two cells
+pub cells-taken : (t fs : List ℕ) (ms : List Bool) (base n f p q r s : ℕ) (a b c d : Bool) → length fs ≡ 256 → length ms ≡ 1024 → n < 256 →
+    f ≡ getD t (base + 2 * n) 0 % 65536 →
+    a ≡ eqb (getD t (base + 2 * n + 1) 0 % 2) 1 →
+    b ≡ eqb (getD t (base + 2 * n + 1) 0 / 2 % 2) 1 →
+    c ≡ eqb (getD t (base + 2 * n + 1) 0 / 4 % 2) 1 →
+    d ≡ eqb (getD t (base + 2 * n + 1) 0 / 8 % 2) 1 →
+    p ≡ slotOf Loaded n → q ≡ slotOf Stored n → r ≡ slotOf Cjs n → s ≡ slotOf Wrapping n →
+    modulesFrom n 0 fs ms ≡ modulesIn n base t →
+    modulesFrom (n + 1) 0 (set fs n f) (set (set (set (set ms p a) q b) r c) s d) ≡ modulesIn (n + 1) base t
+cells-taken t fs ms base n f p q r s a b c d lf lm h ef ea eb ec ed ep eq er es e =
+    let m = from-put ms n a b c d lm h fs f (omega arith) in
+    let o = cells-more n base t in
+    let z : n + 1 ≡ suc n = omega arith in
+    cc
+
+-- a module is put into its two cells
+pub cells-put : (t fs : List ℕ) (ms : List Bool) (base n f m p q r s : ℕ) → base + 2 * n + 2 ≤ length t → f ≡ getD fs n 0 → f < 65536 →
+    eqb (m % 2) 1 ≡ getD ms p false →
+    eqb (m / 2 % 2) 1 ≡ getD ms q false →
+    eqb (m / 4 % 2) 1 ≡ getD ms r false →
+    eqb (m / 8 % 2) 1 ≡ getD ms s false →
+    p ≡ slotOf Loaded n → q ≡ slotOf Stored n → r ≡ slotOf Cjs n → s ≡ slotOf Wrapping n →
+    modulesIn n base t ≡ modulesFrom n 0 fs ms →
+    modulesIn (n + 1) base (set (set t (base + 2 * n) f) (base + 2 * n + 1) m) ≡ modulesFrom (n + 1) 0 fs ms
+cells-put t fs ms base n f m p q r s h ef hf ea eb ec ed ep eq er es e =
+    let t' = set t (base + 2 * n) f in
+    let o = cells-more n base (set t' (base + 2 * n + 1) m) in
+    let g = cells-agree n base t (set t' (base + 2 * n + 1) m) (λ j lo hi. getD-set-other t' (base + 2 * n + 1) j m 0 (λ x. omega arith) ∙ getD-set-other t (base + 2 * n) j f 0 (λ x. omega arith)) in
+    let x = getD-set-other t' (base + 2 * n + 1) (base + 2 * n) m 0 (λ w. omega arith) ∙ getD-set-same t (base + 2 * n) f 0 (omega arith) in
+    let y = getD-set-same t' (base + 2 * n + 1) m 0 (simp length-set (omega arith)) in
+    let v : f % 65536 ≡ f = omega arith in
+    let k = from-more n 0 fs ms in
+    let z : n + 1 ≡ suc n = omega arith in
+    let u : 0 + n ≡ n = omega arith in
+    cc
+
+low-bit : (a : Bool) (x y : ℕ) → x ≡ cond a 1 0 → eqb ((x + 2 * y) % 2) 1 ≡ a
+low-bit true x y e = eq-eqb ((x + 2 * y) % 2) 1 (omega arith)
+low-bit false x y e = ne-eqb ((x + 2 * y) % 2) 1 (λ w. omega arith)
+
+-- four bits are read back
+pub bits-back : (a b c d : Bool) (x y z w r : ℕ) → x ≡ cond a 1 0 → x ≤ 1 → y ≡ cond b 1 0 → y ≤ 1 → z ≡ cond c 1 0 → z ≤ 1 → w ≡ cond d 1 0 → w ≤ 1 →
+    r ≡ x + 2 * y + 4 * z + 8 * w → (eqb (r % 2) 1 ≡ a) × (eqb (r / 2 % 2) 1 ≡ b) × (eqb (r / 4 % 2) 1 ≡ c) × (eqb (r / 8 % 2) 1 ≡ d)
+bits-back a b c d x y z w r ex hx ey hy ez hz ew hw e =
+    let i : r ≡ x + 2 * (y + 2 * z + 4 * w) = omega arith in
+    let j : r / 2 ≡ y + 2 * (z + 2 * w) = omega arith in
+    let k : r / 4 ≡ z + 2 * w = omega arith in
+    let l : r / 8 ≡ w + 2 * 0 = omega arith in
+    (rw i (low-bit a x _ ex), rw j (low-bit b y _ ey), rw k (low-bit c z _ ez), rw l (low-bit d w 0 ew))
 
 -- ---- The place of a file
 
@@ -214,7 +281,7 @@ modules-set s k n l h =
     ap (λ (i : ℕ). modulesFrom (min (s .count) 256) 0 (s .files) (set (s .marks) (slotOf k i) true)) (omega arith) ∙
     from-set k (min (s .count) 256) 0 n (s .files) (s .marks) l h (omega arith)
 
-modules-first : (s : Scope) (n : ℕ) → n ≡ min (s .count) 256 → modulesFrom n 0 (s .files) (s .marks) ≡ modulesOf s
+pub modules-first : (s : Scope) (n : ℕ) → n ≡ min (s .count) 256 → modulesFrom n 0 (s .files) (s .marks) ≡ modulesOf s
 unfolding modulesOf
 modules-first s n e = ap (λ (k : ℕ). modulesFrom k 0 (s .files) (s .marks)) e
 

@@ -1,13 +1,15 @@
 -- Laws of a scope's modules, for whoever calls the scope: requests never renumber and keep marks, marks keep numbers, one mark changes no other,
--- and contexts tell modules apart.
+-- contexts tell modules apart, and what stands in cells.
 use Prim.Native.Nat.{ℕ, zero, suc, _+_, _*_, _≤_, _<_}
 use native.Mathlib.Omega.{arith}
+use native.Mathlib.Nat.{add-zero}
 use mathlib.Core.Path.{_≡_, refl, sym, ap, subst, _∙_}
 use mathlib.Core.Bool.{Bool, true, false, cond}
 use mathlib.Core.List.{List, [], _∷_, _++_, map}
 use mathlib.Core.Option.{Option, none, some}
 use lib.Dec.{ltb, eqb}
-use lib.ListN.{length, length-append}
+use lib.ListN.{length, length-append, getD, set, length-set}
+use lib.Seq.{getD-set-other}
 use borrow.Author.Tests.{lt-ltb, le-ltb, eq-eqb, ltb-true, ltb-false}
 use Rattle.scope.specs.declared.id.ModuleId.{ModuleId}
 use Rattle.scope.specs.declared.id.FileName.{FileName}
@@ -16,6 +18,7 @@ use Rattle.scope.specs.declared.Mark.{Mark}
 use Rattle.scope.specs.declared.Mark.the-variants.{Loaded, Stored, Cjs, Wrapping}
 use Rattle.scope.specs.Id.{local, export}
 use Rattle.scope.specs.Modules.{Module, Modules, next, placeOf, numberOf, unmarked, requestBy, request, Generated, generatedBy, gen, Left, goOn, requestAll, marked, withMark, isMarked, setMark, given, marking, Outcome, done, refused, readMark, esmId, wrappedEsmId}
+use Rattle.scope.specs.Kept.{moduleBy, modulesIn, Rewrites}
 
 -- ---- Contexts: distinct modules have distinct contexts, and local and export contexts never meet each other or 0
 
@@ -294,3 +297,43 @@ esm-none false x o e = refl
 pub esm-refused : (k : Mark) (m : ModuleId) (ms : Modules) → readMark k m ms ≡ refused 12 → wrappedEsmId m ms ≡ refused 12
 unfolding readMark wrappedEsmId
 esm-refused k m ms e = esm-none (given m ms) (isMarked k (m .0) ms) (esmId (isMarked Wrapping (m .0) ms) (isMarked Stored (m .0) ms) m) e
+
+-- ---- Modules in cells
+
+pub cells-length : (k at : ℕ) (t : List ℕ) → length (modulesIn k at t) ≡ k
+unfolding modulesIn
+cells-length zero at t = refl
+cells-length (suc k) at t = ap suc (cells-length k (at + 2) t)
+
+-- cells that agree on the modules stand for the same
+pub cells-agree : (k at : ℕ) (t t' : List ℕ) → ((i : ℕ) → at ≤ i → i < at + 2 * k → getD t' i 0 ≡ getD t i 0) → modulesIn k at t' ≡ modulesIn k at t
+unfolding modulesIn
+cells-agree zero at t t' h = refl
+cells-agree (suc k) at t t' h =
+    let f = h at (omega arith) (omega arith) in
+    let m = h (at + 1) (omega arith) (omega arith) in
+    let e = cells-agree k (at + 2) t t' (λ i a b. h i (omega arith) (omega arith)) in
+    cc
+
+-- one module more
+pub cells-more : (k at : ℕ) (t : List ℕ) → modulesIn (suc k) at t ≡ modulesIn k at t ++ (moduleBy (getD t (at + 2 * k) 0) (getD t (at + 2 * k + 1) 0) ∷ [])
+unfolding modulesIn
+cells-more zero at t = rw add-zero
+cells-more (suc k) at t =
+    let e = cells-more k (at + 2) t in
+    let a : at + 2 + 2 * k ≡ at + 2 * suc k = omega arith in
+    cc
+
+-- ---- Cells that are written in one part
+
+pub rewrites-none : (lo hi : ℕ) (t : List ℕ) → Rewrites lo hi t t
+rewrites-none lo hi t = record { size = refl; below = λ i h. refl; above = λ i h. refl }
+
+-- one store more
+pub rewrites-set : {lo hi : ℕ} {t t' : List ℕ} (i v : ℕ) → lo ≤ i → i < hi → Rewrites lo hi t t' → Rewrites lo hi t (set t' i v)
+rewrites-set {t' = t'} i v a b r =
+    record {
+      size = length-set t' i v ∙ r .size;
+      below = λ j h. getD-set-other t' i j v 0 (λ e. omega arith) ∙ r .below j h;
+      above = λ j h. getD-set-other t' i j v 0 (λ e. omega arith) ∙ r .above j h;
+    }

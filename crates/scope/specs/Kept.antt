@@ -1,9 +1,11 @@
 -- How the code keeps a scope: the modules that a `Scope` stands for, and document 01's number and values for each answer.
-use Prim.Native.Nat.{ℕ, zero, suc, _+_, _*_, min}
+use Prim.Native.Nat.{ℕ, zero, suc, _+_, _*_, _/_, _%_, _<_, _≤_, min}
+use mathlib.Core.Path.{_≡_}
 use mathlib.Core.Bool.{Bool, true, false}
 use mathlib.Core.List.{List, [], _∷_}
 use mathlib.Core.Option.{Option, none, some}
-use lib.ListN.{getD, set}
+use lib.Dec.{eqb}
+use lib.ListN.{length, getD, set}
 use Rattle.scope.specs.Modules.{Module, Modules, Generated, Left, Outcome, done, refused}
 use Rattle.scope.specs.declared.id.Id.{Id}
 use Rattle.scope.specs.declared.Mark.{Mark}
@@ -55,6 +57,21 @@ modulesFrom (suc k) n files marks = moduleAt files marks n ∷ modulesFrom k (su
 -- the modules of a scope; a count over 256 stands for 256
 unfoldable pub modulesOf : Scope → Modules
 modulesOf s = modulesFrom (min (s .count) 256) 0 (s .files) (s .marks)
+
+-- the module that two numbers stand for: its file, and its marks (1 for loaded, 2 stored, 4 cjs, 8 wrapping, added up)
+abbrev pub moduleBy : ℕ → ℕ → Module
+moduleBy f m = record { file = f % 65536; loaded = eqb (m % 2) 1; stored = eqb (m / 2 % 2) 1; cjs = eqb (m / 4 % 2) 1; wrapping = eqb (m / 8 % 2) 1 }
+
+-- k modules in cells, two cells each, from cell `at` on
+unfoldable pub modulesIn : ℕ → ℕ → List ℕ → Modules
+modulesIn zero at t = []
+modulesIn (suc k) at t = moduleBy (getD t at 0) (getD t (at + 1) 0) ∷ modulesIn k (at + 2) t
+
+-- cells t' are cells t but for those from lo up to hi
+pub record Rewrites (lo hi : ℕ) (t t' : List ℕ) : Type 0 where
+  pub size : length t' ≡ length t
+  pub below : (i : ℕ) → i < lo → getD t' i 0 ≡ getD t i 0
+  pub above : (i : ℕ) → hi ≤ i → getD t' i 0 ≡ getD t i 0
 
 abbrev pub placeBy : Place → Option ℕ
 placeBy (At i) = some i

@@ -10,12 +10,13 @@ use id::SyntaxContext;
 ghost use mathlib.Core.Path.{_≡_};
 ghost use mathlib.Core.Option.{some};
 ghost use mathlib.Core.List.{[], _∷_, _++_};
-ghost use Prim.Native.Nat.{_+_, _<_, _≤_, min};
+ghost use Prim.Native.Nat.{_+_, _*_, _/_, _%_, _<_, _≤_, min};
+ghost use lib.Dec.{eqb};
 ghost use lib.ListN.{length, take, getD};
-ghost use mathlib.Core.Bool.{false};
+ghost use mathlib.Core.Bool.{false, cond};
 ghost use Rattle.scope.specs.declared.Mark.the-variants.{Loaded, Stored, Cjs, Wrapping};
 ghost use Rattle.scope.specs.Modules.{placeOf, unmarked, generatedBy, gen, filesIn, requestAll, marking, readMark, wrappedEsmId};
-ghost use Rattle.scope.specs.Kept.{rankOf, slotOf, modulesFrom, modulesOf, stored, generated, requested, markedBy, readBy, esmBy, placeBy};
+ghost use Rattle.scope.specs.Kept.{rankOf, slotOf, modulesFrom, modulesOf, stored, generated, requested, markedBy, readBy, esmBy, placeBy, modulesIn, Rewrites};
 
 // The marks of a module.
 pub enum Mark {
@@ -128,6 +129,39 @@ fn slot(kind: Mark, n: usize) -> usize
     256 * rank(kind) + n
 }
 
+fn wide_file(file: u16) -> u64
+    ensures { λ r. ⌜ (r ≡ file) × (r < 65536) ⌝ }
+{
+    file as u64
+}
+
+// A number's last two bytes.
+fn low_file(cell: u64) -> u16
+    ensures { λ r. ⌜ r ≡ cell % 65536 ⌝ }
+{
+    (cell % 65536) as u16
+}
+
+// Is a number's last bit set?
+fn last_bit(m: u64) -> bool
+    ensures { λ r. ⌜ r ≡ eqb (m % 2) 1 ⌝ }
+{
+    m % 2 == 1
+}
+
+fn as_bit(on: bool) -> u64
+    ensures { λ r. ⌜ (r ≡ cond on 1 0) × (r ≤ 1) ⌝ }
+{
+    if on { 1 } else { 0 }
+}
+
+// The number with these four last bits, the lowest first.
+fn four_bits(a: bool, b: bool, c: bool, d: bool) -> u64
+    ensures { λ r. ⌜ (eqb (r % 2) 1 ≡ a) × (eqb (r / 2 % 2) 1 ≡ b) × (eqb (r / 4 % 2) 1 ≡ c) × (eqb (r / 8 % 2) 1 ≡ d) ⌝ }
+{
+    as_bit(a) + 2 * as_bit(b) + 4 * as_bit(c) + 8 * as_bit(d)
+}
+
 // The answer to a request that module n meets.
 fn numbered(scope: Scope, n: usize) -> Gen
     requires { ⌜ n < 256 ⌝ }
@@ -155,7 +189,62 @@ impl Scope {
         }
     }
 
-    // Sets or clears a mark of module n: the one place where marks are written.
+    // The scope whose n modules stand in cells from `base` on, two cells each: the file, and the marks (1 for loaded, 2 stored, 4 cjs,
+    // 8 wrapping, added up).
+    pub fn from_cells(cells: &[u64], base: usize, n: usize) -> Scope
+        requires { ⌜ (n ≤ 256) × (base + 2 * n ≤ length (now cells)) ⌝ }
+        ensures { λ r. ⌜ modulesOf r ≡ modulesIn n base (now (cells .entry)) ⌝ }
+    {
+        let mut files = [0u16; 256];
+        let mut marks = [false; 1024];
+        let mut k = 0;
+        while k < n {
+            let at = base + 2 * k;
+            files[k] = low_file(cells[at]);
+            let m = cells[at + 1];
+            let loaded = slot(Mark::Loaded, k);
+            marks[loaded] = last_bit(m);
+            let stored = slot(Mark::Stored, k);
+            marks[stored] = last_bit(m / 2);
+            let cjs = slot(Mark::Cjs, k);
+            marks[cjs] = last_bit(m / 4);
+            let wrapping = slot(Mark::Wrapping, k);
+            marks[wrapping] = last_bit(m / 8);
+            k += 1;
+        }
+        Scope {
+            count: n,
+            files,
+            marks,
+        }
+    }
+
+    // Puts the modules into cells in that form, and answers how many they are.
+    pub fn to_cells(self, cells: &mut [u64], base: usize) -> usize
+        requires { ⌜ base + 512 ≤ length (now cells) ⌝ }
+        ensures { λ n. ⌜ (n ≡ length (modulesOf self)) × (n ≤ 256) × (modulesIn n base (now (cells .exit)) ≡ modulesOf self) × Rewrites base (base + 512) (now (cells .entry)) (now (cells .exit)) ⌝ }
+    {
+        let n = counted(self.count);
+        let mut k = 0;
+        while k < n {
+            let at = base + 2 * k;
+            let loaded = slot(Mark::Loaded, k);
+            let stored = slot(Mark::Stored, k);
+            let cjs = slot(Mark::Cjs, k);
+            let wrapping = slot(Mark::Wrapping, k);
+            cells[at] = wide_file(self.files[k]);
+            cells[at + 1] = four_bits(
+                self.marks[loaded],
+                self.marks[stored],
+                self.marks[cjs],
+                self.marks[wrapping],
+            );
+            k += 1;
+        }
+        n
+    }
+
+    // Sets or clears a mark of module n: the one place where a single mark is written.
     fn put_mark(mut self, kind: Mark, n: usize, on: bool) -> Scope
         requires { ⌜ n < 256 ⌝ }
         ensures { λ r. ⌜ r ≡ stored self kind n on ⌝ }
@@ -165,7 +254,7 @@ impl Scope {
         self
     }
 
-    // Reads a mark of module n: the one place where marks are read.
+    // Reads a mark of module n: the one place where a single mark is read.
     fn get_mark(self, kind: Mark, n: usize) -> bool
         requires { ⌜ n < 256 ⌝ }
         ensures { λ r. ⌜ r ≡ getD (self .marks) (slotOf kind n) false ⌝ }

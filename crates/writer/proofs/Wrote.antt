@@ -73,7 +73,7 @@ length-cond : (b : Bool) (x y : List ℕ) {n : ℕ} → length x ≡ n → lengt
 length-cond true x y e f = e
 length-cond false x y e f = f
 
-length-closed : (l : List ℕ) (o p : ℕ) → length (closed l o p) ≡ length l
+pub length-closed : (l : List ℕ) (o p : ℕ) → length (closed l o p) ≡ length l
 unfolding closed
 length-closed l o p =
     length-cond (leb (o + 3) p) _ l

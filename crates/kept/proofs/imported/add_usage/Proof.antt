@@ -1,6 +1,5 @@
 -- `kept::imported::add_usage` meets its contract.
 use mathlib.Core.Path.{refl}
-use Rattle.kept.proofs.FrameLaws.{places-kept}
 use Rattle.kept.specs.Kept.{uses}
 use native.Mathlib.Omega.{arith}
 use Rattle.kept.proofs.UsageLaws.{usage-made, usage-full}
@@ -19,13 +18,13 @@ same-length : tie.Need-same-length
 same-length c = search needs
 
 returns : tie.Need-returns
-returns c = (usage-made _ _ (c .before .before .before .before .before .before .before .before .pre .0) (c .before .before .before .before .before .before .before .before .pre .1) (c .before .before .before .before .before .before .before .before .pre .2) (c .before .before .push .ensures .0) (omega arith) (c .before .before .push .ensures .1), places-kept uses refl (c .before .before .before .before .before .before .before .before .pre .0) (c .before .before .push .ensures .1))
+returns c = usage-made _ _ (c .before .before .before .before .before .before .before .before .pre .0) (c .before .before .before .before .before .before .before .before .pre .1) (c .before .before .before .before .before .before .before .before .pre .2) (c .before .before .push .ensures .0) (omega arith) (c .before .before .push .ensures .1)
 
 same-length-2 : tie.Need-same-length-2
 same-length-2 c = search needs
 
 returns-2 : tie.Need-returns-2
-returns-2 c = (usage-full _ _ (c .before .before .before .before .pre .0) (omega arith), refl)
+returns-2 c = usage-full _ _ (c .before .before .before .before .pre .0) (omega arith)
 
 pub add-usage-spec : {M : Type 1} → statement M
 add-usage-spec =

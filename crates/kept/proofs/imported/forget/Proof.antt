@@ -1,8 +1,7 @@
 -- `kept::imported::forget` meets its contract.
 use mathlib.Core.Path.{refl, _∙_}
-use Rattle.kept.proofs.FrameLaws.{places-kept}
 use Rattle.kept.specs.Kept.{imports, uses}
-use Rattle.kept.proofs.UsageLaws.{dropped-good, forgotten}
+use Rattle.kept.proofs.UsageLaws.{uses-dropped, forgotten}
 use borrow.Author.Needs.{needs}
 use Rattle.kept.proofs.imported.forget.Statement.{statement}
 -- `kept::imported::forget` meets its contract.
@@ -12,13 +11,13 @@ drop-key-requires : tie.Need-drop-key-requires
 drop-key-requires c κs = c .before .before .pre .0 .lies uses
 
 drop-key-requires-2 : tie.Need-drop-key-requires-2
-drop-key-requires-2 c κs = dropped-good uses _ (c .before .before .before .before .before .before .pre .0) (c .before .before .before .drop-key .ensures .0) (c .before .before .before .drop-key .ensures .1) .lies imports
+drop-key-requires-2 c κs = uses-dropped _ (c .before .before .before .before .before .before .pre .0) (c .before .before .before .drop-key .ensures .0) (c .before .before .before .drop-key .ensures .1) .lies imports
 
 same-length : tie.Need-same-length
 same-length c = search needs
 
 returns : tie.Need-returns
-returns c = (forgotten (c .before .before .before .before .before .before .before .before .before .pre .0) (c .before .before .before .before .before .before .before .before .before .pre .1) (c .before .before .before .before .before .before .drop-key .ensures .0) (c .before .before .before .before .before .before .drop-key .ensures .1) (c .before .before .drop-key2 .ensures .0) (c .before .before .drop-key2 .ensures .1), places-kept imports refl (dropped-good uses _ (c .before .before .before .before .before .before .before .before .before .pre .0) (c .before .before .before .before .before .before .drop-key .ensures .0) (c .before .before .before .before .before .before .drop-key .ensures .1)) (c .before .before .drop-key2 .ensures .1) ∙ places-kept uses refl (c .before .before .before .before .before .before .before .before .before .pre .0) (c .before .before .before .before .before .before .drop-key .ensures .1))
+returns c = forgotten (c .before .before .before .before .before .before .before .before .before .pre .0) (c .before .before .before .before .before .before .before .before .before .pre .1) (c .before .before .before .before .before .before .drop-key .ensures .0) (c .before .before .before .before .before .before .drop-key .ensures .1) (c .before .before .drop-key2 .ensures .0) (c .before .before .drop-key2 .ensures .1)
 
 pub forget-spec : {M : Type 1} → statement M
 forget-spec = tie.close (tie.spec drop-key-requires drop-key-requires-2 same-length returns)

@@ -1,6 +1,5 @@
 -- `kept::records::collect` meets its contract.
 use mathlib.Core.Path.{refl, _∙_, sym, ap}
-use Rattle.kept.proofs.FrameLaws.{places-kept}
 use Rattle.tables.specs.Rows.{placeBy}
 use Rattle.kept.specs.Kept.{records}
 use native.Mathlib.Omega.{arith}
@@ -35,19 +34,19 @@ same-length : tie.Need-same-length
 same-length c = search needs
 
 returns : tie.Need-returns
-returns c = (collected-again (c .before .before .before .before .before .before .args .literal) (c .before .before .before .before .before .before .pre .1) (c .before .before .before .before .before .before .pre .0) (ap placeBy (sym (c .before .found .given .1)) ∙ c .before .before .before .find .ensures), refl)
+returns c = collected-again (c .before .before .before .before .before .before .args .literal) (c .before .before .before .before .before .before .pre .1) (c .before .before .before .before .before .before .pre .0) (ap placeBy (sym (c .before .found .given .1)) ∙ c .before .before .before .find .ensures)
 
 same-length-2 : tie.Need-same-length-2
 same-length-2 c = search needs
 
 returns-2 : tie.Need-returns-2
-returns-2 c = (collected-new (c .before .before .before .before .before .before .before .before .before .before .before .before .args .literal) (c .before .before .before .before .before .before .before .before .before .before .before .before .pre .1) (c .before .before .before .before .before .before .before .before .before .before .before .before .pre .0) (c .before .before .before .before .before .count-of .ensures .0) (ap placeBy (sym (c .before .before .before .before .before .before .before .enum-told .given .1)) ∙ c .before .before .before .before .before .before .before .before .before .find .ensures) (c .before .before .push .ensures .0) (omega arith) (c .before .before .push .ensures .1), places-kept records refl (c .before .before .before .before .before .before .before .before .before .before .before .before .pre .0) (c .before .before .push .ensures .1))
+returns-2 c = collected-new (c .before .before .before .before .before .before .before .before .before .before .before .before .args .literal) (c .before .before .before .before .before .before .before .before .before .before .before .before .pre .1) (c .before .before .before .before .before .before .before .before .before .before .before .before .pre .0) (c .before .before .before .before .before .count-of .ensures .0) (ap placeBy (sym (c .before .before .before .before .before .before .before .enum-told .given .1)) ∙ c .before .before .before .before .before .before .before .before .before .find .ensures) (c .before .before .push .ensures .0) (omega arith) (c .before .before .push .ensures .1)
 
 same-length-3 : tie.Need-same-length-3
 same-length-3 c = search needs
 
 returns-3 : tie.Need-returns-3
-returns-3 c = (collected-full (c .before .before .before .before .before .before .before .before .args .literal) (c .before .before .before .before .before .before .before .before .pre .1) (c .before .before .before .before .before .before .before .before .pre .0) (ap placeBy (sym (c .before .before .before .enum-told .given .1)) ∙ c .before .before .before .before .before .find .ensures) (omega arith), refl)
+returns-3 c = collected-full (c .before .before .before .before .before .before .before .before .args .literal) (c .before .before .before .before .before .before .before .before .pre .1) (c .before .before .before .before .before .before .before .before .pre .0) (ap placeBy (sym (c .before .before .before .enum-told .given .1)) ∙ c .before .before .before .before .before .find .ensures) (omega arith)
 
 pub collect-spec : {M : Type 1} → statement M
 collect-spec =

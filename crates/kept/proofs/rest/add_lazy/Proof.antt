@@ -1,7 +1,5 @@
 -- `kept::rest::add_lazy` meets its contract.
-use Prim.Native.Nat.{ℕ}
-use mathlib.Core.Path.{_≡_}
-use Rattle.kept.proofs.RestLaws.{lazy-placed, lazy-made, lazy-full}
+use Rattle.kept.proofs.RestLaws.{lazy-made, lazy-full}
 use Rattle.kept.specs.Kept.{lazies}
 use native.Mathlib.Omega.{arith}
 use borrow.Author.Needs.{needs}
@@ -19,13 +17,13 @@ same-length : tie.Need-same-length
 same-length c = search needs
 
 returns : tie.Need-returns
-returns c = (λ fs. lazy-made (c .before .before .before .before .before .before .before .before .args .literal) (c .before .before .before .before .before .before .before .before .args .place) (c .before .before .before .before .before .before .before .before .pre .0) fs (c .before .before .before .before .before .before .before .before .pre .1) (c .before .before .before .before .before .before .before .before .pre .2) (c .before .before .push .ensures .0) (omega arith) (c .before .before .push .ensures .1), λ e. lazy-placed _ _ _ _ (c .before .before .push .ensures .0))
+returns c = lazy-made (c .before .before .before .before .before .before .before .before .args .literal) (c .before .before .before .before .before .before .before .before .args .place) (c .before .before .before .before .before .before .before .before .pre .0) (c .before .before .before .before .before .before .before .before .pre .1) (c .before .before .before .before .before .before .before .before .pre .2) (c .before .before .push .ensures .0) (omega arith) (c .before .before .push .ensures .1)
 
 same-length-2 : tie.Need-same-length-2
 same-length-2 c = search needs
 
 returns-2 : tie.Need-returns-2
-returns-2 c = (λ fs. lazy-full (c .before .before .before .before .args .literal) (c .before .before .before .before .args .place) (c .before .before .before .before .pre .0) fs (omega arith), λ e. absurd (let z : _≡_ {A = ℕ} 0 1 = cc in omega arith))
+returns-2 c = lazy-full (c .before .before .before .before .args .literal) (c .before .before .before .before .args .place) (c .before .before .before .before .pre .0) (omega arith)
 
 pub add-lazy-spec : {M : Type 1} → statement M
 add-lazy-spec =

@@ -1,5 +1,5 @@
 -- `kept::rest::set_top` meets its contract.
-use Rattle.kept.proofs.RestLaws.{top-places, top-set}
+use Rattle.kept.proofs.RestLaws.{top-set}
 use native.Mathlib.Omega.{arith}
 use mathlib.Core.Path.{subst, sym}
 use mathlib.Core.Bool.{Bool, true, false}
@@ -22,13 +22,13 @@ same-length : tie.Need-same-length
 same-length c = search needs
 
 returns : tie.Need-returns
-returns c = (subst (λ (b : Bool). Turns (setTop b) (c .before .args .t .now) (set (c .before .args .t .now) 6 1)) (sym (c .if1 .taken)) (top-set true (c .before .pre)), top-places true (c .before .pre))
+returns c = subst (λ (b : Bool). Turns (setTop b) (c .before .args .t .now) (set (c .before .args .t .now) 7 1)) (sym (c .if1 .taken)) (top-set true (c .before .pre))
 
 same-length-2 : tie.Need-same-length-2
 same-length-2 c = search needs
 
 returns-2 : tie.Need-returns-2
-returns-2 c = (subst (λ (b : Bool). Turns (setTop b) (c .before .args .t .now) (set (c .before .args .t .now) 6 0)) (sym (c .if1 .left)) (top-set false (c .before .pre)), top-places false (c .before .pre))
+returns-2 c = subst (λ (b : Bool). Turns (setTop b) (c .before .args .t .now) (set (c .before .args .t .now) 7 0)) (sym (c .if1 .left)) (top-set false (c .before .pre))
 
 pub set-top-spec : {M : Type 1} → statement M
 set-top-spec =

@@ -1,0 +1,25 @@
+-- `kept::modules::mark_cjs` meets its contract.
+use Rattle.scope.specs.declared.Mark.the-variants.{Cjs}
+use Rattle.kept.proofs.ModulesLaws.{module-marked}
+use borrow.Author.Needs.{needs}
+use Rattle.kept.proofs.modules.mark_cjs.Statement.{statement}
+use Rattle.kept.proofs.modules.mark_cjs.Tie as tie
+
+scope-of-requires : tie.Need-scope-of-requires
+scope-of-requires c κs = search needs
+
+mark-as-cjs-requires : tie.Need-mark-as-cjs-requires
+mark-as-cjs-requires c κs = search needs
+
+load-requires : tie.Need-load-requires
+load-requires c κs = search needs
+
+same-length : tie.Need-same-length
+same-length c = search needs
+
+returns : tie.Need-returns
+returns c = module-marked Cjs (c .before .before .before .before .before .before .before .before .before .args .id) (c .before .before .before .before .before .mark-as-cjs .result) (c .before .before .before .before .before .before .scope-of .ensures) (c .before .before .before .before .before .mark-as-cjs .ensures) (c .before .before .load .ensures)
+
+pub mark-cjs-spec : {M : Type 1} → statement M
+mark-cjs-spec =
+    tie.close (tie.spec scope-of-requires mark-as-cjs-requires load-requires same-length returns)
