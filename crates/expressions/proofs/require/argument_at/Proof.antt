@@ -1,0 +1,74 @@
+-- `expressions::require::argument_at` meets its contract.
+use Prim.Native.Nat.{_+_}
+use mathlib.Core.Path.{sym, _∙_}
+use native.Mathlib.Omega.{arith}
+use Rattle.tree.proofs.AccessLaws.{upto-in}
+use Rattle.expressions.proofs.LiteralLaws.{argument-other, argument-short, argument-wide, argument-spread, argument-plain}
+use borrow.Author.Needs.{needs}
+use Rattle.expressions.proofs.require.argument_at.Statement.{statement}
+use Rattle.expressions.proofs.require.argument_at.Tie as tie
+use Rattle.expressions.proofs.require.argument_at.Reads as reads
+use Rattle.expressions.proofs.require.argument_at.Lts as lts
+use Rattle.expressions.proofs.require.literal_at.Reads as literal-at-reads
+use Rattle.tree.proofs.access.fixed.Reads as fixed-reads
+
+shared-slice-read-tag : tie.Need-shared-slice-read-tag
+shared-slice-read-tag c = search needs
+
+returns : tie.Need-returns
+returns c = argument-other (c .before .before .before .args .s .now) (c .before .before .before .args .at) (c .before .before .before .args .stop) (c .if1 .taken)
+
+add-fixed : tie.Need-add-fixed
+add-fixed c = search needs
+
+fixed-requires : tie.Need-fixed-requires
+fixed-requires c κs = search needs
+
+enum-known-from : tie.Need-enum-known-from
+enum-known-from c = search needs
+
+enum-told : tie.Need-enum-told
+enum-told c = search needs
+
+returns-2 : tie.Need-returns-2
+returns-2 c = argument-short (c .before .before .before .before .before .before .args .s .now) (c .before .before .before .before .before .before .args .at) (c .before .before .before .before .before .before .args .stop) (sym (c .before .before .fixed .ensures) ∙ c .enum-told .given .1)
+
+add-if2 : tie.Need-add-if2
+add-if2 c = search needs
+
+returns-3 : tie.Need-returns-3
+returns-3 c = let j = upto-in (c .before .before .before .before .before .before .before .before .args .s .now) _ (c .before .before .before .before .before .before .before .before .args .at + 3) _ (c .before .before .before .before .before .before .before .before .pre .0) (sym (c .before .before .before .before .fixed .ensures) ∙ c .before .before .from .given .1) in argument-wide (c .before .before .before .before .before .before .before .before .args .s .now) (c .before .before .before .before .before .before .before .before .args .at) (c .before .before .before .before .before .before .before .before .args .stop) (sym (c .before .before .before .before .fixed .ensures) ∙ c .before .before .from .given .1) (omega arith) (c .if2 .taken)
+
+add-if3 : tie.Need-add-if3
+add-if3 c = search needs
+
+shared-slice-read-if3 : tie.Need-shared-slice-read-if3
+shared-slice-read-if3 c = let j = upto-in (c .before .before .before .before .before .before .before .before .before .args .s .now) _ (c .before .before .before .before .before .before .before .before .before .args .at + 3) _ (c .before .before .before .before .before .before .before .before .before .pre .0) (sym (c .before .before .before .before .before .fixed .ensures) ∙ c .before .before .before .from .given .1) in omega arith
+
+returns-4 : tie.Need-returns-4
+returns-4 c = let j = upto-in (c .before .before .before .before .before .before .before .before .before .before .args .s .now) _ (c .before .before .before .before .before .before .before .before .before .before .args .at + 3) _ (c .before .before .before .before .before .before .before .before .before .before .pre .0) (sym (c .before .before .before .before .before .before .fixed .ensures) ∙ c .before .before .before .before .from .given .1) in argument-spread (c .before .before .before .before .before .before .before .before .before .before .args .s .now) (c .before .before .before .before .before .before .before .before .before .before .args .at) (c .before .before .before .before .before .before .before .before .before .before .args .stop) (sym (c .before .before .before .before .before .before .fixed .ensures) ∙ c .before .before .before .before .from .given .1) (omega arith) (c .before .before .if2 .left) (c .if3 .taken)
+
+literal-at-requires : tie.Need-literal-at-requires
+literal-at-requires c κs = let j = upto-in (c .before .before .before .before .before .before .before .before .before .before .args .s .now) _ (c .before .before .before .before .before .before .before .before .before .before .args .at + 3) _ (c .before .before .before .before .before .before .before .before .before .before .pre .0) (sym (c .before .before .before .before .before .before .fixed .ensures) ∙ c .before .before .before .before .from .given .1) in omega arith
+
+returns-5 : tie.Need-returns-5
+returns-5 c = let j = upto-in (c .before .before .before .before .before .before .before .before .before .before .before .args .s .now) _ (c .before .before .before .before .before .before .before .before .before .before .before .args .at + 3) _ (c .before .before .before .before .before .before .before .before .before .before .before .pre .0) (sym (c .before .before .before .before .before .before .before .fixed .ensures) ∙ c .before .before .before .before .before .from .given .1) in argument-plain (c .before .before .before .before .before .before .before .before .before .before .before .args .s .now) (c .before .before .before .before .before .before .before .before .before .before .before .args .at) (c .before .before .before .before .before .before .before .before .before .before .before .args .stop) (sym (c .before .before .before .before .before .before .before .fixed .ensures) ∙ c .before .before .before .before .before .from .given .1) (omega arith) (c .before .before .before .if2 .left) _ (c .before .before .before .before .before .before .before .before .if1 .left) (c .before .if3 .left) (c .literal-at .ensures)
+
+pub argument-at-spec : {M : Type 1} → statement M
+argument-at-spec =
+    tie.close
+    (tie.spec
+    shared-slice-read-tag
+    returns
+    add-fixed
+    fixed-requires
+    enum-known-from
+    enum-told
+    returns-2
+    add-if2
+    returns-3
+    add-if3
+    shared-slice-read-if3
+    returns-4
+    literal-at-requires
+    returns-5)

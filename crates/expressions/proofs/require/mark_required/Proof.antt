@@ -1,0 +1,63 @@
+-- `expressions::require::mark_required` meets its contract.
+use Rattle.expressions.proofs.MarkLaws.{mark-marked, mark-unresolved, mark-full}
+use borrow.Author.Needs.{needs}
+use Rattle.expressions.proofs.require.mark_required.Statement.{statement}
+use Rattle.expressions.proofs.require.mark_required.Tie as tie
+use Rattle.expressions.proofs.require.mark_required.Reads as reads
+use Rattle.expressions.proofs.require.mark_required.Lts as lts
+use Rattle.kept.proofs.ident.name_of.Reads as name-of-reads
+use Rattle.kept.proofs.modules.mark_cjs.Reads as mark-cjs-reads
+use Rattle.kept.proofs.modules.module_for.Reads as module-for-reads
+
+name-of-requires : tie.Need-name-of-requires
+name-of-requires c κs = search needs
+
+module-for-requires : tie.Need-module-for-requires
+module-for-requires c κs = search needs
+
+enum-known-n : tie.Need-enum-known-n
+enum-known-n c = search needs
+
+mark-cjs-requires : tie.Need-mark-cjs-requires
+mark-cjs-requires c κs = search needs
+
+enum-told : tie.Need-enum-told
+enum-told c = search needs
+
+enum-told-2 : tie.Need-enum-told-2
+enum-told-2 c = search needs
+
+same-length : tie.Need-same-length
+same-length c = search needs
+
+returns : tie.Need-returns
+returns c = mark-marked (c .before .before .before .before .before .before .before .before .before .before .before .before .before .before .args .literal) (c .before .before .before .before .before .before .before .before .before .before .name-of .ensures) (c .before .before .before .before .before .before .before .before .before .module-for .ensures) (c .before .before .before .before .before .n .given .1) (c .before .before .mark-cjs .ensures)
+
+same-length-2 : tie.Need-same-length-2
+same-length-2 c = search needs
+
+returns-2 : tie.Need-returns-2
+returns-2 c = mark-unresolved (c .before .before .before .before .before .before .before .before .before .args .literal) (c .before .before .before .before .before .name-of .ensures) (c .before .before .before .before .module-for .ensures) (c .enum-told .given .1)
+
+same-length-3 : tie.Need-same-length-3
+same-length-3 c = search needs
+
+returns-3 : tie.Need-returns-3
+returns-3 c = mark-full (c .before .before .before .before .before .before .before .before .before .args .literal) (c .before .before .before .before .before .name-of .ensures) (c .before .before .before .before .module-for .ensures) (c .enum-told2 .given .1)
+
+pub mark-required-spec : {M : Type 1} → statement M
+mark-required-spec =
+    tie.close
+    (tie.spec
+    name-of-requires
+    module-for-requires
+    enum-known-n
+    mark-cjs-requires
+    enum-told
+    enum-told-2
+    same-length
+    returns
+    same-length-2
+    returns-2
+    same-length-3
+    returns-3)

@@ -1,0 +1,82 @@
+-- `expressions::usages::use_from` meets its contract.
+use Rattle.lent.specs.Table.{rowsIn}
+use Rattle.tree.specs.Standing.{treeAt}
+use Rattle.steps.specs.Step.{settingOf}
+use Rattle.expressions.proofs.PropertyLaws.{from-none, from-number, from-unresolved, from-full}
+use borrow.Author.Needs.{needs}
+use Rattle.expressions.proofs.usages.use_from.Statement.{statement}
+use Rattle.expressions.proofs.usages.use_from.Tie as tie
+use Rattle.expressions.proofs.usages.use_from.Reads as reads
+use Rattle.expressions.proofs.usages.use_from.Lts as lts
+use Rattle.expressions.proofs.usages.use_property.Reads as use-property-reads
+use Rattle.kept.proofs.modules.module_for.Reads as module-for-reads
+use Rattle.kept.proofs.records.used_record.Reads as used-record-reads
+
+used-record-requires : tie.Need-used-record-requires
+used-record-requires c κs = search needs
+
+enum-known-source : tie.Need-enum-known-source
+enum-known-source c = search needs
+
+enum-told : tie.Need-enum-told
+enum-told c = search needs
+
+same-length : tie.Need-same-length
+same-length c = search needs
+
+returns : tie.Need-returns
+returns c = λ externals. from-none (settingOf (c .before .before .before .before .before .before .before .before .args .e) externals (rowsIn (c .before .before .before .before .before .before .before .before .args .table .now))) (treeAt (c .before .before .before .before .before .before .before .before .args .s .now) (c .before .before .before .before .before .before .before .before .args .member) (c .before .before .before .before .before .before .before .before .args .end)) (c .before .before .before .before .before .before .before .before .args .at) (c .before .before .before .before .before .before .before .before .args .member) (c .before .before .before .before .before .before .before .before .args .id) (c .before .before .used-record .ensures) (c .before .before .before .before .before .before .before .before .pre .2) (c .enum-told .given .1)
+
+module-for-requires : tie.Need-module-for-requires
+module-for-requires c κs = search needs
+
+enum-known-n : tie.Need-enum-known-n
+enum-known-n c = search needs
+
+use-property-requires : tie.Need-use-property-requires
+use-property-requires c κs = search needs
+
+enum-told-2 : tie.Need-enum-told-2
+enum-told-2 c = search needs
+
+enum-told-3 : tie.Need-enum-told-3
+enum-told-3 c = search needs
+
+same-length-2 : tie.Need-same-length-2
+same-length-2 c = search needs
+
+returns-2 : tie.Need-returns-2
+returns-2 c = λ externals. from-number (settingOf (c .before .before .before .before .before .before .before .before .before .before .before .before .before .before .before .before .before .before .before .before .args .e) externals (rowsIn (c .before .before .before .before .before .before .before .before .before .before .before .before .before .before .before .before .before .before .before .before .args .table .now))) (treeAt (c .before .before .before .before .before .before .before .before .before .before .before .before .before .before .before .before .before .before .before .before .args .s .now) (c .before .before .before .before .before .before .before .before .before .before .before .before .before .before .before .before .before .before .before .before .args .member) (c .before .before .before .before .before .before .before .before .before .before .before .before .before .before .before .before .before .before .before .before .args .end)) (c .before .before .before .before .before .before .before .before .before .before .before .before .before .before .before .before .before .before .before .before .args .at) (c .before .before .before .before .before .before .before .before .before .before .before .before .before .before .before .before .before .before .before .before .args .member) (c .before .before .before .before .before .before .before .before .before .before .before .before .before .before .before .before .before .before .before .before .args .id) (c .before .before .before .before .before .before .before .before .before .before .before .before .before .before .used-record .ensures) (c .before .before .before .before .before .before .before .before .before .before .before .before .source .given .1) (c .before .before .before .before .before .before .before .before .before .module-for .ensures) (c .before .before .before .before .before .n .given .1) (c .before .before .use-property .ensures)
+
+same-length-3 : tie.Need-same-length-3
+same-length-3 c = search needs
+
+returns-3 : tie.Need-returns-3
+returns-3 c = λ externals. from-unresolved (settingOf (c .before .before .before .before .before .before .before .before .before .before .before .before .before .before .before .args .e) externals (rowsIn (c .before .before .before .before .before .before .before .before .before .before .before .before .before .before .before .args .table .now))) (treeAt (c .before .before .before .before .before .before .before .before .before .before .before .before .before .before .before .args .s .now) (c .before .before .before .before .before .before .before .before .before .before .before .before .before .before .before .args .member) (c .before .before .before .before .before .before .before .before .before .before .before .before .before .before .before .args .end)) (c .before .before .before .before .before .before .before .before .before .before .before .before .before .before .before .args .at) (c .before .before .before .before .before .before .before .before .before .before .before .before .before .before .before .args .member) (c .before .before .before .before .before .before .before .before .before .before .before .before .before .before .before .args .id) (c .before .before .before .before .before .before .before .before .before .used-record .ensures) (c .before .before .before .before .before .before .before .source .given .1) (c .before .before .before .before .module-for .ensures) (c .enum-told2 .given .1)
+
+same-length-4 : tie.Need-same-length-4
+same-length-4 c = search needs
+
+returns-4 : tie.Need-returns-4
+returns-4 c = λ externals. from-full (settingOf (c .before .before .before .before .before .before .before .before .before .before .before .before .before .before .before .args .e) externals (rowsIn (c .before .before .before .before .before .before .before .before .before .before .before .before .before .before .before .args .table .now))) (treeAt (c .before .before .before .before .before .before .before .before .before .before .before .before .before .before .before .args .s .now) (c .before .before .before .before .before .before .before .before .before .before .before .before .before .before .before .args .member) (c .before .before .before .before .before .before .before .before .before .before .before .before .before .before .before .args .end)) (c .before .before .before .before .before .before .before .before .before .before .before .before .before .before .before .args .at) (c .before .before .before .before .before .before .before .before .before .before .before .before .before .before .before .args .member) (c .before .before .before .before .before .before .before .before .before .before .before .before .before .before .before .args .id) (c .before .before .before .before .before .before .before .before .before .used-record .ensures) (c .before .before .before .before .before .before .before .source .given .1) (c .before .before .before .before .module-for .ensures) (c .enum-told3 .given .1)
+
+pub use-from-spec : {M : Type 1} → statement M
+use-from-spec =
+    tie.close
+    (tie.spec
+    used-record-requires
+    enum-known-source
+    enum-told
+    same-length
+    returns
+    module-for-requires
+    enum-known-n
+    use-property-requires
+    enum-told-2
+    enum-told-3
+    same-length-2
+    returns-2
+    same-length-3
+    returns-3
+    same-length-4
+    returns-4)

@@ -1,0 +1,3 @@
+-- Fields that were read (SoundLaws); steps one after the other (StepsLaws).
+pub mod SoundLaws
+pub mod StepsLaws
