@@ -1,0 +1,39 @@
+-- `imports::first::gather_namespace` meets its contract.
+use Rattle.tree.specs.Standing.{treeAt}
+use Rattle.imports.proofs.GatherLaws.{extending-is, extending-other}
+use borrow.Author.Needs.{needs}
+use Rattle.imports.proofs.first.gather_namespace.Statement.{statement}
+use Rattle.imports.proofs.first.gather_namespace.Tie as tie
+
+namespace-at-requires : tie.Need-namespace-at-requires
+namespace-at-requires c κs = search needs
+
+enum-known-id : tie.Need-enum-known-id
+enum-known-id c = search needs
+
+enum-told : tie.Need-enum-told
+enum-told c = search needs
+
+returns : tie.Need-returns
+returns c = extending-other (c .before .before .before .before .before .args .i) (treeAt (c .before .before .before .before .before .args .s .now) (c .before .before .before .before .before .args .at) (c .before .before .before .before .before .args .stop)) (c .before .before .namespace-at .result) (c .before .before .namespace-at .ensures .0) (c .before .before .before .before .before .pre .2) (c .enum-told .given .1)
+
+add-namespace-requires : tie.Need-add-namespace-requires
+add-namespace-requires c κs = (c .before .before .before .before .before .before .before .pre .2, c .before .before .before .before .before .before .before .pre .3, c .before .before .before .before .namespace-at .ensures .1 _ (c .before .before .id .given .1))
+
+same-length : tie.Need-same-length
+same-length c = search needs
+
+returns-2 : tie.Need-returns-2
+returns-2 c = extending-is (c .before .before .before .before .before .before .before .before .before .before .args .i) (treeAt (c .before .before .before .before .before .before .before .before .before .before .args .s .now) (c .before .before .before .before .before .before .before .before .before .before .args .at) (c .before .before .before .before .before .before .before .before .before .before .args .stop)) (c .before .before .before .before .before .before .before .namespace-at .result) (c .before .before .before .before .before .before .before .namespace-at .ensures .0) (c .before .before .before .before .before .id .given .0 .0) (c .before .before .before .before .before .id .given .1) (c .before .before .add-namespace .ensures)
+
+pub gather-namespace-spec : {M : Type 1} → statement M
+gather-namespace-spec =
+    tie.close
+    (tie.spec
+    namespace-at-requires
+    enum-known-id
+    enum-told
+    returns
+    add-namespace-requires
+    same-length
+    returns-2)

@@ -1,0 +1,58 @@
+-- `imports::first::gather_namespaces` meets its contract.
+use native.Mathlib.Omega.{arith}
+use mathlib.Core.Path.{sym, _∙_}
+use borrow.Author.Needs.{needs}
+use Prim.Native.Nat.{_-_}
+use Rattle.tree.proofs.AccessLaws.{extent-upto}
+use Rattle.imports.proofs.GatherLaws.{Filling, filling-start, filling-more, filling-end}
+use Rattle.imports.proofs.first.gather_namespaces.Statement.{statement}
+use Rattle.imports.proofs.first.gather_namespaces.Tie as tie
+
+abbrev Inv-loop : tie.InvT-loop
+Inv-loop s from end i t₀ at₀ t at = Filling i s from end t₀ t at
+
+abbrev μ-loop : tie.MeasureT-loop
+μ-loop s from end i t₀ at₀ t at = end - at
+
+loop-holds : tie.Need-loop-holds Inv-loop μ-loop
+loop-holds c = filling-start (c .before .before .args .i) (c .before .before .args .s .now) (c .before .before .args .from) (c .before .before .args .end) (c .before .before .pre .2) (c .before .before .pre .0) (c .before .before .pre .3)
+
+extent-requires : tie.Need-extent-requires Inv-loop μ-loop
+extent-requires c κs = (c .loop .inv .before, c .before .before .before .pre .1)
+
+enum-known-stop : tie.Need-enum-known-stop Inv-loop μ-loop
+enum-known-stop c = search needs
+
+enum-told : tie.Need-enum-told Inv-loop μ-loop
+enum-told c = search needs
+
+same-length : tie.Need-same-length Inv-loop μ-loop
+same-length c = c .before .before .before .loop .inv .cells
+
+returns : tie.Need-returns Inv-loop μ-loop
+returns c = filling-end (c .before .before .before .before .before .before .args .i) (c .before .before .before .before .before .before .args .s .now) (c .before .before .before .before .before .before .args .from) (c .before .before .before .before .before .before .args .end) (c .before .before .before .loop .inv) (sym (c .before .before .extent .ensures) ∙ c .enum-told .given .1)
+
+gather-namespace-requires : tie.Need-gather-namespace-requires Inv-loop μ-loop
+gather-namespace-requires c κs = let i = extent-upto (c .before .before .before .before .before .before .before .before .args .s .now) (c .before .before .before .before .before .loop .at) (c .before .before .before .before .before .before .before .before .args .end) (c .before .before .before .before .before .loop .inv .before) (sym (c .before .before .before .before .extent .ensures) ∙ c .before .before .stop .given .1) in let f = c .before .before .before .before .before .before .before .before .pre .1 in (i .0, omega arith, c .before .before .before .before .before .loop .inv .good, c .before .before .before .before .before .loop .inv .below)
+
+loop-less : tie.Need-loop-less Inv-loop μ-loop
+loop-less c = let i = extent-upto (c .before .before .before .before .before .before .before .before .before .before .before .args .s .now) (c .before .before .before .before .before .before .before .before .loop .at) (c .before .before .before .before .before .before .before .before .before .before .before .args .end) (c .before .before .before .before .before .before .before .before .loop .inv .before) (sym (c .before .before .before .before .before .before .before .extent .ensures) ∙ c .before .before .before .before .before .stop .given .1) in let f = c .before .before .before .before .before .before .before .before .before .before .before .pre .1 in omega arith
+
+loop-again : tie.Need-loop-again Inv-loop μ-loop
+loop-again c = filling-more (c .before .before .before .before .before .before .before .before .before .before .before .args .i) (c .before .before .before .before .before .before .before .before .before .before .before .args .s .now) (c .before .before .before .before .before .before .before .before .before .before .before .args .from) (c .before .before .before .before .before .before .before .before .before .before .before .args .end) (c .before .before .before .before .before .before .before .before .loop .inv) (sym (c .before .before .before .before .before .before .before .extent .ensures) ∙ c .before .before .before .before .before .stop .given .1) (c .before .before .gather-namespace .ensures) (c .before .before .gather-namespace .kept .1 .1 .1 .1 .0)
+
+pub gather-namespaces-spec : {M : Type 1} → statement M
+gather-namespaces-spec =
+    tie.close
+    (tie.spec
+    Inv-loop
+    μ-loop
+    loop-holds
+    extent-requires
+    enum-known-stop
+    enum-told
+    same-length
+    returns
+    gather-namespace-requires
+    loop-less
+    loop-again)
