@@ -1,0 +1,3 @@
+-- What a pass keeps (KeptLaws).
+pub mod KeptLaws
+pub mod ItemLaws

@@ -1,0 +1,85 @@
+use mathlib.Core.Path.{sym, ap, subst, _∙_, _≡_}
+use native.Mathlib.Omega.{arith}
+use Prim.Native.Nat.{ℕ, _+_}
+use Rattle.lent.specs.Table.{rowsIn}
+use Rattle.steps.specs.Step.{passOf}
+use Rattle.walking.specs.Walking.{set}
+use Rattle.extraction.proofs.ItemLaws.{import-short, import-one, import-two}
+use borrow.Author.Needs.{needs}
+use Rattle.extraction.proofs.passes.import.Statement.{statement}
+use Rattle.extraction.proofs.passes.import.Tie as tie
+use Rattle.extraction.proofs.passes.import.Reads as reads
+use Rattle.extraction.proofs.passes.import.Lts as lts
+use Rattle.imports.proofs.first.import_first.Reads as import-first-reads
+use Rattle.imports.proofs.second.import_second.Reads as import-second-reads
+use Rattle.tree.proofs.access.fixed.Reads as fixed-reads
+
+-- src/passes.rt:120:44
+add-fixed : tie.Need-add-fixed
+add-fixed c = search needs
+
+-- src/passes.rt:120:29
+fixed-requires : tie.Need-fixed-requires
+fixed-requires c κs = search needs
+
+-- src/passes.rt:120:21
+enum-known-from : tie.Need-enum-known-from
+enum-known-from c = search needs
+
+-- src/passes.rt:121:9
+enum-told : tie.Need-enum-told
+enum-told c = search needs
+
+-- src/passes.rt:121:9
+returns : tie.Need-returns
+returns c = import-short (c .before .before .before .before .before .before .before .before .args .e) (set (c .before .before .before .before .before .before .before .before .args .e) (c .before .before .before .before .before .before .before .before .args .externals .now) (c .before .before .before .before .before .before .before .before .args .table .now)) (c .before .before .before .before .before .before .before .before .args .s .now) (λ i. omega (arith, c .before .before .before .before .before .before .before .shared-slice-known .given i)) (c .before .before .before .before .before .before .before .before .args .at) (c .before .before .before .before .before .before .before .before .args .stop) (c .before .before .before .before .before .before .before .before .pre .0) (c .before .before .before .before .before .before .before .before .pre .3) (sym (c .before .before .fixed .ensures) ∙ c .enum-told .given .1)
+
+-- src/passes.rt:124:9
+import-second-requires : tie.Need-import-second-requires
+import-second-requires c κs = (omega arith, omega arith, c .before .before .before .before .before .before .before .before .before .before .before .before .pre .0, sym (c .before .before .before .before .before .before .fixed .ensures) ∙ c .before .before .before .before .from .given .1, c .before .before .before .before .before .before .before .before .before .before .before .before .pre .3)
+
+-- src/passes.rt:126:9
+import-first-requires : tie.Need-import-first-requires
+import-first-requires c κs = (omega arith, omega arith, c .before .before .before .before .before .before .before .before .before .before .before .before .pre .0, sym (c .before .before .before .before .before .before .fixed .ensures) ∙ c .before .before .before .before .from .given .1, c .before .before .before .before .before .before .before .before .before .before .before .before .pre .3)
+
+-- src/passes.rt:106:1
+same-length : tie.Need-same-length
+same-length c = search needs
+
+-- src/passes.rt:106:1
+same-length-2 : tie.Need-same-length-2
+same-length-2 c = search needs
+
+-- src/passes.rt:106:1
+returns-2 : tie.Need-returns-2
+returns-2 c = import-two (c .before .before .before .before .before .before .before .before .before .before .before .before .before .before .before .before .before .args .e) (set (c .before .before .before .before .before .before .before .before .before .before .before .before .before .before .before .before .before .args .e) (c .before .before .before .before .before .before .before .before .before .before .before .before .before .before .before .before .before .args .externals .now) (c .before .before .before .before .before .before .before .before .before .before .before .before .before .before .before .before .before .args .table .now)) (c .before .before .before .before .before .before .before .before .before .before .before .before .before .before .before .before .before .args .s .now) (λ i. omega (arith, c .before .before .before .before .before .before .before .before .before .before .before .before .before .before .before .before .shared-slice-known .given i)) (c .before .before .before .before .before .before .before .before .before .before .before .before .before .before .before .before .before .args .at) (c .before .before .before .before .before .before .before .before .before .before .before .before .before .before .before .before .before .args .stop) (c .before .before .before .before .before .before .before .if1 .taken) (ap passOf (c .before .before .before .before .before .before .before .if1 .taken)) (c .before .before .before .before .before .before .before .before .before .before .before .before .before .before .before .before .before .pre .0) (c .before .before .before .before .import-second .ensures (rowsIn (c .before .before .before .before .before .before .before .before .before .before .before .before .before .before .before .before .before .args .table .now)))
+
+-- src/passes.rt:106:1
+same-length-3 : tie.Need-same-length-3
+same-length-3 c = search needs
+
+-- src/passes.rt:106:1
+same-length-4 : tie.Need-same-length-4
+same-length-4 c = search needs
+
+-- src/passes.rt:106:1
+returns-3 : tie.Need-returns-3
+returns-3 c = import-one (c .before .before .before .before .before .before .before .before .before .before .before .before .before .before .before .before .before .args .e) (set (c .before .before .before .before .before .before .before .before .before .before .before .before .before .before .before .before .before .args .e) (c .before .before .before .before .before .before .before .before .before .before .before .before .before .before .before .before .before .args .externals .now) (c .before .before .before .before .before .before .before .before .before .before .before .before .before .before .before .before .before .args .table .now)) (c .before .before .before .before .before .before .before .before .before .before .before .before .before .before .before .before .before .args .s .now) (λ i. omega (arith, c .before .before .before .before .before .before .before .before .before .before .before .before .before .before .before .before .shared-slice-known .given i)) (c .before .before .before .before .before .before .before .before .before .before .before .before .before .before .before .before .before .args .at) (c .before .before .before .before .before .before .before .before .before .before .before .before .before .before .before .before .before .args .stop) (c .before .before .before .before .before .before .before .if1 .left) (ap passOf (c .before .before .before .before .before .before .before .if1 .left)) (c .before .before .before .before .before .before .before .before .before .before .before .before .before .before .before .before .before .pre .0) (c .before .before .before .before .import-first .ensures)
+
+pub import-spec : {M : Type 1} → statement M
+import-spec =
+    tie.close
+    (tie.spec
+    add-fixed
+    fixed-requires
+    enum-known-from
+    enum-told
+    returns
+    import-second-requires
+    import-first-requires
+    same-length
+    same-length-2
+    returns-2
+    same-length-3
+    same-length-4
+    returns-3)

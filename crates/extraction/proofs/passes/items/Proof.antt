@@ -1,0 +1,101 @@
+use mathlib.Core.Path.{sym, ap, subst, _∙_, _≡_, refl}
+use native.Mathlib.Omega.{arith}
+use Prim.Native.Nat.{_-_}
+use borrow.Author.Needs.{needs}
+use Rattle.tree.proofs.AccessLaws.{extent-upto}
+use Rattle.walking.specs.Walking.{set}
+use Rattle.extraction.proofs.ItemLaws.{Passing, passing-start, passing-over, passing-more, passing-turned}
+use Rattle.extraction.proofs.passes.items.Statement.{statement}
+use Rattle.extraction.proofs.passes.items.Tie as tie
+use Rattle.extraction.proofs.passes.items.Reads as reads
+use Rattle.extraction.proofs.passes.items.Lts as lts
+use Rattle.extraction.proofs.passes.item.Reads as item-reads
+use Rattle.tree.proofs.access.extent.Reads as extent-reads
+
+abbrev Inv-loop : tie.InvT-loop
+Inv-loop s from end e externals table t₀ out₀ o at₀ to₀ t out at to = Passing e (set e externals table) s from end t₀ out₀ o t out at to
+
+abbrev μ-loop : tie.MeasureT-loop
+μ-loop s from end e externals table t₀ out₀ o at₀ to₀ t out at to = end - at
+
+-- src/passes.rt:65:5
+loop-holds : tie.Need-loop-holds Inv-loop μ-loop
+loop-holds c = passing-start (c .before .before .before .before .before .pre .2) (c .before .before .before .before .before .pre .0)
+
+-- src/passes.rt:66:33
+extent-requires : tie.Need-extent-requires Inv-loop μ-loop
+extent-requires c κs = (c .loop .inv .inside, c .before .before .before .before .before .before .pre .1)
+
+-- src/passes.rt:66:25
+enum-known-stop : tie.Need-enum-known-stop Inv-loop μ-loop
+enum-known-stop c = search needs
+
+-- src/passes.rt:67:13
+enum-told : tie.Need-enum-told Inv-loop μ-loop
+enum-told c = search needs
+
+-- src/passes.rt:67:13
+same-length : tie.Need-same-length Inv-loop μ-loop
+same-length c = let a = c .before .before .before .loop .inv .kept in let b = c .before .before .before .loop .inv .size in omega arith
+
+-- src/passes.rt:67:13
+same-length-2 : tie.Need-same-length-2 Inv-loop μ-loop
+same-length-2 c = let a = c .before .before .before .loop .inv .kept in let b = c .before .before .before .loop .inv .size in omega arith
+
+-- src/passes.rt:67:13
+returns : tie.Need-returns Inv-loop μ-loop
+returns c = passing-over (λ i. omega (arith, c .before .before .before .before .before .before .before .before .shared-slice-known .given i)) (c .before .before .before .loop .inv) (sym (c .before .before .extent .ensures) ∙ c .enum-told .given .1)
+
+-- src/passes.rt:69:15
+item-requires : tie.Need-item-requires Inv-loop μ-loop
+item-requires c κs = let i = extent-upto (c .before .before .before .before .before .before .before .before .before .before .before .before .args .s .now) (c .before .before .before .before .before .before .loop .at) (c .before .before .before .before .before .before .before .before .before .before .before .before .args .end) (c .before .before .before .before .before .before .loop .inv .inside) (sym (c .before .before .before .before .before .extent .ensures) ∙ c .before .before .before .stop .given .1) in (omega arith, omega arith, c .before .before .before .before .before .before .loop .inv .good)
+
+-- src/passes.rt:70:24
+enum-known-p : tie.Need-enum-known-p Inv-loop μ-loop
+enum-known-p c = search needs
+
+-- src/passes.rt:65:5
+loop-less : tie.Need-loop-less Inv-loop μ-loop
+loop-less c = let i = extent-upto (c .before .before .before .before .before .before .before .before .before .before .before .before .before .before .before .before .before .before .before .before .args .s .now) (c .before .before .before .before .before .before .before .before .before .before .before .before .before .before .loop .at) (c .before .before .before .before .before .before .before .before .before .before .before .before .before .before .before .before .before .before .before .before .args .end) (c .before .before .before .before .before .before .before .before .before .before .before .before .before .before .loop .inv .inside) (sym (c .before .before .before .before .before .before .before .before .before .before .before .before .before .extent .ensures) ∙ c .before .before .before .before .before .before .before .before .before .before .before .stop .given .1) in omega arith
+
+-- src/passes.rt:65:5
+loop-again : tie.Need-loop-again Inv-loop μ-loop
+loop-again c = passing-more (λ i. omega (arith, c .before .before .before .before .before .before .before .before .before .before .before .before .before .before .before .before .before .before .before .shared-slice-known .given i)) (c .before .before .before .before .before .before .before .before .before .before .before .before .before .before .loop .inv) (sym (c .before .before .before .before .before .before .before .before .before .before .before .before .before .extent .ensures) ∙ c .before .before .before .before .before .before .before .before .before .before .before .stop .given .1) (c .before .before .before .before .before .before .before .item .ensures) refl (c .before .p .given .1) (omega arith)
+
+-- src/passes.rt:74:27
+enum-known-why : tie.Need-enum-known-why Inv-loop μ-loop
+enum-known-why c = search needs
+
+-- src/passes.rt:74:42
+same-length-3 : tie.Need-same-length-3 Inv-loop μ-loop
+same-length-3 c = let a = c .before .before .before .before .before .before .before .before .before .before .before .before .before .before .loop .inv .kept in let b = c .before .before .before .before .before .before .before .before .before .before .before .before .before .before .loop .inv .size in omega arith
+
+-- src/passes.rt:74:42
+same-length-4 : tie.Need-same-length-4 Inv-loop μ-loop
+same-length-4 c = let a = c .before .before .before .before .before .before .before .before .before .before .before .before .before .before .loop .inv .kept in let b = c .before .before .before .before .before .before .before .before .before .before .before .before .before .before .loop .inv .size in omega arith
+
+-- src/passes.rt:74:42
+returns-2 : tie.Need-returns-2 Inv-loop μ-loop
+returns-2 c = passing-turned (λ i. omega (arith, c .before .before .before .before .before .before .before .before .before .before .before .before .before .before .before .before .before .before .before .shared-slice-known .given i)) (c .before .before .before .before .before .before .before .before .before .before .before .before .before .before .loop .inv) (sym (c .before .before .before .before .before .before .before .before .before .before .before .before .before .extent .ensures) ∙ c .before .before .before .before .before .before .before .before .before .before .before .stop .given .1) (c .before .before .before .before .before .before .before .item .ensures) (c .before .why .given .1)
+
+pub items-spec : {M : Type 1} → statement M
+items-spec =
+    tie.close
+    (tie.spec
+    Inv-loop
+    μ-loop
+    loop-holds
+    extent-requires
+    enum-known-stop
+    enum-told
+    same-length
+    same-length-2
+    returns
+    item-requires
+    enum-known-p
+    loop-less
+    loop-again
+    enum-known-why
+    same-length-3
+    same-length-4
+    returns-2)

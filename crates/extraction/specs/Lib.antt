@@ -1,0 +1,2 @@
+-- A pass over a module's items (Passes).
+pub mod Passes

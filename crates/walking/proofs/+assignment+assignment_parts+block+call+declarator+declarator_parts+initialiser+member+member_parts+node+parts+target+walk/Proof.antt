@@ -1,0 +1,1206 @@
+use mathlib.Core.Path.{sym, ap, subst, _∙_}
+use mathlib.Core.Bool.{false, true}
+use mathlib.Core.Option.{none as nothing}
+use native.Mathlib.Omega.{arith}
+use borrow.Author.Needs.{needs}
+use lib.ListN.{getD}
+use Prim.Native.Nat.{_+_, _-_, _*_}
+use mathlib.Core.Path.{_≡_}
+use Rattle.tree.specs.declared.layout.Reach.the-variants.{Upto}
+use Rattle.tree.specs.Tree.{Field, Fields}
+use Rattle.tree.specs.Access.{fixedAt}
+use Rattle.tree.proofs.AccessLaws.{extent-upto, upto-in}
+use Rattle.lent.specs.Table.{atomsIn, rowsIn}
+use Rattle.extraction_rules.specs.Walk.{walk as walk-rule, walkAll, walkMember, walkAssignment, walkTarget}
+use Rattle.expressions.specs.Require.{literalBy}
+use Rattle.expressions.proofs.WidthLaws.{ends-60}
+use Rattle.steps.specs.Step.{passOf, identBy}
+use Rattle.steps.proofs.StepsLaws.{steps-is, steps-field, effects-fine, effects-turned}
+use Rattle.walking.specs.Walking.{set, placeIn}
+use Rattle.walking.proofs.RowLaws.{member-more, assignment-more, member-none, assignment-none, row-over, row-then, row-turned, Going, going-start, going-over, going-more, going-turned}
+use Rattle.walking.proofs.NodeLaws.{walk-short, node-plain, node-64, node-66, node-45, node-42, node-target, node-23}
+use Rattle.walking.proofs.ExpressionLaws.{tells-as, member-ident, member-other, member-used, member-turned}
+use Rattle.walking.proofs.CallLaws.{call-second, call-plain, call-turned, call-required}
+use Rattle.walking.proofs.DeclaratorLaws.{behind-over, behind-plain, behind-turned, behind-required, declared-over, declared-then, declared-turned}
+use Prim.Native.Nat.{ℕ, _<_}
+use borrow.Fn.Kinds.{In}
+use borrow.Fn.PlainCycle.{Measures, is, falls, and}
+use Rattle.walking.proofs.assignment.Reads as assignment
+use Rattle.walking.proofs.assignment.Kinds as assignment-kinds
+use Rattle.walking.proofs.+assignment+assignment_parts+block+call+declarator+declarator_parts+initialiser+member+member_parts+node+parts+target+walk.Lts-assignment as assignment-lts
+use Rattle.walking.proofs.assignment_parts.Reads as assignment-parts
+use Rattle.walking.proofs.assignment_parts.Kinds as assignment-parts-kinds
+use Rattle.walking.proofs.+assignment+assignment_parts+block+call+declarator+declarator_parts+initialiser+member+member_parts+node+parts+target+walk.Lts-assignment_parts as assignment-parts-lts
+use Rattle.walking.proofs.block.Reads as block
+use Rattle.walking.proofs.block.Kinds as block-kinds
+use Rattle.walking.proofs.+assignment+assignment_parts+block+call+declarator+declarator_parts+initialiser+member+member_parts+node+parts+target+walk.Lts-block as block-lts
+use Rattle.walking.proofs.call.Reads as call
+use Rattle.walking.proofs.call.Kinds as call-kinds
+use Rattle.walking.proofs.+assignment+assignment_parts+block+call+declarator+declarator_parts+initialiser+member+member_parts+node+parts+target+walk.Lts-call as call-lts
+use Rattle.walking.proofs.declarator.Reads as declarator
+use Rattle.walking.proofs.declarator.Kinds as declarator-kinds
+use Rattle.walking.proofs.+assignment+assignment_parts+block+call+declarator+declarator_parts+initialiser+member+member_parts+node+parts+target+walk.Lts-declarator as declarator-lts
+use Rattle.walking.proofs.declarator_parts.Reads as declarator-parts
+use Rattle.walking.proofs.declarator_parts.Kinds as declarator-parts-kinds
+use Rattle.walking.proofs.+assignment+assignment_parts+block+call+declarator+declarator_parts+initialiser+member+member_parts+node+parts+target+walk.Lts-declarator_parts as declarator-parts-lts
+use Rattle.walking.proofs.initialiser.Reads as initialiser
+use Rattle.walking.proofs.initialiser.Kinds as initialiser-kinds
+use Rattle.walking.proofs.+assignment+assignment_parts+block+call+declarator+declarator_parts+initialiser+member+member_parts+node+parts+target+walk.Lts-initialiser as initialiser-lts
+use Rattle.walking.proofs.member.Reads as member
+use Rattle.walking.proofs.member.Kinds as member-kinds
+use Rattle.walking.proofs.+assignment+assignment_parts+block+call+declarator+declarator_parts+initialiser+member+member_parts+node+parts+target+walk.Lts-member as member-lts
+use Rattle.walking.proofs.member_parts.Reads as member-parts
+use Rattle.walking.proofs.member_parts.Kinds as member-parts-kinds
+use Rattle.walking.proofs.+assignment+assignment_parts+block+call+declarator+declarator_parts+initialiser+member+member_parts+node+parts+target+walk.Lts-member_parts as member-parts-lts
+use Rattle.walking.proofs.node.Reads as node
+use Rattle.walking.proofs.node.Kinds as node-kinds
+use Rattle.walking.proofs.+assignment+assignment_parts+block+call+declarator+declarator_parts+initialiser+member+member_parts+node+parts+target+walk.Lts-node as node-lts
+use Rattle.walking.proofs.parts.Reads as parts
+use Rattle.walking.proofs.parts.Kinds as parts-kinds
+use Rattle.walking.proofs.+assignment+assignment_parts+block+call+declarator+declarator_parts+initialiser+member+member_parts+node+parts+target+walk.Lts-parts as parts-lts
+use Rattle.walking.proofs.target.Reads as target
+use Rattle.walking.proofs.target.Kinds as target-kinds
+use Rattle.walking.proofs.+assignment+assignment_parts+block+call+declarator+declarator_parts+initialiser+member+member_parts+node+parts+target+walk.Lts-target as target-lts
+use Rattle.walking.proofs.walk.Reads as walk
+use Rattle.walking.proofs.walk.Kinds as walk-kinds
+use Rattle.walking.proofs.+assignment+assignment_parts+block+call+declarator+declarator_parts+initialiser+member+member_parts+node+parts+target+walk.Lts-walk as walk-lts
+use Rattle.expressions.proofs.ident.ident_after.Reads as ident-after-reads
+use Rattle.expressions.proofs.require.required_at.Reads as required-at-reads
+use Rattle.expressions.proofs.usages.usage.Reads as usage-reads
+use Rattle.imports.proofs.export.export_specifier.Reads as export-specifier-reads
+use Rattle.kept.proofs.ident.put_ident.Reads as put-ident-reads
+use Rattle.kept.proofs.rest.set_top.Reads as set-top-reads
+use Rattle.steps.proofs.begin_field.Reads as begin-field-reads
+use Rattle.steps.proofs.end_field.Reads as end-field-reads
+use Rattle.tree.proofs.access.extent.Reads as extent-reads
+use Rattle.tree.proofs.access.fixed.Reads as fixed-reads
+use Rattle.walking.proofs.ident.Reads as ident-reads
+use Rattle.walking.proofs.require.Reads as require-reads
+use Rattle.walking.proofs.require_lazily.Reads as require-lazily-reads
+use Rattle.walking.proofs.+assignment+assignment_parts+block+call+declarator+declarator_parts+initialiser+member+member_parts+node+parts+target+walk.{
+  statement,
+}
+use Rattle.walking.proofs.+assignment+assignment_parts+block+call+declarator+declarator_parts+initialiser+member+member_parts+node+parts+target+walk.Tie.{
+  close,
+}
+
+abbrev μ-assignment : Measures 5 assignment-kinds.ps ℕ
+μ-assignment κs a = 8 * (a .1 .1 .1 .0 - a .1 .0) + 6
+
+abbrev μ-assignment-parts : Measures 5 assignment-parts-kinds.ps ℕ
+μ-assignment-parts κs a = 8 * (a .1 .1 .0 - a .1 .0) + 9
+
+abbrev μ-block : Measures 5 block-kinds.ps ℕ
+μ-block κs a = 8 * (a .1 .1 .1 .0 - a .1 .0) + 6
+
+abbrev μ-call : Measures 5 call-kinds.ps ℕ
+μ-call κs a = 8 * (a .1 .1 .0 - a .1 .0) + 6
+
+abbrev μ-declarator : Measures 5 declarator-kinds.ps ℕ
+μ-declarator κs a = 8 * (a .1 .1 .1 .0 - a .1 .0) + 6
+
+abbrev μ-declarator-parts : Measures 5 declarator-parts-kinds.ps ℕ
+μ-declarator-parts κs a = 8 * (a .1 .1 .1 .0 - a .1 .1 .0) + 9
+
+abbrev μ-initialiser : Measures 5 initialiser-kinds.ps ℕ
+μ-initialiser κs a = 8 * (a .1 .1 .1 .1 .0 - a .1 .1 .1 .0) + 9
+
+abbrev μ-member : Measures 5 member-kinds.ps ℕ
+μ-member κs a = 8 * (a .1 .1 .0 - a .1 .0) + 6
+
+abbrev μ-member-parts : Measures 5 member-parts-kinds.ps ℕ
+μ-member-parts κs a = 8 * (a .1 .1 .0 - a .1 .0) + 9
+
+abbrev μ-node : Measures 5 node-kinds.ps ℕ
+μ-node κs a = 8 * (a .1 .1 .1 .0 - a .1 .0) + 5
+
+abbrev μ-parts : Measures 5 parts-kinds.ps ℕ
+μ-parts κs a = 8 * (a .1 .1 .0 - a .1 .0) + 8
+
+abbrev μ-target : Measures 5 target-kinds.ps ℕ
+μ-target κs a = 8 * (a .1 .1 .0 - a .1 .0) + 5
+
+abbrev μ-walk : Measures 5 walk-kinds.ps ℕ
+μ-walk κs a = 8 * (a .1 .1 .0 - a .1 .0) + 7
+
+abbrev assignment-at : ℕ → In 5 assignment-kinds.ps
+assignment-at t =
+    and 5 assignment-kinds.ps (is 5 assignment-kinds.ps μ-assignment t) assignment.Pre
+
+abbrev assignment-below : ℕ → In 5 assignment-kinds.ps
+assignment-below t =
+    and 5 assignment-kinds.ps (falls 5 assignment-kinds.ps _<_ μ-assignment t) assignment.Pre
+
+abbrev assignment-parts-at : ℕ → In 5 assignment-parts-kinds.ps
+assignment-parts-at t =
+    and
+    5
+    assignment-parts-kinds.ps
+    (is 5 assignment-parts-kinds.ps μ-assignment-parts t)
+    assignment-parts.Pre
+
+abbrev assignment-parts-below : ℕ → In 5 assignment-parts-kinds.ps
+assignment-parts-below t =
+    and
+    5
+    assignment-parts-kinds.ps
+    (falls 5 assignment-parts-kinds.ps _<_ μ-assignment-parts t)
+    assignment-parts.Pre
+
+abbrev block-at : ℕ → In 5 block-kinds.ps
+block-at t = and 5 block-kinds.ps (is 5 block-kinds.ps μ-block t) block.Pre
+
+abbrev block-below : ℕ → In 5 block-kinds.ps
+block-below t = and 5 block-kinds.ps (falls 5 block-kinds.ps _<_ μ-block t) block.Pre
+
+abbrev call-at : ℕ → In 5 call-kinds.ps
+call-at t = and 5 call-kinds.ps (is 5 call-kinds.ps μ-call t) call.Pre
+
+abbrev call-below : ℕ → In 5 call-kinds.ps
+call-below t = and 5 call-kinds.ps (falls 5 call-kinds.ps _<_ μ-call t) call.Pre
+
+abbrev declarator-at : ℕ → In 5 declarator-kinds.ps
+declarator-at t =
+    and 5 declarator-kinds.ps (is 5 declarator-kinds.ps μ-declarator t) declarator.Pre
+
+abbrev declarator-below : ℕ → In 5 declarator-kinds.ps
+declarator-below t =
+    and 5 declarator-kinds.ps (falls 5 declarator-kinds.ps _<_ μ-declarator t) declarator.Pre
+
+abbrev declarator-parts-at : ℕ → In 5 declarator-parts-kinds.ps
+declarator-parts-at t =
+    and
+    5
+    declarator-parts-kinds.ps
+    (is 5 declarator-parts-kinds.ps μ-declarator-parts t)
+    declarator-parts.Pre
+
+abbrev declarator-parts-below : ℕ → In 5 declarator-parts-kinds.ps
+declarator-parts-below t =
+    and
+    5
+    declarator-parts-kinds.ps
+    (falls 5 declarator-parts-kinds.ps _<_ μ-declarator-parts t)
+    declarator-parts.Pre
+
+abbrev initialiser-at : ℕ → In 5 initialiser-kinds.ps
+initialiser-at t =
+    and 5 initialiser-kinds.ps (is 5 initialiser-kinds.ps μ-initialiser t) initialiser.Pre
+
+abbrev initialiser-below : ℕ → In 5 initialiser-kinds.ps
+initialiser-below t =
+    and 5 initialiser-kinds.ps (falls 5 initialiser-kinds.ps _<_ μ-initialiser t) initialiser.Pre
+
+abbrev member-at : ℕ → In 5 member-kinds.ps
+member-at t = and 5 member-kinds.ps (is 5 member-kinds.ps μ-member t) member.Pre
+
+abbrev member-below : ℕ → In 5 member-kinds.ps
+member-below t = and 5 member-kinds.ps (falls 5 member-kinds.ps _<_ μ-member t) member.Pre
+
+abbrev member-parts-at : ℕ → In 5 member-parts-kinds.ps
+member-parts-at t =
+    and 5 member-parts-kinds.ps (is 5 member-parts-kinds.ps μ-member-parts t) member-parts.Pre
+
+abbrev member-parts-below : ℕ → In 5 member-parts-kinds.ps
+member-parts-below t =
+    and
+    5
+    member-parts-kinds.ps
+    (falls 5 member-parts-kinds.ps _<_ μ-member-parts t)
+    member-parts.Pre
+
+abbrev node-at : ℕ → In 5 node-kinds.ps
+node-at t = and 5 node-kinds.ps (is 5 node-kinds.ps μ-node t) node.Pre
+
+abbrev node-below : ℕ → In 5 node-kinds.ps
+node-below t = and 5 node-kinds.ps (falls 5 node-kinds.ps _<_ μ-node t) node.Pre
+
+abbrev parts-at : ℕ → In 5 parts-kinds.ps
+parts-at t = and 5 parts-kinds.ps (is 5 parts-kinds.ps μ-parts t) parts.Pre
+
+abbrev parts-below : ℕ → In 5 parts-kinds.ps
+parts-below t = and 5 parts-kinds.ps (falls 5 parts-kinds.ps _<_ μ-parts t) parts.Pre
+
+abbrev target-at : ℕ → In 5 target-kinds.ps
+target-at t = and 5 target-kinds.ps (is 5 target-kinds.ps μ-target t) target.Pre
+
+abbrev target-below : ℕ → In 5 target-kinds.ps
+target-below t = and 5 target-kinds.ps (falls 5 target-kinds.ps _<_ μ-target t) target.Pre
+
+abbrev walk-at : ℕ → In 5 walk-kinds.ps
+walk-at t = and 5 walk-kinds.ps (is 5 walk-kinds.ps μ-walk t) walk.Pre
+
+abbrev walk-below : ℕ → In 5 walk-kinds.ps
+walk-below t = and 5 walk-kinds.ps (falls 5 walk-kinds.ps _<_ μ-walk t) walk.Pre
+
+abbrev assignment-knows : ℕ → assignment-lts.Claims
+assignment-knows t = (begin-field-reads.Asked, begin-field-reads.Learnt, assignment-parts-below t, assignment-parts.Post, end-field-reads.Asked, end-field-reads.Learnt)
+
+abbrev assignment-parts-knows : ℕ → assignment-parts-lts.Claims
+assignment-parts-knows t = (extent-reads.Asked, extent-reads.Learnt, target-below t, target.Post, parts-below t, parts.Post)
+
+abbrev block-knows : ℕ → block-lts.Claims
+block-knows t = (set-top-reads.Asked, set-top-reads.Learnt, node-below t, node.Post)
+
+abbrev call-knows : ℕ → call-lts.Claims
+call-knows t = (node-below t, node.Post, required-at-reads.Asked, required-at-reads.Learnt, require-reads.Asked, require-reads.Learnt)
+
+abbrev declarator-knows : ℕ → declarator-lts.Claims
+declarator-knows t = (begin-field-reads.Asked, begin-field-reads.Learnt, declarator-parts-below t, declarator-parts.Post, end-field-reads.Asked, end-field-reads.Learnt)
+
+abbrev declarator-parts-knows : ℕ → declarator-parts-lts.Claims
+declarator-parts-knows t = (extent-reads.Asked, extent-reads.Learnt, walk-below t, walk.Post, initialiser-below t, initialiser.Post)
+
+abbrev initialiser-knows : ℕ → initialiser-lts.Claims
+initialiser-knows t = (extent-reads.Asked, extent-reads.Learnt, required-at-reads.Asked, required-at-reads.Learnt, parts-below t, parts.Post, require-lazily-reads.Asked, require-lazily-reads.Learnt)
+
+abbrev member-knows : ℕ → member-lts.Claims
+member-knows t = (ident-after-reads.Asked, ident-after-reads.Learnt, put-ident-reads.Asked, put-ident-reads.Learnt, target-below t, target.Post, usage-reads.Asked, usage-reads.Learnt)
+
+abbrev member-parts-knows : ℕ → member-parts-lts.Claims
+member-parts-knows t = (extent-reads.Asked, extent-reads.Learnt, walk-below t, walk.Post, parts-below t, parts.Post)
+
+abbrev node-knows : ℕ → node-lts.Claims
+node-knows t = (begin-field-reads.Asked, begin-field-reads.Learnt, parts-below t, parts.Post, end-field-reads.Asked, end-field-reads.Learnt)
+
+abbrev parts-knows : ℕ → parts-lts.Claims
+parts-knows t = (extent-reads.Asked, extent-reads.Learnt, walk-below t, walk.Post)
+
+abbrev target-knows : ℕ → target-lts.Claims
+target-knows t = (fixed-reads.Asked, fixed-reads.Learnt, begin-field-reads.Asked, begin-field-reads.Learnt, member-parts-below t, member-parts.Post, end-field-reads.Asked, end-field-reads.Learnt)
+
+abbrev walk-knows : ℕ → walk-lts.Claims
+walk-knows t = (fixed-reads.Asked, fixed-reads.Learnt, export-specifier-reads.Asked, export-specifier-reads.Learnt, declarator-below t, declarator.Post, block-below t, block.Post, ident-reads.Asked, ident-reads.Learnt, member-below t, member.Post, node-below t, node.Post, call-below t, call.Post, assignment-below t, assignment.Post)
+
+assignment-begin-field-requires : (t : ℕ) → assignment-lts.Need-begin-field-requires (assignment-knows t) (assignment-at t) assignment.Post
+assignment-begin-field-requires t c κs = omega arith
+
+assignment-assignment-parts-requires : (t : ℕ) → assignment-lts.Need-assignment-parts-requires (assignment-knows t) (assignment-at t) assignment.Post
+assignment-assignment-parts-requires t c κs = (omega arith, (omega arith, omega arith, c .before .before .before .before .before .before .before .before .before .before .before .pre .1 .3))
+
+assignment-end-field-requires : (t : ℕ) → assignment-lts.Need-end-field-requires (assignment-knows t) (assignment-at t) assignment.Post
+assignment-end-field-requires t c κs = search needs
+
+assignment-same-length : (t : ℕ) → assignment-lts.Need-same-length (assignment-knows t) (assignment-at t) assignment.Post
+assignment-same-length t c = omega arith
+
+assignment-same-length-2 : (t : ℕ) → assignment-lts.Need-same-length-2 (assignment-knows t) (assignment-at t) assignment.Post
+assignment-same-length-2 t c = omega arith
+
+assignment-returns : (t : ℕ) → assignment-lts.Need-returns (assignment-knows t) (assignment-at t) assignment.Post
+assignment-returns t c = steps-field (c .before .before .before .before .before .before .before .before .assignment-parts .result) (c .before .before .before .before .before .before .before .before .before .before .before .before .before .begin-field .ensures) (c .before .before .before .before .before .before .before .before .assignment-parts .ensures) (c .before .before .end-field .ensures)
+
+assignment-parts-extent-requires : (t : ℕ) → assignment-parts-lts.Need-extent-requires (assignment-parts-knows t) (assignment-parts-at t) assignment-parts.Post
+assignment-parts-extent-requires t c κs = omega arith
+
+assignment-parts-enum-known-stop : (t : ℕ) → assignment-parts-lts.Need-enum-known-stop (assignment-parts-knows t) (assignment-parts-at t) assignment-parts.Post
+assignment-parts-enum-known-stop t c = search needs
+
+assignment-parts-enum-told : (t : ℕ) → assignment-parts-lts.Need-enum-told (assignment-parts-knows t) (assignment-parts-at t) assignment-parts.Post
+assignment-parts-enum-told t c = search needs
+
+assignment-parts-returns : (t : ℕ) → assignment-parts-lts.Need-returns (assignment-parts-knows t) (assignment-parts-at t) assignment-parts.Post
+assignment-parts-returns t c = row-over (c .before .before .before .before .before .before .before .before .args .e) (set (c .before .before .before .before .before .before .before .before .args .e) (c .before .before .before .before .before .before .before .before .args .externals .now) (c .before .before .before .before .before .before .before .before .args .table .now)) (λ i. omega (arith, c .before .before .before .before .before .before .before .shared-slice-known .given i)) (c .before .before .before .before .before .before .before .before .pre .1 .0) (λ fs p. walkAssignment fs (set (c .before .before .before .before .before .before .before .before .args .e) (c .before .before .before .before .before .before .before .before .args .externals .now) (c .before .before .before .before .before .before .before .before .args .table .now)) (c .before .before .before .before .before .before .before .before .args .object) p) (assignment-none (set (c .before .before .before .before .before .before .before .before .args .e) (c .before .before .before .before .before .before .before .before .args .externals .now) (c .before .before .before .before .before .before .before .before .args .table .now)) (c .before .before .before .before .before .before .before .before .args .object)) (sym (c .before .before .extent .ensures) ∙ c .enum-told .given .1) (c .before .before .before .before .before .before .before .before .pre .1 .2)
+
+assignment-parts-target-requires : (t : ℕ) → assignment-parts-lts.Need-target-requires (assignment-parts-knows t) (assignment-parts-at t) assignment-parts.Post
+assignment-parts-target-requires t c κs = let i = extent-upto (c .before .before .before .before .before .before .before .before .before .before .before .args .s .now) (c .before .before .before .before .before .before .before .before .before .before .before .args .from) (c .before .before .before .before .before .before .before .before .before .before .before .args .end) (c .before .before .before .before .before .before .before .before .before .before .before .pre .1 .0) (sym (c .before .before .before .before .before .extent .ensures) ∙ c .before .before .before .stop .given .1) in (omega arith, (omega arith, omega arith, c .before .before .before .before .before .before .before .before .before .before .before .pre .1 .2))
+
+assignment-parts-enum-known-p : (t : ℕ) → assignment-parts-lts.Need-enum-known-p (assignment-parts-knows t) (assignment-parts-at t) assignment-parts.Post
+assignment-parts-enum-known-p t c = search needs
+
+assignment-parts-parts-requires : (t : ℕ) → assignment-parts-lts.Need-parts-requires (assignment-parts-knows t) (assignment-parts-at t) assignment-parts.Post
+assignment-parts-parts-requires t c κs = let i = extent-upto (c .before .before .before .before .before .before .before .before .before .before .before .before .before .before .before .before .before .before .before .before .before .args .s .now) (c .before .before .before .before .before .before .before .before .before .before .before .before .before .before .before .before .before .before .before .before .before .args .from) (c .before .before .before .before .before .before .before .before .before .before .before .before .before .before .before .before .before .before .before .before .before .args .end) (c .before .before .before .before .before .before .before .before .before .before .before .before .before .before .before .before .before .before .before .before .before .pre .1 .0) (sym (c .before .before .before .before .before .before .before .before .before .before .before .before .before .before .before .extent .ensures) ∙ c .before .before .before .before .before .before .before .before .before .before .before .before .before .stop .given .1) in (omega arith, (omega arith, omega arith, c .before .before .before .before .before .before .before .before .before .target .ensures .good))
+
+assignment-parts-enum-known-why : (t : ℕ) → assignment-parts-lts.Need-enum-known-why (assignment-parts-knows t) (assignment-parts-at t) assignment-parts.Post
+assignment-parts-enum-known-why t c = search needs
+
+assignment-parts-same-length : (t : ℕ) → assignment-parts-lts.Need-same-length (assignment-parts-knows t) (assignment-parts-at t) assignment-parts.Post
+assignment-parts-same-length t c = omega arith
+
+assignment-parts-same-length-2 : (t : ℕ) → assignment-parts-lts.Need-same-length-2 (assignment-parts-knows t) (assignment-parts-at t) assignment-parts.Post
+assignment-parts-same-length-2 t c = omega arith
+
+assignment-parts-returns-2 : (t : ℕ) → assignment-parts-lts.Need-returns-2 (assignment-parts-knows t) (assignment-parts-at t) assignment-parts.Post
+assignment-parts-returns-2 t c = row-then (c .before .before .before .before .before .before .before .before .before .before .before .before .before .before .before .before .before .before .before .before .before .before .before .before .before .before .args .e) (set (c .before .before .before .before .before .before .before .before .before .before .before .before .before .before .before .before .before .before .before .before .before .before .before .before .before .before .args .e) (c .before .before .before .before .before .before .before .before .before .before .before .before .before .before .before .before .before .before .before .before .before .before .before .before .before .before .args .externals .now) (c .before .before .before .before .before .before .before .before .before .before .before .before .before .before .before .before .before .before .before .before .before .before .before .before .before .before .args .table .now)) (λ i. omega (arith, c .before .before .before .before .before .before .before .before .before .before .before .before .before .before .before .before .before .before .before .before .before .before .before .before .before .shared-slice-known .given i)) (c .before .before .before .before .before .before .before .before .before .before .before .before .before .before .before .before .before .before .before .before .before .before .before .before .before .before .pre .1 .0) (sym (c .before .before .before .before .before .before .before .before .before .before .before .before .before .before .before .before .before .before .before .before .extent .ensures) ∙ c .before .before .before .before .before .before .before .before .before .before .before .before .before .before .before .before .before .before .stop .given .1) (λ fs p. walkAssignment fs (set (c .before .before .before .before .before .before .before .before .before .before .before .before .before .before .before .before .before .before .before .before .before .before .before .before .before .before .args .e) (c .before .before .before .before .before .before .before .before .before .before .before .before .before .before .before .before .before .before .before .before .before .before .before .before .before .before .args .externals .now) (c .before .before .before .before .before .before .before .before .before .before .before .before .before .before .before .before .before .before .before .before .before .before .before .before .before .before .args .table .now)) (c .before .before .before .before .before .before .before .before .before .before .before .before .before .before .before .before .before .before .before .before .before .before .before .before .before .before .args .object) p) (λ f p. walkTarget f (set (c .before .before .before .before .before .before .before .before .before .before .before .before .before .before .before .before .before .before .before .before .before .before .before .before .before .before .args .e) (c .before .before .before .before .before .before .before .before .before .before .before .before .before .before .before .before .before .before .before .before .before .before .before .before .before .before .args .externals .now) (c .before .before .before .before .before .before .before .before .before .before .before .before .before .before .before .before .before .before .before .before .before .before .before .before .before .before .args .table .now)) p) (c .before .before .before .before .before .before .before .before .before .before .before .before .before .before .before .before .before .before .before .before .before .before .before .before .before .before .args .object) (assignment-more (set (c .before .before .before .before .before .before .before .before .before .before .before .before .before .before .before .before .before .before .before .before .before .before .before .before .before .before .args .e) (c .before .before .before .before .before .before .before .before .before .before .before .before .before .before .before .before .before .before .before .before .before .before .before .before .before .before .args .externals .now) (c .before .before .before .before .before .before .before .before .before .before .before .before .before .before .before .before .before .before .before .before .before .before .before .before .before .before .args .table .now)) (c .before .before .before .before .before .before .before .before .before .before .before .before .before .before .before .before .before .before .before .before .before .before .before .before .before .before .args .object)) (steps-is (c .before .before .before .before .before .before .before .before .before .before .before .before .before .before .target .ensures) (c .before .before .before .before .before .before .before .before .p .given .1)) (c .before .before .before .before .parts .ensures)
+
+assignment-parts-same-length-3 : (t : ℕ) → assignment-parts-lts.Need-same-length-3 (assignment-parts-knows t) (assignment-parts-at t) assignment-parts.Post
+assignment-parts-same-length-3 t c = omega arith
+
+assignment-parts-same-length-4 : (t : ℕ) → assignment-parts-lts.Need-same-length-4 (assignment-parts-knows t) (assignment-parts-at t) assignment-parts.Post
+assignment-parts-same-length-4 t c = omega arith
+
+assignment-parts-returns-3 : (t : ℕ) → assignment-parts-lts.Need-returns-3 (assignment-parts-knows t) (assignment-parts-at t) assignment-parts.Post
+assignment-parts-returns-3 t c = row-turned (c .before .before .before .before .before .before .before .before .before .before .before .before .before .before .before .before .before .before .before .args .e) (set (c .before .before .before .before .before .before .before .before .before .before .before .before .before .before .before .before .before .before .before .args .e) (c .before .before .before .before .before .before .before .before .before .before .before .before .before .before .before .before .before .before .before .args .externals .now) (c .before .before .before .before .before .before .before .before .before .before .before .before .before .before .before .before .before .before .before .args .table .now)) (λ i. omega (arith, c .before .before .before .before .before .before .before .before .before .before .before .before .before .before .before .before .before .before .shared-slice-known .given i)) (c .before .before .before .before .before .before .before .before .before .before .before .before .before .before .before .before .before .before .before .pre .1 .0) (sym (c .before .before .before .before .before .before .before .before .before .before .before .before .before .extent .ensures) ∙ c .before .before .before .before .before .before .before .before .before .before .before .stop .given .1) (λ fs p. walkAssignment fs (set (c .before .before .before .before .before .before .before .before .before .before .before .before .before .before .before .before .before .before .before .args .e) (c .before .before .before .before .before .before .before .before .before .before .before .before .before .before .before .before .before .before .before .args .externals .now) (c .before .before .before .before .before .before .before .before .before .before .before .before .before .before .before .before .before .before .before .args .table .now)) (c .before .before .before .before .before .before .before .before .before .before .before .before .before .before .before .before .before .before .before .args .object) p) (λ f p. walkTarget f (set (c .before .before .before .before .before .before .before .before .before .before .before .before .before .before .before .before .before .before .before .args .e) (c .before .before .before .before .before .before .before .before .before .before .before .before .before .before .before .before .before .before .before .args .externals .now) (c .before .before .before .before .before .before .before .before .before .before .before .before .before .before .before .before .before .before .before .args .table .now)) p) (c .before .before .before .before .before .before .before .before .before .before .before .before .before .before .before .before .before .before .before .args .object) (assignment-more (set (c .before .before .before .before .before .before .before .before .before .before .before .before .before .before .before .before .before .before .before .args .e) (c .before .before .before .before .before .before .before .before .before .before .before .before .before .before .before .before .before .before .before .args .externals .now) (c .before .before .before .before .before .before .before .before .before .before .before .before .before .before .before .before .before .before .before .args .table .now)) (c .before .before .before .before .before .before .before .before .before .before .before .before .before .before .before .before .before .before .before .args .object)) (steps-is (c .before .before .before .before .before .before .before .target .ensures) (c .before .why .given .1))
+
+block-set-top-requires : (t : ℕ) → block-lts.Need-set-top-requires (block-knows t) (block-at t) block.Post
+block-set-top-requires t c κs = c .before .before .before .before .before .before .pre .1 .5
+
+block-node-requires : (t : ℕ) → block-lts.Need-node-requires (block-knows t) (block-at t) block.Post
+block-node-requires t c κs = (omega arith, (omega arith, omega arith, omega arith, c .before .before .before .before .set-top .ensures .good))
+
+block-same-length : (t : ℕ) → block-lts.Need-same-length (block-knows t) (block-at t) block.Post
+block-same-length t c = omega arith
+
+block-same-length-2 : (t : ℕ) → block-lts.Need-same-length-2 (block-knows t) (block-at t) block.Post
+block-same-length-2 t c = omega arith
+
+block-returns : (t : ℕ) → block-lts.Need-returns (block-knows t) (block-at t) block.Post
+block-returns t c = node-45 (c .before .before .before .before .before .before .before .before .before .before .before .before .before .before .before .before .args .e) (set (c .before .before .before .before .before .before .before .before .before .before .before .before .before .before .before .before .args .e) (c .before .before .before .before .before .before .before .before .before .before .before .before .before .before .before .before .args .externals .now) (c .before .before .before .before .before .before .before .before .before .before .before .before .before .before .before .before .args .table .now)) (c .before .before .before .before .before .before .before .before .before .before .before .before .before .before .before .before .args .object) (c .before .before .before .before .before .before .before .before .before .before .before .before .before .before .before .before .args .s .now) (c .before .before .before .before .before .before .before .before .before .before .before .before .before .before .before .before .args .at) (c .before .before .before .before .before .before .before .before .before .before .before .before .before .before .before .before .args .from) (c .before .before .before .before .before .before .before .before .before .before .before .before .before .before .before .before .args .stop) (omega arith) (c .before .before .before .before .before .before .before .before .before .before .before .before .before .before .before .before .pre .1 .3) (c .before .before .before .before .before .before .before .before .before .before .before .before .before .before .before .before .pre .1 .4) (c .before .before .before .before .before .before .before .before .before .before .before .before .before .before .before .before .pre .1 .0) (c .before .before .before .before .before .before .before .before .before .set-top .ensures) (c .before .before .before .before .node .ensures)
+
+call-add-node : (t : ℕ) → call-lts.Need-add-node (call-knows t) (call-at t) call.Post
+call-add-node t c = omega arith
+
+call-node-requires : (t : ℕ) → call-lts.Need-node-requires (call-knows t) (call-at t) call.Post
+call-node-requires t c κs = (omega arith, (omega arith, omega arith, omega arith, c .before .before .before .before .before .before .before .before .pre .1 .3))
+
+call-same-length : (t : ℕ) → call-lts.Need-same-length (call-knows t) (call-at t) call.Post
+call-same-length t c = omega arith
+
+call-same-length-2 : (t : ℕ) → call-lts.Need-same-length-2 (call-knows t) (call-at t) call.Post
+call-same-length-2 t c = omega arith
+
+call-returns : (t : ℕ) → call-lts.Need-returns (call-knows t) (call-at t) call.Post
+call-returns t c = call-second (c .before .before .before .before .before .before .before .before .before .before .before .before .before .args .e) (set (c .before .before .before .before .before .before .before .before .before .before .before .before .before .args .e) (c .before .before .before .before .before .before .before .before .before .before .before .before .before .args .externals .now) (c .before .before .before .before .before .before .before .before .before .before .before .before .before .args .table .now)) (c .before .before .before .before .before .before .before .before .before .before .before .before .before .args .object) (c .before .before .before .before .before .before .before .before .before .before .before .before .before .args .s .now) (λ i. omega (arith, c .before .before .before .before .before .before .before .before .before .before .before .before .shared-slice-known .given i)) (c .before .before .before .before .before .before .before .before .before .before .before .before .before .args .at) (c .before .before .before .before .before .before .before .before .before .before .before .before .before .args .stop) (c .before .before .before .before .before .before .before .before .before .before .before .before .before .pre .1 .1) (c .before .before .before .before .before .before .before .before .before .before .before .before .before .pre .1 .0) (ap passOf (c .before .before .before .before .before .before .before .if1 .taken)) (c .before .before .before .before .node .ensures)
+
+call-required-at-requires : (t : ℕ) → call-lts.Need-required-at-requires (call-knows t) (call-at t) call.Post
+call-required-at-requires t c κs = (omega arith, omega arith, c .before .before .before .before .before .before .before .pre .1 .3)
+
+call-enum-known-literal : (t : ℕ) → call-lts.Need-enum-known-literal (call-knows t) (call-at t) call.Post
+call-enum-known-literal t c = search needs
+
+call-enum-told : (t : ℕ) → call-lts.Need-enum-told (call-knows t) (call-at t) call.Post
+call-enum-told t c = search needs
+
+call-add-node-2 : (t : ℕ) → call-lts.Need-add-node-2 (call-knows t) (call-at t) call.Post
+call-add-node-2 t c = omega arith
+
+call-node-requires-2 : (t : ℕ) → call-lts.Need-node-requires-2 (call-knows t) (call-at t) call.Post
+call-node-requires-2 t c κs = (omega arith, (omega arith, omega arith, omega arith, c .before .before .before .before .before .before .before .before .before .before .before .before .pre .1 .3))
+
+call-same-length-3 : (t : ℕ) → call-lts.Need-same-length-3 (call-knows t) (call-at t) call.Post
+call-same-length-3 t c = omega arith
+
+call-same-length-4 : (t : ℕ) → call-lts.Need-same-length-4 (call-knows t) (call-at t) call.Post
+call-same-length-4 t c = omega arith
+
+call-returns-2 : (t : ℕ) → call-lts.Need-returns-2 (call-knows t) (call-at t) call.Post
+call-returns-2 t c = call-plain (c .before .before .before .before .before .before .before .before .before .before .before .before .before .before .before .before .before .args .e) (set (c .before .before .before .before .before .before .before .before .before .before .before .before .before .before .before .before .before .args .e) (c .before .before .before .before .before .before .before .before .before .before .before .before .before .before .before .before .before .args .externals .now) (c .before .before .before .before .before .before .before .before .before .before .before .before .before .before .before .before .before .args .table .now)) (c .before .before .before .before .before .before .before .before .before .before .before .before .before .before .before .before .before .args .object) (c .before .before .before .before .before .before .before .before .before .before .before .before .before .before .before .before .before .args .s .now) (λ i. omega (arith, c .before .before .before .before .before .before .before .before .before .before .before .before .before .before .before .before .shared-slice-known .given i)) (c .before .before .before .before .before .before .before .before .before .before .before .before .before .before .before .before .before .args .at) (c .before .before .before .before .before .before .before .before .before .before .before .before .before .before .before .before .before .args .stop) (c .before .before .before .before .before .before .before .before .before .before .before .before .before .before .before .before .before .pre .1 .1) (c .before .before .before .before .before .before .before .before .before .before .before .before .before .before .before .before .before .pre .1 .0) (ap passOf (c .before .before .before .before .before .before .before .before .before .before .before .if1 .left)) (tells-as (c .before .before .before .before .before .before .before .before .before .required-at .ensures .1 (rowsIn (c .before .before .before .before .before .before .before .before .before .before .before .before .before .before .before .before .before .args .table .now))) (ap literalBy (c .before .before .before .before .before .before .before .enum-told .given .1))) (c .before .before .before .before .node2 .ensures)
+
+call-add-node-3 : (t : ℕ) → call-lts.Need-add-node-3 (call-knows t) (call-at t) call.Post
+call-add-node-3 t c = omega arith
+
+call-node-requires-3 : (t : ℕ) → call-lts.Need-node-requires-3 (call-knows t) (call-at t) call.Post
+call-node-requires-3 t c κs = (omega arith, (omega arith, omega arith, omega arith, c .before .before .before .before .before .before .before .before .before .before .before .before .before .pre .1 .3))
+
+call-enum-known-p : (t : ℕ) → call-lts.Need-enum-known-p (call-knows t) (call-at t) call.Post
+call-enum-known-p t c = search needs
+
+call-require-requires : (t : ℕ) → call-lts.Need-require-requires (call-knows t) (call-at t) call.Post
+call-require-requires t c κs = (c .before .before .before .before .before .before .before .before .before .node3 .ensures .good, c .before .before .before .before .before .before .before .before .before .before .before .before .before .before .before .required-at .ensures .0 (c .before .before .before .before .before .before .before .before .before .before .before .before .before .literal .given .0 .0) (c .before .before .before .before .before .before .before .before .before .before .before .before .before .literal .given .1))
+
+call-enum-known-why : (t : ℕ) → call-lts.Need-enum-known-why (call-knows t) (call-at t) call.Post
+call-enum-known-why t c = search needs
+
+call-same-length-5 : (t : ℕ) → call-lts.Need-same-length-5 (call-knows t) (call-at t) call.Post
+call-same-length-5 t c = omega arith
+
+call-same-length-6 : (t : ℕ) → call-lts.Need-same-length-6 (call-knows t) (call-at t) call.Post
+call-same-length-6 t c = omega arith
+
+call-returns-3 : (t : ℕ) → call-lts.Need-returns-3 (call-knows t) (call-at t) call.Post
+call-returns-3 t c = call-required (c .before .before .before .before .before .before .before .before .before .before .before .before .before .before .before .before .before .before .before .before .before .before .before .before .before .before .before .before .args .e) (set (c .before .before .before .before .before .before .before .before .before .before .before .before .before .before .before .before .before .before .before .before .before .before .before .before .before .before .before .before .args .e) (c .before .before .before .before .before .before .before .before .before .before .before .before .before .before .before .before .before .before .before .before .before .before .before .before .before .before .before .before .args .externals .now) (c .before .before .before .before .before .before .before .before .before .before .before .before .before .before .before .before .before .before .before .before .before .before .before .before .before .before .before .before .args .table .now)) (c .before .before .before .before .before .before .before .before .before .before .before .before .before .before .before .before .before .before .before .before .before .before .before .before .before .before .before .before .args .object) (c .before .before .before .before .before .before .before .before .before .before .before .before .before .before .before .before .before .before .before .before .before .before .before .before .before .before .before .before .args .s .now) (λ i. omega (arith, c .before .before .before .before .before .before .before .before .before .before .before .before .before .before .before .before .before .before .before .before .before .before .before .before .before .before .before .shared-slice-known .given i)) (c .before .before .before .before .before .before .before .before .before .before .before .before .before .before .before .before .before .before .before .before .before .before .before .before .before .before .before .before .args .at) (c .before .before .before .before .before .before .before .before .before .before .before .before .before .before .before .before .before .before .before .before .before .before .before .before .before .before .before .before .args .stop) (c .before .before .before .before .before .before .before .before .before .before .before .before .before .before .before .before .before .before .before .before .before .before .before .before .before .before .before .before .pre .1 .1) (c .before .before .before .before .before .before .before .before .before .before .before .before .before .before .before .before .before .before .before .before .before .before .before .before .before .before .before .before .pre .1 .0) (ap passOf (c .before .before .before .before .before .before .before .before .before .before .before .before .before .before .before .before .before .before .before .before .before .before .if1 .left)) (c .before .before .before .before .before .before .before .before .before .before .before .before .before .before .before .before .before .before .literal .given .0 .0) (tells-as (c .before .before .before .before .before .before .before .before .before .before .before .before .before .before .before .before .before .before .before .before .required-at .ensures .1 (rowsIn (c .before .before .before .before .before .before .before .before .before .before .before .before .before .before .before .before .before .before .before .before .before .before .before .before .before .before .before .before .args .table .now))) (ap literalBy (c .before .before .before .before .before .before .before .before .before .before .before .before .before .before .before .before .before .before .literal .given .1))) (steps-is (c .before .before .before .before .before .before .before .before .before .before .before .before .before .before .node3 .ensures) (c .before .before .before .before .before .before .before .before .p .given .1)) (c .before .before .before .before .require .ensures) (λ x r. r .nothing)
+
+call-same-length-7 : (t : ℕ) → call-lts.Need-same-length-7 (call-knows t) (call-at t) call.Post
+call-same-length-7 t c = omega arith
+
+call-same-length-8 : (t : ℕ) → call-lts.Need-same-length-8 (call-knows t) (call-at t) call.Post
+call-same-length-8 t c = omega arith
+
+call-returns-4 : (t : ℕ) → call-lts.Need-returns-4 (call-knows t) (call-at t) call.Post
+call-returns-4 t c = call-turned (c .before .before .before .before .before .before .before .before .before .before .before .before .before .before .before .before .before .before .before .before .before .args .e) (set (c .before .before .before .before .before .before .before .before .before .before .before .before .before .before .before .before .before .before .before .before .before .args .e) (c .before .before .before .before .before .before .before .before .before .before .before .before .before .before .before .before .before .before .before .before .before .args .externals .now) (c .before .before .before .before .before .before .before .before .before .before .before .before .before .before .before .before .before .before .before .before .before .args .table .now)) (c .before .before .before .before .before .before .before .before .before .before .before .before .before .before .before .before .before .before .before .before .before .args .object) (c .before .before .before .before .before .before .before .before .before .before .before .before .before .before .before .before .before .before .before .before .before .args .s .now) (λ i. omega (arith, c .before .before .before .before .before .before .before .before .before .before .before .before .before .before .before .before .before .before .before .before .shared-slice-known .given i)) (c .before .before .before .before .before .before .before .before .before .before .before .before .before .before .before .before .before .before .before .before .before .args .at) (c .before .before .before .before .before .before .before .before .before .before .before .before .before .before .before .before .before .before .before .before .before .args .stop) (c .before .before .before .before .before .before .before .before .before .before .before .before .before .before .before .before .before .before .before .before .before .pre .1 .1) (c .before .before .before .before .before .before .before .before .before .before .before .before .before .before .before .before .before .before .before .before .before .pre .1 .0) (ap passOf (c .before .before .before .before .before .before .before .before .before .before .before .before .before .before .before .if1 .left)) (steps-is (c .before .before .before .before .before .before .before .node3 .ensures) (c .before .why .given .1))
+
+declarator-begin-field-requires : (t : ℕ) → declarator-lts.Need-begin-field-requires (declarator-knows t) (declarator-at t) declarator.Post
+declarator-begin-field-requires t c κs = omega arith
+
+declarator-declarator-parts-requires : (t : ℕ) → declarator-lts.Need-declarator-parts-requires (declarator-knows t) (declarator-at t) declarator.Post
+declarator-declarator-parts-requires t c κs = (omega arith, (omega arith, omega arith, omega arith, c .before .before .before .before .before .before .before .before .before .before .before .pre .1 .3))
+
+declarator-end-field-requires : (t : ℕ) → declarator-lts.Need-end-field-requires (declarator-knows t) (declarator-at t) declarator.Post
+declarator-end-field-requires t c κs = search needs
+
+declarator-same-length : (t : ℕ) → declarator-lts.Need-same-length (declarator-knows t) (declarator-at t) declarator.Post
+declarator-same-length t c = omega arith
+
+declarator-same-length-2 : (t : ℕ) → declarator-lts.Need-same-length-2 (declarator-knows t) (declarator-at t) declarator.Post
+declarator-same-length-2 t c = omega arith
+
+declarator-returns : (t : ℕ) → declarator-lts.Need-returns (declarator-knows t) (declarator-at t) declarator.Post
+declarator-returns t c = steps-field (c .before .before .before .before .before .before .before .before .declarator-parts .result) (c .before .before .before .before .before .before .before .before .before .before .before .before .before .begin-field .ensures) (c .before .before .before .before .before .before .before .before .declarator-parts .ensures) (c .before .before .end-field .ensures)
+
+declarator-parts-extent-requires : (t : ℕ) → declarator-parts-lts.Need-extent-requires (declarator-parts-knows t) (declarator-parts-at t) declarator-parts.Post
+declarator-parts-extent-requires t c κs = omega arith
+
+declarator-parts-enum-known-stop : (t : ℕ) → declarator-parts-lts.Need-enum-known-stop (declarator-parts-knows t) (declarator-parts-at t) declarator-parts.Post
+declarator-parts-enum-known-stop t c = search needs
+
+declarator-parts-enum-told : (t : ℕ) → declarator-parts-lts.Need-enum-told (declarator-parts-knows t) (declarator-parts-at t) declarator-parts.Post
+declarator-parts-enum-told t c = search needs
+
+declarator-parts-returns : (t : ℕ) → declarator-parts-lts.Need-returns (declarator-parts-knows t) (declarator-parts-at t) declarator-parts.Post
+declarator-parts-returns t c = declared-over (c .before .before .before .before .before .before .before .before .args .e) (set (c .before .before .before .before .before .before .before .before .args .e) (c .before .before .before .before .before .before .before .before .args .externals .now) (c .before .before .before .before .before .before .before .before .args .table .now)) (c .before .before .before .before .before .before .before .before .args .object) (c .before .before .before .before .before .before .before .before .args .s .now) (λ i. omega (arith, c .before .before .before .before .before .before .before .shared-slice-known .given i)) (c .before .before .before .before .before .before .before .before .args .from) (c .before .before .before .before .before .before .before .before .args .end) (c .before .before .before .before .before .before .before .before .args .at) (c .before .before .before .before .before .before .before .before .pre .1 .1) (sym (c .before .before .extent .ensures) ∙ c .enum-told .given .1) (c .before .before .before .before .before .before .before .before .pre .1 .3)
+
+declarator-parts-walk-requires : (t : ℕ) → declarator-parts-lts.Need-walk-requires (declarator-parts-knows t) (declarator-parts-at t) declarator-parts.Post
+declarator-parts-walk-requires t c κs = let i = extent-upto (c .before .before .before .before .before .before .before .before .before .before .before .args .s .now) (c .before .before .before .before .before .before .before .before .before .before .before .args .from) (c .before .before .before .before .before .before .before .before .before .before .before .args .end) (c .before .before .before .before .before .before .before .before .before .before .before .pre .1 .1) (sym (c .before .before .before .before .before .extent .ensures) ∙ c .before .before .before .stop .given .1) in (omega arith, (omega arith, omega arith, c .before .before .before .before .before .before .before .before .before .before .before .pre .1 .3))
+
+declarator-parts-enum-known-p : (t : ℕ) → declarator-parts-lts.Need-enum-known-p (declarator-parts-knows t) (declarator-parts-at t) declarator-parts.Post
+declarator-parts-enum-known-p t c = search needs
+
+declarator-parts-initialiser-requires : (t : ℕ) → declarator-parts-lts.Need-initialiser-requires (declarator-parts-knows t) (declarator-parts-at t) declarator-parts.Post
+declarator-parts-initialiser-requires t c κs = let i = extent-upto (c .before .before .before .before .before .before .before .before .before .before .before .before .before .before .before .before .before .before .before .before .before .args .s .now) (c .before .before .before .before .before .before .before .before .before .before .before .before .before .before .before .before .before .before .before .before .before .args .from) (c .before .before .before .before .before .before .before .before .before .before .before .before .before .before .before .before .before .before .before .before .before .args .end) (c .before .before .before .before .before .before .before .before .before .before .before .before .before .before .before .before .before .before .before .before .before .pre .1 .1) (sym (c .before .before .before .before .before .before .before .before .before .before .before .before .before .before .before .extent .ensures) ∙ c .before .before .before .before .before .before .before .before .before .before .before .before .before .stop .given .1) in (omega arith, (omega arith, omega arith, c .before .before .before .before .before .before .before .before .before .walk .ensures .good))
+
+declarator-parts-enum-known-why : (t : ℕ) → declarator-parts-lts.Need-enum-known-why (declarator-parts-knows t) (declarator-parts-at t) declarator-parts.Post
+declarator-parts-enum-known-why t c = search needs
+
+declarator-parts-same-length : (t : ℕ) → declarator-parts-lts.Need-same-length (declarator-parts-knows t) (declarator-parts-at t) declarator-parts.Post
+declarator-parts-same-length t c = omega arith
+
+declarator-parts-same-length-2 : (t : ℕ) → declarator-parts-lts.Need-same-length-2 (declarator-parts-knows t) (declarator-parts-at t) declarator-parts.Post
+declarator-parts-same-length-2 t c = omega arith
+
+declarator-parts-returns-2 : (t : ℕ) → declarator-parts-lts.Need-returns-2 (declarator-parts-knows t) (declarator-parts-at t) declarator-parts.Post
+declarator-parts-returns-2 t c = declared-then (c .before .before .before .before .before .before .before .before .before .before .before .before .before .before .before .before .before .before .before .before .before .before .before .before .before .before .args .e) (set (c .before .before .before .before .before .before .before .before .before .before .before .before .before .before .before .before .before .before .before .before .before .before .before .before .before .before .args .e) (c .before .before .before .before .before .before .before .before .before .before .before .before .before .before .before .before .before .before .before .before .before .before .before .before .before .before .args .externals .now) (c .before .before .before .before .before .before .before .before .before .before .before .before .before .before .before .before .before .before .before .before .before .before .before .before .before .before .args .table .now)) (c .before .before .before .before .before .before .before .before .before .before .before .before .before .before .before .before .before .before .before .before .before .before .before .before .before .before .args .object) (c .before .before .before .before .before .before .before .before .before .before .before .before .before .before .before .before .before .before .before .before .before .before .before .before .before .before .args .s .now) (λ i. omega (arith, c .before .before .before .before .before .before .before .before .before .before .before .before .before .before .before .before .before .before .before .before .before .before .before .before .before .shared-slice-known .given i)) (c .before .before .before .before .before .before .before .before .before .before .before .before .before .before .before .before .before .before .before .before .before .before .before .before .before .before .args .from) (c .before .before .before .before .before .before .before .before .before .before .before .before .before .before .before .before .before .before .before .before .before .before .before .before .before .before .args .end) (c .before .before .before .before .before .before .before .before .before .before .before .before .before .before .before .before .before .before .before .before .before .before .before .before .before .before .args .at) (c .before .before .before .before .before .before .before .before .before .before .before .before .before .before .before .before .before .before .before .before .before .before .before .before .before .before .pre .1 .1) (c .before .before .before .before .before .before .before .before .before .before .before .before .before .before .before .before .before .before .stop .given .0 .0) (sym (c .before .before .before .before .before .before .before .before .before .before .before .before .before .before .before .before .before .before .before .before .extent .ensures) ∙ c .before .before .before .before .before .before .before .before .before .before .before .before .before .before .before .before .before .before .stop .given .1) (omega (arith, c .before .before .before .before .before .before .before .before .before .before .before .before .before .before .before .before .before .before .before .before .before .before .before .before .before .before .pre .1 .0)) (steps-is (c .before .before .before .before .before .before .before .before .before .before .before .before .before .before .walk .ensures) (c .before .before .before .before .before .before .before .before .p .given .1)) (c .before .before .before .before .initialiser .ensures)
+
+declarator-parts-same-length-3 : (t : ℕ) → declarator-parts-lts.Need-same-length-3 (declarator-parts-knows t) (declarator-parts-at t) declarator-parts.Post
+declarator-parts-same-length-3 t c = omega arith
+
+declarator-parts-same-length-4 : (t : ℕ) → declarator-parts-lts.Need-same-length-4 (declarator-parts-knows t) (declarator-parts-at t) declarator-parts.Post
+declarator-parts-same-length-4 t c = omega arith
+
+declarator-parts-returns-3 : (t : ℕ) → declarator-parts-lts.Need-returns-3 (declarator-parts-knows t) (declarator-parts-at t) declarator-parts.Post
+declarator-parts-returns-3 t c = declared-turned (c .before .before .before .before .before .before .before .before .before .before .before .before .before .before .before .before .before .before .before .args .e) (set (c .before .before .before .before .before .before .before .before .before .before .before .before .before .before .before .before .before .before .before .args .e) (c .before .before .before .before .before .before .before .before .before .before .before .before .before .before .before .before .before .before .before .args .externals .now) (c .before .before .before .before .before .before .before .before .before .before .before .before .before .before .before .before .before .before .before .args .table .now)) (c .before .before .before .before .before .before .before .before .before .before .before .before .before .before .before .before .before .before .before .args .object) (c .before .before .before .before .before .before .before .before .before .before .before .before .before .before .before .before .before .before .before .args .s .now) (λ i. omega (arith, c .before .before .before .before .before .before .before .before .before .before .before .before .before .before .before .before .before .before .shared-slice-known .given i)) (c .before .before .before .before .before .before .before .before .before .before .before .before .before .before .before .before .before .before .before .args .from) (c .before .before .before .before .before .before .before .before .before .before .before .before .before .before .before .before .before .before .before .args .end) (c .before .before .before .before .before .before .before .before .before .before .before .before .before .before .before .before .before .before .before .args .at) (c .before .before .before .before .before .before .before .before .before .before .before .before .before .before .before .before .before .before .before .pre .1 .1) (c .before .before .before .before .before .before .before .before .before .before .before .stop .given .0 .0) (sym (c .before .before .before .before .before .before .before .before .before .before .before .before .before .extent .ensures) ∙ c .before .before .before .before .before .before .before .before .before .before .before .stop .given .1) (steps-is (c .before .before .before .before .before .before .before .walk .ensures) (c .before .why .given .1))
+
+initialiser-extent-requires : (t : ℕ) → initialiser-lts.Need-extent-requires (initialiser-knows t) (initialiser-at t) initialiser.Post
+initialiser-extent-requires t c κs = omega arith
+
+initialiser-enum-known-stop : (t : ℕ) → initialiser-lts.Need-enum-known-stop (initialiser-knows t) (initialiser-at t) initialiser.Post
+initialiser-enum-known-stop t c = search needs
+
+initialiser-enum-told : (t : ℕ) → initialiser-lts.Need-enum-told (initialiser-knows t) (initialiser-at t) initialiser.Post
+initialiser-enum-told t c = search needs
+
+initialiser-returns : (t : ℕ) → initialiser-lts.Need-returns (initialiser-knows t) (initialiser-at t) initialiser.Post
+initialiser-returns t c = λ q. behind-over (c .before .before .before .before .before .before .before .before .args .e) (set (c .before .before .before .before .before .before .before .before .args .e) (c .before .before .before .before .before .before .before .before .args .externals .now) (c .before .before .before .before .before .before .before .before .args .table .now)) (c .before .before .before .before .before .before .before .before .args .object) (c .before .before .before .before .before .before .before .before .args .s .now) (λ i. omega (arith, c .before .before .before .before .before .before .before .shared-slice-known .given i)) (c .before .before .before .before .before .before .before .before .args .from) (c .before .before .before .before .before .before .before .before .args .end) (c .before .before .before .before .before .before .before .before .args .at) (placeIn (c .before .before .before .before .before .before .before .before .args .e .second) (c .before .before .before .before .before .before .before .before .args .pattern)) (c .before .before .before .before .before .before .before .before .pre .1 .0) q (sym (c .before .before .extent .ensures) ∙ c .enum-told .given .1) (c .before .before .before .before .before .before .before .before .pre .1 .2)
+
+initialiser-required-at-requires : (t : ℕ) → initialiser-lts.Need-required-at-requires (initialiser-knows t) (initialiser-at t) initialiser.Post
+initialiser-required-at-requires t c κs = let i = extent-upto (c .before .before .before .before .before .before .before .before .before .before .args .s .now) (c .before .before .before .before .before .before .before .before .before .before .args .from) (c .before .before .before .before .before .before .before .before .before .before .args .end) (c .before .before .before .before .before .before .before .before .before .before .pre .1 .0) (sym (c .before .before .before .before .extent .ensures) ∙ c .before .before .stop .given .1) in (omega arith, omega arith, c .before .before .before .before .before .before .before .before .before .before .pre .1 .2)
+
+initialiser-enum-known-literal : (t : ℕ) → initialiser-lts.Need-enum-known-literal (initialiser-knows t) (initialiser-at t) initialiser.Post
+initialiser-enum-known-literal t c = search needs
+
+initialiser-enum-told-2 : (t : ℕ) → initialiser-lts.Need-enum-told-2 (initialiser-knows t) (initialiser-at t) initialiser.Post
+initialiser-enum-told-2 t c = search needs
+
+initialiser-parts-requires : (t : ℕ) → initialiser-lts.Need-parts-requires (initialiser-knows t) (initialiser-at t) initialiser.Post
+initialiser-parts-requires t c κs = (omega arith, (omega arith, omega arith, c .before .before .before .before .before .before .before .before .before .before .before .before .before .before .before .pre .1 .2))
+
+initialiser-same-length : (t : ℕ) → initialiser-lts.Need-same-length (initialiser-knows t) (initialiser-at t) initialiser.Post
+initialiser-same-length t c = omega arith
+
+initialiser-same-length-2 : (t : ℕ) → initialiser-lts.Need-same-length-2 (initialiser-knows t) (initialiser-at t) initialiser.Post
+initialiser-same-length-2 t c = omega arith
+
+initialiser-returns-2 : (t : ℕ) → initialiser-lts.Need-returns-2 (initialiser-knows t) (initialiser-at t) initialiser.Post
+initialiser-returns-2 t c = λ q. behind-plain (c .before .before .before .before .before .before .before .before .before .before .before .before .before .before .before .before .before .before .before .before .args .e) (set (c .before .before .before .before .before .before .before .before .before .before .before .before .before .before .before .before .before .before .before .before .args .e) (c .before .before .before .before .before .before .before .before .before .before .before .before .before .before .before .before .before .before .before .before .args .externals .now) (c .before .before .before .before .before .before .before .before .before .before .before .before .before .before .before .before .before .before .before .before .args .table .now)) (c .before .before .before .before .before .before .before .before .before .before .before .before .before .before .before .before .before .before .before .before .args .object) (c .before .before .before .before .before .before .before .before .before .before .before .before .before .before .before .before .before .before .before .before .args .s .now) (λ i. omega (arith, c .before .before .before .before .before .before .before .before .before .before .before .before .before .before .before .before .before .before .before .shared-slice-known .given i)) (c .before .before .before .before .before .before .before .before .before .before .before .before .before .before .before .before .before .before .before .before .args .from) (c .before .before .before .before .before .before .before .before .before .before .before .before .before .before .before .before .before .before .before .before .args .end) (c .before .before .before .before .before .before .before .before .before .before .before .before .before .before .before .before .before .before .before .before .args .at) (placeIn (c .before .before .before .before .before .before .before .before .before .before .before .before .before .before .before .before .before .before .before .before .args .e .second) (c .before .before .before .before .before .before .before .before .before .before .before .before .before .before .before .before .before .before .before .before .args .pattern)) (c .before .before .before .before .before .before .before .before .before .before .before .before .before .before .before .before .before .before .before .before .pre .1 .0) q (c .before .before .before .before .before .before .before .before .before .before .before .before .stop .given .0 .0) (sym (c .before .before .before .before .before .before .before .before .before .before .before .before .before .before .extent .ensures) ∙ c .before .before .before .before .before .before .before .before .before .before .before .before .stop .given .1) (tells-as (c .before .before .before .before .before .before .before .before .before .required-at .ensures .1 (rowsIn (c .before .before .before .before .before .before .before .before .before .before .before .before .before .before .before .before .before .before .before .before .args .table .now))) (ap literalBy (c .before .before .before .before .before .before .before .enum-told2 .given .1))) (c .before .before .before .before .parts .ensures)
+
+initialiser-parts-requires-2 : (t : ℕ) → initialiser-lts.Need-parts-requires-2 (initialiser-knows t) (initialiser-at t) initialiser.Post
+initialiser-parts-requires-2 t c κs = (omega arith, (omega arith, omega arith, c .before .before .before .before .before .before .before .before .before .before .before .before .before .before .before .before .pre .1 .2))
+
+initialiser-enum-known-p : (t : ℕ) → initialiser-lts.Need-enum-known-p (initialiser-knows t) (initialiser-at t) initialiser.Post
+initialiser-enum-known-p t c = search needs
+
+initialiser-require-lazily-requires : (t : ℕ) → initialiser-lts.Need-require-lazily-requires (initialiser-knows t) (initialiser-at t) initialiser.Post
+initialiser-require-lazily-requires t c κs = (c .before .before .before .before .before .before .before .before .before .parts2 .ensures .good, c .before .before .before .before .before .before .before .before .before .before .before .before .before .before .before .required-at .ensures .0 (c .before .before .before .before .before .before .before .before .before .before .before .before .before .literal .given .0 .0) (c .before .before .before .before .before .before .before .before .before .before .before .before .before .literal .given .1))
+
+initialiser-enum-known-why : (t : ℕ) → initialiser-lts.Need-enum-known-why (initialiser-knows t) (initialiser-at t) initialiser.Post
+initialiser-enum-known-why t c = search needs
+
+initialiser-same-length-3 : (t : ℕ) → initialiser-lts.Need-same-length-3 (initialiser-knows t) (initialiser-at t) initialiser.Post
+initialiser-same-length-3 t c = omega arith
+
+initialiser-same-length-4 : (t : ℕ) → initialiser-lts.Need-same-length-4 (initialiser-knows t) (initialiser-at t) initialiser.Post
+initialiser-same-length-4 t c = omega arith
+
+initialiser-returns-3 : (t : ℕ) → initialiser-lts.Need-returns-3 (initialiser-knows t) (initialiser-at t) initialiser.Post
+initialiser-returns-3 t c = λ q. behind-required (c .before .before .before .before .before .before .before .before .before .before .before .before .before .before .before .before .before .before .before .before .before .before .before .before .before .before .before .before .before .before .before .args .e) (set (c .before .before .before .before .before .before .before .before .before .before .before .before .before .before .before .before .before .before .before .before .before .before .before .before .before .before .before .before .before .before .before .args .e) (c .before .before .before .before .before .before .before .before .before .before .before .before .before .before .before .before .before .before .before .before .before .before .before .before .before .before .before .before .before .before .before .args .externals .now) (c .before .before .before .before .before .before .before .before .before .before .before .before .before .before .before .before .before .before .before .before .before .before .before .before .before .before .before .before .before .before .before .args .table .now)) (c .before .before .before .before .before .before .before .before .before .before .before .before .before .before .before .before .before .before .before .before .before .before .before .before .before .before .before .before .before .before .before .args .object) (c .before .before .before .before .before .before .before .before .before .before .before .before .before .before .before .before .before .before .before .before .before .before .before .before .before .before .before .before .before .before .before .args .s .now) (λ i. omega (arith, c .before .before .before .before .before .before .before .before .before .before .before .before .before .before .before .before .before .before .before .before .before .before .before .before .before .before .before .before .before .before .shared-slice-known .given i)) (c .before .before .before .before .before .before .before .before .before .before .before .before .before .before .before .before .before .before .before .before .before .before .before .before .before .before .before .before .before .before .before .args .from) (c .before .before .before .before .before .before .before .before .before .before .before .before .before .before .before .before .before .before .before .before .before .before .before .before .before .before .before .before .before .before .before .args .end) (c .before .before .before .before .before .before .before .before .before .before .before .before .before .before .before .before .before .before .before .before .before .before .before .before .before .before .before .before .before .before .before .args .at) (placeIn (c .before .before .before .before .before .before .before .before .before .before .before .before .before .before .before .before .before .before .before .before .before .before .before .before .before .before .before .before .before .before .before .args .e .second) (c .before .before .before .before .before .before .before .before .before .before .before .before .before .before .before .before .before .before .before .before .before .before .before .before .before .before .before .before .before .before .before .args .pattern)) (c .before .before .before .before .before .before .before .before .before .before .before .before .before .before .before .before .before .before .before .before .before .before .before .before .before .before .before .before .before .before .before .pre .1 .0) q (c .before .before .before .before .before .before .before .before .before .before .before .before .before .before .before .before .before .before .before .before .before .before .before .stop .given .0 .0) (sym (c .before .before .before .before .before .before .before .before .before .before .before .before .before .before .before .before .before .before .before .before .before .before .before .before .before .extent .ensures) ∙ c .before .before .before .before .before .before .before .before .before .before .before .before .before .before .before .before .before .before .before .before .before .before .before .stop .given .1) (c .before .before .before .before .before .before .before .before .before .before .before .before .before .before .before .before .before .before .literal .given .0 .0) (tells-as (c .before .before .before .before .before .before .before .before .before .before .before .before .before .before .before .before .before .before .before .before .required-at .ensures .1 (rowsIn (c .before .before .before .before .before .before .before .before .before .before .before .before .before .before .before .before .before .before .before .before .before .before .before .before .before .before .before .before .before .before .before .args .table .now))) (ap literalBy (c .before .before .before .before .before .before .before .before .before .before .before .before .before .before .before .before .before .before .literal .given .1))) (steps-is (c .before .before .before .before .before .before .before .before .before .before .before .before .before .before .parts2 .ensures) (c .before .before .before .before .before .before .before .before .p .given .1)) (c .before .before .before .before .require-lazily .ensures q)
+
+initialiser-same-length-5 : (t : ℕ) → initialiser-lts.Need-same-length-5 (initialiser-knows t) (initialiser-at t) initialiser.Post
+initialiser-same-length-5 t c = omega arith
+
+initialiser-same-length-6 : (t : ℕ) → initialiser-lts.Need-same-length-6 (initialiser-knows t) (initialiser-at t) initialiser.Post
+initialiser-same-length-6 t c = omega arith
+
+initialiser-returns-4 : (t : ℕ) → initialiser-lts.Need-returns-4 (initialiser-knows t) (initialiser-at t) initialiser.Post
+initialiser-returns-4 t c = λ q. behind-turned (c .before .before .before .before .before .before .before .before .before .before .before .before .before .before .before .before .before .before .before .before .before .before .before .before .args .e) (set (c .before .before .before .before .before .before .before .before .before .before .before .before .before .before .before .before .before .before .before .before .before .before .before .before .args .e) (c .before .before .before .before .before .before .before .before .before .before .before .before .before .before .before .before .before .before .before .before .before .before .before .before .args .externals .now) (c .before .before .before .before .before .before .before .before .before .before .before .before .before .before .before .before .before .before .before .before .before .before .before .before .args .table .now)) (c .before .before .before .before .before .before .before .before .before .before .before .before .before .before .before .before .before .before .before .before .before .before .before .before .args .object) (c .before .before .before .before .before .before .before .before .before .before .before .before .before .before .before .before .before .before .before .before .before .before .before .before .args .s .now) (λ i. omega (arith, c .before .before .before .before .before .before .before .before .before .before .before .before .before .before .before .before .before .before .before .before .before .before .before .shared-slice-known .given i)) (c .before .before .before .before .before .before .before .before .before .before .before .before .before .before .before .before .before .before .before .before .before .before .before .before .args .from) (c .before .before .before .before .before .before .before .before .before .before .before .before .before .before .before .before .before .before .before .before .before .before .before .before .args .end) (c .before .before .before .before .before .before .before .before .before .before .before .before .before .before .before .before .before .before .before .before .before .before .before .before .args .at) (placeIn (c .before .before .before .before .before .before .before .before .before .before .before .before .before .before .before .before .before .before .before .before .before .before .before .before .args .e .second) (c .before .before .before .before .before .before .before .before .before .before .before .before .before .before .before .before .before .before .before .before .before .before .before .before .args .pattern)) (c .before .before .before .before .before .before .before .before .before .before .before .before .before .before .before .before .before .before .before .before .before .before .before .before .pre .1 .0) q (c .before .before .before .before .before .before .before .before .before .before .before .before .before .before .before .before .stop .given .0 .0) (sym (c .before .before .before .before .before .before .before .before .before .before .before .before .before .before .before .before .before .before .extent .ensures) ∙ c .before .before .before .before .before .before .before .before .before .before .before .before .before .before .before .before .stop .given .1) (steps-is (c .before .before .before .before .before .before .before .parts2 .ensures) (c .before .why .given .1))
+
+member-ident-after-requires : (t : ℕ) → member-lts.Need-ident-after-requires (member-knows t) (member-at t) member.Post
+member-ident-after-requires t c κs = (omega arith, omega arith, c .before .before .before .before .before .before .before .pre .1 .3)
+
+member-enum-known-id : (t : ℕ) → member-lts.Need-enum-known-id (member-knows t) (member-at t) member.Post
+member-enum-known-id t c = search needs
+
+member-put-ident-requires : (t : ℕ) → member-lts.Need-put-ident-requires (member-knows t) (member-at t) member.Post
+member-put-ident-requires t c κs = c .before .before .before .before .ident-after .ensures .0 (c .before .before .id .given .0 .0) (c .before .before .id .given .1)
+
+member-enum-told : (t : ℕ) → member-lts.Need-enum-told (member-knows t) (member-at t) member.Post
+member-enum-told t c = search needs
+
+member-target-requires : (t : ℕ) → member-lts.Need-target-requires (member-knows t) (member-at t) member.Post
+member-target-requires t c κs = (omega arith, (omega arith, omega arith, c .before .before .before .before .before .before .before .before .before .before .before .before .pre .1 .3))
+
+member-same-length : (t : ℕ) → member-lts.Need-same-length (member-knows t) (member-at t) member.Post
+member-same-length t c = omega arith
+
+member-same-length-2 : (t : ℕ) → member-lts.Need-same-length-2 (member-knows t) (member-at t) member.Post
+member-same-length-2 t c = omega arith
+
+member-returns : (t : ℕ) → member-lts.Need-returns (member-knows t) (member-at t) member.Post
+member-returns t c = member-ident (c .before .before .before .before .before .before .before .before .before .before .before .before .before .before .before .args .e) (set (c .before .before .before .before .before .before .before .before .before .before .before .before .before .before .before .args .e) (c .before .before .before .before .before .before .before .before .before .before .before .before .before .before .before .args .externals .now) (c .before .before .before .before .before .before .before .before .before .before .before .before .before .before .before .args .table .now)) (c .before .before .before .before .before .before .before .before .before .before .before .before .before .before .before .args .s .now) (c .before .before .before .before .before .before .before .before .before .before .before .before .before .before .before .args .at) (c .before .before .before .before .before .before .before .before .before .before .before .before .before .before .before .args .stop) (c .before .before .before .before .before .before .before .before .before .before .before .before .before .before .before .args .object) (c .before .before .before .before .before .id .given .0 .0) (c .before .before .before .before .before .before .before .before .before .before .before .before .before .before .before .pre .1 .3) (ap passOf (c .before .before .before .before .before .before .before .before .before .if1 .taken)) (tells-as (c .before .before .before .before .before .before .before .ident-after .ensures .1) (ap identBy (c .before .before .before .before .before .id .given .1))) (c .before .before .put-ident .ensures)
+
+member-same-length-3 : (t : ℕ) → member-lts.Need-same-length-3 (member-knows t) (member-at t) member.Post
+member-same-length-3 t c = omega arith
+
+member-same-length-4 : (t : ℕ) → member-lts.Need-same-length-4 (member-knows t) (member-at t) member.Post
+member-same-length-4 t c = omega arith
+
+member-returns-2 : (t : ℕ) → member-lts.Need-returns-2 (member-knows t) (member-at t) member.Post
+member-returns-2 t c = member-other (c .before .before .before .before .before .before .before .before .before .before .before .before .before .before .before .before .before .args .e) (set (c .before .before .before .before .before .before .before .before .before .before .before .before .before .before .before .before .before .args .e) (c .before .before .before .before .before .before .before .before .before .before .before .before .before .before .before .before .before .args .externals .now) (c .before .before .before .before .before .before .before .before .before .before .before .before .before .before .before .before .before .args .table .now)) (c .before .before .before .before .before .before .before .before .before .before .before .before .before .before .before .before .before .args .object) (c .before .before .before .before .before .before .before .before .before .before .before .before .before .before .before .before .before .args .s .now) (c .before .before .before .before .before .before .before .before .before .before .before .before .before .before .before .before .before .args .at) (c .before .before .before .before .before .before .before .before .before .before .before .before .before .before .before .before .before .args .stop) (c .before .before .before .before .before .before .before .before .before .before .before .before .before .before .before .before .before .pre .1 .1) (c .before .before .before .before .before .before .before .before .before .before .before .before .before .before .before .before .before .pre .1 .0) (ap passOf (c .before .before .before .before .before .before .before .before .before .before .before .if1 .taken)) (tells-as (c .before .before .before .before .before .before .before .before .before .ident-after .ensures .1) (ap identBy (c .before .before .before .before .before .before .before .enum-told .given .1))) (c .before .before .before .before .target .ensures)
+
+member-target-requires-2 : (t : ℕ) → member-lts.Need-target-requires-2 (member-knows t) (member-at t) member.Post
+member-target-requires-2 t c κs = (omega arith, (omega arith, omega arith, c .before .before .before .before .before .before .before .before .pre .1 .3))
+
+member-enum-known-p : (t : ℕ) → member-lts.Need-enum-known-p (member-knows t) (member-at t) member.Post
+member-enum-known-p t c = search needs
+
+member-usage-requires : (t : ℕ) → member-lts.Need-usage-requires (member-knows t) (member-at t) member.Post
+member-usage-requires t c κs = (omega arith, omega arith, c .before .before .before .before .before .before .before .before .before .before .before .before .before .before .before .before .before .pre .1 .0, c .before .before .before .before .before .before .before .before .target2 .ensures .good)
+
+member-enum-told-2 : (t : ℕ) → member-lts.Need-enum-told-2 (member-knows t) (member-at t) member.Post
+member-enum-told-2 t c = search needs
+
+member-enum-known-why : (t : ℕ) → member-lts.Need-enum-known-why (member-knows t) (member-at t) member.Post
+member-enum-known-why t c = search needs
+
+member-enum-known-why-2 : (t : ℕ) → member-lts.Need-enum-known-why-2 (member-knows t) (member-at t) member.Post
+member-enum-known-why-2 t c = search needs
+
+member-same-length-5 : (t : ℕ) → member-lts.Need-same-length-5 (member-knows t) (member-at t) member.Post
+member-same-length-5 t c = omega arith
+
+member-same-length-6 : (t : ℕ) → member-lts.Need-same-length-6 (member-knows t) (member-at t) member.Post
+member-same-length-6 t c = omega arith
+
+member-returns-3 : (t : ℕ) → member-lts.Need-returns-3 (member-knows t) (member-at t) member.Post
+member-returns-3 t c = member-used (c .before .before .before .before .before .before .before .before .before .before .before .before .before .before .before .before .before .before .before .before .before .before .args .e) (set (c .before .before .before .before .before .before .before .before .before .before .before .before .before .before .before .before .before .before .before .before .before .before .args .e) (c .before .before .before .before .before .before .before .before .before .before .before .before .before .before .before .before .before .before .before .before .before .before .args .externals .now) (c .before .before .before .before .before .before .before .before .before .before .before .before .before .before .before .before .before .before .before .before .before .before .args .table .now)) (c .before .before .before .before .before .before .before .before .before .before .before .before .before .before .before .before .before .before .before .before .before .before .args .object) (c .before .before .before .before .before .before .before .before .before .before .before .before .before .before .before .before .before .before .before .before .before .before .args .s .now) (c .before .before .before .before .before .before .before .before .before .before .before .before .before .before .before .before .before .before .before .before .before .before .args .at) (c .before .before .before .before .before .before .before .before .before .before .before .before .before .before .before .before .before .before .before .before .before .before .args .stop) (c .before .before .before .before .before .before .before .before .before .before .before .before .before .before .before .before .before .before .before .before .before .before .pre .1 .1) (c .before .before .before .before .before .before .before .before .before .before .before .before .before .before .before .before .before .before .before .before .before .before .pre .1 .0) (ap passOf (c .before .before .before .before .before .before .before .before .before .before .before .before .before .before .before .before .if1 .left)) (steps-is (c .before .before .before .before .before .before .before .before .before .before .before .before .before .target2 .ensures) (c .before .before .before .before .before .before .before .p .given .1)) (effects-fine (c .before .before .before .before .usage .ensures (atomsIn (c .before .before .before .before .before .before .before .before .before .before .before .before .before .before .before .before .before .before .before .before .before .before .args .externals .now))) (c .enum-told2 .given .1))
+
+member-same-length-7 : (t : ℕ) → member-lts.Need-same-length-7 (member-knows t) (member-at t) member.Post
+member-same-length-7 t c = omega arith
+
+member-same-length-8 : (t : ℕ) → member-lts.Need-same-length-8 (member-knows t) (member-at t) member.Post
+member-same-length-8 t c = omega arith
+
+member-returns-4 : (t : ℕ) → member-lts.Need-returns-4 (member-knows t) (member-at t) member.Post
+member-returns-4 t c = member-used (c .before .before .before .before .before .before .before .before .before .before .before .before .before .before .before .before .before .before .before .before .before .before .before .args .e) (set (c .before .before .before .before .before .before .before .before .before .before .before .before .before .before .before .before .before .before .before .before .before .before .before .args .e) (c .before .before .before .before .before .before .before .before .before .before .before .before .before .before .before .before .before .before .before .before .before .before .before .args .externals .now) (c .before .before .before .before .before .before .before .before .before .before .before .before .before .before .before .before .before .before .before .before .before .before .before .args .table .now)) (c .before .before .before .before .before .before .before .before .before .before .before .before .before .before .before .before .before .before .before .before .before .before .before .args .object) (c .before .before .before .before .before .before .before .before .before .before .before .before .before .before .before .before .before .before .before .before .before .before .before .args .s .now) (c .before .before .before .before .before .before .before .before .before .before .before .before .before .before .before .before .before .before .before .before .before .before .before .args .at) (c .before .before .before .before .before .before .before .before .before .before .before .before .before .before .before .before .before .before .before .before .before .before .before .args .stop) (c .before .before .before .before .before .before .before .before .before .before .before .before .before .before .before .before .before .before .before .before .before .before .before .pre .1 .1) (c .before .before .before .before .before .before .before .before .before .before .before .before .before .before .before .before .before .before .before .before .before .before .before .pre .1 .0) (ap passOf (c .before .before .before .before .before .before .before .before .before .before .before .before .before .before .before .before .before .if1 .left)) (steps-is (c .before .before .before .before .before .before .before .before .before .before .before .before .before .before .target2 .ensures) (c .before .before .before .before .before .before .before .before .p .given .1)) (effects-turned (c .before .before .before .before .before .usage .ensures (atomsIn (c .before .before .before .before .before .before .before .before .before .before .before .before .before .before .before .before .before .before .before .before .before .before .before .args .externals .now))) (c .before .why .given .1))
+
+member-same-length-9 : (t : ℕ) → member-lts.Need-same-length-9 (member-knows t) (member-at t) member.Post
+member-same-length-9 t c = omega arith
+
+member-same-length-10 : (t : ℕ) → member-lts.Need-same-length-10 (member-knows t) (member-at t) member.Post
+member-same-length-10 t c = omega arith
+
+member-returns-5 : (t : ℕ) → member-lts.Need-returns-5 (member-knows t) (member-at t) member.Post
+member-returns-5 t c = member-turned (c .before .before .before .before .before .before .before .before .before .before .before .before .before .before .before .before .args .e) (set (c .before .before .before .before .before .before .before .before .before .before .before .before .before .before .before .before .args .e) (c .before .before .before .before .before .before .before .before .before .before .before .before .before .before .before .before .args .externals .now) (c .before .before .before .before .before .before .before .before .before .before .before .before .before .before .before .before .args .table .now)) (c .before .before .before .before .before .before .before .before .before .before .before .before .before .before .before .before .args .object) (c .before .before .before .before .before .before .before .before .before .before .before .before .before .before .before .before .args .s .now) (c .before .before .before .before .before .before .before .before .before .before .before .before .before .before .before .before .args .at) (c .before .before .before .before .before .before .before .before .before .before .before .before .before .before .before .before .args .stop) (c .before .before .before .before .before .before .before .before .before .before .before .before .before .before .before .before .pre .1 .1) (c .before .before .before .before .before .before .before .before .before .before .before .before .before .before .before .before .pre .1 .0) (ap passOf (c .before .before .before .before .before .before .before .before .before .before .if1 .left)) (steps-is (c .before .before .before .before .before .before .before .target2 .ensures) (c .before .why2 .given .1))
+
+member-parts-extent-requires : (t : ℕ) → member-parts-lts.Need-extent-requires (member-parts-knows t) (member-parts-at t) member-parts.Post
+member-parts-extent-requires t c κs = omega arith
+
+member-parts-enum-known-stop : (t : ℕ) → member-parts-lts.Need-enum-known-stop (member-parts-knows t) (member-parts-at t) member-parts.Post
+member-parts-enum-known-stop t c = search needs
+
+member-parts-enum-told : (t : ℕ) → member-parts-lts.Need-enum-told (member-parts-knows t) (member-parts-at t) member-parts.Post
+member-parts-enum-told t c = search needs
+
+member-parts-returns : (t : ℕ) → member-parts-lts.Need-returns (member-parts-knows t) (member-parts-at t) member-parts.Post
+member-parts-returns t c = row-over (c .before .before .before .before .before .before .before .before .args .e) (set (c .before .before .before .before .before .before .before .before .args .e) (c .before .before .before .before .before .before .before .before .args .externals .now) (c .before .before .before .before .before .before .before .before .args .table .now)) (λ i. omega (arith, c .before .before .before .before .before .before .before .shared-slice-known .given i)) (c .before .before .before .before .before .before .before .before .pre .1 .0) (λ fs p. walkMember fs (set (c .before .before .before .before .before .before .before .before .args .e) (c .before .before .before .before .before .before .before .before .args .externals .now) (c .before .before .before .before .before .before .before .before .args .table .now)) p) (member-none (set (c .before .before .before .before .before .before .before .before .args .e) (c .before .before .before .before .before .before .before .before .args .externals .now) (c .before .before .before .before .before .before .before .before .args .table .now))) (sym (c .before .before .extent .ensures) ∙ c .enum-told .given .1) (c .before .before .before .before .before .before .before .before .pre .1 .2)
+
+member-parts-walk-requires : (t : ℕ) → member-parts-lts.Need-walk-requires (member-parts-knows t) (member-parts-at t) member-parts.Post
+member-parts-walk-requires t c κs = let i = extent-upto (c .before .before .before .before .before .before .before .before .before .before .before .args .s .now) (c .before .before .before .before .before .before .before .before .before .before .before .args .from) (c .before .before .before .before .before .before .before .before .before .before .before .args .end) (c .before .before .before .before .before .before .before .before .before .before .before .pre .1 .0) (sym (c .before .before .before .before .before .extent .ensures) ∙ c .before .before .before .stop .given .1) in (omega arith, (omega arith, omega arith, c .before .before .before .before .before .before .before .before .before .before .before .pre .1 .2))
+
+member-parts-enum-known-p : (t : ℕ) → member-parts-lts.Need-enum-known-p (member-parts-knows t) (member-parts-at t) member-parts.Post
+member-parts-enum-known-p t c = search needs
+
+member-parts-parts-requires : (t : ℕ) → member-parts-lts.Need-parts-requires (member-parts-knows t) (member-parts-at t) member-parts.Post
+member-parts-parts-requires t c κs = let i = extent-upto (c .before .before .before .before .before .before .before .before .before .before .before .before .before .before .before .before .before .before .before .before .before .args .s .now) (c .before .before .before .before .before .before .before .before .before .before .before .before .before .before .before .before .before .before .before .before .before .args .from) (c .before .before .before .before .before .before .before .before .before .before .before .before .before .before .before .before .before .before .before .before .before .args .end) (c .before .before .before .before .before .before .before .before .before .before .before .before .before .before .before .before .before .before .before .before .before .pre .1 .0) (sym (c .before .before .before .before .before .before .before .before .before .before .before .before .before .before .before .extent .ensures) ∙ c .before .before .before .before .before .before .before .before .before .before .before .before .before .stop .given .1) in (omega arith, (omega arith, omega arith, c .before .before .before .before .before .before .before .before .before .walk .ensures .good))
+
+member-parts-enum-known-why : (t : ℕ) → member-parts-lts.Need-enum-known-why (member-parts-knows t) (member-parts-at t) member-parts.Post
+member-parts-enum-known-why t c = search needs
+
+member-parts-same-length : (t : ℕ) → member-parts-lts.Need-same-length (member-parts-knows t) (member-parts-at t) member-parts.Post
+member-parts-same-length t c = omega arith
+
+member-parts-same-length-2 : (t : ℕ) → member-parts-lts.Need-same-length-2 (member-parts-knows t) (member-parts-at t) member-parts.Post
+member-parts-same-length-2 t c = omega arith
+
+member-parts-returns-2 : (t : ℕ) → member-parts-lts.Need-returns-2 (member-parts-knows t) (member-parts-at t) member-parts.Post
+member-parts-returns-2 t c = row-then (c .before .before .before .before .before .before .before .before .before .before .before .before .before .before .before .before .before .before .before .before .before .before .before .before .before .before .args .e) (set (c .before .before .before .before .before .before .before .before .before .before .before .before .before .before .before .before .before .before .before .before .before .before .before .before .before .before .args .e) (c .before .before .before .before .before .before .before .before .before .before .before .before .before .before .before .before .before .before .before .before .before .before .before .before .before .before .args .externals .now) (c .before .before .before .before .before .before .before .before .before .before .before .before .before .before .before .before .before .before .before .before .before .before .before .before .before .before .args .table .now)) (λ i. omega (arith, c .before .before .before .before .before .before .before .before .before .before .before .before .before .before .before .before .before .before .before .before .before .before .before .before .before .shared-slice-known .given i)) (c .before .before .before .before .before .before .before .before .before .before .before .before .before .before .before .before .before .before .before .before .before .before .before .before .before .before .pre .1 .0) (sym (c .before .before .before .before .before .before .before .before .before .before .before .before .before .before .before .before .before .before .before .before .extent .ensures) ∙ c .before .before .before .before .before .before .before .before .before .before .before .before .before .before .before .before .before .before .stop .given .1) (λ fs p. walkMember fs (set (c .before .before .before .before .before .before .before .before .before .before .before .before .before .before .before .before .before .before .before .before .before .before .before .before .before .before .args .e) (c .before .before .before .before .before .before .before .before .before .before .before .before .before .before .before .before .before .before .before .before .before .before .before .before .before .before .args .externals .now) (c .before .before .before .before .before .before .before .before .before .before .before .before .before .before .before .before .before .before .before .before .before .before .before .before .before .before .args .table .now)) p) (λ f p. walk-rule f (set (c .before .before .before .before .before .before .before .before .before .before .before .before .before .before .before .before .before .before .before .before .before .before .before .before .before .before .args .e) (c .before .before .before .before .before .before .before .before .before .before .before .before .before .before .before .before .before .before .before .before .before .before .before .before .before .before .args .externals .now) (c .before .before .before .before .before .before .before .before .before .before .before .before .before .before .before .before .before .before .before .before .before .before .before .before .before .before .args .table .now)) true p) false (member-more (set (c .before .before .before .before .before .before .before .before .before .before .before .before .before .before .before .before .before .before .before .before .before .before .before .before .before .before .args .e) (c .before .before .before .before .before .before .before .before .before .before .before .before .before .before .before .before .before .before .before .before .before .before .before .before .before .before .args .externals .now) (c .before .before .before .before .before .before .before .before .before .before .before .before .before .before .before .before .before .before .before .before .before .before .before .before .before .before .args .table .now))) (steps-is (c .before .before .before .before .before .before .before .before .before .before .before .before .before .before .walk .ensures) (c .before .before .before .before .before .before .before .before .p .given .1)) (c .before .before .before .before .parts .ensures)
+
+member-parts-same-length-3 : (t : ℕ) → member-parts-lts.Need-same-length-3 (member-parts-knows t) (member-parts-at t) member-parts.Post
+member-parts-same-length-3 t c = omega arith
+
+member-parts-same-length-4 : (t : ℕ) → member-parts-lts.Need-same-length-4 (member-parts-knows t) (member-parts-at t) member-parts.Post
+member-parts-same-length-4 t c = omega arith
+
+member-parts-returns-3 : (t : ℕ) → member-parts-lts.Need-returns-3 (member-parts-knows t) (member-parts-at t) member-parts.Post
+member-parts-returns-3 t c = row-turned (c .before .before .before .before .before .before .before .before .before .before .before .before .before .before .before .before .before .before .before .args .e) (set (c .before .before .before .before .before .before .before .before .before .before .before .before .before .before .before .before .before .before .before .args .e) (c .before .before .before .before .before .before .before .before .before .before .before .before .before .before .before .before .before .before .before .args .externals .now) (c .before .before .before .before .before .before .before .before .before .before .before .before .before .before .before .before .before .before .before .args .table .now)) (λ i. omega (arith, c .before .before .before .before .before .before .before .before .before .before .before .before .before .before .before .before .before .before .shared-slice-known .given i)) (c .before .before .before .before .before .before .before .before .before .before .before .before .before .before .before .before .before .before .before .pre .1 .0) (sym (c .before .before .before .before .before .before .before .before .before .before .before .before .before .extent .ensures) ∙ c .before .before .before .before .before .before .before .before .before .before .before .stop .given .1) (λ fs p. walkMember fs (set (c .before .before .before .before .before .before .before .before .before .before .before .before .before .before .before .before .before .before .before .args .e) (c .before .before .before .before .before .before .before .before .before .before .before .before .before .before .before .before .before .before .before .args .externals .now) (c .before .before .before .before .before .before .before .before .before .before .before .before .before .before .before .before .before .before .before .args .table .now)) p) (λ f p. walk-rule f (set (c .before .before .before .before .before .before .before .before .before .before .before .before .before .before .before .before .before .before .before .args .e) (c .before .before .before .before .before .before .before .before .before .before .before .before .before .before .before .before .before .before .before .args .externals .now) (c .before .before .before .before .before .before .before .before .before .before .before .before .before .before .before .before .before .before .before .args .table .now)) true p) false (member-more (set (c .before .before .before .before .before .before .before .before .before .before .before .before .before .before .before .before .before .before .before .args .e) (c .before .before .before .before .before .before .before .before .before .before .before .before .before .before .before .before .before .before .before .args .externals .now) (c .before .before .before .before .before .before .before .before .before .before .before .before .before .before .before .before .before .before .before .args .table .now))) (steps-is (c .before .before .before .before .before .before .before .walk .ensures) (c .before .why .given .1))
+
+node-begin-field-requires : (t : ℕ) → node-lts.Need-begin-field-requires (node-knows t) (node-at t) node.Post
+node-begin-field-requires t c κs = omega arith
+
+node-parts-requires : (t : ℕ) → node-lts.Need-parts-requires (node-knows t) (node-at t) node.Post
+node-parts-requires t c κs = (omega arith, (omega arith, omega arith, c .before .before .before .before .before .before .before .before .before .before .before .pre .1 .3))
+
+node-end-field-requires : (t : ℕ) → node-lts.Need-end-field-requires (node-knows t) (node-at t) node.Post
+node-end-field-requires t c κs = search needs
+
+node-same-length : (t : ℕ) → node-lts.Need-same-length (node-knows t) (node-at t) node.Post
+node-same-length t c = omega arith
+
+node-same-length-2 : (t : ℕ) → node-lts.Need-same-length-2 (node-knows t) (node-at t) node.Post
+node-same-length-2 t c = omega arith
+
+node-returns : (t : ℕ) → node-lts.Need-returns (node-knows t) (node-at t) node.Post
+node-returns t c = steps-field (c .before .before .before .before .before .before .before .before .parts .result) (c .before .before .before .before .before .before .before .before .before .before .before .before .before .begin-field .ensures) (c .before .before .before .before .before .before .before .before .parts .ensures) (c .before .before .end-field .ensures)
+
+abbrev parts-Inv-loop : parts-lts.InvT-loop
+parts-Inv-loop s from end object e externals table t₀ out₀ o at₀ to₀ t out at to = Going e (set e externals table) object s from end t₀ out₀ o t out at to
+
+abbrev parts-μ-loop : parts-lts.MeasureT-loop
+parts-μ-loop s from end object e externals table t₀ out₀ o at₀ to₀ t out at to = end - at
+
+parts-loop-holds : (t : ℕ) → parts-lts.Need-loop-holds (parts-knows t) (parts-at t) parts.Post parts-Inv-loop parts-μ-loop
+parts-loop-holds t c = going-start (c .before .before .before .before .before .pre .1 .2) (c .before .before .before .before .before .pre .1 .0)
+
+parts-extent-requires : (t : ℕ) → parts-lts.Need-extent-requires (parts-knows t) (parts-at t) parts.Post parts-Inv-loop parts-μ-loop
+parts-extent-requires t c κs = (c .loop .inv .inside, c .before .before .before .before .before .before .pre .1 .1)
+
+parts-enum-known-stop : (t : ℕ) → parts-lts.Need-enum-known-stop (parts-knows t) (parts-at t) parts.Post parts-Inv-loop parts-μ-loop
+parts-enum-known-stop t c = search needs
+
+parts-enum-told : (t : ℕ) → parts-lts.Need-enum-told (parts-knows t) (parts-at t) parts.Post parts-Inv-loop parts-μ-loop
+parts-enum-told t c = search needs
+
+parts-same-length : (t : ℕ) → parts-lts.Need-same-length (parts-knows t) (parts-at t) parts.Post parts-Inv-loop parts-μ-loop
+parts-same-length t c = omega arith
+
+parts-same-length-2 : (t : ℕ) → parts-lts.Need-same-length-2 (parts-knows t) (parts-at t) parts.Post parts-Inv-loop parts-μ-loop
+parts-same-length-2 t c = omega arith
+
+parts-returns : (t : ℕ) → parts-lts.Need-returns (parts-knows t) (parts-at t) parts.Post parts-Inv-loop parts-μ-loop
+parts-returns t c = going-over (λ i. omega (arith, c .before .before .before .before .before .before .before .before .shared-slice-known .given i)) (c .before .before .before .loop .inv) (sym (c .before .before .extent .ensures) ∙ c .enum-told .given .1)
+
+parts-walk-requires : (t : ℕ) → parts-lts.Need-walk-requires (parts-knows t) (parts-at t) parts.Post parts-Inv-loop parts-μ-loop
+parts-walk-requires t c κs = let i = extent-upto (c .before .before .before .before .before .before .before .before .before .before .before .before .args .s .now) (c .before .before .before .before .before .before .loop .at) (c .before .before .before .before .before .before .before .before .before .before .before .before .args .end) (c .before .before .before .before .before .before .loop .inv .inside) (sym (c .before .before .before .before .before .extent .ensures) ∙ c .before .before .before .stop .given .1) in let a = c .before .before .before .before .before .before .loop .inv .after in (omega arith, (omega arith, omega arith, c .before .before .before .before .before .before .loop .inv .good))
+
+parts-enum-known-p : (t : ℕ) → parts-lts.Need-enum-known-p (parts-knows t) (parts-at t) parts.Post parts-Inv-loop parts-μ-loop
+parts-enum-known-p t c = search needs
+
+parts-loop-less : (t : ℕ) → parts-lts.Need-loop-less (parts-knows t) (parts-at t) parts.Post parts-Inv-loop parts-μ-loop
+parts-loop-less t c = let i = extent-upto (c .before .before .before .before .before .before .before .before .before .before .before .before .before .before .before .before .before .before .before .before .args .s .now) (c .before .before .before .before .before .before .before .before .before .before .before .before .before .before .loop .at) (c .before .before .before .before .before .before .before .before .before .before .before .before .before .before .before .before .before .before .before .before .args .end) (c .before .before .before .before .before .before .before .before .before .before .before .before .before .before .loop .inv .inside) (sym (c .before .before .before .before .before .before .before .before .before .before .before .before .before .extent .ensures) ∙ c .before .before .before .before .before .before .before .before .before .before .before .stop .given .1) in omega arith
+
+parts-loop-again : (t : ℕ) → parts-lts.Need-loop-again (parts-knows t) (parts-at t) parts.Post parts-Inv-loop parts-μ-loop
+parts-loop-again t c = going-more (λ i. omega (arith, c .before .before .before .before .before .before .before .before .before .before .before .before .before .before .before .before .before .before .before .shared-slice-known .given i)) (c .before .before .before .before .before .before .before .before .before .before .before .before .before .before .loop .inv) (sym (c .before .before .before .before .before .before .before .before .before .before .before .before .before .extent .ensures) ∙ c .before .before .before .before .before .before .before .before .before .before .before .stop .given .1) (c .before .before .before .before .before .before .before .walk .ensures) (c .before .p .given .1) (omega arith)
+
+parts-enum-known-why : (t : ℕ) → parts-lts.Need-enum-known-why (parts-knows t) (parts-at t) parts.Post parts-Inv-loop parts-μ-loop
+parts-enum-known-why t c = search needs
+
+parts-same-length-3 : (t : ℕ) → parts-lts.Need-same-length-3 (parts-knows t) (parts-at t) parts.Post parts-Inv-loop parts-μ-loop
+parts-same-length-3 t c = omega arith
+
+parts-same-length-4 : (t : ℕ) → parts-lts.Need-same-length-4 (parts-knows t) (parts-at t) parts.Post parts-Inv-loop parts-μ-loop
+parts-same-length-4 t c = omega arith
+
+parts-returns-2 : (t : ℕ) → parts-lts.Need-returns-2 (parts-knows t) (parts-at t) parts.Post parts-Inv-loop parts-μ-loop
+parts-returns-2 t c = going-turned (λ i. omega (arith, c .before .before .before .before .before .before .before .before .before .before .before .before .before .before .before .before .before .before .before .shared-slice-known .given i)) (c .before .before .before .before .before .before .before .before .before .before .before .before .before .before .loop .inv) (sym (c .before .before .before .before .before .before .before .before .before .before .before .before .before .extent .ensures) ∙ c .before .before .before .before .before .before .before .before .before .before .before .stop .given .1) (c .before .before .before .before .before .before .before .walk .ensures) (c .before .why .given .1)
+
+target-shared-slice-read-fixed : (t : ℕ) → target-lts.Need-shared-slice-read-fixed (target-knows t) (target-at t) target.Post
+target-shared-slice-read-fixed t c = omega arith
+
+target-add-fixed : (t : ℕ) → target-lts.Need-add-fixed (target-knows t) (target-at t) target.Post
+target-add-fixed t c = omega arith
+
+target-fixed-requires : (t : ℕ) → target-lts.Need-fixed-requires (target-knows t) (target-at t) target.Post
+target-fixed-requires t c κs = omega arith
+
+target-enum-known-from : (t : ℕ) → target-lts.Need-enum-known-from (target-knows t) (target-at t) target.Post
+target-enum-known-from t c = search needs
+
+target-enum-told : (t : ℕ) → target-lts.Need-enum-told (target-knows t) (target-at t) target.Post
+target-enum-told t c = search needs
+
+target-returns : (t : ℕ) → target-lts.Need-returns (target-knows t) (target-at t) target.Post
+target-returns t c = walk-short (c .before .before .before .before .before .before .before .before .before .args .e) _ _ (c .before .before .before .before .before .before .before .before .before .pre .1 .2) (sym (c .before .before .fixed .ensures) ∙ c .enum-told .given .1)
+
+target-begin-field-requires : (t : ℕ) → target-lts.Need-begin-field-requires (target-knows t) (target-at t) target.Post
+target-begin-field-requires t c κs = let i = upto-in (c .before .before .before .before .before .before .before .before .before .before .before .args .s .now) (getD (c .before .before .before .before .before .before .before .before .before .before .before .args .s .now) (c .before .before .before .before .before .before .before .before .before .before .before .args .at) 0) (c .before .before .before .before .before .before .before .before .before .before .before .args .at + 3) (c .before .before .before .before .before .before .before .before .before .before .before .args .stop) (c .before .before .before .before .before .before .before .before .before .before .before .pre .1 .0) (sym (c .before .before .before .before .fixed .ensures) ∙ c .before .before .from .given .1) in omega arith
+
+target-member-parts-requires : (t : ℕ) → target-lts.Need-member-parts-requires (target-knows t) (target-at t) target.Post
+target-member-parts-requires t c κs = let i = upto-in (c .before .before .before .before .before .before .before .before .before .before .before .before .before .before .before .before .args .s .now) (getD (c .before .before .before .before .before .before .before .before .before .before .before .before .before .before .before .before .args .s .now) (c .before .before .before .before .before .before .before .before .before .before .before .before .before .before .before .before .args .at) 0) (c .before .before .before .before .before .before .before .before .before .before .before .before .before .before .before .before .args .at + 3) (c .before .before .before .before .before .before .before .before .before .before .before .before .before .before .before .before .args .stop) (c .before .before .before .before .before .before .before .before .before .before .before .before .before .before .before .before .pre .1 .0) (sym (c .before .before .before .before .before .before .before .before .before .fixed .ensures) ∙ c .before .before .before .before .before .before .before .from .given .1) in (omega arith, (omega arith, omega arith, c .before .before .before .before .before .before .before .before .before .before .before .before .before .before .before .before .pre .1 .2))
+
+target-end-field-requires : (t : ℕ) → target-lts.Need-end-field-requires (target-knows t) (target-at t) target.Post
+target-end-field-requires t c κs = search needs
+
+target-same-length : (t : ℕ) → target-lts.Need-same-length (target-knows t) (target-at t) target.Post
+target-same-length t c = omega arith
+
+target-same-length-2 : (t : ℕ) → target-lts.Need-same-length-2 (target-knows t) (target-at t) target.Post
+target-same-length-2 t c = omega arith
+
+target-returns-2 : (t : ℕ) → target-lts.Need-returns-2 (target-knows t) (target-at t) target.Post
+target-returns-2 t c = node-target (c .before .before .before .before .before .before .before .before .before .before .before .before .before .before .before .before .before .before .before .before .before .before .before .before .before .args .e) (set (c .before .before .before .before .before .before .before .before .before .before .before .before .before .before .before .before .before .before .before .before .before .before .before .before .before .args .e) (c .before .before .before .before .before .before .before .before .before .before .before .before .before .before .before .before .before .before .before .before .before .before .before .before .before .args .externals .now) (c .before .before .before .before .before .before .before .before .before .before .before .before .before .before .before .before .before .before .before .before .before .before .before .before .before .args .table .now)) false (c .before .before .before .before .before .before .before .before .before .before .before .before .before .before .before .before .before .before .before .before .before .before .before .before .before .args .s .now) (c .before .before .before .before .before .before .before .before .before .before .before .before .before .before .before .before .before .before .before .before .before .before .before .before .before .args .at) (c .before .before .before .before .before .before .before .before .before .before .before .before .before .before .before .before .from .given .0 .0) (c .before .before .before .before .before .before .before .before .before .before .before .before .before .before .before .before .before .before .before .before .before .before .before .before .before .args .stop) (c .before .before .before .before .before .before .before .before .before .before .before .before .before .before .before .before .before .before .before .before .before .before .before .before .before .pre .1 .0) (c .before .before .before .before .before .before .before .before .before .before .before .before .before .before .before .before .before .before .before .before .before .before .before .before .before .pre .1 .1) (sym (c .before .before .before .before .before .before .before .before .before .before .before .before .before .before .before .before .before .before .fixed .ensures) ∙ c .before .before .before .before .before .before .before .before .before .before .before .before .before .before .before .before .from .given .1) (steps-field (c .before .before .before .before .before .before .before .before .member-parts .result) (c .before .before .before .before .before .before .before .before .before .before .before .before .before .begin-field .ensures) (c .before .before .before .before .before .before .before .before .member-parts .ensures) (c .before .before .end-field .ensures))
+
+walk-shared-slice-read-tag : (t : ℕ) → walk-lts.Need-shared-slice-read-tag (walk-knows t) (walk-at t) walk.Post
+walk-shared-slice-read-tag t c = omega arith
+
+walk-add-fixed : (t : ℕ) → walk-lts.Need-add-fixed (walk-knows t) (walk-at t) walk.Post
+walk-add-fixed t c = omega arith
+
+walk-fixed-requires : (t : ℕ) → walk-lts.Need-fixed-requires (walk-knows t) (walk-at t) walk.Post
+walk-fixed-requires t c κs = omega arith
+
+walk-enum-known-from : (t : ℕ) → walk-lts.Need-enum-known-from (walk-knows t) (walk-at t) walk.Post
+walk-enum-known-from t c = search needs
+
+walk-enum-told : (t : ℕ) → walk-lts.Need-enum-told (walk-knows t) (walk-at t) walk.Post
+walk-enum-told t c = search needs
+
+walk-returns : (t : ℕ) → walk-lts.Need-returns (walk-knows t) (walk-at t) walk.Post
+walk-returns t c = walk-short (c .before .before .before .before .before .before .before .before .before .args .e) _ _ (c .before .before .before .before .before .before .before .before .before .pre .1 .2) (sym (c .before .before .fixed .ensures) ∙ c .enum-told .given .1)
+
+walk-export-specifier-requires : (t : ℕ) → walk-lts.Need-export-specifier-requires (walk-knows t) (walk-at t) walk.Post
+walk-export-specifier-requires t c κs = (omega arith, omega arith, c .before .before .match2 .keys1, subst (λ (n : ℕ). fixedAt (c .before .before .before .before .before .before .before .before .before .before .before .before .before .args .s .now) n (c .before .before .before .before .before .before .before .before .before .before .before .before .before .args .at + 3) (c .before .before .before .before .before .before .before .before .before .before .before .before .before .args .stop) ≡ Upto (c .before .before .before .before .from .given .0 .0)) (c .before .before .match2 .keys1) (sym (c .before .before .before .before .before .before .fixed .ensures) ∙ c .before .before .before .before .from .given .1), c .before .before .before .before .before .before .before .before .before .before .before .before .before .pre .1 .2)
+
+walk-declarator-requires : (t : ℕ) → walk-lts.Need-declarator-requires (walk-knows t) (walk-at t) walk.Post
+walk-declarator-requires t c κs = let i = upto-in (c .before .before .before .before .before .before .before .before .before .before .before .before .before .args .s .now) (getD (c .before .before .before .before .before .before .before .before .before .before .before .before .before .args .s .now) (c .before .before .before .before .before .before .before .before .before .before .before .before .before .args .at) 0) (c .before .before .before .before .before .before .before .before .before .before .before .before .before .args .at + 3) (c .before .before .before .before .before .before .before .before .before .before .before .before .before .args .stop) (c .before .before .before .before .before .before .before .before .before .before .before .before .before .pre .1 .0) (sym (c .before .before .before .before .before .before .fixed .ensures) ∙ c .before .before .before .before .from .given .1) in (omega arith, (omega arith, omega arith, omega arith, c .before .before .before .before .before .before .before .before .before .before .before .before .before .pre .1 .2))
+
+walk-block-requires : (t : ℕ) → walk-lts.Need-block-requires (walk-knows t) (walk-at t) walk.Post
+walk-block-requires t c κs = let i = upto-in (c .before .before .before .before .before .before .before .before .before .before .before .before .before .args .s .now) (getD (c .before .before .before .before .before .before .before .before .before .before .before .before .before .args .s .now) (c .before .before .before .before .before .before .before .before .before .before .before .before .before .args .at) 0) (c .before .before .before .before .before .before .before .before .before .before .before .before .before .args .at + 3) (c .before .before .before .before .before .before .before .before .before .before .before .before .before .args .stop) (c .before .before .before .before .before .before .before .before .before .before .before .before .before .pre .1 .0) (sym (c .before .before .before .before .before .before .fixed .ensures) ∙ c .before .before .before .before .from .given .1) in (omega arith, (c .before .before .match2 .keys3, omega arith, omega arith, omega arith, (sym (c .before .before .before .before .before .before .fixed .ensures) ∙ c .before .before .before .before .from .given .1), c .before .before .before .before .before .before .before .before .before .before .before .before .before .pre .1 .2))
+
+walk-ident-requires : (t : ℕ) → walk-lts.Need-ident-requires (walk-knows t) (walk-at t) walk.Post
+walk-ident-requires t c κs = let i = upto-in (c .before .before .before .before .before .before .before .before .before .before .before .before .before .args .s .now) (getD (c .before .before .before .before .before .before .before .before .before .before .before .before .before .args .s .now) (c .before .before .before .before .before .before .before .before .before .before .before .before .before .args .at) 0) (c .before .before .before .before .before .before .before .before .before .before .before .before .before .args .at + 3) (c .before .before .before .before .before .before .before .before .before .before .before .before .before .args .stop) (c .before .before .before .before .before .before .before .before .before .before .before .before .before .pre .1 .0) (sym (c .before .before .before .before .before .before .fixed .ensures) ∙ c .before .before .before .before .from .given .1) in let n = ends-60 (c .before .before .before .before .before .before .before .before .before .before .before .before .before .args .s .now) (getD (c .before .before .before .before .before .before .before .before .before .before .before .before .before .args .s .now) (c .before .before .before .before .before .before .before .before .before .before .before .before .before .args .at) 0) (c .before .before .before .before .before .before .before .before .before .before .before .before .before .args .at + 3) (c .before .before .before .before .before .before .before .before .before .before .before .before .before .args .stop) (c .before .before .before .before .from .given .0 .0) (c .before .before .match2 .keys4) (sym (c .before .before .before .before .before .before .fixed .ensures) ∙ c .before .before .before .before .from .given .1) in (c .before .before .match2 .keys4, omega arith, omega arith, c .before .before .before .before .before .before .before .before .before .before .before .before .before .pre .1 .2)
+
+walk-member-requires : (t : ℕ) → walk-lts.Need-member-requires (walk-knows t) (walk-at t) walk.Post
+walk-member-requires t c κs = (omega arith, (c .before .before .match2 .keys5, omega arith, omega arith, c .before .before .before .before .before .before .before .before .before .before .before .before .before .pre .1 .2))
+
+walk-node-requires : (t : ℕ) → walk-lts.Need-node-requires (walk-knows t) (walk-at t) walk.Post
+walk-node-requires t c κs = let i = upto-in (c .before .before .before .before .before .before .before .before .before .before .before .before .before .args .s .now) (getD (c .before .before .before .before .before .before .before .before .before .before .before .before .before .args .s .now) (c .before .before .before .before .before .before .before .before .before .before .before .before .before .args .at) 0) (c .before .before .before .before .before .before .before .before .before .before .before .before .before .args .at + 3) (c .before .before .before .before .before .before .before .before .before .before .before .before .before .args .stop) (c .before .before .before .before .before .before .before .before .before .before .before .before .before .pre .1 .0) (sym (c .before .before .before .before .before .before .fixed .ensures) ∙ c .before .before .before .before .from .given .1) in (omega arith, (omega arith, omega arith, omega arith, c .before .before .before .before .before .before .before .before .before .before .before .before .before .pre .1 .2))
+
+walk-call-requires : (t : ℕ) → walk-lts.Need-call-requires (walk-knows t) (walk-at t) walk.Post
+walk-call-requires t c κs = (omega arith, (c .before .before .match2 .keys7, omega arith, omega arith, c .before .before .before .before .before .before .before .before .before .before .before .before .before .pre .1 .2))
+
+walk-assignment-requires : (t : ℕ) → walk-lts.Need-assignment-requires (walk-knows t) (walk-at t) walk.Post
+walk-assignment-requires t c κs = let i = upto-in (c .before .before .before .before .before .before .before .before .before .before .before .before .before .args .s .now) (getD (c .before .before .before .before .before .before .before .before .before .before .before .before .before .args .s .now) (c .before .before .before .before .before .before .before .before .before .before .before .before .before .args .at) 0) (c .before .before .before .before .before .before .before .before .before .before .before .before .before .args .at + 3) (c .before .before .before .before .before .before .before .before .before .before .before .before .before .args .stop) (c .before .before .before .before .before .before .before .before .before .before .before .before .before .pre .1 .0) (sym (c .before .before .before .before .before .before .fixed .ensures) ∙ c .before .before .before .before .from .given .1) in (omega arith, (omega arith, omega arith, omega arith, c .before .before .before .before .before .before .before .before .before .before .before .before .before .pre .1 .2))
+
+walk-node-requires-2 : (t : ℕ) → walk-lts.Need-node-requires-2 (walk-knows t) (walk-at t) walk.Post
+walk-node-requires-2 t c κs = let i = upto-in (c .before .before .before .before .before .before .before .before .before .before .before .before .before .before .before .args .s .now) (getD (c .before .before .before .before .before .before .before .before .before .before .before .before .before .before .before .args .s .now) (c .before .before .before .before .before .before .before .before .before .before .before .before .before .before .before .args .at) 0) (c .before .before .before .before .before .before .before .before .before .before .before .before .before .before .before .args .at + 3) (c .before .before .before .before .before .before .before .before .before .before .before .before .before .before .before .args .stop) (c .before .before .before .before .before .before .before .before .before .before .before .before .before .before .before .pre .1 .0) (sym (c .before .before .before .before .before .before .before .before .fixed .ensures) ∙ c .before .before .before .before .before .before .from .given .1) in (omega arith, (omega arith, omega arith, omega arith, c .before .before .before .before .before .before .before .before .before .before .before .before .before .before .before .pre .1 .2))
+
+walk-node-requires-3 : (t : ℕ) → walk-lts.Need-node-requires-3 (walk-knows t) (walk-at t) walk.Post
+walk-node-requires-3 t c κs = let i = upto-in (c .before .before .before .before .before .before .before .before .before .before .before .before .before .before .before .before .before .args .s .now) (getD (c .before .before .before .before .before .before .before .before .before .before .before .before .before .before .before .before .before .args .s .now) (c .before .before .before .before .before .before .before .before .before .before .before .before .before .before .before .before .before .args .at) 0) (c .before .before .before .before .before .before .before .before .before .before .before .before .before .before .before .before .before .args .at + 3) (c .before .before .before .before .before .before .before .before .before .before .before .before .before .before .before .before .before .args .stop) (c .before .before .before .before .before .before .before .before .before .before .before .before .before .before .before .before .before .pre .1 .0) (sym (c .before .before .before .before .before .before .before .before .before .before .fixed .ensures) ∙ c .before .before .before .before .before .before .before .before .from .given .1) in (omega arith, (omega arith, omega arith, omega arith, c .before .before .before .before .before .before .before .before .before .before .before .before .before .before .before .before .before .pre .1 .2))
+
+walk-node-requires-4 : (t : ℕ) → walk-lts.Need-node-requires-4 (walk-knows t) (walk-at t) walk.Post
+walk-node-requires-4 t c κs = let i = upto-in (c .before .before .before .before .before .before .before .before .before .before .before .before .before .before .before .before .before .before .before .args .s .now) (getD (c .before .before .before .before .before .before .before .before .before .before .before .before .before .before .before .before .before .before .before .args .s .now) (c .before .before .before .before .before .before .before .before .before .before .before .before .before .before .before .before .before .before .before .args .at) 0) (c .before .before .before .before .before .before .before .before .before .before .before .before .before .before .before .before .before .before .before .args .at + 3) (c .before .before .before .before .before .before .before .before .before .before .before .before .before .before .before .before .before .before .before .args .stop) (c .before .before .before .before .before .before .before .before .before .before .before .before .before .before .before .before .before .before .before .pre .1 .0) (sym (c .before .before .before .before .before .before .before .before .before .before .before .before .fixed .ensures) ∙ c .before .before .before .before .before .before .before .before .before .before .from .given .1) in (omega arith, (omega arith, omega arith, omega arith, c .before .before .before .before .before .before .before .before .before .before .before .before .before .before .before .before .before .before .before .pre .1 .2))
+
+walk-node-requires-5 : (t : ℕ) → walk-lts.Need-node-requires-5 (walk-knows t) (walk-at t) walk.Post
+walk-node-requires-5 t c κs = let i = upto-in (c .before .before .before .before .before .before .before .before .before .before .before .before .before .before .args .s .now) (getD (c .before .before .before .before .before .before .before .before .before .before .before .before .before .before .args .s .now) (c .before .before .before .before .before .before .before .before .before .before .before .before .before .before .args .at) 0) (c .before .before .before .before .before .before .before .before .before .before .before .before .before .before .args .at + 3) (c .before .before .before .before .before .before .before .before .before .before .before .before .before .before .args .stop) (c .before .before .before .before .before .before .before .before .before .before .before .before .before .before .pre .1 .0) (sym (c .before .before .before .before .before .before .before .fixed .ensures) ∙ c .before .before .before .before .before .from .given .1) in (omega arith, (omega arith, omega arith, omega arith, c .before .before .before .before .before .before .before .before .before .before .before .before .before .before .pre .1 .2))
+
+walk-same-length : (t : ℕ) → walk-lts.Need-same-length (walk-knows t) (walk-at t) walk.Post
+walk-same-length t c = omega arith
+
+walk-same-length-2 : (t : ℕ) → walk-lts.Need-same-length-2 (walk-knows t) (walk-at t) walk.Post
+walk-same-length-2 t c = omega arith
+
+walk-returns-2 : (t : ℕ) → walk-lts.Need-returns-2 (walk-knows t) (walk-at t) walk.Post
+walk-returns-2 t c = node-23 (c .before .before .before .before .before .before .before .before .before .before .before .before .before .before .before .before .before .before .args .e) (set (c .before .before .before .before .before .before .before .before .before .before .before .before .before .before .before .before .before .before .args .e) (c .before .before .before .before .before .before .before .before .before .before .before .before .before .before .before .before .before .before .args .externals .now) (c .before .before .before .before .before .before .before .before .before .before .before .before .before .before .before .before .before .before .args .table .now)) (c .before .before .before .before .before .before .before .before .before .before .before .before .before .before .before .before .before .before .args .object) (c .before .before .before .before .before .before .before .before .before .before .before .before .before .before .before .before .before .before .args .s .now) (c .before .before .before .before .before .before .before .before .before .before .before .before .before .before .before .before .before .before .args .at) (c .before .before .before .before .before .before .before .before .before .from .given .0 .0) (c .before .before .before .before .before .before .before .before .before .before .before .before .before .before .before .before .before .before .args .stop) (c .before .before .before .before .before .before .before .before .before .before .before .before .before .before .before .before .before .before .pre .1 .0) (c .before .before .before .before .before .before .before .before .before .before .before .before .before .before .before .before .before .before .pre .1 .1) (sym (c .before .before .before .before .before .before .before .before .before .before .before .fixed .ensures) ∙ c .before .before .before .before .before .before .before .before .before .from .given .1) (c .before .before .before .before .before .before .before .match2 .keys1) (c .before .before .before .before .export-specifier .ensures (atomsIn (c .before .before .before .before .before .before .before .before .before .before .before .before .before .before .before .before .before .before .args .externals .now)) (rowsIn (c .before .before .before .before .before .before .before .before .before .before .before .before .before .before .before .before .before .before .args .table .now)))
+
+walk-same-length-3 : (t : ℕ) → walk-lts.Need-same-length-3 (walk-knows t) (walk-at t) walk.Post
+walk-same-length-3 t c = omega arith
+
+walk-same-length-4 : (t : ℕ) → walk-lts.Need-same-length-4 (walk-knows t) (walk-at t) walk.Post
+walk-same-length-4 t c = omega arith
+
+walk-returns-3 : (t : ℕ) → walk-lts.Need-returns-3 (walk-knows t) (walk-at t) walk.Post
+walk-returns-3 t c = node-42 (c .before .before .before .before .before .before .before .before .before .before .before .before .before .before .before .before .before .before .args .e) (set (c .before .before .before .before .before .before .before .before .before .before .before .before .before .before .before .before .before .before .args .e) (c .before .before .before .before .before .before .before .before .before .before .before .before .before .before .before .before .before .before .args .externals .now) (c .before .before .before .before .before .before .before .before .before .before .before .before .before .before .before .before .before .before .args .table .now)) (c .before .before .before .before .before .before .before .before .before .before .before .before .before .before .before .before .before .before .args .object) (c .before .before .before .before .before .before .before .before .before .before .before .before .before .before .before .before .before .before .args .s .now) (c .before .before .before .before .before .before .before .before .before .before .before .before .before .before .before .before .before .before .args .at) (c .before .before .before .before .before .before .before .before .before .from .given .0 .0) (c .before .before .before .before .before .before .before .before .before .before .before .before .before .before .before .before .before .before .args .stop) (c .before .before .before .before .before .before .before .before .before .before .before .before .before .before .before .before .before .before .pre .1 .0) (c .before .before .before .before .before .before .before .before .before .before .before .before .before .before .before .before .before .before .pre .1 .1) (sym (c .before .before .before .before .before .before .before .before .before .before .before .fixed .ensures) ∙ c .before .before .before .before .before .before .before .before .before .from .given .1) (c .before .before .before .before .before .before .before .match2 .keys2) (c .before .before .before .before .declarator .ensures)
+
+walk-same-length-5 : (t : ℕ) → walk-lts.Need-same-length-5 (walk-knows t) (walk-at t) walk.Post
+walk-same-length-5 t c = omega arith
+
+walk-same-length-6 : (t : ℕ) → walk-lts.Need-same-length-6 (walk-knows t) (walk-at t) walk.Post
+walk-same-length-6 t c = omega arith
+
+walk-returns-4 : (t : ℕ) → walk-lts.Need-returns-4 (walk-knows t) (walk-at t) walk.Post
+walk-returns-4 t c = c .before .before .before .before .block .ensures
+
+walk-same-length-7 : (t : ℕ) → walk-lts.Need-same-length-7 (walk-knows t) (walk-at t) walk.Post
+walk-same-length-7 t c = omega arith
+
+walk-same-length-8 : (t : ℕ) → walk-lts.Need-same-length-8 (walk-knows t) (walk-at t) walk.Post
+walk-same-length-8 t c = omega arith
+
+walk-returns-5 : (t : ℕ) → walk-lts.Need-returns-5 (walk-knows t) (walk-at t) walk.Post
+walk-returns-5 t c = c .before .before .before .before .ident .ensures
+
+walk-same-length-9 : (t : ℕ) → walk-lts.Need-same-length-9 (walk-knows t) (walk-at t) walk.Post
+walk-same-length-9 t c = omega arith
+
+walk-same-length-10 : (t : ℕ) → walk-lts.Need-same-length-10 (walk-knows t) (walk-at t) walk.Post
+walk-same-length-10 t c = omega arith
+
+walk-returns-6 : (t : ℕ) → walk-lts.Need-returns-6 (walk-knows t) (walk-at t) walk.Post
+walk-returns-6 t c = c .before .before .before .before .member .ensures
+
+walk-same-length-11 : (t : ℕ) → walk-lts.Need-same-length-11 (walk-knows t) (walk-at t) walk.Post
+walk-same-length-11 t c = omega arith
+
+walk-same-length-12 : (t : ℕ) → walk-lts.Need-same-length-12 (walk-knows t) (walk-at t) walk.Post
+walk-same-length-12 t c = omega arith
+
+walk-returns-7 : (t : ℕ) → walk-lts.Need-returns-7 (walk-knows t) (walk-at t) walk.Post
+walk-returns-7 t c = node-64 (c .before .before .before .before .before .before .before .before .before .before .before .before .before .before .before .before .before .before .args .e) (set (c .before .before .before .before .before .before .before .before .before .before .before .before .before .before .before .before .before .before .args .e) (c .before .before .before .before .before .before .before .before .before .before .before .before .before .before .before .before .before .before .args .externals .now) (c .before .before .before .before .before .before .before .before .before .before .before .before .before .before .before .before .before .before .args .table .now)) (c .before .before .before .before .before .before .before .before .before .before .before .before .before .before .before .before .before .before .args .object) (c .before .before .before .before .before .before .before .before .before .before .before .before .before .before .before .before .before .before .args .s .now) (c .before .before .before .before .before .before .before .before .before .before .before .before .before .before .before .before .before .before .args .at) (c .before .before .before .before .before .before .before .before .before .from .given .0 .0) (c .before .before .before .before .before .before .before .before .before .before .before .before .before .before .before .before .before .before .args .stop) (c .before .before .before .before .before .before .before .before .before .before .before .before .before .before .before .before .before .before .pre .1 .0) (c .before .before .before .before .before .before .before .before .before .before .before .before .before .before .before .before .before .before .pre .1 .1) (sym (c .before .before .before .before .before .before .before .before .before .before .before .fixed .ensures) ∙ c .before .before .before .before .before .before .before .before .before .from .given .1) (c .before .before .before .before .before .before .before .match2 .keys6) (c .before .before .before .before .node .ensures)
+
+walk-same-length-13 : (t : ℕ) → walk-lts.Need-same-length-13 (walk-knows t) (walk-at t) walk.Post
+walk-same-length-13 t c = omega arith
+
+walk-same-length-14 : (t : ℕ) → walk-lts.Need-same-length-14 (walk-knows t) (walk-at t) walk.Post
+walk-same-length-14 t c = omega arith
+
+walk-returns-8 : (t : ℕ) → walk-lts.Need-returns-8 (walk-knows t) (walk-at t) walk.Post
+walk-returns-8 t c = c .before .before .before .before .call .ensures
+
+walk-same-length-15 : (t : ℕ) → walk-lts.Need-same-length-15 (walk-knows t) (walk-at t) walk.Post
+walk-same-length-15 t c = omega arith
+
+walk-same-length-16 : (t : ℕ) → walk-lts.Need-same-length-16 (walk-knows t) (walk-at t) walk.Post
+walk-same-length-16 t c = omega arith
+
+walk-returns-9 : (t : ℕ) → walk-lts.Need-returns-9 (walk-knows t) (walk-at t) walk.Post
+walk-returns-9 t c = node-66 (c .before .before .before .before .before .before .before .before .before .before .before .before .before .before .before .before .before .before .args .e) (set (c .before .before .before .before .before .before .before .before .before .before .before .before .before .before .before .before .before .before .args .e) (c .before .before .before .before .before .before .before .before .before .before .before .before .before .before .before .before .before .before .args .externals .now) (c .before .before .before .before .before .before .before .before .before .before .before .before .before .before .before .before .before .before .args .table .now)) (c .before .before .before .before .before .before .before .before .before .before .before .before .before .before .before .before .before .before .args .object) (c .before .before .before .before .before .before .before .before .before .before .before .before .before .before .before .before .before .before .args .s .now) (c .before .before .before .before .before .before .before .before .before .before .before .before .before .before .before .before .before .before .args .at) (c .before .before .before .before .before .before .before .before .before .from .given .0 .0) (c .before .before .before .before .before .before .before .before .before .before .before .before .before .before .before .before .before .before .args .stop) (c .before .before .before .before .before .before .before .before .before .before .before .before .before .before .before .before .before .before .pre .1 .0) (c .before .before .before .before .before .before .before .before .before .before .before .before .before .before .before .before .before .before .pre .1 .1) (sym (c .before .before .before .before .before .before .before .before .before .before .before .fixed .ensures) ∙ c .before .before .before .before .before .before .before .before .before .from .given .1) (c .before .before .before .before .before .before .before .match2 .keys8) (c .before .before .before .before .assignment .ensures)
+
+walk-same-length-17 : (t : ℕ) → walk-lts.Need-same-length-17 (walk-knows t) (walk-at t) walk.Post
+walk-same-length-17 t c = omega arith
+
+walk-same-length-18 : (t : ℕ) → walk-lts.Need-same-length-18 (walk-knows t) (walk-at t) walk.Post
+walk-same-length-18 t c = omega arith
+
+walk-returns-10 : (t : ℕ) → walk-lts.Need-returns-10 (walk-knows t) (walk-at t) walk.Post
+walk-returns-10 t c = node-plain (c .before .before .before .before .before .before .before .before .before .before .before .before .before .before .before .before .before .before .before .before .args .e) (set (c .before .before .before .before .before .before .before .before .before .before .before .before .before .before .before .before .before .before .before .before .args .e) (c .before .before .before .before .before .before .before .before .before .before .before .before .before .before .before .before .before .before .before .before .args .externals .now) (c .before .before .before .before .before .before .before .before .before .before .before .before .before .before .before .before .before .before .before .before .args .table .now)) (c .before .before .before .before .before .before .before .before .before .before .before .before .before .before .before .before .before .before .before .before .args .object) (c .before .before .before .before .before .before .before .before .before .before .before .before .before .before .before .before .before .before .before .before .args .s .now) (c .before .before .before .before .before .before .before .before .before .before .before .before .before .before .before .before .before .before .before .before .args .at) (c .before .before .before .before .before .before .before .before .before .before .before .from .given .0 .0) (c .before .before .before .before .before .before .before .before .before .before .before .before .before .before .before .before .before .before .before .before .args .stop) (c .before .before .before .before .before .before .before .before .before .before .before .before .before .before .before .before .before .before .before .before .pre .1 .0) (c .before .before .before .before .before .before .before .before .before .before .before .before .before .before .before .before .before .before .before .before .pre .1 .1) (sym (c .before .before .before .before .before .before .before .before .before .before .before .before .before .fixed .ensures) ∙ c .before .before .before .before .before .before .before .before .before .before .before .from .given .1) (c .before .before .before .before .before .before .before .before .before .match2 .rest .0 .0 .0 .0 .0 .0 .0 .1) (c .before .before .before .before .before .before .before .before .before .match2 .rest .0 .0 .0 .0 .0 .0 .1) (c .before .before .before .before .before .before .before .before .before .match2 .rest .0 .0 .0 .0 .0 .1) (c .before .before .before .before .before .before .before .before .before .match2 .rest .0 .0 .0 .0 .1) (c .before .before .before .before .before .before .before .before .before .match2 .rest .0 .0 .0 .1) (c .before .before .before .before .before .before .before .before .before .match2 .rest .0 .0 .1) (c .before .before .before .before .before .before .before .before .before .match2 .rest .0 .1) (c .before .before .before .before .before .before .before .before .before .match2 .rest .1) (c .before .before .before .before .node2 .ensures)
+
+walk-same-length-19 : (t : ℕ) → walk-lts.Need-same-length-19 (walk-knows t) (walk-at t) walk.Post
+walk-same-length-19 t c = omega arith
+
+walk-same-length-20 : (t : ℕ) → walk-lts.Need-same-length-20 (walk-knows t) (walk-at t) walk.Post
+walk-same-length-20 t c = omega arith
+
+walk-returns-11 : (t : ℕ) → walk-lts.Need-returns-11 (walk-knows t) (walk-at t) walk.Post
+walk-returns-11 t c = node-plain (c .before .before .before .before .before .before .before .before .before .before .before .before .before .before .before .before .before .before .before .before .before .before .args .e) (set (c .before .before .before .before .before .before .before .before .before .before .before .before .before .before .before .before .before .before .before .before .before .before .args .e) (c .before .before .before .before .before .before .before .before .before .before .before .before .before .before .before .before .before .before .before .before .before .before .args .externals .now) (c .before .before .before .before .before .before .before .before .before .before .before .before .before .before .before .before .before .before .before .before .before .before .args .table .now)) (c .before .before .before .before .before .before .before .before .before .before .before .before .before .before .before .before .before .before .before .before .before .before .args .object) (c .before .before .before .before .before .before .before .before .before .before .before .before .before .before .before .before .before .before .before .before .before .before .args .s .now) (c .before .before .before .before .before .before .before .before .before .before .before .before .before .before .before .before .before .before .before .before .before .before .args .at) (c .before .before .before .before .before .before .before .before .before .before .before .before .before .from .given .0 .0) (c .before .before .before .before .before .before .before .before .before .before .before .before .before .before .before .before .before .before .before .before .before .before .args .stop) (c .before .before .before .before .before .before .before .before .before .before .before .before .before .before .before .before .before .before .before .before .before .before .pre .1 .0) (c .before .before .before .before .before .before .before .before .before .before .before .before .before .before .before .before .before .before .before .before .before .before .pre .1 .1) (sym (c .before .before .before .before .before .before .before .before .before .before .before .before .before .before .before .fixed .ensures) ∙ c .before .before .before .before .before .before .before .before .before .before .before .before .before .from .given .1) (c .before .before .before .before .before .before .before .before .before .before .before .match2 .rest .0 .0 .0 .0 .0 .0 .0 .1) (c .before .before .before .before .before .before .before .before .before .before .before .match2 .rest .0 .0 .0 .0 .0 .0 .1) (c .before .before .before .before .before .before .before .before .before .before .before .match2 .rest .0 .0 .0 .0 .0 .1) (c .before .before .before .before .before .before .before .before .before .before .before .match2 .rest .0 .0 .0 .0 .1) (c .before .before .before .before .before .before .before .before .before .before .before .match2 .rest .0 .0 .0 .1) (c .before .before .before .before .before .before .before .before .before .before .before .match2 .rest .0 .0 .1) (c .before .before .before .before .before .before .before .before .before .before .before .match2 .rest .0 .1) (c .before .before .before .before .before .before .before .before .before .before .before .match2 .rest .1) (c .before .before .before .before .node3 .ensures)
+
+walk-same-length-21 : (t : ℕ) → walk-lts.Need-same-length-21 (walk-knows t) (walk-at t) walk.Post
+walk-same-length-21 t c = omega arith
+
+walk-same-length-22 : (t : ℕ) → walk-lts.Need-same-length-22 (walk-knows t) (walk-at t) walk.Post
+walk-same-length-22 t c = omega arith
+
+walk-returns-12 : (t : ℕ) → walk-lts.Need-returns-12 (walk-knows t) (walk-at t) walk.Post
+walk-returns-12 t c = node-plain (c .before .before .before .before .before .before .before .before .before .before .before .before .before .before .before .before .before .before .before .before .before .before .before .before .args .e) (set (c .before .before .before .before .before .before .before .before .before .before .before .before .before .before .before .before .before .before .before .before .before .before .before .before .args .e) (c .before .before .before .before .before .before .before .before .before .before .before .before .before .before .before .before .before .before .before .before .before .before .before .before .args .externals .now) (c .before .before .before .before .before .before .before .before .before .before .before .before .before .before .before .before .before .before .before .before .before .before .before .before .args .table .now)) (c .before .before .before .before .before .before .before .before .before .before .before .before .before .before .before .before .before .before .before .before .before .before .before .before .args .object) (c .before .before .before .before .before .before .before .before .before .before .before .before .before .before .before .before .before .before .before .before .before .before .before .before .args .s .now) (c .before .before .before .before .before .before .before .before .before .before .before .before .before .before .before .before .before .before .before .before .before .before .before .before .args .at) (c .before .before .before .before .before .before .before .before .before .before .before .before .before .before .before .from .given .0 .0) (c .before .before .before .before .before .before .before .before .before .before .before .before .before .before .before .before .before .before .before .before .before .before .before .before .args .stop) (c .before .before .before .before .before .before .before .before .before .before .before .before .before .before .before .before .before .before .before .before .before .before .before .before .pre .1 .0) (c .before .before .before .before .before .before .before .before .before .before .before .before .before .before .before .before .before .before .before .before .before .before .before .before .pre .1 .1) (sym (c .before .before .before .before .before .before .before .before .before .before .before .before .before .before .before .before .before .fixed .ensures) ∙ c .before .before .before .before .before .before .before .before .before .before .before .before .before .before .before .from .given .1) (c .before .before .before .before .before .before .before .before .before .before .before .before .before .match2 .rest .0 .0 .0 .0 .0 .0 .0 .1) (c .before .before .before .before .before .before .before .before .before .before .before .before .before .match2 .rest .0 .0 .0 .0 .0 .0 .1) (c .before .before .before .before .before .before .before .before .before .before .before .before .before .match2 .rest .0 .0 .0 .0 .0 .1) (c .before .before .before .before .before .before .before .before .before .before .before .before .before .match2 .rest .0 .0 .0 .0 .1) (c .before .before .before .before .before .before .before .before .before .before .before .before .before .match2 .rest .0 .0 .0 .1) (c .before .before .before .before .before .before .before .before .before .before .before .before .before .match2 .rest .0 .0 .1) (c .before .before .before .before .before .before .before .before .before .before .before .before .before .match2 .rest .0 .1) (c .before .before .before .before .before .before .before .before .before .before .before .before .before .match2 .rest .1) (c .before .before .before .before .node4 .ensures)
+
+walk-same-length-23 : (t : ℕ) → walk-lts.Need-same-length-23 (walk-knows t) (walk-at t) walk.Post
+walk-same-length-23 t c = omega arith
+
+walk-same-length-24 : (t : ℕ) → walk-lts.Need-same-length-24 (walk-knows t) (walk-at t) walk.Post
+walk-same-length-24 t c = omega arith
+
+walk-returns-13 : (t : ℕ) → walk-lts.Need-returns-13 (walk-knows t) (walk-at t) walk.Post
+walk-returns-13 t c = node-plain (c .before .before .before .before .before .before .before .before .before .before .before .before .before .before .before .before .before .before .before .args .e) (set (c .before .before .before .before .before .before .before .before .before .before .before .before .before .before .before .before .before .before .before .args .e) (c .before .before .before .before .before .before .before .before .before .before .before .before .before .before .before .before .before .before .before .args .externals .now) (c .before .before .before .before .before .before .before .before .before .before .before .before .before .before .before .before .before .before .before .args .table .now)) (c .before .before .before .before .before .before .before .before .before .before .before .before .before .before .before .before .before .before .before .args .object) (c .before .before .before .before .before .before .before .before .before .before .before .before .before .before .before .before .before .before .before .args .s .now) (c .before .before .before .before .before .before .before .before .before .before .before .before .before .before .before .before .before .before .before .args .at) (c .before .before .before .before .before .before .before .before .before .before .from .given .0 .0) (c .before .before .before .before .before .before .before .before .before .before .before .before .before .before .before .before .before .before .before .args .stop) (c .before .before .before .before .before .before .before .before .before .before .before .before .before .before .before .before .before .before .before .pre .1 .0) (c .before .before .before .before .before .before .before .before .before .before .before .before .before .before .before .before .before .before .before .pre .1 .1) (sym (c .before .before .before .before .before .before .before .before .before .before .before .before .fixed .ensures) ∙ c .before .before .before .before .before .before .before .before .before .before .from .given .1) (c .before .before .before .before .before .before .before .before .match2 .rest .0 .0 .0 .0 .0 .0 .0 .1) (c .before .before .before .before .before .before .before .before .match2 .rest .0 .0 .0 .0 .0 .0 .1) (c .before .before .before .before .before .before .before .before .match2 .rest .0 .0 .0 .0 .0 .1) (c .before .before .before .before .before .before .before .before .match2 .rest .0 .0 .0 .0 .1) (c .before .before .before .before .before .before .before .before .match2 .rest .0 .0 .0 .1) (c .before .before .before .before .before .before .before .before .match2 .rest .0 .0 .1) (c .before .before .before .before .before .before .before .before .match2 .rest .0 .1) (c .before .before .before .before .before .before .before .before .match2 .rest .1) (c .before .before .before .before .node5 .ensures)
+
+pub +assignment+assignment-parts+block+call+declarator+declarator-parts+initialiser+member+member-parts+node+parts+target+walk-spec :
+    {M : Type 1} → statement M
++assignment+assignment-parts+block+call+declarator+declarator-parts+initialiser+member+member-parts+node+parts+target+walk-spec =
+    close
+    μ-assignment
+    μ-assignment-parts
+    μ-block
+    μ-call
+    μ-declarator
+    μ-declarator-parts
+    μ-initialiser
+    μ-member
+    μ-member-parts
+    μ-node
+    μ-parts
+    μ-target
+    μ-walk
+    (λ t. assignment-lts.spec (assignment-knows t)
+    (assignment-at t)
+    assignment.Post
+    (assignment-begin-field-requires t)
+    (assignment-assignment-parts-requires t)
+    (assignment-end-field-requires t)
+    (assignment-same-length t)
+    (assignment-same-length-2 t)
+    (assignment-returns t))
+    (λ t. assignment-parts-lts.spec (assignment-parts-knows t)
+    (assignment-parts-at t)
+    assignment-parts.Post
+    (assignment-parts-extent-requires t)
+    (assignment-parts-enum-known-stop t)
+    (assignment-parts-enum-told t)
+    (assignment-parts-returns t)
+    (assignment-parts-target-requires t)
+    (assignment-parts-enum-known-p t)
+    (assignment-parts-parts-requires t)
+    (assignment-parts-enum-known-why t)
+    (assignment-parts-same-length t)
+    (assignment-parts-same-length-2 t)
+    (assignment-parts-returns-2 t)
+    (assignment-parts-same-length-3 t)
+    (assignment-parts-same-length-4 t)
+    (assignment-parts-returns-3 t))
+    (λ t. block-lts.spec (block-knows t)
+    (block-at t)
+    block.Post
+    (block-set-top-requires t)
+    (block-node-requires t)
+    (block-same-length t)
+    (block-same-length-2 t)
+    (block-returns t))
+    (λ t. call-lts.spec (call-knows t)
+    (call-at t)
+    call.Post
+    (call-add-node t)
+    (call-node-requires t)
+    (call-same-length t)
+    (call-same-length-2 t)
+    (call-returns t)
+    (call-required-at-requires t)
+    (call-enum-known-literal t)
+    (call-enum-told t)
+    (call-add-node-2 t)
+    (call-node-requires-2 t)
+    (call-same-length-3 t)
+    (call-same-length-4 t)
+    (call-returns-2 t)
+    (call-add-node-3 t)
+    (call-node-requires-3 t)
+    (call-enum-known-p t)
+    (call-require-requires t)
+    (call-enum-known-why t)
+    (call-same-length-5 t)
+    (call-same-length-6 t)
+    (call-returns-3 t)
+    (call-same-length-7 t)
+    (call-same-length-8 t)
+    (call-returns-4 t))
+    (λ t. declarator-lts.spec (declarator-knows t)
+    (declarator-at t)
+    declarator.Post
+    (declarator-begin-field-requires t)
+    (declarator-declarator-parts-requires t)
+    (declarator-end-field-requires t)
+    (declarator-same-length t)
+    (declarator-same-length-2 t)
+    (declarator-returns t))
+    (λ t. declarator-parts-lts.spec (declarator-parts-knows t)
+    (declarator-parts-at t)
+    declarator-parts.Post
+    (declarator-parts-extent-requires t)
+    (declarator-parts-enum-known-stop t)
+    (declarator-parts-enum-told t)
+    (declarator-parts-returns t)
+    (declarator-parts-walk-requires t)
+    (declarator-parts-enum-known-p t)
+    (declarator-parts-initialiser-requires t)
+    (declarator-parts-enum-known-why t)
+    (declarator-parts-same-length t)
+    (declarator-parts-same-length-2 t)
+    (declarator-parts-returns-2 t)
+    (declarator-parts-same-length-3 t)
+    (declarator-parts-same-length-4 t)
+    (declarator-parts-returns-3 t))
+    (λ t. initialiser-lts.spec (initialiser-knows t)
+    (initialiser-at t)
+    initialiser.Post
+    (initialiser-extent-requires t)
+    (initialiser-enum-known-stop t)
+    (initialiser-enum-told t)
+    (initialiser-returns t)
+    (initialiser-required-at-requires t)
+    (initialiser-enum-known-literal t)
+    (initialiser-enum-told-2 t)
+    (initialiser-parts-requires t)
+    (initialiser-same-length t)
+    (initialiser-same-length-2 t)
+    (initialiser-returns-2 t)
+    (initialiser-parts-requires-2 t)
+    (initialiser-enum-known-p t)
+    (initialiser-require-lazily-requires t)
+    (initialiser-enum-known-why t)
+    (initialiser-same-length-3 t)
+    (initialiser-same-length-4 t)
+    (initialiser-returns-3 t)
+    (initialiser-same-length-5 t)
+    (initialiser-same-length-6 t)
+    (initialiser-returns-4 t))
+    (λ t. member-lts.spec (member-knows t)
+    (member-at t)
+    member.Post
+    (member-ident-after-requires t)
+    (member-enum-known-id t)
+    (member-put-ident-requires t)
+    (member-enum-told t)
+    (member-target-requires t)
+    (member-same-length t)
+    (member-same-length-2 t)
+    (member-returns t)
+    (member-same-length-3 t)
+    (member-same-length-4 t)
+    (member-returns-2 t)
+    (member-target-requires-2 t)
+    (member-enum-known-p t)
+    (member-usage-requires t)
+    (member-enum-told-2 t)
+    (member-enum-known-why t)
+    (member-enum-known-why-2 t)
+    (member-same-length-5 t)
+    (member-same-length-6 t)
+    (member-returns-3 t)
+    (member-same-length-7 t)
+    (member-same-length-8 t)
+    (member-returns-4 t)
+    (member-same-length-9 t)
+    (member-same-length-10 t)
+    (member-returns-5 t))
+    (λ t. member-parts-lts.spec (member-parts-knows t)
+    (member-parts-at t)
+    member-parts.Post
+    (member-parts-extent-requires t)
+    (member-parts-enum-known-stop t)
+    (member-parts-enum-told t)
+    (member-parts-returns t)
+    (member-parts-walk-requires t)
+    (member-parts-enum-known-p t)
+    (member-parts-parts-requires t)
+    (member-parts-enum-known-why t)
+    (member-parts-same-length t)
+    (member-parts-same-length-2 t)
+    (member-parts-returns-2 t)
+    (member-parts-same-length-3 t)
+    (member-parts-same-length-4 t)
+    (member-parts-returns-3 t))
+    (λ t. node-lts.spec (node-knows t)
+    (node-at t)
+    node.Post
+    (node-begin-field-requires t)
+    (node-parts-requires t)
+    (node-end-field-requires t)
+    (node-same-length t)
+    (node-same-length-2 t)
+    (node-returns t))
+    (λ t. parts-lts.spec (parts-knows t)
+    (parts-at t)
+    parts.Post
+    parts-Inv-loop
+    parts-μ-loop
+    (parts-loop-holds t)
+    (parts-extent-requires t)
+    (parts-enum-known-stop t)
+    (parts-enum-told t)
+    (parts-same-length t)
+    (parts-same-length-2 t)
+    (parts-returns t)
+    (parts-walk-requires t)
+    (parts-enum-known-p t)
+    (parts-loop-less t)
+    (parts-loop-again t)
+    (parts-enum-known-why t)
+    (parts-same-length-3 t)
+    (parts-same-length-4 t)
+    (parts-returns-2 t))
+    (λ t. target-lts.spec (target-knows t)
+    (target-at t)
+    target.Post
+    (target-shared-slice-read-fixed t)
+    (target-add-fixed t)
+    (target-fixed-requires t)
+    (target-enum-known-from t)
+    (target-enum-told t)
+    (target-returns t)
+    (target-begin-field-requires t)
+    (target-member-parts-requires t)
+    (target-end-field-requires t)
+    (target-same-length t)
+    (target-same-length-2 t)
+    (target-returns-2 t))
+    λ t. walk-lts.spec (walk-knows t)
+    (walk-at t)
+    walk.Post
+    (walk-shared-slice-read-tag t)
+    (walk-add-fixed t)
+    (walk-fixed-requires t)
+    (walk-enum-known-from t)
+    (walk-enum-told t)
+    (walk-returns t)
+    (walk-export-specifier-requires t)
+    (walk-declarator-requires t)
+    (walk-block-requires t)
+    (walk-ident-requires t)
+    (walk-member-requires t)
+    (walk-node-requires t)
+    (walk-call-requires t)
+    (walk-assignment-requires t)
+    (walk-node-requires-2 t)
+    (walk-node-requires-3 t)
+    (walk-node-requires-4 t)
+    (walk-node-requires-5 t)
+    (walk-same-length t)
+    (walk-same-length-2 t)
+    (walk-returns-2 t)
+    (walk-same-length-3 t)
+    (walk-same-length-4 t)
+    (walk-returns-3 t)
+    (walk-same-length-5 t)
+    (walk-same-length-6 t)
+    (walk-returns-4 t)
+    (walk-same-length-7 t)
+    (walk-same-length-8 t)
+    (walk-returns-5 t)
+    (walk-same-length-9 t)
+    (walk-same-length-10 t)
+    (walk-returns-6 t)
+    (walk-same-length-11 t)
+    (walk-same-length-12 t)
+    (walk-returns-7 t)
+    (walk-same-length-13 t)
+    (walk-same-length-14 t)
+    (walk-returns-8 t)
+    (walk-same-length-15 t)
+    (walk-same-length-16 t)
+    (walk-returns-9 t)
+    (walk-same-length-17 t)
+    (walk-same-length-18 t)
+    (walk-returns-10 t)
+    (walk-same-length-19 t)
+    (walk-same-length-20 t)
+    (walk-returns-11 t)
+    (walk-same-length-21 t)
+    (walk-same-length-22 t)
+    (walk-returns-12 t)
+    (walk-same-length-23 t)
+    (walk-same-length-24 t)
+    (walk-returns-13 t)

@@ -1,0 +1,71 @@
+use Rattle.kept.specs.Kept.{idOf}
+use Rattle.tree.specs.Tree.{none}
+use Rattle.walking.proofs.AmendLaws.{record-lazy, record-collected, record-full}
+use borrow.Author.Needs.{needs}
+use Rattle.walking.proofs.make_record.Statement.{statement}
+use Rattle.walking.proofs.make_record.Tie as tie
+use Rattle.walking.proofs.make_record.Reads as reads
+use Rattle.walking.proofs.make_record.Lts as lts
+use Rattle.walking.proofs.make_lazy.Reads as make-lazy-reads
+use Rattle.kept.proofs.records.collect.Reads as collect-reads
+use Rattle.kept.proofs.rest.is_top.Reads as is-top-reads
+
+-- src/walking.rt:453:9
+is-top-requires : tie.Need-is-top-requires
+is-top-requires c κs = search needs
+
+-- src/walking.rt:454:9
+make-lazy-requires : tie.Need-make-lazy-requires
+make-lazy-requires c κs = search needs
+
+-- src/walking.rt:454:9
+same-length : tie.Need-same-length
+same-length c = search needs
+
+-- src/walking.rt:454:9
+returns : tie.Need-returns
+returns c = λ out. record-lazy (idOf (c .before .before .before .before .before .before .before .before .args .literal)) (c .before .before .before .before .before .before .before .before .args .at) out (c .before .before .before .before .before .is-top .ensures) (c .before .before .before .before .if1 .taken) (c .before .before .make-lazy .ensures out none)
+
+-- src/walking.rt:456:11
+collect-requires : tie.Need-collect-requires
+collect-requires c κs = search needs
+
+-- src/walking.rt:457:28
+enum-told : tie.Need-enum-told
+enum-told c = search needs
+
+-- src/walking.rt:458:40
+enum-told-2 : tie.Need-enum-told-2
+enum-told-2 c = search needs
+
+-- src/walking.rt:444:1
+same-length-2 : tie.Need-same-length-2
+same-length-2 c = search needs
+
+-- src/walking.rt:444:1
+returns-2 : tie.Need-returns-2
+returns-2 c = λ out. record-collected (idOf (c .before .before .before .before .before .before .before .before .before .before .args .literal)) (c .before .before .before .before .before .before .before .before .before .before .args .at) out (c .before .before .before .before .before .before .before .is-top .ensures) (c .before .before .before .before .before .before .if1 .left) (c .before .before .before .before .collect .ensures) (c .enum-told .given .1)
+
+-- src/walking.rt:444:1
+same-length-3 : tie.Need-same-length-3
+same-length-3 c = search needs
+
+-- src/walking.rt:444:1
+returns-3 : tie.Need-returns-3
+returns-3 c = λ out. record-full (idOf (c .before .before .before .before .before .before .before .before .before .before .args .literal)) (c .before .before .before .before .before .before .before .before .before .before .args .at) out (c .before .before .before .before .before .before .before .is-top .ensures) (c .before .before .before .before .before .before .if1 .left) (c .before .before .before .before .collect .ensures) (c .enum-told2 .given .1)
+
+pub make-record-spec : {M : Type 1} → statement M
+make-record-spec =
+    tie.close
+    (tie.spec
+    is-top-requires
+    make-lazy-requires
+    same-length
+    returns
+    collect-requires
+    enum-told
+    enum-told-2
+    same-length-2
+    returns-2
+    same-length-3
+    returns-3)

@@ -1,0 +1,2 @@
+-- What the functions of the walk do (Walking).
+pub mod Walking
