@@ -1,3 +1,12 @@
--- What a pass keeps (KeptLaws).
+-- Laws of a pass: what it keeps (KeptLaws), each item (ItemLaws).
 pub mod KeptLaws
 pub mod ItemLaws
+-- Laws of the call: its end (WrapLaws, EndLaws), modules that were read (ReadLaws), the second pass and what follows it (AgainLaws), the first
+-- pass and the own file (OnceLaws), the lent lists (ListsLaws), and the whole (TopLaws).
+pub mod WrapLaws
+pub mod EndLaws
+pub mod ReadLaws
+pub mod AgainLaws
+pub mod OnceLaws
+pub mod ListsLaws
+pub mod TopLaws

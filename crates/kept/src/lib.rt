@@ -53,6 +53,9 @@ pub const MODULES: Table = Table {
     room: 256,
 };
 
+// How many cells the array has.
+pub const CELLS: usize = 15994;
+
 // A context, where there is one.
 pub enum Context {
     Of(SyntaxContext),

@@ -1,0 +1,86 @@
+use mathlib.Core.Path.{sym, _∙_}
+use native.Mathlib.Omega.{arith}
+use Rattle.writer.proofs.Finished.{room-true}
+use Rattle.extraction.proofs.EndLaws.{closes-short, closes-full, closes-long}
+use borrow.Author.Needs.{needs}
+use Rattle.extraction.proofs.ending.Statement.{statement}
+use Rattle.extraction.proofs.ending.Tie as tie
+use Rattle.extraction.proofs.ending.Reads as reads
+use Rattle.extraction.proofs.ending.Lts as lts
+use Rattle.recording.proofs.put_records.Reads as put-records-reads
+use Rattle.writer.proofs.finish.Reads as finish-reads
+
+-- src/lib.rt:281:8
+finish-requires : tie.Need-finish-requires
+finish-requires c κs = search needs
+
+-- src/lib.rt:282:41
+sub-put-records : tie.Need-sub-put-records
+sub-put-records c = search needs
+
+-- src/lib.rt:282:41
+part-put-records-start : tie.Need-part-put-records-start
+part-put-records-start c = search needs
+
+-- src/lib.rt:282:41
+part-put-records-end : tie.Need-part-put-records-end
+part-put-records-end c = let b = room-true _ _ (sym (c .before .before .before .before .finish .ensures .room) ∙ c .before .if1 .taken) in omega arith
+
+-- src/lib.rt:282:13
+put-records-requires : tie.Need-put-records-requires
+put-records-requires c κs = search needs
+
+-- src/lib.rt:283:12
+finish-requires-2 : tie.Need-finish-requires-2
+finish-requires-2 c κs = search needs
+
+-- src/lib.rt:270:1
+same-length : tie.Need-same-length
+same-length c = search needs
+
+-- src/lib.rt:270:1
+same-length-2 : tie.Need-same-length-2
+same-length-2 c = search needs
+
+-- src/lib.rt:270:1
+returns : tie.Need-returns
+returns c = closes-full (c .before .before .before .before .before .before .before .before .before .before .before .before .before .before .before .before .before .before .before .before .before .args .tree .now) (c .before .before .before .before .before .before .before .before .before .before .before .before .before .before .before .before .before .before .before .before .before .args .work .now) (c .before .before .before .before .before .before .before .before .before .before .before .before .before .before .finish .ensures) (c .before .before .before .before .before .before .before .before .before .before .before .if1 .taken) (c .before .before .before .before .before .before .before .put-records .ensures) (c .before .before .before .finish2 .ensures) (c .if2 .taken)
+
+-- src/lib.rt:270:1
+same-length-3 : tie.Need-same-length-3
+same-length-3 c = search needs
+
+-- src/lib.rt:270:1
+same-length-4 : tie.Need-same-length-4
+same-length-4 c = search needs
+
+-- src/lib.rt:270:1
+returns-2 : tie.Need-returns-2
+returns-2 c = closes-long (c .before .before .before .before .before .before .before .before .before .before .before .before .before .before .before .before .before .before .before .before .before .args .tree .now) (c .before .before .before .before .before .before .before .before .before .before .before .before .before .before .before .before .before .before .before .before .before .args .work .now) (c .before .before .before .before .before .before .before .before .before .before .before .before .before .before .finish .ensures) (c .before .before .before .before .before .before .before .before .before .before .before .if1 .taken) (c .before .before .before .before .before .before .before .put-records .ensures) (c .before .before .before .finish2 .ensures) (c .if2 .left)
+
+-- src/lib.rt:270:1
+same-length-5 : tie.Need-same-length-5
+same-length-5 c = search needs
+
+-- src/lib.rt:270:1
+returns-3 : tie.Need-returns-3
+returns-3 c = closes-short (c .before .before .before .finish .ensures) (c .if1 .left)
+
+pub ending-spec : {M : Type 1} → statement M
+ending-spec =
+    tie.close
+    (tie.spec
+    finish-requires
+    sub-put-records
+    part-put-records-start
+    part-put-records-end
+    put-records-requires
+    finish-requires-2
+    same-length
+    same-length-2
+    returns
+    same-length-3
+    same-length-4
+    returns-2
+    same-length-5
+    returns-3)

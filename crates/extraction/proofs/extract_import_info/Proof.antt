@@ -1,0 +1,108 @@
+use mathlib.Core.Logic.{⊎-elim}
+use native.Mathlib.Omega.{arith}
+use Rattle.extraction.specs.Answer.{lentAs}
+use Rattle.extraction.proofs.TopLaws.{zeros-good, left-accepted, left-refused}
+use borrow.Author.Needs.{needs}
+use Rattle.extraction.proofs.extract_import_info.Statement.{statement}
+use Rattle.extraction.proofs.extract_import_info.Tie as tie
+use Rattle.extraction.proofs.extract_import_info.Reads as reads
+use Rattle.extraction.proofs.extract_import_info.Lts as lts
+use Rattle.extraction.proofs.lists.Reads as lists-reads
+use Rattle.kept.proofs.modules.load.Reads as load-reads
+use Rattle.kept.proofs.modules.scope_of.Reads as scope-of-reads
+use Rattle.writer.proofs.clear.Reads as clear-reads
+
+-- src/lib.rt:82:10
+slice-aggregate-load : tie.Need-slice-aggregate-load
+slice-aggregate-load c = search needs
+
+-- src/lib.rt:82:5
+load-requires : tie.Need-load-requires
+load-requires c κs = zeros-good
+
+-- src/lib.rt:89:9
+slice-aggregate-lists : tie.Need-slice-aggregate-lists
+slice-aggregate-lists c = search needs
+
+-- src/lib.rt:83:9
+lists-requires : tie.Need-lists-requires
+lists-requires c κs = search needs
+
+-- src/lib.rt:96:29
+enum-told : tie.Need-enum-told
+enum-told c = search needs
+
+-- src/lib.rt:96:29
+slice-aggregate-scope-of : tie.Need-slice-aggregate-scope-of
+slice-aggregate-scope-of c = search needs
+
+-- src/lib.rt:96:20
+scope-of-requires : tie.Need-scope-of-requires
+scope-of-requires c κs = search needs
+
+-- src/lib.rt:100:13
+clear-requires : tie.Need-clear-requires
+clear-requires c κs = search needs
+
+-- src/lib.rt:101:13
+clear-requires-2 : tie.Need-clear-requires-2
+clear-requires-2 c κs = search needs
+
+-- src/lib.rt:102:13
+clear-requires-3 : tie.Need-clear-requires-3
+clear-requires-3 c κs = search needs
+
+-- src/lib.rt:68:1
+same-length : tie.Need-same-length
+same-length c = search needs
+
+-- src/lib.rt:68:1
+same-length-2 : tie.Need-same-length-2
+same-length-2 c = search needs
+
+-- src/lib.rt:68:1
+same-length-3 : tie.Need-same-length-3
+same-length-3 c = search needs
+
+-- src/lib.rt:68:1
+returns : tie.Need-returns
+returns c = left-accepted (lentAs (c .before .before .before .before .before .before .before .before .before .before .before .before .before .before .before .before .before .before .before .before .before .before .before .before .before .args .file .0) (c .before .before .before .before .before .before .before .before .before .before .before .before .before .before .before .before .before .before .before .before .before .before .before .before .before .args .config) (c .before .before .before .before .before .before .before .before .before .before .before .before .before .before .before .before .before .before .before .before .before .before .before .before .before .args .externals .now) (c .before .before .before .before .before .before .before .before .before .before .before .before .before .before .before .before .before .before .before .before .before .before .before .before .before .args .table .now) (c .before .before .before .before .before .before .before .before .before .before .before .before .before .before .before .before .before .before .before .before .before .before .before .before .before .args .tree .now)) (c .before .before .before .before .before .before .before .before .before .before .before .before .before .before .before .before .before .before .before .before .before .before .before .before .before .args .scope) (c .before .before .before .before .before .before .before .before .before .before .before .before .before .before .before .before .before .load .ensures) (c .before .before .before .before .before .before .before .before .before .before .before .lists .ensures) (λ i. c .before .before .before .before .before .before .before .before .before .before .before .before .before .before .before .before .before .before .before .before .before .before .shared-slice-known3 .given i .fits) (c .scope-of .result) (c .before .before .enum-told .given .1) (c .scope-of .ensures)
+
+-- src/lib.rt:68:1
+same-length-4 : tie.Need-same-length-4
+same-length-4 c = search needs
+
+-- src/lib.rt:68:1
+same-length-5 : tie.Need-same-length-5
+same-length-5 c = search needs
+
+-- src/lib.rt:68:1
+same-length-6 : tie.Need-same-length-6
+same-length-6 c = search needs
+
+-- src/lib.rt:68:1
+returns-2 : tie.Need-returns-2
+returns-2 c = left-refused (lentAs (c .before .before .before .before .before .before .before .before .before .before .before .before .before .before .before .before .before .before .before .before .before .before .before .before .before .before .before .before .before .before .before .before .before .before .args .file .0) (c .before .before .before .before .before .before .before .before .before .before .before .before .before .before .before .before .before .before .before .before .before .before .before .before .before .before .before .before .before .before .before .before .before .before .args .config) (c .before .before .before .before .before .before .before .before .before .before .before .before .before .before .before .before .before .before .before .before .before .before .before .before .before .before .before .before .before .before .before .before .before .before .args .externals .now) (c .before .before .before .before .before .before .before .before .before .before .before .before .before .before .before .before .before .before .before .before .before .before .before .before .before .before .before .before .before .before .before .before .before .before .args .table .now) (c .before .before .before .before .before .before .before .before .before .before .before .before .before .before .before .before .before .before .before .before .before .before .before .before .before .before .before .before .before .before .before .before .before .before .args .tree .now)) (c .before .before .before .before .before .before .before .before .before .before .before .before .before .before .before .before .before .before .before .before .before .before .before .before .before .before .before .before .before .before .before .before .before .before .args .scope) (c .before .before .before .before .before .before .before .before .before .before .before .before .before .before .before .before .before .before .before .before .before .before .before .before .before .before .load .ensures) (c .before .before .before .before .before .before .before .before .before .before .before .before .before .before .before .before .before .before .before .before .lists .ensures) (λ i. c .before .before .before .before .before .before .before .before .before .before .before .before .before .before .before .before .before .before .before .before .before .before .before .before .before .before .before .before .before .before .before .shared-slice-known3 .given i .fits) (λ h. ⊎-elim (λ w. omega arith) (λ v. ⊎-elim (λ w. omega arith) (λ v2. ⊎-elim (λ w. omega arith) (λ v3. ⊎-elim (λ w. omega arith) (λ w. omega arith) v3) v2) v) (rw h at (c .before .before .before .before .before .before .before .before .before .before .before .before .match .keys2))) (c .before .before .before .before .before .before .before .before .before .before .clear .ensures) (c .before .before .before .before .before .before .clear2 .ensures) (c .before .before .clear3 .ensures) (omega arith) (omega arith) (omega arith)
+
+pub extract-import-info-spec : {M : Type 1} → statement M
+extract-import-info-spec =
+    tie.close
+    (tie.spec
+    slice-aggregate-load
+    load-requires
+    slice-aggregate-lists
+    lists-requires
+    enum-told
+    slice-aggregate-scope-of
+    scope-of-requires
+    clear-requires
+    clear-requires-2
+    clear-requires-3
+    same-length
+    same-length-2
+    same-length-3
+    returns
+    same-length-4
+    same-length-5
+    same-length-6
+    returns-2)
