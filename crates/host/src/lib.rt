@@ -1,11 +1,19 @@
 // The calls of the library for C and Rust: numbers and byte slices in, numbers and bytes out, nothing asked of the caller.
 // An answer is the refusal's number times 2^32 plus its place; a zero upper half is acceptance.
+mod listing;
+
 use detection::DetectAnswer;
 use detection::is_es6;
+use extraction::ExtractAnswer;
+use extraction::extract_import_info;
+use listing::scope_bytes;
 use metadata::Decoded;
 use metadata::Encoded;
 use metadata::ExportCtxt;
 use metadata::ExportMetadata;
+use scope::FileAnswer;
+use scope::Scope;
+use scope::id::FileName;
 use scope::id::SyntaxContext;
 use tree::read::Why;
 ghost use mathlib.Core.Path.{_≡_};
@@ -16,7 +24,11 @@ ghost use Rattle.tree.specs.Read.{refusalOf};
 ghost use Rattle.detection.specs.Detection.{detect};
 ghost use Rattle.metadata.specs.Kept.{contextOf, metadataOf};
 ghost use Rattle.metadata.specs.Calls.{decodeCall, encodeAnswer, encodeOut};
-ghost use Rattle.host.specs.Answer.{packed, bit, detectAnswer, encodeAnswerOf, decodeAnswerOf, bytesOf, metadataBytes, metadataGiven};
+ghost use Rattle.scope.specs.Kept.{modulesOf};
+ghost use Rattle.steps.specs.Step.{refusalOf as walkRefusal};
+ghost use Rattle.extraction_rules.specs.Call.{extraction};
+ghost use Rattle.extraction.specs.Answer.{answerNumber, answerPlace, lentAs, roomIn};
+ghost use Rattle.host.specs.Answer.{packed, bit, detectAnswer, encodeAnswerOf, decodeAnswerOf, bytesOf, metadataBytes, metadataGiven, noFiles, extractCall, Leaves};
 
 fn pack(number: u8, place: usize) -> u64
     ensures { λ r. ⌜ r ≡ packed number place ⌝ }
@@ -131,4 +143,114 @@ pub extern "C" fn tychodrel_decode_metadata(attributes: &[u8], metadata: &mut [u
             pack(number_of(why), place)
         }
     }
+}
+
+// Document 01's number of a refusal by the walk.
+fn walk_number(why: steps::Why) -> u8
+    ensures { λ r. ⌜ r ≡ walkRefusal why ⌝ }
+{
+    match why {
+        steps::Why::TooManyFiles => 5,
+        steps::Why::StringName => 6,
+        steps::Why::PrivateName => 7,
+        steps::Why::TableFull => 8,
+    }
+}
+
+fn extract_answer(r: ExtractAnswer) -> u64
+    ensures { λ a. ⌜ a ≡ packed (answerNumber r) (answerPlace r) ⌝ }
+{
+    match r {
+        ExtractAnswer::Extracted => 0,
+        ExtractAnswer::BadLists => pack(1, 0),
+        ExtractAnswer::NamedTwice => pack(2, 0),
+        ExtractAnswer::Unread(why, place) => pack(number_of(why), place),
+        ExtractAnswer::Refused(why, place) => pack(walk_number(why), place),
+        ExtractAnswer::NoRoom => pack(9, 0),
+    }
+}
+
+// Extracts what a module imports, in a fresh scope in which the files are requested first; `scope` then holds the scope as bytes.
+#[no_mangle]
+pub extern "C" fn tychodrel_extract(
+    files: &[u8],
+    file: u16,
+    config: bool,
+    externals: &[u8],
+    table: &[u8],
+    tree: &[u8],
+    scope: &mut [u8; 770],
+    work: &mut [u8],
+    out: &mut [u8],
+    records: &mut [u8],
+) -> u64
+    ensures { λ r. ⌜ Leaves (extractCall (now (files .entry)) (lentAs file config (now (externals .entry)) (now (table .entry)) (now (tree .entry))) (roomIn (now (work .entry)) (now (out .entry)) (now (records .entry)))) r (now (scope .exit)) (now (work .exit)) (now (out .exit)) (now (records .exit)) ⌝ }
+{
+    let requested = Scope::new().gen_ids(files);
+    let entry = requested.scope;
+    let given = requested.answer;
+    match given {
+        FileAnswer::Given => extract_in(
+            entry,
+            FileName(file),
+            config,
+            externals,
+            table,
+            tree,
+            scope,
+            work,
+            out,
+            records,
+        ),
+        FileAnswer::TooManyFiles => refuse_files(entry, scope, work, out, records),
+    }
+}
+
+// The same in a scope with the files.
+fn extract_in(
+    entry: Scope,
+    file: FileName,
+    config: bool,
+    externals: &[u8],
+    table: &[u8],
+    tree: &[u8],
+    scope: &mut [u8; 770],
+    work: &mut [u8],
+    out: &mut [u8],
+    records: &mut [u8],
+) -> u64
+    ensures { λ r. ⌜ Leaves (extraction (lentAs (file .0) config (now (externals .entry)) (now (table .entry)) (now (tree .entry))) (roomIn (now (work .entry)) (now (out .entry)) (now (records .entry))) (modulesOf entry)) r (now (scope .exit)) (now (work .exit)) (now (out .exit)) (now (records .exit)) ⌝ }
+{
+    let r = extract_import_info(
+        entry,
+        file,
+        config,
+        externals,
+        table,
+        tree,
+        work,
+        out,
+        records,
+    );
+    let after = r.scope;
+    let answer = r.answer;
+    *scope = scope_bytes(after);
+    extract_answer(answer)
+}
+
+// A 257th file among those that are lent.
+fn refuse_files(
+    entry: Scope,
+    scope: &mut [u8; 770],
+    work: &mut [u8],
+    out: &mut [u8],
+    records: &mut [u8],
+) -> u64
+    ensures { λ r. ⌜ Leaves (noFiles 5 (modulesOf entry) (roomIn (now (work .entry)) (now (out .entry)) (now (records .entry)))) r (now (scope .exit)) (now (work .exit)) (now (out .exit)) (now (records .exit)) ⌝ }
+{
+    *scope = scope_bytes(entry);
+    writer::clear(work);
+    writer::clear(out);
+    writer::clear(records);
+    pack(5, 0)
 }

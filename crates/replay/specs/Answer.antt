@@ -2,6 +2,11 @@
 use Prim.Native.Nat.{ℕ, _≤_}
 use Rattle.replay.specs.declared.request.Answer.{Answer}
 use Rattle.replay.specs.declared.request.Answer.the-variants.{Text, Malformed, Unknown}
+use Rattle.replay.specs.declared.extracting.Ends.{Ends}
+use Rattle.replay.specs.declared.extracting.Lists.{Lists}
+use Rattle.replay.specs.declared.extracting.Lists.the-variants.{Upto as Lent, Bad as NotLent}
+use Rattle.text.specs.declared.decimal.Number.{Number}
+use Rattle.text.specs.declared.decimal.Number.the-variants.{Of, Bad as NoNumber}
 use Rattle.text.specs.declared.hex.Bytes.{Bytes}
 use Rattle.text.specs.declared.hex.Bytes.the-variants.{Upto, Bad}
 
@@ -15,3 +20,16 @@ AnswerIn n Unknown = Unit
 abbrev pub BytesIn : ℕ → ℕ → Bytes → Type 0
 BytesIn at n (Upto e) = (at ≤ e) × (e ≤ n)
 BytesIn at n Bad = Unit
+
+-- lists one behind the other within a buffer of n bytes
+abbrev pub EndsIn : ℕ → Ends → Type 0
+EndsIn n e = (e .files ≤ e .externals) × (e .externals ≤ e .table) × (e .table ≤ e .tree) × (e .tree ≤ n)
+
+abbrev pub ListsIn : ℕ → Lists → Type 0
+ListsIn n (Lent e) = EndsIn n e
+ListsIn n NotLent = Unit
+
+-- a length of at most n bytes
+abbrev pub RoomIn : ℕ → Number → Type 0
+RoomIn n (Of k) = k ≤ n
+RoomIn n NoNumber = Unit

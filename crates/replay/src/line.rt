@@ -57,7 +57,9 @@ pub fn replay(
     s: &[u8],
     broken: bool,
     lent: &mut [u8],
+    work: &mut [u8],
     out: &mut [u8],
+    records: &mut [u8],
     answer: &mut [u8],
     t: Tally,
 ) -> Tally {
@@ -69,7 +71,7 @@ pub fn replay(
     if tab == len {
         return malformed(t, b"no answer");
     }
-    match request::respond(s, tab, lent, out, answer) {
+    match request::respond(s, tab, lent, work, out, records, answer) {
         Answer::Text(n) => compared(t, &s[tab + 1..], &answer[0..n]),
         Answer::Malformed => malformed(t, b"request"),
         Answer::Unknown => skipped(t),
@@ -81,7 +83,9 @@ pub fn replay_last(
     s: &[u8],
     broken: bool,
     lent: &mut [u8],
+    work: &mut [u8],
     out: &mut [u8],
+    records: &mut [u8],
     answer: &mut [u8],
     t: Tally,
 ) -> Tally {
@@ -91,5 +95,5 @@ pub fn replay_last(
     if s.len() == 0 {
         return t;
     }
-    replay(s, false, lent, out, answer, t)
+    replay(s, false, lent, work, out, records, answer, t)
 }

@@ -1,10 +1,11 @@
 // Replays the vectors on standard input: a line is a request, a tab and the answer that is expected.
 // Writes each line whose answer differs, and last how many cases there were.
+mod extracting;
 mod line;
 mod report;
 mod request;
 
-ghost use Prim.Native.Nat.{_≤_};
+ghost use Prim.Native.Nat.{_≤_, _<_};
 ghost use lib.ListN.{length};
 ghost use Rattle.replay.specs.Window.{Within, CameIn};
 use line::Tally;
@@ -88,8 +89,48 @@ pub struct State {
     pub done: bool,
 }
 
-// Takes a line, or reads more, or ends.
-fn turn(window: &mut [u8], lent: &mut [u8], out: &mut [u8], answer: &mut [u8], s: State) -> State
+// Takes the line that ends at `stop`.
+fn take_line(
+    window: &[u8],
+    stop: usize,
+    lent: &mut [u8],
+    work: &mut [u8],
+    out: &mut [u8],
+    records: &mut [u8],
+    answer: &mut [u8],
+    s: State,
+) -> State
+    requires { ⌜ Within (length (now window)) (s .window) × (s .window .start ≤ stop) × (stop < s .window .end) ⌝ }
+    ensures { λ r. ⌜ Within (length (now (window .entry))) (r .window) ⌝ }
+{
+    let w = s.window;
+    let t = s.tally;
+    let start = w.start;
+    let line = &window[start..stop];
+    let tally = line::replay(line, w.broken, lent, work, out, records, answer, t);
+    let next = Window {
+        start: stop + 1,
+        end: w.end,
+        open: w.open,
+        broken: false,
+    };
+    State {
+        window: next,
+        tally,
+        done: false,
+    }
+}
+
+// Takes what stands behind the last line end.
+fn take_last(
+    window: &[u8],
+    lent: &mut [u8],
+    work: &mut [u8],
+    out: &mut [u8],
+    records: &mut [u8],
+    answer: &mut [u8],
+    s: State,
+) -> State
     requires { ⌜ Within (length (now window)) (s .window) ⌝ }
     ensures { λ r. ⌜ Within (length (now (window .entry))) (r .window) ⌝ }
 {
@@ -97,30 +138,8 @@ fn turn(window: &mut [u8], lent: &mut [u8], out: &mut [u8], answer: &mut [u8], s
     let t = s.tally;
     let start = w.start;
     let end = w.end;
-    let stop = find(window, start, end, 10);
-    if stop < end {
-        let tally = line::replay(&window[start..stop], w.broken, lent, out, answer, t);
-        let next = Window {
-            start: stop + 1,
-            end,
-            open: w.open,
-            broken: false,
-        };
-        return State {
-            window: next,
-            tally,
-            done: false,
-        };
-    }
-    if w.open {
-        let filled = fill(window, w);
-        return State {
-            window: filled,
-            tally: t,
-            done: false,
-        };
-    }
-    let tally = line::replay_last(&window[start..end], w.broken, lent, out, answer, t);
+    let line = &window[start..end];
+    let tally = line::replay_last(line, w.broken, lent, work, out, records, answer, t);
     State {
         window: w,
         tally,
@@ -128,8 +147,47 @@ fn turn(window: &mut [u8], lent: &mut [u8], out: &mut [u8], answer: &mut [u8], s
     }
 }
 
+// Takes a line, or reads more, or ends.
+fn turn(
+    window: &mut [u8],
+    lent: &mut [u8],
+    work: &mut [u8],
+    out: &mut [u8],
+    records: &mut [u8],
+    answer: &mut [u8],
+    s: State,
+) -> State
+    requires { ⌜ Within (length (now window)) (s .window) ⌝ }
+    ensures { λ r. ⌜ Within (length (now (window .entry))) (r .window) ⌝ }
+{
+    let w = s.window;
+    let start = w.start;
+    let end = w.end;
+    let stop = find(window, start, end, 10);
+    if stop < end {
+        return take_line(window, stop, lent, work, out, records, answer, s);
+    }
+    if w.open {
+        let tally = s.tally;
+        let filled = fill(window, w);
+        return State {
+            window: filled,
+            tally,
+            done: false,
+        };
+    }
+    take_last(window, lent, work, out, records, answer, s)
+}
+
 // Nothing says that the input ends, so the turns are counted down from a number that no run uses up.
-fn run(window: &mut [u8], lent: &mut [u8], out: &mut [u8], answer: &mut [u8]) -> Tally {
+fn run(
+    window: &mut [u8],
+    lent: &mut [u8],
+    work: &mut [u8],
+    out: &mut [u8],
+    records: &mut [u8],
+    answer: &mut [u8],
+) -> Tally {
     let empty = Window {
         start: 0,
         end: 0,
@@ -148,7 +206,7 @@ fn run(window: &mut [u8], lent: &mut [u8], out: &mut [u8], answer: &mut [u8]) ->
     };
     let mut turns = u64::MAX;
     while turns > 0 {
-        s = turn(window, lent, out, answer, s);
+        s = turn(window, lent, work, out, records, answer, s);
         if s.done {
             return s.tally;
         }
@@ -158,11 +216,20 @@ fn run(window: &mut [u8], lent: &mut [u8], out: &mut [u8], answer: &mut [u8]) ->
 }
 
 fn main() {
-    // A line of up to a mebibyte, the bytes that it spells, what a call writes, and the answer's text.
+    // A line of up to a mebibyte, the bytes that it spells, what a call writes in each of its buffers, and the answer's text.
     let mut window = [0u8; 1048576];
     let mut lent = [0u8; 524288];
+    let mut work = [0u8; 131072];
     let mut out = [0u8; 524288];
+    let mut records = [0u8; 131072];
     let mut answer = [0u8; 2097152];
-    let t = run(&mut window, &mut lent, &mut out, &mut answer);
+    let t = run(
+        &mut window,
+        &mut lent,
+        &mut work,
+        &mut out,
+        &mut records,
+        &mut answer,
+    );
     report::total(t.cases, t.skipped, t.differences);
 }

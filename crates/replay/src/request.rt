@@ -1,4 +1,5 @@
 // The requests: each reads its fields, makes its call, and writes the answer as the vectors have it.
+use crate::extracting::extract;
 use check::same;
 use text::decimal::Number;
 use text::decimal::put_decimal;
@@ -23,7 +24,15 @@ pub enum Answer {
 }
 
 // Answers the request that stands before `to`.
-pub fn respond(s: &[u8], to: usize, lent: &mut [u8], out: &mut [u8], text: &mut [u8]) -> Answer
+pub fn respond(
+    s: &[u8],
+    to: usize,
+    lent: &mut [u8],
+    work: &mut [u8],
+    out: &mut [u8],
+    records: &mut [u8],
+    text: &mut [u8],
+) -> Answer
     requires { ⌜ to ≤ length (now s) ⌝ }
     ensures { λ r. ⌜ AnswerIn (length (now (text .entry))) r ⌝ }
 {
@@ -43,11 +52,14 @@ pub fn respond(s: &[u8], to: usize, lent: &mut [u8], out: &mut [u8], text: &mut 
     if same(word, b"decode") {
         return decode(s, to, lent, text);
     }
+    if same(word, b"extract") {
+        return extract(s, to, lent, work, out, records, text);
+    }
     Answer::Unknown
 }
 
 // The field k, a number.
-fn number(s: &[u8], to: usize, k: usize) -> Number
+pub fn number(s: &[u8], to: usize, k: usize) -> Number
     requires { ⌜ to ≤ length (now s) ⌝ }
 {
     let Span::At(a, e) = field(s, 0, to, k) else {
@@ -57,7 +69,7 @@ fn number(s: &[u8], to: usize, k: usize) -> Number
 }
 
 // The field k, bytes, put into lent from `at` on.
-fn bytes(s: &[u8], to: usize, k: usize, lent: &mut [u8], at: usize) -> Bytes
+pub fn bytes(s: &[u8], to: usize, k: usize, lent: &mut [u8], at: usize) -> Bytes
     requires { ⌜ (to ≤ length (now s)) × (at ≤ length (now lent)) ⌝ }
     ensures { λ r. ⌜ BytesIn at (length (now (lent .entry))) r ⌝ }
 {
@@ -68,7 +80,7 @@ fn bytes(s: &[u8], to: usize, k: usize, lent: &mut [u8], at: usize) -> Bytes
 }
 
 // Whether there are more than k fields.
-fn has(s: &[u8], to: usize, k: usize) -> bool
+pub fn has(s: &[u8], to: usize, k: usize) -> bool
     requires { ⌜ to ≤ length (now s) ⌝ }
 {
     let Span::At(_, _) = field(s, 0, to, k) else {
@@ -265,7 +277,7 @@ fn decoded(metadata: [u8; 6], text: &mut [u8]) -> Answer
 }
 
 // Fills a buffer before a call, so that a byte that the call leaves alone shows.
-fn prefill(out: &mut [u8]) {
+pub fn prefill(out: &mut [u8]) {
     let mut i = 0;
     while i < out.len() {
         out[i] = 170;
@@ -274,7 +286,7 @@ fn prefill(out: &mut [u8]) {
 }
 
 // Whether only zeros stand from `from` on.
-fn is_zero(s: &[u8], from: usize) -> bool {
+pub fn is_zero(s: &[u8], from: usize) -> bool {
     let mut i = from;
     while i < s.len() {
         if s[i] != 0 {
@@ -286,7 +298,7 @@ fn is_zero(s: &[u8], from: usize) -> bool {
 }
 
 // Writes the field that stands at the front of a call's buffer, or all of the buffer where not only zeros stand behind the field.
-fn put_field(text: &mut [u8], at: usize, out: &[u8]) -> usize
+pub fn put_field(text: &mut [u8], at: usize, out: &[u8]) -> usize
     requires { ⌜ at ≤ length (now text) ⌝ }
     ensures { λ r. ⌜ r ≤ length (now (text .entry)) ⌝ }
 {

@@ -13,10 +13,16 @@ slice-aggregate-run-2 : tie.Need-slice-aggregate-run-2
 slice-aggregate-run-2 c = sym (length-replicate {0} {A = ℕ} 524288 0)
 
 slice-aggregate-run-3 : tie.Need-slice-aggregate-run-3
-slice-aggregate-run-3 c = sym (length-replicate {0} {A = ℕ} 524288 0)
+slice-aggregate-run-3 c = sym (length-replicate {0} {A = ℕ} 131072 0)
 
 slice-aggregate-run-4 : tie.Need-slice-aggregate-run-4
-slice-aggregate-run-4 c = sym (length-replicate {0} {A = ℕ} 2097152 0)
+slice-aggregate-run-4 c = sym (length-replicate {0} {A = ℕ} 524288 0)
+
+slice-aggregate-run-5 : tie.Need-slice-aggregate-run-5
+slice-aggregate-run-5 c = sym (length-replicate {0} {A = ℕ} 131072 0)
+
+slice-aggregate-run-6 : tie.Need-slice-aggregate-run-6
+slice-aggregate-run-6 c = sym (length-replicate {0} {A = ℕ} 2097152 0)
 
 run-requires : tie.Need-run-requires
 run-requires c κs = search needs
@@ -35,6 +41,8 @@ main-spec =
     slice-aggregate-run-2
     slice-aggregate-run-3
     slice-aggregate-run-4
+    slice-aggregate-run-5
+    slice-aggregate-run-6
     run-requires
     total-requires
     returns)

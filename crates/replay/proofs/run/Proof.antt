@@ -7,13 +7,20 @@ use Rattle.replay.proofs.run.Tie as tie
 use Rattle.replay.specs.Window.{Within}
 
 abbrev Inv-loop : tie.InvT-loop
-Inv-loop window₀ lent₀ out₀ answer₀ s₀ turns₀ window lent out answer s turns = Within (length window) (s .window) × (length window ≡ length window₀) × (length lent ≡ length lent₀) × (length out ≡ length out₀) × (length answer ≡ length answer₀)
+Inv-loop window₀ lent₀ work₀ out₀ records₀ answer₀ s₀ turns₀ window lent work out records answer s turns =
+    Within (length window) (s .window)
+    × (length window ≡ length window₀)
+    × (length lent ≡ length lent₀)
+    × (length work ≡ length work₀)
+    × (length out ≡ length out₀)
+    × (length records ≡ length records₀)
+    × (length answer ≡ length answer₀)
 
 abbrev μ-loop : tie.MeasureT-loop
-μ-loop window₀ lent₀ out₀ answer₀ s₀ turns₀ window lent out answer s turns = turns
+μ-loop window₀ lent₀ work₀ out₀ records₀ answer₀ s₀ turns₀ window lent work out records answer s turns = turns
 
 loop-holds : tie.Need-loop-holds Inv-loop μ-loop
-loop-holds c = ((omega arith, omega arith), refl, refl, refl, refl)
+loop-holds c = ((omega arith, omega arith), refl, refl, refl, refl, refl, refl)
 
 turn-requires : tie.Need-turn-requires Inv-loop μ-loop
 turn-requires c κs = omega arith
@@ -30,6 +37,12 @@ same-length-3 c = omega arith
 same-length-4 : tie.Need-same-length-4 Inv-loop μ-loop
 same-length-4 c = omega arith
 
+same-length-5 : tie.Need-same-length-5 Inv-loop μ-loop
+same-length-5 c = omega arith
+
+same-length-6 : tie.Need-same-length-6 Inv-loop μ-loop
+same-length-6 c = omega arith
+
 returns : tie.Need-returns Inv-loop μ-loop
 returns c = omega arith
 
@@ -42,17 +55,23 @@ loop-less c = omega arith
 loop-again : tie.Need-loop-again Inv-loop μ-loop
 loop-again c = omega arith
 
-same-length-5 : tie.Need-same-length-5 Inv-loop μ-loop
-same-length-5 c = omega arith
-
-same-length-6 : tie.Need-same-length-6 Inv-loop μ-loop
-same-length-6 c = omega arith
-
 same-length-7 : tie.Need-same-length-7 Inv-loop μ-loop
 same-length-7 c = omega arith
 
 same-length-8 : tie.Need-same-length-8 Inv-loop μ-loop
 same-length-8 c = omega arith
+
+same-length-9 : tie.Need-same-length-9 Inv-loop μ-loop
+same-length-9 c = omega arith
+
+same-length-10 : tie.Need-same-length-10 Inv-loop μ-loop
+same-length-10 c = omega arith
+
+same-length-11 : tie.Need-same-length-11 Inv-loop μ-loop
+same-length-11 c = omega arith
+
+same-length-12 : tie.Need-same-length-12 Inv-loop μ-loop
+same-length-12 c = omega arith
 
 returns-2 : tie.Need-returns-2 Inv-loop μ-loop
 returns-2 c = omega arith
@@ -69,12 +88,16 @@ run-spec =
     same-length-2
     same-length-3
     same-length-4
+    same-length-5
+    same-length-6
     returns
     sub-turns
     loop-less
     loop-again
-    same-length-5
-    same-length-6
     same-length-7
     same-length-8
+    same-length-9
+    same-length-10
+    same-length-11
+    same-length-12
     returns-2)

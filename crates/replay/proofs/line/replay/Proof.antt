@@ -1,11 +1,11 @@
 -- `replay::line::replay` meets its contract.
-use borrow.Author.Needs.{needs}
 use lib.ListN.{length}
 use mathlib.Core.Path.{subst}
 use native.Mathlib.Omega.{arith}
+use Rattle.replay.specs.Answer.{AnswerIn}
+use borrow.Author.Needs.{needs}
 use Rattle.replay.proofs.line.replay.Statement.{statement}
 use Rattle.replay.proofs.line.replay.Tie as tie
-use Rattle.replay.specs.Answer.{AnswerIn}
 
 slice-aggregate-malformed : tie.Need-slice-aggregate-malformed
 slice-aggregate-malformed c = search needs
@@ -53,7 +53,7 @@ part-compared-start-2 : tie.Need-part-compared-start-2
 part-compared-start-2 c = search needs
 
 part-compared-end-2 : tie.Need-part-compared-end-2
-part-compared-end-2 c = let w = subst (AnswerIn (length (c .before .before .before .before .before .before .before .before .before .before .before .before .before .before .before .before .before .before .before .before .before .before .args .answer .now))) (c .before .before .before .n .given .1) (c .before .before .before .before .before .before .before .before .before .before .before .respond .ensures) in omega arith
+part-compared-end-2 c = let w = subst (AnswerIn (length (c .before .before .before .before .before .before .before .before .before .before .before .before .before .before .before .before .before .before .before .before .before .before .before .before .before .before .before .before .before .before .args .answer .now))) (c .before .before .before .n .given .1) (c .before .before .before .before .before .before .before .before .before .before .before .before .before .before .before .respond .ensures) in omega arith
 
 compared-requires : tie.Need-compared-requires
 compared-requires c κs = search needs
@@ -82,20 +82,17 @@ same-length-2 c = search needs
 same-length-3 : tie.Need-same-length-3
 same-length-3 c = search needs
 
-returns-3 : tie.Need-returns-3
-returns-3 c = search needs
-
 same-length-4 : tie.Need-same-length-4
 same-length-4 c = search needs
 
 same-length-5 : tie.Need-same-length-5
 same-length-5 c = search needs
 
+returns-3 : tie.Need-returns-3
+returns-3 c = search needs
+
 same-length-6 : tie.Need-same-length-6
 same-length-6 c = search needs
-
-returns-4 : tie.Need-returns-4
-returns-4 c = search needs
 
 same-length-7 : tie.Need-same-length-7
 same-length-7 c = search needs
@@ -105,6 +102,27 @@ same-length-8 c = search needs
 
 same-length-9 : tie.Need-same-length-9
 same-length-9 c = search needs
+
+same-length-10 : tie.Need-same-length-10
+same-length-10 c = search needs
+
+returns-4 : tie.Need-returns-4
+returns-4 c = search needs
+
+same-length-11 : tie.Need-same-length-11
+same-length-11 c = search needs
+
+same-length-12 : tie.Need-same-length-12
+same-length-12 c = search needs
+
+same-length-13 : tie.Need-same-length-13
+same-length-13 c = search needs
+
+same-length-14 : tie.Need-same-length-14
+same-length-14 c = search needs
+
+same-length-15 : tie.Need-same-length-15
+same-length-15 c = search needs
 
 returns-5 : tie.Need-returns-5
 returns-5 c = search needs
@@ -138,12 +156,18 @@ replay-spec =
     same-length
     same-length-2
     same-length-3
-    returns-3
     same-length-4
     same-length-5
+    returns-3
     same-length-6
-    returns-4
     same-length-7
     same-length-8
     same-length-9
+    same-length-10
+    returns-4
+    same-length-11
+    same-length-12
+    same-length-13
+    same-length-14
+    same-length-15
     returns-5)

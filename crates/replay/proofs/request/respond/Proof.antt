@@ -1,10 +1,10 @@
 -- `replay::request::respond` meets its contract.
-use borrow.Author.Needs.{needs}
 use mathlib.Core.Path.{subst}
 use native.Mathlib.Omega.{arith}
+use Rattle.text.specs.Fields.{SpanIn}
+use borrow.Author.Needs.{needs}
 use Rattle.replay.proofs.request.respond.Statement.{statement}
 use Rattle.replay.proofs.request.respond.Tie as tie
-use Rattle.text.specs.Fields.{SpanIn}
 
 field-requires : tie.Need-field-requires
 field-requires c κs = search needs
@@ -22,13 +22,13 @@ returns-2 : tie.Need-returns-2
 returns-2 c = search needs
 
 sub-word : tie.Need-sub-word
-sub-word c = let w = subst (SpanIn 0 (c .before .before .before .before .before .before .before .before .before .args .to)) (c .before .before .a .given .1) (c .before .before .before .before .field .ensures .1) in omega arith
+sub-word c = let w = subst (SpanIn 0 (c .before .before .before .before .before .before .before .before .before .before .before .args .to)) (c .before .before .a .given .1) (c .before .before .before .before .field .ensures .1) in omega arith
 
 part-word-start : tie.Need-part-word-start
-part-word-start c = let w = subst (SpanIn 0 (c .before .before .before .before .before .before .before .before .before .args .to)) (c .before .before .a .given .1) (c .before .before .before .before .field .ensures .1) in omega arith
+part-word-start c = let w = subst (SpanIn 0 (c .before .before .before .before .before .before .before .before .before .before .before .args .to)) (c .before .before .a .given .1) (c .before .before .before .before .field .ensures .1) in omega arith
 
 part-word-end : tie.Need-part-word-end
-part-word-end c = let w = subst (SpanIn 0 (c .before .before .before .before .before .before .before .before .before .args .to)) (c .before .before .a .given .1) (c .before .before .before .before .field .ensures .1) in omega arith
+part-word-end c = let w = subst (SpanIn 0 (c .before .before .before .before .before .before .before .before .before .before .before .args .to)) (c .before .before .a .given .1) (c .before .before .before .before .field .ensures .1) in omega arith
 
 slice-aggregate-same : tie.Need-slice-aggregate-same
 slice-aggregate-same c = search needs
@@ -87,8 +87,35 @@ same-length-7 c = search needs
 returns-5 : tie.Need-returns-5
 returns-5 c = search needs
 
+slice-aggregate-same-4 : tie.Need-slice-aggregate-same-4
+slice-aggregate-same-4 c = search needs
+
+same-requires-4 : tie.Need-same-requires-4
+same-requires-4 c κs = search needs
+
+extract-requires : tie.Need-extract-requires
+extract-requires c κs = search needs
+
+same-length-8 : tie.Need-same-length-8
+same-length-8 c = search needs
+
+same-length-9 : tie.Need-same-length-9
+same-length-9 c = search needs
+
+same-length-10 : tie.Need-same-length-10
+same-length-10 c = search needs
+
+same-length-11 : tie.Need-same-length-11
+same-length-11 c = search needs
+
+same-length-12 : tie.Need-same-length-12
+same-length-12 c = search needs
+
 returns-6 : tie.Need-returns-6
 returns-6 c = search needs
+
+returns-7 : tie.Need-returns-7
+returns-7 c = search needs
 
 pub respond-spec : {M : Type 1} → statement M
 respond-spec =
@@ -121,4 +148,13 @@ respond-spec =
     same-length-6
     same-length-7
     returns-5
-    returns-6)
+    slice-aggregate-same-4
+    same-requires-4
+    extract-requires
+    same-length-8
+    same-length-9
+    same-length-10
+    same-length-11
+    same-length-12
+    returns-6
+    returns-7)

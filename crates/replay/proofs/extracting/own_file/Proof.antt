@@ -1,0 +1,73 @@
+-- `replay::extracting::own_file` meets its contract.
+use lib.ListN.{length}
+use mathlib.Core.Path.{subst}
+use native.Mathlib.Omega.{arith}
+use Rattle.replay.specs.Answer.{BytesIn}
+use borrow.Author.Needs.{needs}
+use Rattle.replay.proofs.extracting.own_file.Statement.{statement}
+use Rattle.replay.proofs.extracting.own_file.Tie as tie
+
+bytes-requires : tie.Need-bytes-requires
+bytes-requires c κs = search needs
+
+enum-known-n : tie.Need-enum-known-n
+enum-known-n c = search needs
+
+enum-told : tie.Need-enum-told
+enum-told c = search needs
+
+same-length : tie.Need-same-length
+same-length c = search needs
+
+returns : tie.Need-returns
+returns c = search needs
+
+same-length-2 : tie.Need-same-length-2
+same-length-2 c = search needs
+
+returns-2 : tie.Need-returns-2
+returns-2 c = search needs
+
+slice-read-wide : tie.Need-slice-read-wide
+slice-read-wide c = let w = subst (BytesIn 0 (length (c .before .before .before .before .before .before .before .before .before .before .before .args .lent .now))) (c .before .before .before .n .given .1) (c .before .before .before .before .before .before .before .bytes .ensures) in omega arith
+
+wide-requires : tie.Need-wide-requires
+wide-requires c κs = search needs
+
+mul-t13 : tie.Need-mul-t13
+mul-t13 c = search needs
+
+slice-read-wide-2 : tie.Need-slice-read-wide-2
+slice-read-wide-2 c = let w = subst (BytesIn 0 (length (c .before .before .before .before .before .before .before .before .before .before .before .before .before .args .lent .now))) (c .before .before .before .before .before .n .given .1) (c .before .before .before .before .before .before .before .before .before .bytes .ensures) in omega arith
+
+wide-requires-2 : tie.Need-wide-requires-2
+wide-requires-2 c κs = search needs
+
+add-t17 : tie.Need-add-t17
+add-t17 c = search needs
+
+same-length-3 : tie.Need-same-length-3
+same-length-3 c = search needs
+
+returns-3 : tie.Need-returns-3
+returns-3 c = search needs
+
+pub own-file-spec : {M : Type 1} → statement M
+own-file-spec =
+    tie.close
+    (tie.spec
+    bytes-requires
+    enum-known-n
+    enum-told
+    same-length
+    returns
+    same-length-2
+    returns-2
+    slice-read-wide
+    wide-requires
+    mul-t13
+    slice-read-wide-2
+    wide-requires-2
+    add-t17
+    same-length-3
+    returns-3)
