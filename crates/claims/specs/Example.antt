@@ -20,14 +20,14 @@ unfolding computing idsIn matching objectIds standings stands properties all imp
 placing n items = wellPlaced n items
 
 -- import * as a from './m', and uses of a
-abbrev spaced : Field
+abbrev pub spaced : Field
 spaced = imports (namespace (own a) ∷ [])
 
-abbrev ax : Field
+abbrev pub ax : Field
 ax = member (ident (own a)) x
 
 -- a[e]
-abbrev at : Field → Field
+abbrev pub at : Field → Field
 at e = fields 0x63 (ident (own a) ∷ fields 0x71 (e ∷ []) ∷ [])
 
 -- ---- How a stands

@@ -6,4 +6,5 @@ pub mod Placed
 pub mod Demand
 pub mod Lists
 pub mod Example
+pub mod DemandExample
 pub mod ListsExample
