@@ -22,31 +22,47 @@ use Rattle.claims.specs.Placed.{all, importsIn, importsPrecede, sharesNo
 use Rattle.claims.specs.Demand.{takes, TakenApart, Kept, Ends, ResolvesTo, handedOn}
 use Rattle.claims.specs.Example.{placing, spaced, ax, at}
 
--- ---- Both calls on a module
+-- ---- Fields
 
--- the atom of './n'
+-- the atom of './n', and the literal
 abbrev n : ℕ
 n = 30
 
 abbrev literal-n : List ℕ
 literal-n = two n ++ four 1
 
--- export { i }: the 11's source, the 23's bytes
-abbrev exports : List ℕ → List ℕ → Field
-exports l i = field 0x11 l (listed (leaf 0x23 i ∷ []))
-
 abbrev ay : Field
 ay = member (ident (own a)) y
 
-abbrev cjs : ℕ → Module
-cjs f = record { file = f; loaded = false; stored = false; cjs = true; wrapping = false }
+-- an export of one name: the 11's bytes, and the 23's
+abbrev exports : List ℕ → List ℕ → Field
+exports l i = field 0x11 l (listed (leaf 0x23 i ∷ []))
 
--- the import of './m' in *out*, with its metadata
+-- import * as i from './n'
+abbrev spaced-n : List ℕ → Field
+spaced-n i = field 0x10 literal-n (listed (namespace i ∷ []))
+
+-- an import of './m', and one of './n', with the metadata that the first pass appends: './m' is module 1, './n' is module 2
 abbrev from-m : List Field → Field
 from-m l = imports (l ++ metadata ∷ [])
 
 abbrev from-n : List Field → Field
 from-n l = field 0x10 literal-n (listed (l ++ fields 0x2F (attribute contextKey (55 ∷ []) ∷ []) ∷ []))
+
+-- their 90s; a 91 without alias, and a 92 marked "all"
+abbrev record-m : List Field → Field
+record-m l = field 0x90 (3 ∷ two 1 ++ two 10 ++ four 4 ++ four 5 ++ literal 1) (listed l)
+
+abbrev record-n : ℕ → List Field → Field
+record-n t l = field 0x90 (t ∷ two 2 ++ two 11 ++ four 6 ++ four 7 ++ literal-n) (listed l)
+
+abbrev as-name : List ℕ → Field
+as-name i = leaf 0x91 (i ++ 0 ∷ [])
+
+abbrev as-all : List ℕ → Field
+as-all i = leaf 0x92 (i ++ 1 ∷ [])
+
+-- ---- Both calls on a module
 
 -- ./m to file 10 and ./n to file 11
 abbrev table : List ℕ
@@ -102,12 +118,16 @@ in-block : Apart (two x ∷ []) (behind (leaf 0x40 [] ∷ fields 0x45 (statement
 unfolding placing computing-resolved
 in-block = (refl, refl, record { gone = refl; used = (refl, tt); declares = (_, refl, refl); records = refl })
 
--- a.x.y: the member of x stays
-chained : Apart (two x ∷ []) (behind (statement (member ax y) ∷ []))
+-- a.x.y
+abbrev member-of-use : Fields
+member-of-use = behind (statement (member ax y) ∷ [])
+
+chained : Apart (two x ∷ []) member-of-use
 unfolding placing computing-resolved
 chained = (refl, refl, record { gone = refl; used = (refl, tt); declares = (_, refl, refl); records = refl })
 
-chained-out : Accepted (λ r t. partsOf (r .out) ≡ listed (from-m (named (exp x) ∷ []) ∷ statement (member (ident (exp x)) y) ∷ [])) (after (behind (statement (member ax y) ∷ [])))
+-- x.y
+chained-out : Accepted (λ r t. partsOf (r .out) ≡ listed (from-m (named (exp x) ∷ []) ∷ statement (member (ident (exp x)) y) ∷ [])) (after member-of-use)
 unfolding placing computing-resolved
 chained-out = refl
 
@@ -127,7 +147,7 @@ unfolding placing computing-resolved
 by-expression = (refl, refl, record { declares = (_, refl, refl); records = refl; used = (refl, (refl, (refl, tt))) })
 
 -- import * as b from './n'; a[b.y]: what stands inside the brackets changes
-inside-brackets : Whole (behind (field 0x10 literal-n (listed (namespace (own b) ∷ [])) ∷ statement (at (member (ident (own b)) y)) ∷ []))
+inside-brackets : Whole (behind (spaced-n (own b) ∷ statement (at (member (ident (own b)) y)) ∷ []))
 unfolding placing computing-resolved
 inside-brackets = (refl, refl, record { declares = (_, refl, refl); records = refl; used = (refl, tt) })
 
@@ -154,20 +174,6 @@ record Wrong (apart : Bool) (k : ℕ) (i : List ℕ) (items : Fields) (outs list
   told : says i items ≡ apart
   left : Accepted (λ r t. (partsOf (r .out) ≡ listed outs) × (partsOf (t .list) ≡ listed list)) (after items)
   fails : Accepted (λ r t. Ends apart i (literal 1) k (stands items i) items (lent items) r t → ⊥) (after items)
-
--- a 90 of './m', module 1, and one of './n', module 2
-abbrev record-m : List Field → Field
-record-m l = field 0x90 (3 ∷ two 1 ++ two 10 ++ four 4 ++ four 5 ++ literal 1) (listed l)
-
-abbrev record-n : ℕ → List Field → Field
-record-n t l = field 0x90 (t ∷ two 2 ++ two 11 ++ four 6 ++ four 7 ++ literal-n) (listed l)
-
--- a 91 without alias, and a 92 marked "all"
-abbrev as-name : List ℕ → Field
-as-name i = leaf 0x91 (i ++ 0 ∷ [])
-
-abbrev as-all : List ℕ → Field
-as-all i = leaf 0x92 (i ++ 1 ∷ [])
 
 -- unlike things are not equal
 unlike : {A : Type 0} {u v : A} (p : A → Bool) → u ≡ v → p u ≡ true → p v ≡ false → ⊥
@@ -204,7 +210,7 @@ shared-source-fails = record { told = refl; left = (refl, refl); fails = λ e. u
 -- share no local id: import * as a from './m'; import * as a from './n'; a.x
 -- The use becomes x in the other source's export context, 7.
 abbrev shared-local : Fields
-shared-local = behind (field 0x10 literal-n (listed (namespace (own a) ∷ [])) ∷ statement ax ∷ [])
+shared-local = behind (spaced-n (own a) ∷ statement ax ∷ [])
 
 shared-local-fails : Wrong true 0 (own a) shared-local
     (from-m (named (exp x) ∷ []) ∷ from-n (named (exp x) ∷ []) ∷ statement (ident (two x ++ four 7)) ∷ [])
@@ -214,8 +220,8 @@ shared-local-fails = record {
   told = refl;
   left = (refl, refl);
   fails = λ e.
-      let j = one-module (rowsIn table) (unmarked 9 ∷ unmarked 10 ∷ unmarked 11 ∷ []) (literal 1) (e .1) refl refl in
-      elsewhere (two x ++ four 7) (two x) j (e .2 .used .0) refl refl;
+      let h : e .0 ≡ 1 = one-module (rowsIn table) (unmarked 9 ∷ unmarked 10 ∷ unmarked 11 ∷ []) (literal 1) (e .1) refl refl in
+      elsewhere (two x ++ four 7) (two x) h (e .2 .used .0) refl refl;
 }
 
 -- locals have own local context: import * as x from './m'; x.x, where x has the export context of './m'
@@ -269,14 +275,24 @@ as-shorthand-fails : Wrong true 0 (own a) as-shorthand
 unfolding placing computing-resolved
 as-shorthand-fails = record { told = refl; left = (refl, refl); fails = λ e. cons≢nil (e .2 .gone) }
 
--- with a private name, as expression: a.#x
--- The call is refused, so that neither end is reached.
+-- with a private name: a.#x
+-- The call is refused, so that no end is reached. Behind a use that forces a, as in a; a.#x, nothing goes wrong: it is kept.
+abbrev a-private : Field
+a-private = statement (fields 0x63 (ident (own a) ∷ leaf 0x72 (two x) ∷ []))
+
 abbrev with-private : Fields
-with-private = behind (statement (fields 0x63 (ident (own a) ∷ leaf 0x72 (two x) ∷ [])) ∷ [])
+with-private = behind (a-private ∷ [])
+
+abbrev forced-private : Fields
+forced-private = behind (statement (ident (own a)) ∷ a-private ∷ [])
 
 with-private-refused : after with-private ≡ refused 7 36
 unfolding placing computing-resolved
 with-private-refused = refl
+
+with-private-kept : Accepted (λ r t. Kept (own a) (literal 1) 0 forced-private (partsOf (r .out)) (partsOf (t .list))) (after forced-private)
+unfolding placing computing-resolved
+with-private-kept = record { declares = (_, refl, refl); records = refl; used = (refl, tt) }
 
 -- no namespace is named require: import * as require from './m'; require('./m')
 -- The import is kept, but the callee gets the export context.
@@ -294,6 +310,9 @@ namespace-require-fails = record { told = refl; left = (refl, refl); fails = λ 
 abbrev property-require : Fields
 property-require = behind (const (own q) (call (member (ident (own a)) 0) (leaf 0x61 literal-n)) ∷ [])
 
+abbrev required-n : Module
+required-n = record { file = 11; loaded = false; stored = false; cjs = true; wrapping = false }
+
 property-require-fails : Wrong true 0 (own a) property-require
     (from-m (named (exp 0) ∷ []) ∷ const (own q) (call (ident (two 0 ++ four 7)) (leaf 0x61 literal-n)) ∷ [])
     (record-m (as-name (exp 0) ∷ []) ∷ record-n 1 (as-name (own q) ∷ []) ∷ [])
@@ -302,8 +321,8 @@ property-require-fails = record {
   told = refl;
   left = (refl, refl);
   fails = λ e.
-      let j = one-module (rowsIn table) (unmarked 9 ∷ unmarked 10 ∷ cjs 11 ∷ []) (literal 1) (e .1) refl refl in
-      elsewhere (two 0 ++ four 7) (two 0) j (e .2 .used .0) refl refl;
+      let h : e .0 ≡ 1 = one-module (rowsIn table) (unmarked 9 ∷ unmarked 10 ∷ required-n ∷ []) (literal 1) (e .1) refl refl in
+      elsewhere (two 0 ++ four 7) (two 0) h (e .2 .used .0) refl refl;
 }
 
 -- the clauses in the order of `wellPlaced`

@@ -1,18 +1,15 @@
--- Worked cases of 'well placed' and of the two ends of demand 3, by computation. All are our own.
+-- Worked cases of how an id stands and of 'well placed', by computation. All are our own.
 use Prim.Native.Nat.{ℕ}
 use mathlib.Core.Path.{_≡_, refl}
 use mathlib.Core.Bool.{Bool, true, false}
 use mathlib.Core.List.{List, [], _∷_, _++_, map}
 use Rattle.tree.specs.Layout.{two, four}
 use Rattle.tree.specs.Tree.{Field, field, Fields, none, more}
-use Rattle.lent.specs.Lists.{filter}
-use Rattle.extraction_rules.specs.First.{stays}
-use Rattle.extraction_rules.specs.Walk.{partsFor}
 use Rattle.extraction_rules.specs.Computes.{computing}
-use Rattle.extraction_rules.specs.Build.{a, x, b, d, f, y, q, own, exp, literal, listed, leaf, fields, imports, named, default, namespace, const, statement, ident, member, call, require, requiring, metadata}
+use Rattle.extraction_rules.specs.Build.{a, x, b, d, f, y, own, exp, listed, leaf, fields, imports, named, default, namespace, statement, ident, member, call}
 use Rattle.claims.specs.Stands.{How, plain, computed, bare, original, imported, otherwise, idsIn, matching, objectIds, standings, stands, properties}
 use Rattle.claims.specs.Placed.{all, importsIn, importsPrecede, localIds, hasSource, hasLocal, sharesNone, ownLocals, soleNamespace, fitNamespace, fitNamespaces, wellPlaced}
-use Rattle.claims.specs.Demand.{usesOf, recordFor, takes, TakenApart, Kept}
+use Rattle.claims.specs.Demand.{usesOf, recordFor, takes}
 
 -- every definition of this crate: a worked case says `unfolding placing`
 unfoldable pub placing : ℕ → Fields → Bool
@@ -69,30 +66,3 @@ not-placed : map (wellPlaced 0)
     false ∷ false ∷ false ∷ false ∷ false ∷ false ∷ false ∷ []
 unfolding placing
 not-placed = refl
-
--- ---- Taken apart: `a.x; { a.x }` with an empty statement between, ./m being module 1
-
-abbrev apart-list : List Field → Fields
-apart-list l = listed (field 0x90 (3 ∷ two 1 ++ two 10 ++ four 4 ++ four 5 ++ literal 1) (listed l) ∷ [])
-
-abbrev twice : Fields
-twice = listed (spaced ∷ statement ax ∷ leaf 0x40 [] ∷ fields 0x45 (statement ax ∷ []) ∷ [])
-
-abbrev twice-out : Fields
-twice-out = listed (imports (named (exp x) ∷ named (exp x) ∷ metadata ∷ []) ∷ statement (ident (exp x)) ∷ fields 0x45 (statement (ident (exp x)) ∷ []) ∷ [])
-
-taken-apart : TakenApart (own a) (four 5) (literal 1) 0 (two x ∷ two x ∷ []) twice twice-out (apart-list (leaf 0x91 (exp x ++ 0 ∷ []) ∷ leaf 0x91 (exp x ++ 0 ∷ []) ∷ []))
-unfolding placing
-taken-apart = record { gone = refl; used = (refl, (refl, tt)); declares = (_, refl, refl); records = refl }
-
--- ---- Kept: `a[b.y]; a.x`, where what stands inside the 71 changes
-
-abbrev kept-items : Fields
-kept-items = listed (spaced ∷ statement (at (member (ident (own b)) y)) ∷ statement ax ∷ [])
-
-abbrev kept-out : Fields
-kept-out = listed (imports (namespace (own a) ∷ metadata ∷ []) ∷ statement (at (ident (two y ++ four 7))) ∷ statement ax ∷ [])
-
-kept : Kept (own a) (literal 1) 0 kept-items kept-out (apart-list (leaf 0x92 (own a ++ 1 ∷ []) ∷ []))
-unfolding placing
-kept = record { declares = (_, refl, refl); records = refl; used = (refl, (refl, tt)) }
