@@ -93,11 +93,13 @@ says i items = takes (rowsIn table) (literal 1) (stands items i)
 abbrev behind : List Field → Fields
 behind l = listed (spaced ∷ l)
 
+-- well placed, to be taken apart, and taken apart into these properties
 abbrev Apart : List (List ℕ) → Fields → Type 0
 Apart ps items =
     (wellPlaced 0 items ≡ true) × (says (own a) items ≡ true) ×
     Accepted (λ r t. TakenApart (own a) (four 5) (literal 1) 0 ps items (partsOf (r .out)) (partsOf (t .list))) (after items)
 
+-- well placed, to be kept, and kept
 abbrev Whole : Fields → Type 0
 Whole items =
     (wellPlaced 0 items ≡ true) × (says (own a) items ≡ false) ×
@@ -113,7 +115,7 @@ repeated : Apart (two x ∷ two y ∷ two x ∷ []) (behind (statement ax ∷ st
 unfolding placing computing-resolved
 repeated = (refl, refl, record { gone = refl; used = (refl, (refl, (refl, tt))); declares = (_, refl, refl); records = refl })
 
--- ; { a.x }
+-- ; { a.x }, where the empty statement is dropped
 in-block : Apart (two x ∷ []) (behind (leaf 0x40 [] ∷ fields 0x45 (statement ax ∷ []) ∷ []))
 unfolding placing computing-resolved
 in-block = (refl, refl, record { gone = refl; used = (refl, tt); declares = (_, refl, refl); records = refl })
@@ -126,7 +128,7 @@ chained : Apart (two x ∷ []) member-of-use
 unfolding placing computing-resolved
 chained = (refl, refl, record { gone = refl; used = (refl, tt); declares = (_, refl, refl); records = refl })
 
--- x.y
+-- the use becomes x, and its member y stays
 chained-out : Accepted (λ r t. partsOf (r .out) ≡ listed (from-m (named (exp x) ∷ []) ∷ statement (member (ident (exp x)) y) ∷ [])) (after member-of-use)
 unfolding placing computing-resolved
 chained-out = refl
@@ -151,8 +153,8 @@ inside-brackets : Whole (behind (spaced-n (own b) ∷ statement (at (member (ide
 unfolding placing computing-resolved
 inside-brackets = (refl, refl, record { declares = (_, refl, refl); records = refl; used = (refl, tt) })
 
--- a.x; f(a)
-as-value : Whole (behind (statement ax ∷ statement (call (ident (own f)) (ident (own a))) ∷ []))
+-- a.x; a
+as-value : Whole (behind (statement ax ∷ statement (ident (own a)) ∷ []))
 unfolding placing computing-resolved
 as-value = (refl, refl, record { declares = (_, refl, refl); records = refl; used = (refl, (refl, tt)) })
 

@@ -1,5 +1,5 @@
 -- Claims over several calls: the twelve cards as one sentence (Cards); how an id stands in a tree (Stands), 'well placed' (Placed),
--- the words and statements of demand 3 (Demand, Lists), and worked cases of these (Example, ListsExample).
+-- the words and statements of demand 3 (Demand, Lists), and worked cases of these (Example, DemandExample, ListsExample).
 pub mod Cards
 pub mod Stands
 pub mod Placed
