@@ -327,7 +327,7 @@ property-require-fails = record {
       elsewhere (two 0 ++ four 7) (two 0) h (e .2 .used .0) refl refl;
 }
 
--- the clauses in the order of `wellPlaced`
+-- the five conjuncts of `wellPlaced`, in its order
 abbrev clauses : Fields → List Bool
 clauses items =
     let fs : List Field = importsIn items in
