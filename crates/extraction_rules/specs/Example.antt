@@ -108,6 +108,58 @@ target = record {
       (records (collected (named (exp x) ∷ []) ∷ []));
 }
 
+-- Computed: in `a.x; a[a.x]` the second use forces a, so the import is kept
+abbrev at-ax : Field
+at-ax = statement (fields 0x63 (ident (own a) ∷ fields 0x71 (member (ident (own a)) x ∷ []) ∷ []))
+
+computed : Case
+computed = record {
+  lent = lending false (encode (program (imports (namespace (own a) ∷ []) ∷ ax ∷ at-ax ∷ [])));
+  left = accepts (files false true)
+      (program (imports (namespace (own a) ∷ metadata ∷ []) ∷ ax ∷ at-ax ∷ []))
+      (program (imports (namespace (own a) ∷ metadata ∷ []) ∷ ax ∷ at-ax ∷ []))
+      (records (collected (namespace (own a) ∷ []) ∷ forced ∷ []));
+}
+
+-- the 71 of a super is walked with *object* clear: in `super[a].y` a is bare
+abbrev super-a : Field
+super-a = statement (member (fields 0x64 (fields 0x71 (ident (own a) ∷ []) ∷ [])) y)
+
+super-computed : Case
+super-computed = record {
+  lent = lending false (encode (program (imports (namespace (own a) ∷ []) ∷ ax ∷ super-a ∷ [])));
+  left = accepts (files false true)
+      (program (imports (namespace (own a) ∷ metadata ∷ []) ∷ ax ∷ super-a ∷ []))
+      (program (imports (namespace (own a) ∷ metadata ∷ []) ∷ ax ∷ super-a ∷ []))
+      (records (collected (namespace (own a) ∷ []) ∷ forced ∷ []));
+}
+
+-- the callee of a require is an expression like others: a namespace named require is forced by it
+abbrev required-x : Field
+required-x = statement (member (ident (own 0)) x)
+
+callee : Case
+callee = record {
+  lent = lending true (encode (program (imports (namespace (own 0) ∷ []) ∷ required-x ∷ statement (requiring (own 0)) ∷ [])));
+  left = accepts (files true true)
+      (program (imports (namespace (own 0) ∷ metadata ∷ []) ∷ required-x ∷ statement (requiring (exp 0)) ∷ []))
+      (program (imports (namespace (own 0) ∷ metadata ∷ []) ∷ required-x ∷ statement (requiring (exp 0)) ∷ []))
+      (records (collected (namespace (own 0) ∷ []) ∷ forced ∷ []));
+}
+
+-- binding ids: `const [q = b] = require('./m')` names q, and not b
+abbrev defaulting : List ℕ → Field
+defaulting i = fields 0x41 (fields 0x42 (fields 0x51 (fields 0x55 (leaf 0x50 (own q) ∷ ident (own b) ∷ []) ∷ []) ∷ requiring i ∷ []) ∷ [])
+
+binding : Case
+binding = record {
+  lent = lending true (encode (program (defaulting require ∷ [])));
+  left = accepts (files true false)
+      (program (defaulting (exp 0) ∷ []))
+      (program (defaulting (exp 0) ∷ []))
+      (records (collected [] ∷ lazy (named (own q) ∷ []) ∷ lazy (named (own q) ∷ []) ∷ []));
+}
+
 -- refusals: a private name is 7 at the 72, a string name 6 at its 20
 private-name : Case
 private-name = record {
@@ -122,9 +174,9 @@ string-name = record {
 }
 
 pub examples : List Case
-examples = repeated ∷ merged ∷ arrow ∷ restored ∷ attributes ∷ names ∷ target ∷ private-name ∷ string-name ∷ []
+examples = repeated ∷ merged ∷ arrow ∷ restored ∷ attributes ∷ names ∷ target ∷ computed ∷ super-computed ∷ callee ∷ binding ∷ private-name ∷ string-name ∷ []
 
 -- in a fresh scope, each leaves what it says
 pub examples-hold : map (λ (c : Case). extraction (c .lent) rooms []) examples ≡ map (λ (c : Case). c .left) examples
-unfolding computing examples repeated merged arrow restored attributes names target private-name string-name
+unfolding computing examples repeated merged arrow restored attributes names target computed super-computed callee binding private-name string-name
 examples-hold = refl
