@@ -1,11 +1,8 @@
 // Shows a tree one field a line, read from the file that the argument names or from standard input;
 // for bytes that are no tree, the refusal's number, its place, and the bytes around it.
-mod fields;
-mod line;
-mod names;
-mod print;
-
 use libc::STDIN_FILENO;
+use show::fields;
+use show::print;
 use tree::grammar::Set;
 use tree::read::Verdict;
 use tree::read::Why;

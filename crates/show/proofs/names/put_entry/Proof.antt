@@ -1,10 +1,10 @@
--- `look::names::put_entry` meets its contract. The invariant: the place is at most one past the names.
+-- `show::names::put_entry` meets its contract. The invariant: the place is at most one past the names.
 use Prim.Native.Nat.{_≤_, _-_, _+_}
 use lib.ListN.{length}
 use mathlib.Core.Path.{_≡_}
 use native.Mathlib.Omega.{arith}
-use Rattle.look.proofs.names.put_entry.Statement.{statement}
-use Rattle.look.proofs.names.put_entry.Tie as tie
+use Rattle.show.proofs.names.put_entry.Statement.{statement}
+use Rattle.show.proofs.names.put_entry.Tie as tie
 
 abbrev Inv-loop : tie.InvT-loop
 Inv-loop line₀ o tag names high low len at₀ line at = (at ≤ len + 1) × (length line ≡ length line₀)

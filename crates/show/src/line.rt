@@ -1,7 +1,7 @@
 // A field's line: its tag with its name, and its fixed bytes.
 ghost use Prim.Native.Nat.{_≤_};
 ghost use lib.ListN.{length};
-ghost use Rattle.look.specs.Places.{Inside};
+ghost use Rattle.show.specs.Places.{Inside};
 use crate::names::put_name;
 use text::hex::put_hex;
 use text::write::put;

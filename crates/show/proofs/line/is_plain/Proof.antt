@@ -1,9 +1,9 @@
--- `look::line::is_plain` meets its contract.
+-- `show::line::is_plain` meets its contract.
 use Prim.Native.Nat.{_-_}
 use lib.ListN.{length}
 use native.Mathlib.Omega.{arith}
-use Rattle.look.proofs.line.is_plain.Statement.{statement}
-use Rattle.look.proofs.line.is_plain.Tie as tie
+use Rattle.show.proofs.line.is_plain.Statement.{statement}
+use Rattle.show.proofs.line.is_plain.Tie as tie
 
 abbrev Inv-loop : tie.InvT-loop
 Inv-loop s i₀ i = Unit {0}

@@ -1,11 +1,11 @@
--- `look::fields::show` meets its contract. The invariant: the depth is within the ends that are kept; the place rises, since a field's head takes three bytes.
+-- `show::fields::show` meets its contract. The invariant: the depth is within the ends that are kept; the place rises, since a field's head takes three bytes.
 use Prim.Native.Nat.{_<_, _-_}
 use borrow.Author.Needs.{needs}
 use mathlib.Core.Path.{subst}
 use native.Mathlib.Omega.{arith}
-use Rattle.look.proofs.fields.show.Statement.{statement}
-use Rattle.look.proofs.fields.show.Tie as tie
-use Rattle.look.specs.Places.{SpotIn}
+use Rattle.show.proofs.fields.show.Statement.{statement}
+use Rattle.show.proofs.fields.show.Tie as tie
+use Rattle.show.specs.Places.{SpotIn}
 
 abbrev Inv-loop : tie.InvT-loop
 Inv-loop s len ends₀ depth₀ at₀ ends depth at = depth < 66

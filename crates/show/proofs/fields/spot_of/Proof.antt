@@ -1,11 +1,11 @@
--- `look::fields::spot_of` meets its contract.
+-- `show::fields::spot_of` meets its contract.
 use Prim.Native.Nat.{_+_}
 use borrow.Author.Needs.{needs}
 use lib.ListN.{getD}
 use mathlib.Core.Path.{sym, subst, _∙_}
 use native.Mathlib.Omega.{arith}
-use Rattle.look.proofs.fields.spot_of.Statement.{statement}
-use Rattle.look.proofs.fields.spot_of.Tie as tie
+use Rattle.show.proofs.fields.spot_of.Statement.{statement}
+use Rattle.show.proofs.fields.spot_of.Tie as tie
 use Rattle.tree.proofs.AccessLaws.{ReachIn, extent-in, fixed-in}
 
 extent-requires : tie.Need-extent-requires

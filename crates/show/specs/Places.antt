@@ -1,8 +1,8 @@
 -- Places lie within their buffers, and a field within the bytes around it.
 use Prim.Native.Nat.{ℕ, _+_, _≤_}
-use Rattle.look.specs.declared.line.Places.{Places}
-use Rattle.look.specs.declared.fields.Spot.{Spot}
-use Rattle.look.specs.declared.fields.Spot.the-variants.{Whole, Broken}
+use Rattle.show.specs.declared.line.Places.{Places}
+use Rattle.show.specs.declared.fields.Spot.{Spot}
+use Rattle.show.specs.declared.fields.Spot.the-variants.{Whole, Broken}
 
 -- in a line of n bytes and a content of m bytes
 abbrev pub Inside : ℕ → ℕ → Places → Type 0

@@ -1,8 +1,8 @@
--- `look::fields::open_at` meets its contract. The invariant: the depth only falls.
+-- `show::fields::open_at` meets its contract. The invariant: the depth only falls.
 use Prim.Native.Nat.{_≤_}
 use native.Mathlib.Omega.{arith}
-use Rattle.look.proofs.fields.open_at.Statement.{statement}
-use Rattle.look.proofs.fields.open_at.Tie as tie
+use Rattle.show.proofs.fields.open_at.Statement.{statement}
+use Rattle.show.proofs.fields.open_at.Tie as tie
 
 abbrev Inv-loop : tie.InvT-loop
 Inv-loop ends depth at d₀ d = d ≤ depth

@@ -1,7 +1,7 @@
 // The fields of a tree in order, each with its depth: no recursion, since the ends of the open fields are kept.
 ghost use Prim.Native.Nat.{_+_, _≤_, _<_};
 ghost use lib.ListN.{length};
-ghost use Rattle.look.specs.Places.{SpotIn};
+ghost use Rattle.show.specs.Places.{SpotIn};
 use crate::line::put_field;
 use crate::print::say;
 use tree::access::extent;

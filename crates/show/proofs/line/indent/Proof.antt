@@ -1,10 +1,10 @@
--- `look::line::indent` meets its contract. The invariant: the place is within the line.
+-- `show::line::indent` meets its contract. The invariant: the place is within the line.
 use Prim.Native.Nat.{_≤_, _-_}
 use lib.ListN.{length}
 use mathlib.Core.Path.{_≡_}
 use native.Mathlib.Omega.{arith}
-use Rattle.look.proofs.line.indent.Statement.{statement}
-use Rattle.look.proofs.line.indent.Tie as tie
+use Rattle.show.proofs.line.indent.Statement.{statement}
+use Rattle.show.proofs.line.indent.Tie as tie
 
 abbrev Inv-loop : tie.InvT-loop
 Inv-loop line₀ depth o₀ i₀ line o i = (o ≤ length line) × (i ≤ depth) × (length line ≡ length line₀)
