@@ -1,5 +1,5 @@
 // A field's line: its tag with its name, and its fixed bytes.
-ghost use Prim.Native.Nat.{_≤_};
+ghost use Prim.Native.Nat.{_≤_, _<_};
 ghost use lib.ListN.{length};
 ghost use Rattle.show.specs.Places.{Inside};
 use crate::names::put_name;
@@ -158,7 +158,9 @@ fn put_attribute(line: &mut [u8], p: Places, s: &[u8]) -> Places
     put_text(line, c, b" value=", s, s.len())
 }
 
-fn wide(x: u8) -> usize {
+pub fn wide(x: u8) -> usize
+    ensures { λ r. ⌜ r < 256 ⌝ }
+{
     x as usize
 }
 

@@ -14,7 +14,7 @@ use Rattle.io.specs.Digits.{glyph}
 use Rattle.text.specs.declared.hex.Digit.the-variants.{Value, Other}
 use Rattle.text.specs.declared.hex.Bytes.{Bytes}
 use Rattle.text.specs.declared.hex.Bytes.the-variants.{Upto, Bad}
-use Rattle.text.specs.Hex.{DigitIs, hexed, spelt, Small, BytesRead}
+use Rattle.text.specs.Hex.{DigitIs, hexed, spelt, Small, BytesRead, BytesIn}
 
 pub glyph-low : (v : ℕ) → v < 10 → glyph v ≡ 48 + v
 glyph-low v h = rw (lt-ltb v 10 h)
@@ -189,3 +189,9 @@ hexed-once (x ∷ a) (y ∷ b) h k e =
     let q = glyph-once (x % 16) (y % 16) (omega arith) (omega arith) low in
     let r : x ≡ y = omega arith in
     ap₂ _∷_ r (hexed-once a b (h .1) (k .1) (cc))
+
+-- bytes that were read lie within the buffer
+pub bytes-in : (spell : List ℕ → List ℕ) (s : List ℕ) (from to : ℕ) (out : List ℕ) (at : ℕ) (r : Bytes) (out′ : List ℕ) →
+    BytesRead spell s from to out at r out′ → BytesIn at (length out) r
+bytes-in spell s from to out at (Upto e) out′ h = (omega (arith, h .ends), h .fits)
+bytes-in spell s from to out at Bad out′ h = tt

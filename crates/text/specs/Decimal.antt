@@ -5,6 +5,8 @@ use mathlib.Core.List.{List}
 use lib.Seq.{slice}
 use Rattle.io.specs.Digits.{digits, Fewest}
 use Rattle.text.specs.Write.{Written}
+use Rattle.text.specs.declared.fields.Span.{Span}
+use Rattle.text.specs.declared.fields.Span.the-variants.{At, Missing}
 use Rattle.text.specs.declared.decimal.Number.{Number}
 use Rattle.text.specs.declared.decimal.Number.the-variants.{Of, Bad}
 
@@ -16,6 +18,11 @@ Short from to = (from < to) × (to - from ≤ 9)
 abbrev pub NumberRead : List ℕ → ℕ → ℕ → Number → Type 0
 NumberRead s from to (Of n) = (slice from to s ≡ digits 10 (to - from) n) × (n < 10 ^ (to - from)) × Short from to
 NumberRead s from to Bad = (n : ℕ) → Short from to → slice from to s ≡ digits 10 (to - from) n → ⊥
+
+-- the number in a field, and none where there is no field
+abbrev pub NumberIn : Span → List ℕ → Number → Type 0
+NumberIn (At a e) s r = NumberRead s a e r
+NumberIn Missing s r = r ≡ Bad
 
 -- n is written in the fewest digits
 pub record NumberWritten (out : List ℕ) (at n : ℕ) (out′ : List ℕ) (r : ℕ) : Type 0 where

@@ -5,6 +5,8 @@ use mathlib.Core.List.{List, [], _∷_}
 use lib.ListN.{length}
 use lib.Seq.{slice, sets}
 use Rattle.io.specs.Digits.{glyph}
+use Rattle.text.specs.declared.fields.Span.{Span}
+use Rattle.text.specs.declared.fields.Span.the-variants.{At, Missing}
 use Rattle.text.specs.declared.hex.Digit.{Digit}
 use Rattle.text.specs.declared.hex.Digit.the-variants.{Value, Other}
 use Rattle.text.specs.declared.hex.Bytes.{Bytes}
@@ -43,3 +45,13 @@ pub record Spelling (spell : List ℕ → List ℕ) (s : List ℕ) (from to : �
 abbrev pub BytesRead : (List ℕ → List ℕ) → List ℕ → ℕ → ℕ → List ℕ → ℕ → Bytes → List ℕ → Type 0
 BytesRead spell s from to out at (Upto end) out′ = Spelling spell s from to out at end out′
 BytesRead spell s from to out at Bad out′ = (bs : List ℕ) → Small bs → at + length bs ≤ length out → slice from to s ≡ spell bs → ⊥
+
+-- the bytes in a field, and none where there is no field
+abbrev pub BytesFrom : Span → List ℕ → List ℕ → ℕ → Bytes → List ℕ → Type 0
+BytesFrom (At a e) s out at r out′ = BytesRead spelt s a e out at r out′
+BytesFrom Missing s out at r out′ = r ≡ Bad
+
+-- bytes stand from `at` on within a buffer of n bytes
+abbrev pub BytesIn : ℕ → ℕ → Bytes → Type 0
+BytesIn at n (Upto e) = (at ≤ e) × (e ≤ n)
+BytesIn at n Bad = Unit

@@ -1,7 +1,10 @@
 // Numbers in decimal: read from one to nine digits, written with as few as hold them.
 ghost use Prim.Native.Nat.{_≤_};
 ghost use lib.ListN.{length};
-ghost use Rattle.text.specs.Decimal.{NumberRead, NumberWritten};
+ghost use Rattle.text.specs.Fields.{fieldAt};
+ghost use Rattle.text.specs.Decimal.{NumberRead, NumberIn, NumberWritten};
+use crate::fields::Span;
+use crate::fields::field;
 use crate::hex::Digit;
 use crate::hex::digit_of;
 use crate::write::put_all;
@@ -35,6 +38,17 @@ pub fn read_decimal(s: &[u8], from: usize, to: usize) -> Number
         i += 1;
     }
     Number::Of(n)
+}
+
+// The field number k, from 0, of the text up to `to`.
+pub fn number_at(s: &[u8], to: usize, k: usize) -> Number
+    requires { ⌜ to ≤ length (now s) ⌝ }
+    ensures { λ r. ⌜ NumberIn (fieldAt k (now (s .entry)) 0 to) (now (s .entry)) r ⌝ }
+{
+    let Span::At(a, e) = field(s, 0, to, k) else {
+        return Number::Bad;
+    };
+    read_decimal(s, a, e)
 }
 
 // Writes n.

@@ -4,7 +4,10 @@ ghost use mathlib.Core.Path.{_≡_};
 ghost use lib.ListN.{length};
 ghost use Rattle.io.specs.Digits.{glyph};
 ghost use Rattle.text.specs.Write.{Written};
-ghost use Rattle.text.specs.Hex.{DigitIs, hexed, spelt, BytesRead};
+ghost use Rattle.text.specs.Fields.{fieldAt};
+ghost use Rattle.text.specs.Hex.{DigitIs, hexed, spelt, BytesRead, BytesFrom, BytesIn};
+use crate::fields::Span;
+use crate::fields::field;
 use crate::write::put;
 
 pub enum Digit {
@@ -106,4 +109,15 @@ pub fn read_bytes(s: &[u8], from: usize, to: usize, out: &mut [u8], at: usize) -
         return Bytes::Bad;
     }
     read_hex(s, from, to, out, at)
+}
+
+// The same for the field number k, from 0, of the text up to `to`.
+pub fn bytes_at(s: &[u8], to: usize, k: usize, out: &mut [u8], at: usize) -> Bytes
+    requires { ⌜ (to ≤ length (now s)) × (at ≤ length (now out)) ⌝ }
+    ensures { λ r. ⌜ BytesFrom (fieldAt k (now (s .entry)) 0 to) (now (s .entry)) (now (out .entry)) at r (now (out .exit)) × BytesIn at (length (now (out .entry))) r ⌝ }
+{
+    let Span::At(a, e) = field(s, 0, to, k) else {
+        return Bytes::Bad;
+    };
+    read_bytes(s, a, e, out, at)
 }
