@@ -76,10 +76,10 @@ fn refusal(r: u64) {
 pub fn module(tree: &[u8]) {
     let r = host::tychodrel_detect(false, tree);
     number(b"tree of ", tree.len() as u64);
+    say(b" bytes, its reading: ");
     if r < 4294967296 {
-        say(b" bytes, which is read:\n");
+        say(b"accepted\n");
     } else {
-        say(b" bytes, in reading ");
         refusal(r);
     }
     show(tree);

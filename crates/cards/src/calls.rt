@@ -5,8 +5,8 @@ use crate::answer;
 use crate::request::Asked;
 use crate::request::Ends;
 use crate::request::Pair;
-use crate::request::asked;
 use crate::request::pair_at;
+use crate::request::read_request;
 use crate::request::rest_at;
 use show::fields::show;
 use show::print::say;
@@ -22,7 +22,7 @@ pub fn extract(s: &[u8]) {
 }
 
 fn extract_in(s: &[u8], lent: &mut [u8], work: &mut [u8], out: &mut [u8], records: &mut [u8]) {
-    let Asked::Extract(r) = asked(s, lent) else {
+    let Asked::Extract(r) = read_request(s, lent) else {
         answer::malformed();
         return;
     };

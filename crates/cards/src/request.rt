@@ -150,7 +150,7 @@ fn lists_of(s: &[u8], lent: &mut [u8]) -> Lists
 }
 
 // The extraction that the line asks for; its bytes stand in lent.
-pub fn asked(s: &[u8], lent: &mut [u8]) -> Asked
+pub fn read_request(s: &[u8], lent: &mut [u8]) -> Asked
     ensures { λ r. ⌜ AskedIn (length (now (lent .entry))) r ⌝ }
 {
     let Own::Is(own) = own_of(s, 1) else {

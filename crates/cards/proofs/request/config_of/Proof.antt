@@ -1,0 +1,81 @@
+use mathlib.Core.Path.{subst}
+use lib.ListN.{length}
+use Rattle.text.specs.Fields.{SpanIn}
+-- `cards::request::config_of` meets its contract.
+use native.Mathlib.Omega.{arith}
+use borrow.Author.Needs.{needs}
+use Rattle.cards.proofs.request.config_of.Statement.{statement}
+use Rattle.cards.proofs.request.config_of.Tie as tie
+
+field-requires : tie.Need-field-requires
+field-requires c κs = search needs
+
+enum-known-a : tie.Need-enum-known-a
+enum-known-a c = search needs
+
+enum-told : tie.Need-enum-told
+enum-told c = search needs
+
+returns : tie.Need-returns
+returns c = search needs
+
+sub-same : tie.Need-sub-same
+sub-same c = let w = subst (SpanIn 0 (length (c .before .before .before .before .before .args .s .now))) (c .before .a .given .1) (c .before .before .before .field .ensures .1) in omega arith
+
+part-same-start : tie.Need-part-same-start
+part-same-start c = let w = subst (SpanIn 0 (length (c .before .before .before .before .before .args .s .now))) (c .before .a .given .1) (c .before .before .before .field .ensures .1) in omega arith
+
+part-same-end : tie.Need-part-same-end
+part-same-end c = let w = subst (SpanIn 0 (length (c .before .before .before .before .before .args .s .now))) (c .before .a .given .1) (c .before .before .before .field .ensures .1) in omega arith
+
+slice-aggregate-same : tie.Need-slice-aggregate-same
+slice-aggregate-same c = search needs
+
+same-requires : tie.Need-same-requires
+same-requires c κs = search needs
+
+returns-2 : tie.Need-returns-2
+returns-2 c = search needs
+
+sub-same-2 : tie.Need-sub-same-2
+sub-same-2 c = let w = subst (SpanIn 0 (length (c .before .before .before .before .before .before .before .before .before .args .s .now))) (c .before .before .before .before .before .a .given .1) (c .before .before .before .before .before .before .before .field .ensures .1) in omega arith
+
+part-same-start-2 : tie.Need-part-same-start-2
+part-same-start-2 c = let w = subst (SpanIn 0 (length (c .before .before .before .before .before .before .before .before .before .args .s .now))) (c .before .before .before .before .before .a .given .1) (c .before .before .before .before .before .before .before .field .ensures .1) in omega arith
+
+part-same-end-2 : tie.Need-part-same-end-2
+part-same-end-2 c = let w = subst (SpanIn 0 (length (c .before .before .before .before .before .before .before .before .before .args .s .now))) (c .before .before .before .before .before .a .given .1) (c .before .before .before .before .before .before .before .field .ensures .1) in omega arith
+
+slice-aggregate-same-2 : tie.Need-slice-aggregate-same-2
+slice-aggregate-same-2 c = search needs
+
+same-requires-2 : tie.Need-same-requires-2
+same-requires-2 c κs = search needs
+
+returns-3 : tie.Need-returns-3
+returns-3 c = search needs
+
+returns-4 : tie.Need-returns-4
+returns-4 c = search needs
+
+pub config-of-spec : {M : Type 1} → statement M
+config-of-spec =
+    tie.close
+    (tie.spec
+    field-requires
+    enum-known-a
+    enum-told
+    returns
+    sub-same
+    part-same-start
+    part-same-end
+    slice-aggregate-same
+    same-requires
+    returns-2
+    sub-same-2
+    part-same-start-2
+    part-same-end-2
+    slice-aggregate-same-2
+    same-requires-2
+    returns-3
+    returns-4)
