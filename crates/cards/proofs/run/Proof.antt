@@ -1,6 +1,5 @@
+-- `cards::run` meets its contract. The invariant: the place is at most one past the text.
 use Prim.Native.Nat.{_-_, _+_, _≤_}
-use lib.ListN.{length}
--- `cards::run` meets its contract.
 use native.Mathlib.Omega.{arith}
 use Rattle.cards.proofs.run.Statement.{statement}
 use Rattle.cards.proofs.run.Tie as tie

@@ -1,9 +1,9 @@
+-- `cards::take` meets its contract.
 use mathlib.Core.Path.{subst}
 use lib.ListN.{length}
-use Rattle.text.specs.Fields.{SpanIn}
--- `cards::take` meets its contract.
 use native.Mathlib.Omega.{arith}
 use borrow.Author.Needs.{needs}
+use Rattle.text.specs.Fields.{SpanIn}
 use Rattle.cards.proofs.take.Statement.{statement}
 use Rattle.cards.proofs.take.Tie as tie
 

@@ -1,7 +1,7 @@
+-- `cards::answer::modules` meets its contract. The invariant: the number is at most the count.
 use Prim.Native.Nat.{_-_, _≤_}
--- `cards::answer::modules` meets its contract.
-use borrow.Author.Needs.{needs}
 use native.Mathlib.Omega.{arith}
+use borrow.Author.Needs.{needs}
 use Rattle.cards.proofs.answer.modules.Statement.{statement}
 use Rattle.cards.proofs.answer.modules.Tie as tie
 

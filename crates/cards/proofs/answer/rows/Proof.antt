@@ -1,8 +1,7 @@
+-- `cards::answer::rows` meets its contract. The invariant: the place is within the table.
 use Prim.Native.Nat.{_-_, _≤_}
-use lib.ListN.{length}
--- `cards::answer::rows` meets its contract.
-use borrow.Author.Needs.{needs}
 use native.Mathlib.Omega.{arith}
+use borrow.Author.Needs.{needs}
 use Rattle.cards.proofs.answer.rows.Statement.{statement}
 use Rattle.cards.proofs.answer.rows.Tie as tie
 

@@ -1,9 +1,9 @@
+-- `cards::calls::decode_in` meets its contract.
 use mathlib.Core.Path.{subst}
 use lib.ListN.{length}
-use Rattle.text.specs.Hex.{BytesIn}
--- `cards::calls::decode_in` meets its contract.
 use native.Mathlib.Omega.{arith}
 use borrow.Author.Needs.{needs}
+use Rattle.text.specs.Hex.{BytesIn}
 use Rattle.cards.proofs.calls.decode_in.Statement.{statement}
 use Rattle.cards.proofs.calls.decode_in.Tie as tie
 

@@ -1,9 +1,9 @@
+-- `cards::calls::extract_in` meets its contract.
 use mathlib.Core.Path.{subst}
 use lib.ListN.{length}
-use Rattle.cards.specs.Request.{AskedIn}
--- `cards::calls::extract_in` meets its contract.
 use native.Mathlib.Omega.{arith}
 use borrow.Author.Needs.{needs}
+use Rattle.cards.specs.Request.{AskedIn}
 use Rattle.cards.proofs.calls.extract_in.Statement.{statement}
 use Rattle.cards.proofs.calls.extract_in.Tie as tie
 

@@ -1,9 +1,9 @@
+-- `cards::calls::resolve_in` meets its contract.
 use mathlib.Core.Path.{subst}
 use lib.ListN.{length}
-use Rattle.cards.specs.Request.{PairIn}
--- `cards::calls::resolve_in` meets its contract.
 use native.Mathlib.Omega.{arith}
 use borrow.Author.Needs.{needs}
+use Rattle.cards.specs.Request.{PairIn}
 use Rattle.cards.proofs.calls.resolve_in.Statement.{statement}
 use Rattle.cards.proofs.calls.resolve_in.Tie as tie
 

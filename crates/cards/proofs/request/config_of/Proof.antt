@@ -1,9 +1,9 @@
+-- `cards::request::config_of` meets its contract.
 use mathlib.Core.Path.{subst}
 use lib.ListN.{length}
-use Rattle.text.specs.Fields.{SpanIn}
--- `cards::request::config_of` meets its contract.
 use native.Mathlib.Omega.{arith}
 use borrow.Author.Needs.{needs}
+use Rattle.text.specs.Fields.{SpanIn}
 use Rattle.cards.proofs.request.config_of.Statement.{statement}
 use Rattle.cards.proofs.request.config_of.Tie as tie
 

@@ -1,11 +1,11 @@
+-- `cards::request::groups` meets its contract. The invariant: the place is at most one past the line, and the bytes so far end within the buffer.
 use Prim.Native.Nat.{_-_, _+_, _≤_}
 use mathlib.Core.Path.{_≡_, subst}
 use lib.ListN.{length}
+use native.Mathlib.Omega.{arith}
+use borrow.Author.Needs.{needs}
 use Rattle.text.specs.Hex.{BytesIn, hexed}
 use Rattle.text.proofs.HexLaws.{bytes-in}
--- `cards::request::groups` meets its contract.
-use borrow.Author.Needs.{needs}
-use native.Mathlib.Omega.{arith}
 use Rattle.cards.proofs.request.groups.Statement.{statement}
 use Rattle.cards.proofs.request.groups.Tie as tie
 

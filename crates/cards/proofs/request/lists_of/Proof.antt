@@ -1,10 +1,10 @@
+-- `cards::request::lists_of` meets its contract.
 use mathlib.Core.Path.{subst}
 use lib.ListN.{length}
-use Rattle.text.specs.Hex.{BytesIn}
-use Rattle.cards.specs.Request.{PairIn}
--- `cards::request::lists_of` meets its contract.
 use native.Mathlib.Omega.{arith}
 use borrow.Author.Needs.{needs}
+use Rattle.text.specs.Hex.{BytesIn}
+use Rattle.cards.specs.Request.{PairIn}
 use Rattle.cards.proofs.request.lists_of.Statement.{statement}
 use Rattle.cards.proofs.request.lists_of.Tie as tie
 

@@ -1,8 +1,8 @@
-use mathlib.Core.Path.{subst}
-use Rattle.text.specs.Hex.{BytesIn}
 -- `cards::request::pair_at` meets its contract.
+use mathlib.Core.Path.{subst}
 use native.Mathlib.Omega.{arith}
 use borrow.Author.Needs.{needs}
+use Rattle.text.specs.Hex.{BytesIn}
 use Rattle.cards.proofs.request.pair_at.Statement.{statement}
 use Rattle.cards.proofs.request.pair_at.Tie as tie
 

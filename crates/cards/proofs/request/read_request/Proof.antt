@@ -1,9 +1,8 @@
+-- `cards::request::read_request` meets its contract.
 use mathlib.Core.Path.{subst}
 use lib.ListN.{length}
-use Rattle.cards.specs.Request.{ListsIn}
--- `cards::request::read_request` meets its contract.
-use native.Mathlib.Omega.{arith}
 use borrow.Author.Needs.{needs}
+use Rattle.cards.specs.Request.{ListsIn}
 use Rattle.cards.proofs.request.read_request.Statement.{statement}
 use Rattle.cards.proofs.request.read_request.Tie as tie
 

@@ -1,9 +1,9 @@
+-- `cards::request::rest_at` meets its contract.
 use mathlib.Core.Path.{subst}
 use lib.ListN.{length}
-use Rattle.text.specs.Fields.{SpanIn}
--- `cards::request::rest_at` meets its contract.
 use native.Mathlib.Omega.{arith}
 use borrow.Author.Needs.{needs}
+use Rattle.text.specs.Fields.{SpanIn}
 use Rattle.cards.proofs.request.rest_at.Statement.{statement}
 use Rattle.cards.proofs.request.rest_at.Tie as tie
 
