@@ -12,6 +12,7 @@ struct card {
     size_t table_len;
     size_t open[64]; /* where the open fields start */
     int depth;
+    int deepest; /* the depth of the deepest field so far */
 };
 
 static void put(struct card *c, unsigned byte) { c->tree[c->len++] = (uint8_t)byte; }
@@ -30,6 +31,7 @@ static void put_six(struct card *c, unsigned atom, unsigned four) {
 
 static void begin(struct card *c, unsigned tag) {
     c->open[c->depth++] = c->len;
+    c->deepest = c->depth > c->deepest ? c->depth : c->deepest;
     put(c, tag);
     put_atom(c, 0);
 }

@@ -53,11 +53,15 @@ static double least(uint64_t (*call)(const struct card *), const struct card *c)
     return best;
 }
 
-static double show(const struct card *c) {
+struct times {
+    double extract, ratio; /* microseconds; extract/read */
+};
+
+static struct times show(const struct card *c) {
     double e = least(extract, c), r = least(read_tree, c), p = least(copy, c);
     printf("%-28s %6zu bytes  extract %9.1f us  read %7.1f us  copy %5.1f us  extract/read %6.2f  extract/copy %8.1f\n", c->name,
            c->len, e, r, p, e / r, e / p);
-    return e;
+    return (struct times){e, e / r};
 }
 
 static struct card small, large, cards[4];
@@ -69,10 +73,13 @@ int main(void) {
     full(&cards[1], "full tables, 300 usages", 300);
     full(&cards[2], "full tables, 600 usages", 600);
     full(&cards[3], "full tables, 900 usages", 900);
-    double a = show(&small), b = show(&large);
+    struct times a = show(&small), b = show(&large);
     for (int i = 0; i < 4; i++) {
         show(&cards[i]);
     }
-    printf("32 KiB against 4 KiB: %.2f times\n", b / a);
-    return a < 0 || b < 0;
+    double growth = b.extract / a.extract;
+    bool held = a.extract > 0 && b.extract > 0 && a.ratio <= 15 && b.ratio <= 15 && growth <= 10;
+    printf("32 KiB against 4 KiB: %.2f times\n", growth);
+    printf("the bars (typical cards at most 15 times reading, growth at most 10 times): %s\n", held ? "held" : "BROKEN");
+    return !held;
 }

@@ -1,5 +1,5 @@
 /* How much stack extraction takes: each call runs on a stack of its own that was filled before; what is no longer as filled was used.
-   The trees nest one shape as deep as trees may be, 64, with the dearest leaf below it. */
+   The trees nest one shape, with the dearest leaf below it, so that the deepest field has the depth 64, the most that is accepted. */
 #define _GNU_SOURCE
 #include <pthread.h>
 #include <stdbool.h>
@@ -14,10 +14,9 @@ uint64_t tychodrel_extract(const uint8_t *files, size_t files_len, uint16_t file
                            size_t records_len);
 
 #define STACK (1024 * 1024)
-#define FILL 0xA5
-#ifndef DEEPEST
+#define MOST (256 * 1024)
 #define DEEPEST 64
-#endif
+#define STEP 12 /* a multiple of every shape's levels */
 
 static uint8_t scope[770], work[65538], out[65538], records[65538];
 static struct card card;
@@ -31,10 +30,10 @@ static void *call(void *none) {
 
 static void *idle(void *none) { return none; }
 
-/* the bytes of a fresh stack that a thread with this body touches */
-static size_t touched(void *(*body)(void *)) {
+/* the bytes that a thread with this body touches of a fresh stack, filled with this byte */
+static size_t touched_over(int fill, void *(*body)(void *)) {
     uint8_t *stack = aligned_alloc(4096, STACK);
-    memset(stack, FILL, STACK);
+    memset(stack, fill, STACK);
     pthread_attr_t a;
     pthread_t t;
     pthread_attr_init(&a);
@@ -42,44 +41,77 @@ static size_t touched(void *(*body)(void *)) {
     pthread_create(&t, &a, body, NULL);
     pthread_join(t, NULL);
     size_t i = 0;
-    while (i < STACK && stack[i] == FILL) {
+    while (i < STACK && stack[i] == fill) {
         i++;
     }
     free(stack);
     return STACK - i;
 }
 
-/* Shapes: a field that opens another expression, and how many levels that takes. */
-static int open_call(struct card *c) { begin(c, 0x65); return 1; }
-static int open_argument(struct card *c) { begin(c, 0x65); ident(c, 300); begin(c, 0x75); put(c, 0); return 2; }
-static int open_object(struct card *c) { begin(c, 0x63); return 1; }
-static int open_computed(struct card *c) { begin(c, 0x63); ident(c, 300); begin(c, 0x71); return 2; }
-static int open_super(struct card *c) { begin(c, 0x64); begin(c, 0x71); return 2; }
-static int open_assigned(struct card *c) { begin(c, 0x66); leaf_id(c, 0x50, 300, 2); return 1; }
-static int open_target(struct card *c) { begin(c, 0x66); begin(c, 0x63); return 2; }
-static int open_array(struct card *c) { begin(c, 0x6A); return 1; }
-static int open_default(struct card *c) { begin(c, 0x67); begin(c, 0x52); begin(c, 0x54); put_six(c, 300, 2); return 3; }
+/* two fills, since a byte may be written as it was filled */
+static size_t touched(void *(*body)(void *)) {
+    size_t a = touched_over(0xA5, body), b = touched_over(0x5A, body);
+    return a > b ? a : b;
+}
 
-/* behind the expression that a shape opens: what the field still lacks */
-static void close_object(struct card *c) { begin(c, 0x70); put_atom(c, 300); end(c); end(c); }
+/* Shapes: a field that opens another expression or, where marked so, another statement. */
+static void open_callee(struct card *c) { begin(c, 0x65); }
+static void open_argument(struct card *c) { begin(c, 0x65); ident(c, 300); begin(c, 0x75); put(c, 0); }
+static void open_object(struct card *c) { begin(c, 0x63); }
+static void open_computed(struct card *c) { begin(c, 0x63); ident(c, 300); begin(c, 0x71); }
+static void open_super(struct card *c) { begin(c, 0x64); begin(c, 0x71); }
+static void open_assigned(struct card *c) { begin(c, 0x66); leaf_id(c, 0x50, 300, 2); }
+static void open_target(struct card *c) { begin(c, 0x66); begin(c, 0x63); }
+static void open_array(struct card *c) { begin(c, 0x6A); }
+static void open_property(struct card *c) { begin(c, 0x69); begin(c, 0x78); put_atom(c, 300); }
+static void open_binary(struct card *c) { begin(c, 0x6B); put(c, 1); ident(c, 300); }
+static void open_arrow(struct card *c) { begin(c, 0x67); }
+static void open_default(struct card *c) { begin(c, 0x67); begin(c, 0x52); begin(c, 0x54); put_six(c, 300, 2); }
+static void open_declared(struct card *c) {
+    begin(c, 0x67);
+    begin(c, 0x45);
+    begin(c, 0x41);
+    begin(c, 0x42);
+    leaf_id(c, 0x50, 300, 2);
+}
+static void open_block(struct card *c) { begin(c, 0x45); }
+static void open_while(struct card *c) { begin(c, 0x48); ident(c, 300); }
+static void open_function(struct card *c) { begin(c, 0x43); put_six(c, 300, 2); begin(c, 0x45); }
+
+/* behind what a shape opens: what its fields still lack */
 static void close_one(struct card *c) { end(c); }
 static void close_two(struct card *c) { end(c); end(c); }
+static void close_four(struct card *c) { close_two(c); close_two(c); }
+static void close_object(struct card *c) { begin(c, 0x70); put_atom(c, 300); end(c); end(c); }
 static void close_target(struct card *c) { close_object(c); ident(c, 300); end(c); }
 static void close_default(struct card *c) { end(c); end(c); begin(c, 0x45); end(c); end(c); }
 
-static const struct {
+static const struct shape {
     const char *name;
-    int (*open)(struct card *);
+    int levels;
+    bool statements;
+    void (*open)(struct card *);
     void (*close)(struct card *);
 } shapes[] = {
-    {"callee of callee", open_call, close_one},          {"argument of argument", open_argument, close_two},
-    {"object of object", open_object, close_object},     {"computed in computed", open_computed, close_two},
-    {"computed on super", open_super, close_two},        {"assigned to assigned", open_assigned, close_one},
-    {"target in target", open_target, close_target},     {"array in array", open_array, close_one},
-    {"default in default", open_default, close_default},
+    {"callee of callee", 1, false, open_callee, close_one},
+    {"argument of argument", 2, false, open_argument, close_two},
+    {"object of object", 1, false, open_object, close_object},
+    {"computed in computed", 2, false, open_computed, close_two},
+    {"computed on super", 2, false, open_super, close_two},
+    {"assigned to assigned", 1, false, open_assigned, close_one},
+    {"target in target", 2, false, open_target, close_target},
+    {"array in array", 1, false, open_array, close_one},
+    {"property in property", 2, false, open_property, close_two},
+    {"operand of operand", 1, false, open_binary, close_one},
+    {"arrow in arrow", 1, false, open_arrow, close_one},
+    {"default in default", 3, false, open_default, close_default},
+    {"declared in declared", 4, false, open_declared, close_four},
+    {"block in block", 1, true, open_block, close_one},
+    {"while in while", 1, true, open_while, close_one},
+    {"function in function", 2, true, open_function, close_two},
 };
 
-/* require('./m') with a row that resolves it: four levels */
+/* require('./m') with a row that resolves it: three levels */
 static void leaf(struct card *c) {
     begin(c, 0x65);
     leaf_id(c, 0x60, 0, 2);
@@ -92,33 +124,52 @@ static void leaf(struct card *c) {
     end(c);
 }
 
-static size_t nested(int shape) {
+/* The shape over and over, then arrays or blocks for levels that are left, then the leaf. */
+static void nest(const struct shape *s, int deepest) {
+    int below = s->statements ? 4 : 3, n = 0;
     memset(&card, 0, sizeof card);
     row(&card, 20, 10);
     begin(&card, 0x01);
-    begin(&card, 0x44);
-    int depth = 2, n = 0;
-    while (depth + 3 + 3 <= DEEPEST) {
-        depth += shapes[shape].open(&card);
-        n++;
+    if (!s->statements) {
+        begin(&card, 0x44);
+    }
+    for (; card.depth + s->levels + below <= deepest; n++) {
+        s->open(&card);
+    }
+    int nested = card.depth;
+    while (card.depth + below < deepest) {
+        begin(&card, s->statements ? 0x45 : 0x6A);
+    }
+    if (s->statements) {
+        begin(&card, 0x44);
     }
     leaf(&card);
-    for (int i = 0; i < n; i++) {
-        shapes[shape].close(&card);
+    while (card.depth > nested) {
+        end(&card);
     }
-    end(&card);
-    end(&card);
-    size_t used = touched(call);
-    printf("%-24s %3d times  %7zu bytes of stack%s\n", shapes[shape].name, n, used, answer == 0 ? "" : "  REFUSED");
-    return answer == 0 ? used : STACK;
+    for (; n > 0; n--) {
+        s->close(&card);
+    }
+    while (card.depth > 0) {
+        end(&card);
+    }
+}
+
+/* the stack that a call on the nested shape takes; all of it where the call or the tree is not as it should be */
+static size_t used(const struct shape *s, int deepest) {
+    nest(s, deepest);
+    size_t bytes = touched(call);
+    return answer == 0 && card.deepest == deepest ? bytes : STACK;
 }
 
 int main(void) {
-    size_t most = 0, empty = touched(idle);
+    size_t most = 0, idle_bytes = touched(idle);
     for (size_t i = 0; i < sizeof shapes / sizeof shapes[0]; i++) {
-        size_t used = nested((int)i);
-        most = used > most ? used : most;
+        size_t less = used(&shapes[i], DEEPEST - STEP), bytes = used(&shapes[i], DEEPEST);
+        printf("%-24s depth %d  %7zu bytes of stack  %5zu a level%s\n", shapes[i].name, card.deepest, bytes, (bytes - less) / STEP,
+               bytes == STACK || less == STACK ? "  REFUSED, or of another depth" : "");
+        most = bytes > most ? bytes : most;
     }
-    printf("a thread that does nothing: %zu; the most of extraction: %zu, less than %d\n", empty, most, 256 * 1024);
-    return most >= 256 * 1024;
+    printf("the most: %zu, less than %d; a thread that does nothing has %zu of it\n", most, MOST, idle_bytes);
+    return most >= MOST;
 }
