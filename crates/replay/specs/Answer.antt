@@ -7,19 +7,12 @@ use Rattle.replay.specs.declared.extracting.Lists.{Lists}
 use Rattle.replay.specs.declared.extracting.Lists.the-variants.{Upto as Lent, Bad as NotLent}
 use Rattle.text.specs.declared.decimal.Number.{Number}
 use Rattle.text.specs.declared.decimal.Number.the-variants.{Of, Bad as NoNumber}
-use Rattle.text.specs.declared.hex.Bytes.{Bytes}
-use Rattle.text.specs.declared.hex.Bytes.the-variants.{Upto, Bad}
 
 -- the text ends within a buffer of n bytes
 abbrev pub AnswerIn : ℕ → Answer → Type 0
 AnswerIn n (Text k) = k ≤ n
 AnswerIn n Malformed = Unit
 AnswerIn n Unknown = Unit
-
--- the bytes stand from `at` on within a buffer of n bytes
-abbrev pub BytesIn : ℕ → ℕ → Bytes → Type 0
-BytesIn at n (Upto e) = (at ≤ e) × (e ≤ n)
-BytesIn at n Bad = Unit
 
 -- lists one behind the other within a buffer of n bytes
 abbrev pub EndsIn : ℕ → Ends → Type 0

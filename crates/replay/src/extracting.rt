@@ -1,14 +1,14 @@
 // extract FILES OWN CONFIG EXTERNALS TABLE TREE WORKLEN OUTLEN RECLEN
 use crate::request::Answer;
-use crate::request::bytes;
 use crate::request::has;
-use crate::request::is_zero;
-use crate::request::number;
 use crate::request::prefill;
 use crate::request::put_field;
+use show::buffer::is_zero;
 use text::decimal::Number;
+use text::decimal::number_at;
 use text::decimal::put_decimal;
 use text::hex::Bytes;
+use text::hex::bytes_at;
 use text::hex::put_hex;
 use text::write::put;
 use text::write::put_all;
@@ -50,7 +50,7 @@ fn wide(x: u8) -> u16
 fn read_flag(s: &[u8], to: usize, k: usize) -> Flag
     requires { ⌜ to ≤ length (now s) ⌝ }
 {
-    let Number::Of(n) = number(s, to, k) else {
+    let Number::Of(n) = number_at(s, to, k) else {
         return Flag::Bad;
     };
     match n {
@@ -64,7 +64,7 @@ fn read_flag(s: &[u8], to: usize, k: usize) -> Flag
 fn own_file(s: &[u8], to: usize, k: usize, lent: &mut [u8]) -> Own
     requires { ⌜ to ≤ length (now s) ⌝ }
 {
-    let Bytes::Upto(n) = bytes(s, to, k, lent, 0) else {
+    let Bytes::Upto(n) = bytes_at(s, to, k, lent, 0) else {
         return Own::Bad;
     };
     if n != 2 {
@@ -78,16 +78,16 @@ fn read_lists(s: &[u8], to: usize, lent: &mut [u8]) -> Lists
     requires { ⌜ to ≤ length (now s) ⌝ }
     ensures { λ r. ⌜ ListsIn (length (now (lent .entry))) r ⌝ }
 {
-    let Bytes::Upto(files) = bytes(s, to, 1, lent, 0) else {
+    let Bytes::Upto(files) = bytes_at(s, to, 1, lent, 0) else {
         return Lists::Bad;
     };
-    let Bytes::Upto(externals) = bytes(s, to, 4, lent, files) else {
+    let Bytes::Upto(externals) = bytes_at(s, to, 4, lent, files) else {
         return Lists::Bad;
     };
-    let Bytes::Upto(table) = bytes(s, to, 5, lent, externals) else {
+    let Bytes::Upto(table) = bytes_at(s, to, 5, lent, externals) else {
         return Lists::Bad;
     };
-    let Bytes::Upto(tree) = bytes(s, to, 6, lent, table) else {
+    let Bytes::Upto(tree) = bytes_at(s, to, 6, lent, table) else {
         return Lists::Bad;
     };
     Lists::Upto(Ends {
@@ -131,7 +131,7 @@ fn room_of(s: &[u8], to: usize, k: usize, most: usize) -> Number
     requires { ⌜ to ≤ length (now s) ⌝ }
     ensures { λ r. ⌜ RoomIn most r ⌝ }
 {
-    let Number::Of(n) = number(s, to, k) else {
+    let Number::Of(n) = number_at(s, to, k) else {
         return Number::Bad;
     };
     if most < n {

@@ -1,20 +1,21 @@
 // The requests: each reads its fields, makes its call, and writes the answer as the vectors have it.
 use crate::extracting::extract;
 use check::same;
+use show::buffer::is_zero;
 use text::decimal::Number;
+use text::decimal::number_at;
 use text::decimal::put_decimal;
-use text::decimal::read_decimal;
 use text::fields::Span;
 use text::fields::field;
 use text::hex::Bytes;
+use text::hex::bytes_at;
 use text::hex::put_bytes;
-use text::hex::read_bytes;
 use text::write::put;
 use text::write::put_all;
 ghost use Prim.Native.Nat.{_≤_, _<_};
 ghost use mathlib.Core.Path.{_≡_};
 ghost use lib.ListN.{length};
-ghost use Rattle.replay.specs.Answer.{AnswerIn, BytesIn};
+ghost use Rattle.replay.specs.Answer.{AnswerIn};
 
 // An answer's text up to a length; a request that cannot be read; one that is not answered here.
 pub enum Answer {
@@ -58,27 +59,6 @@ pub fn respond(
     Answer::Unknown
 }
 
-// The field k, a number.
-pub fn number(s: &[u8], to: usize, k: usize) -> Number
-    requires { ⌜ to ≤ length (now s) ⌝ }
-{
-    let Span::At(a, e) = field(s, 0, to, k) else {
-        return Number::Bad;
-    };
-    read_decimal(s, a, e)
-}
-
-// The field k, bytes, put into lent from `at` on.
-pub fn bytes(s: &[u8], to: usize, k: usize, lent: &mut [u8], at: usize) -> Bytes
-    requires { ⌜ (to ≤ length (now s)) × (at ≤ length (now lent)) ⌝ }
-    ensures { λ r. ⌜ BytesIn at (length (now (lent .entry))) r ⌝ }
-{
-    let Span::At(a, e) = field(s, 0, to, k) else {
-        return Bytes::Bad;
-    };
-    read_bytes(s, a, e, lent, at)
-}
-
 // Whether there are more than k fields.
 pub fn has(s: &[u8], to: usize, k: usize) -> bool
     requires { ⌜ to ≤ length (now s) ⌝ }
@@ -105,7 +85,7 @@ fn wide(x: u8) -> u32
 fn context_of(s: &[u8], to: usize, k: usize, lent: &mut [u8]) -> Context
     requires { ⌜ to ≤ length (now s) ⌝ }
 {
-    let Bytes::Upto(n) = bytes(s, to, k, lent, 0) else {
+    let Bytes::Upto(n) = bytes_at(s, to, k, lent, 0) else {
         return Context::Bad;
     };
     if n == 0 {
@@ -139,13 +119,13 @@ fn detect(s: &[u8], to: usize, lent: &mut [u8], text: &mut [u8]) -> Answer
     requires { ⌜ to ≤ length (now s) ⌝ }
     ensures { λ r. ⌜ AnswerIn (length (now (text .entry))) r ⌝ }
 {
-    let Number::Of(config) = number(s, to, 1) else {
+    let Number::Of(config) = number_at(s, to, 1) else {
         return Answer::Malformed;
     };
     if 1 < config {
         return Answer::Malformed;
     }
-    let Bytes::Upto(n) = bytes(s, to, 2, lent, 0) else {
+    let Bytes::Upto(n) = bytes_at(s, to, 2, lent, 0) else {
         return Answer::Malformed;
     };
     if has(s, to, 3) {
@@ -165,7 +145,7 @@ fn encode(s: &[u8], to: usize, lent: &mut [u8], out: &mut [u8], text: &mut [u8])
     requires { ⌜ to ≤ length (now s) ⌝ }
     ensures { λ r. ⌜ AnswerIn (length (now (text .entry))) r ⌝ }
 {
-    let Number::Of(injected) = number(s, to, 1) else {
+    let Number::Of(injected) = number_at(s, to, 1) else {
         return Answer::Malformed;
     };
     if 1 < injected {
@@ -192,10 +172,10 @@ fn encode_with(
     requires { ⌜ to ≤ length (now s) ⌝ }
     ensures { λ r. ⌜ AnswerIn (length (now (text .entry))) r ⌝ }
 {
-    let Bytes::Upto(n) = bytes(s, to, 3, lent, 0) else {
+    let Bytes::Upto(n) = bytes_at(s, to, 3, lent, 0) else {
         return Answer::Malformed;
     };
-    let Number::Of(room) = number(s, to, 4) else {
+    let Number::Of(room) = number_at(s, to, 4) else {
         return Answer::Malformed;
     };
     if out.len() < room {
@@ -239,7 +219,7 @@ fn decode(s: &[u8], to: usize, lent: &mut [u8], text: &mut [u8]) -> Answer
     requires { ⌜ to ≤ length (now s) ⌝ }
     ensures { λ r. ⌜ AnswerIn (length (now (text .entry))) r ⌝ }
 {
-    let Bytes::Upto(n) = bytes(s, to, 1, lent, 0) else {
+    let Bytes::Upto(n) = bytes_at(s, to, 1, lent, 0) else {
         return Answer::Malformed;
     };
     if has(s, to, 2) {
@@ -283,18 +263,6 @@ pub fn prefill(out: &mut [u8]) {
         out[i] = 170;
         i += 1;
     }
-}
-
-// Whether only zeros stand from `from` on.
-pub fn is_zero(s: &[u8], from: usize) -> bool {
-    let mut i = from;
-    while i < s.len() {
-        if s[i] != 0 {
-            return false;
-        }
-        i += 1;
-    }
-    true
 }
 
 // Writes the field that stands at the front of a call's buffer, or all of the buffer where not only zeros stand behind the field.

@@ -2,13 +2,13 @@
 use lib.ListN.{length}
 use mathlib.Core.Path.{subst}
 use native.Mathlib.Omega.{arith}
-use Rattle.replay.specs.Answer.{BytesIn}
+use Rattle.text.specs.Hex.{BytesIn}
 use borrow.Author.Needs.{needs}
 use Rattle.replay.proofs.extracting.own_file.Statement.{statement}
 use Rattle.replay.proofs.extracting.own_file.Tie as tie
 
-bytes-requires : tie.Need-bytes-requires
-bytes-requires c κs = search needs
+bytes-at-requires : tie.Need-bytes-at-requires
+bytes-at-requires c κs = search needs
 
 enum-known-n : tie.Need-enum-known-n
 enum-known-n c = search needs
@@ -29,7 +29,7 @@ returns-2 : tie.Need-returns-2
 returns-2 c = search needs
 
 slice-read-wide : tie.Need-slice-read-wide
-slice-read-wide c = let w = subst (BytesIn 0 (length (c .before .before .before .before .before .before .before .before .before .before .before .args .lent .now))) (c .before .before .before .n .given .1) (c .before .before .before .before .before .before .before .bytes .ensures) in omega arith
+slice-read-wide c = let w = subst (BytesIn 0 (length (c .before .before .before .before .before .before .before .before .before .before .before .args .lent .now))) (c .before .before .before .n .given .1) (c .before .before .before .before .before .before .before .bytes-at .ensures .1) in omega arith
 
 wide-requires : tie.Need-wide-requires
 wide-requires c κs = search needs
@@ -38,7 +38,7 @@ mul-t13 : tie.Need-mul-t13
 mul-t13 c = search needs
 
 slice-read-wide-2 : tie.Need-slice-read-wide-2
-slice-read-wide-2 c = let w = subst (BytesIn 0 (length (c .before .before .before .before .before .before .before .before .before .before .before .before .before .args .lent .now))) (c .before .before .before .before .before .n .given .1) (c .before .before .before .before .before .before .before .before .before .bytes .ensures) in omega arith
+slice-read-wide-2 c = let w = subst (BytesIn 0 (length (c .before .before .before .before .before .before .before .before .before .before .before .before .before .args .lent .now))) (c .before .before .before .before .before .n .given .1) (c .before .before .before .before .before .before .before .before .before .bytes-at .ensures .1) in omega arith
 
 wide-requires-2 : tie.Need-wide-requires-2
 wide-requires-2 c κs = search needs
@@ -56,7 +56,7 @@ pub own-file-spec : {M : Type 1} → statement M
 own-file-spec =
     tie.close
     (tie.spec
-    bytes-requires
+    bytes-at-requires
     enum-known-n
     enum-told
     same-length

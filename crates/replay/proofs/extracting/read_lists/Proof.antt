@@ -2,13 +2,13 @@
 use lib.ListN.{length}
 use mathlib.Core.Path.{subst}
 use native.Mathlib.Omega.{arith}
-use Rattle.replay.specs.Answer.{BytesIn}
+use Rattle.text.specs.Hex.{BytesIn}
 use borrow.Author.Needs.{needs}
 use Rattle.replay.proofs.extracting.read_lists.Statement.{statement}
 use Rattle.replay.proofs.extracting.read_lists.Tie as tie
 
-bytes-requires : tie.Need-bytes-requires
-bytes-requires c κs = search needs
+bytes-at-requires : tie.Need-bytes-at-requires
+bytes-at-requires c κs = search needs
 
 enum-known-files : tie.Need-enum-known-files
 enum-known-files c = search needs
@@ -22,8 +22,8 @@ same-length c = search needs
 returns : tie.Need-returns
 returns c = search needs
 
-bytes-requires-2 : tie.Need-bytes-requires-2
-bytes-requires-2 c κs = let w = subst (BytesIn 0 (length (c .before .before .before .before .before .before .before .before .before .before .args .lent .now))) (c .before .before .files .given .1) (c .before .before .before .before .before .before .bytes .ensures) in omega arith
+bytes-at-requires-2 : tie.Need-bytes-at-requires-2
+bytes-at-requires-2 c κs = let w = subst (BytesIn 0 (length (c .before .before .before .before .before .before .before .before .before .before .args .lent .now))) (c .before .before .files .given .1) (c .before .before .before .before .before .before .bytes-at .ensures .1) in omega arith
 
 enum-known-externals : tie.Need-enum-known-externals
 enum-known-externals c = search needs
@@ -37,8 +37,8 @@ same-length-2 c = search needs
 returns-2 : tie.Need-returns-2
 returns-2 c = search needs
 
-bytes-requires-3 : tie.Need-bytes-requires-3
-bytes-requires-3 c κs = let w = subst (BytesIn _ _) (c .before .before .externals .given .1) (c .before .before .before .before .before .before .bytes2 .ensures) in omega arith
+bytes-at-requires-3 : tie.Need-bytes-at-requires-3
+bytes-at-requires-3 c κs = let w = subst (BytesIn _ _) (c .before .before .externals .given .1) (c .before .before .before .before .before .before .bytes-at2 .ensures .1) in omega arith
 
 enum-known-table : tie.Need-enum-known-table
 enum-known-table c = search needs
@@ -52,8 +52,8 @@ same-length-3 c = search needs
 returns-3 : tie.Need-returns-3
 returns-3 c = search needs
 
-bytes-requires-4 : tie.Need-bytes-requires-4
-bytes-requires-4 c κs = let w = subst (BytesIn _ _) (c .before .before .table .given .1) (c .before .before .before .before .before .before .bytes3 .ensures) in omega arith
+bytes-at-requires-4 : tie.Need-bytes-at-requires-4
+bytes-at-requires-4 c κs = let w = subst (BytesIn _ _) (c .before .before .table .given .1) (c .before .before .before .before .before .before .bytes-at3 .ensures .1) in omega arith
 
 enum-known-tree : tie.Need-enum-known-tree
 enum-known-tree c = search needs
@@ -71,28 +71,28 @@ same-length-5 : tie.Need-same-length-5
 same-length-5 c = search needs
 
 returns-5 : tie.Need-returns-5
-returns-5 c = let v1 = subst (BytesIn 0 (length (c .before .before .before .before .before .before .before .before .before .before .before .before .before .before .before .before .before .before .before .before .before .before .before .before .before .before .before .before .before .before .args .lent .now))) (c .before .before .before .before .before .before .before .before .before .before .before .before .before .before .before .before .before .before .before .before .before .before .files .given .1) (c .before .before .before .before .before .before .before .before .before .before .before .before .before .before .before .before .before .before .before .before .before .before .before .before .before .before .bytes .ensures) in let v2 = subst (BytesIn _ _) (c .before .before .before .before .before .before .before .before .before .before .before .before .before .before .before .externals .given .1) (c .before .before .before .before .before .before .before .before .before .before .before .before .before .before .before .before .before .before .before .bytes2 .ensures) in let v3 = subst (BytesIn _ _) (c .before .before .before .before .before .before .before .before .table .given .1) (c .before .before .before .before .before .before .before .before .before .before .before .before .bytes3 .ensures) in let v4 = subst (BytesIn _ _) (c .before .tree .given .1) (c .before .before .before .before .before .bytes4 .ensures) in omega arith
+returns-5 c = let v1 = subst (BytesIn 0 (length (c .before .before .before .before .before .before .before .before .before .before .before .before .before .before .before .before .before .before .before .before .before .before .before .before .before .before .before .before .before .before .args .lent .now))) (c .before .before .before .before .before .before .before .before .before .before .before .before .before .before .before .before .before .before .before .before .before .before .files .given .1) (c .before .before .before .before .before .before .before .before .before .before .before .before .before .before .before .before .before .before .before .before .before .before .before .before .before .before .bytes-at .ensures .1) in let v2 = subst (BytesIn _ _) (c .before .before .before .before .before .before .before .before .before .before .before .before .before .before .before .externals .given .1) (c .before .before .before .before .before .before .before .before .before .before .before .before .before .before .before .before .before .before .before .bytes-at2 .ensures .1) in let v3 = subst (BytesIn _ _) (c .before .before .before .before .before .before .before .before .table .given .1) (c .before .before .before .before .before .before .before .before .before .before .before .before .bytes-at3 .ensures .1) in let v4 = subst (BytesIn _ _) (c .before .tree .given .1) (c .before .before .before .before .before .bytes-at4 .ensures .1) in omega arith
 
 pub read-lists-spec : {M : Type 1} → statement M
 read-lists-spec =
     tie.close
     (tie.spec
-    bytes-requires
+    bytes-at-requires
     enum-known-files
     enum-told
     same-length
     returns
-    bytes-requires-2
+    bytes-at-requires-2
     enum-known-externals
     enum-told-2
     same-length-2
     returns-2
-    bytes-requires-3
+    bytes-at-requires-3
     enum-known-table
     enum-told-3
     same-length-3
     returns-3
-    bytes-requires-4
+    bytes-at-requires-4
     enum-known-tree
     enum-told-4
     same-length-4

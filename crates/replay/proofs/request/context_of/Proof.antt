@@ -5,10 +5,10 @@ use mathlib.Core.Path.{subst}
 use native.Mathlib.Omega.{arith}
 use Rattle.replay.proofs.request.context_of.Statement.{statement}
 use Rattle.replay.proofs.request.context_of.Tie as tie
-use Rattle.replay.specs.Answer.{BytesIn}
+use Rattle.text.specs.Hex.{BytesIn}
 
-bytes-requires : tie.Need-bytes-requires
-bytes-requires c κs = search needs
+bytes-at-requires : tie.Need-bytes-at-requires
+bytes-at-requires c κs = search needs
 
 enum-known-n : tie.Need-enum-known-n
 enum-known-n c = search needs
@@ -35,7 +35,7 @@ returns-3 : tie.Need-returns-3
 returns-3 c = search needs
 
 slice-read-wide : tie.Need-slice-read-wide
-slice-read-wide c = let w = subst (BytesIn 0 (length (c .before .before .before .before .before .before .before .before .before .before .before .before .args .lent .now))) (c .before .before .before .before .n .given .1) (c .before .before .before .before .before .before .before .before .bytes .ensures) in omega arith
+slice-read-wide c = let w = subst (BytesIn 0 (length (c .before .before .before .before .before .before .before .before .before .before .before .before .args .lent .now))) (c .before .before .before .before .n .given .1) (c .before .before .before .before .before .before .before .before .bytes-at .ensures .1) in omega arith
 
 wide-requires : tie.Need-wide-requires
 wide-requires c κs = search needs
@@ -44,7 +44,7 @@ mul-high : tie.Need-mul-high
 mul-high c = search needs
 
 slice-read-wide-2 : tie.Need-slice-read-wide-2
-slice-read-wide-2 c = let w = subst (BytesIn 0 (length (c .before .before .before .before .before .before .before .before .before .before .before .before .before .before .args .lent .now))) (c .before .before .before .before .before .before .n .given .1) (c .before .before .before .before .before .before .before .before .before .before .bytes .ensures) in omega arith
+slice-read-wide-2 c = let w = subst (BytesIn 0 (length (c .before .before .before .before .before .before .before .before .before .before .before .before .before .before .args .lent .now))) (c .before .before .before .before .before .before .n .given .1) (c .before .before .before .before .before .before .before .before .before .before .bytes-at .ensures .1) in omega arith
 
 wide-requires-2 : tie.Need-wide-requires-2
 wide-requires-2 c κs = search needs
@@ -53,7 +53,7 @@ add-high : tie.Need-add-high
 add-high c = search needs
 
 slice-read-wide-3 : tie.Need-slice-read-wide-3
-slice-read-wide-3 c = let w = subst (BytesIn 0 (length (c .before .before .before .before .before .before .before .before .before .before .before .before .before .before .before .before .args .lent .now))) (c .before .before .before .before .before .before .before .before .n .given .1) (c .before .before .before .before .before .before .before .before .before .before .before .before .bytes .ensures) in omega arith
+slice-read-wide-3 c = let w = subst (BytesIn 0 (length (c .before .before .before .before .before .before .before .before .before .before .before .before .before .before .before .before .args .lent .now))) (c .before .before .before .before .before .before .before .before .n .given .1) (c .before .before .before .before .before .before .before .before .before .before .before .before .bytes-at .ensures .1) in omega arith
 
 wide-requires-3 : tie.Need-wide-requires-3
 wide-requires-3 c κs = search needs
@@ -62,7 +62,7 @@ mul-low : tie.Need-mul-low
 mul-low c = search needs
 
 slice-read-wide-4 : tie.Need-slice-read-wide-4
-slice-read-wide-4 c = let w = subst (BytesIn 0 (length (c .before .before .before .before .before .before .before .before .before .before .before .before .before .before .before .before .before .before .args .lent .now))) (c .before .before .before .before .before .before .before .before .before .before .n .given .1) (c .before .before .before .before .before .before .before .before .before .before .before .before .before .before .bytes .ensures) in omega arith
+slice-read-wide-4 c = let w = subst (BytesIn 0 (length (c .before .before .before .before .before .before .before .before .before .before .before .before .before .before .before .before .before .before .args .lent .now))) (c .before .before .before .before .before .before .before .before .before .before .n .given .1) (c .before .before .before .before .before .before .before .before .before .before .before .before .before .before .bytes-at .ensures .1) in omega arith
 
 wide-requires-4 : tie.Need-wide-requires-4
 wide-requires-4 c κs = search needs
@@ -86,7 +86,7 @@ pub context-of-spec : {M : Type 1} → statement M
 context-of-spec =
     tie.close
     (tie.spec
-    bytes-requires
+    bytes-at-requires
     enum-known-n
     enum-told
     same-length

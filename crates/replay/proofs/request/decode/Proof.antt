@@ -5,10 +5,10 @@ use mathlib.Core.Path.{subst}
 use native.Mathlib.Omega.{arith}
 use Rattle.replay.proofs.request.decode.Statement.{statement}
 use Rattle.replay.proofs.request.decode.Tie as tie
-use Rattle.replay.specs.Answer.{BytesIn}
+use Rattle.text.specs.Hex.{BytesIn}
 
-bytes-requires : tie.Need-bytes-requires
-bytes-requires c κs = search needs
+bytes-at-requires : tie.Need-bytes-at-requires
+bytes-at-requires c κs = search needs
 
 enum-known-n : tie.Need-enum-known-n
 enum-known-n c = search needs
@@ -38,7 +38,7 @@ part-tychodrel-decode-metadata-start : tie.Need-part-tychodrel-decode-metadata-s
 part-tychodrel-decode-metadata-start c = search needs
 
 part-tychodrel-decode-metadata-end : tie.Need-part-tychodrel-decode-metadata-end
-part-tychodrel-decode-metadata-end c = let w = subst (BytesIn 0 (length (c .before .before .before .before .before .before .before .before .before .before .before .before .before .args .lent .now))) (c .before .before .before .before .n .given .1) (c .before .before .before .before .before .before .before .before .bytes .ensures) in omega arith
+part-tychodrel-decode-metadata-end c = let w = subst (BytesIn 0 (length (c .before .before .before .before .before .before .before .before .before .before .before .before .before .args .lent .now))) (c .before .before .before .before .n .given .1) (c .before .before .before .before .before .before .before .before .bytes-at .ensures .1) in omega arith
 
 tychodrel-decode-metadata-requires : tie.Need-tychodrel-decode-metadata-requires
 tychodrel-decode-metadata-requires c κs = search needs
@@ -74,7 +74,7 @@ pub decode-spec : {M : Type 1} → statement M
 decode-spec =
     tie.close
     (tie.spec
-    bytes-requires
+    bytes-at-requires
     enum-known-n
     enum-told
     same-length

@@ -5,10 +5,10 @@ use mathlib.Core.Path.{subst}
 use native.Mathlib.Omega.{arith}
 use Rattle.replay.proofs.request.detect.Statement.{statement}
 use Rattle.replay.proofs.request.detect.Tie as tie
-use Rattle.replay.specs.Answer.{BytesIn}
+use Rattle.text.specs.Hex.{BytesIn}
 
-number-requires : tie.Need-number-requires
-number-requires c κs = search needs
+number-at-requires : tie.Need-number-at-requires
+number-at-requires c κs = search needs
 
 enum-known-config : tie.Need-enum-known-config
 enum-known-config c = search needs
@@ -22,8 +22,8 @@ returns c = search needs
 returns-2 : tie.Need-returns-2
 returns-2 c = search needs
 
-bytes-requires : tie.Need-bytes-requires
-bytes-requires c κs = search needs
+bytes-at-requires : tie.Need-bytes-at-requires
+bytes-at-requires c κs = search needs
 
 enum-known-n : tie.Need-enum-known-n
 enum-known-n c = search needs
@@ -53,7 +53,7 @@ part-tychodrel-detect-start : tie.Need-part-tychodrel-detect-start
 part-tychodrel-detect-start c = search needs
 
 part-tychodrel-detect-end : tie.Need-part-tychodrel-detect-end
-part-tychodrel-detect-end c = let w = subst (BytesIn 0 (length (c .before .before .before .before .before .before .before .before .before .before .before .before .before .before .before .before .before .before .args .lent .now))) (c .before .before .before .before .n .given .1) (c .before .before .before .before .before .before .before .before .bytes .ensures) in omega arith
+part-tychodrel-detect-end c = let w = subst (BytesIn 0 (length (c .before .before .before .before .before .before .before .before .before .before .before .before .before .before .before .before .before .before .args .lent .now))) (c .before .before .before .before .n .given .1) (c .before .before .before .before .before .before .before .before .bytes-at .ensures .1) in omega arith
 
 tychodrel-detect-requires : tie.Need-tychodrel-detect-requires
 tychodrel-detect-requires c κs = search needs
@@ -92,12 +92,12 @@ pub detect-spec : {M : Type 1} → statement M
 detect-spec =
     tie.close
     (tie.spec
-    number-requires
+    number-at-requires
     enum-known-config
     enum-told
     returns
     returns-2
-    bytes-requires
+    bytes-at-requires
     enum-known-n
     enum-told-2
     same-length

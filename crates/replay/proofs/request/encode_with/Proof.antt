@@ -5,10 +5,10 @@ use mathlib.Core.Path.{subst}
 use native.Mathlib.Omega.{arith}
 use Rattle.replay.proofs.request.encode_with.Statement.{statement}
 use Rattle.replay.proofs.request.encode_with.Tie as tie
-use Rattle.replay.specs.Answer.{BytesIn}
+use Rattle.text.specs.Hex.{BytesIn}
 
-bytes-requires : tie.Need-bytes-requires
-bytes-requires c κs = search needs
+bytes-at-requires : tie.Need-bytes-at-requires
+bytes-at-requires c κs = search needs
 
 enum-known-n : tie.Need-enum-known-n
 enum-known-n c = search needs
@@ -22,8 +22,8 @@ same-length c = search needs
 returns : tie.Need-returns
 returns c = search needs
 
-number-requires : tie.Need-number-requires
-number-requires c κs = search needs
+number-at-requires : tie.Need-number-at-requires
+number-at-requires c κs = search needs
 
 enum-known-room : tie.Need-enum-known-room
 enum-known-room c = search needs
@@ -59,7 +59,7 @@ part-encoded-start : tie.Need-part-encoded-start
 part-encoded-start c = search needs
 
 part-encoded-end : tie.Need-part-encoded-end
-part-encoded-end c = let w = subst (BytesIn 0 (length (c .before .before .before .before .before .before .before .before .before .before .before .before .before .before .before .before .before .before .before .args .lent .now))) (c .before .before .before .before .before .before .before .before .before .n .given .1) (c .before .before .before .before .before .before .before .before .before .before .before .before .before .bytes .ensures) in omega arith
+part-encoded-end c = let w = subst (BytesIn 0 (length (c .before .before .before .before .before .before .before .before .before .before .before .before .before .before .before .before .before .before .before .args .lent .now))) (c .before .before .before .before .before .before .before .before .before .n .given .1) (c .before .before .before .before .before .before .before .before .before .before .before .before .before .bytes-at .ensures .1) in omega arith
 
 sub-encoded-2 : tie.Need-sub-encoded-2
 sub-encoded-2 c = search needs
@@ -89,12 +89,12 @@ pub encode-with-spec : {M : Type 1} → statement M
 encode-with-spec =
     tie.close
     (tie.spec
-    bytes-requires
+    bytes-at-requires
     enum-known-n
     enum-told
     same-length
     returns
-    number-requires
+    number-at-requires
     enum-known-room
     enum-told-2
     same-length-2
