@@ -1,5 +1,5 @@
 // What is printed of a call: what goes in, whether it is accepted, and what it left.
-ghost use Prim.Native.Nat.{_+_, _*_, _≤_, _<_};
+ghost use Prim.Native.Nat.{_+_, _≤_, _<_};
 ghost use lib.ListN.{length};
 use check::same;
 use io::print_decimal;
