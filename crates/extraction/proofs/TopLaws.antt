@@ -4,13 +4,14 @@ use native.Mathlib.Omega.{arith}
 use mathlib.Core.Path.{_≡_, refl, sym, ap, _∙_}
 use mathlib.Core.Bool.{false}
 use mathlib.Core.List.{List, []}
+use mathlib.Core.Option.{Option, none as nothing, some}
 use lib.ListN.{length, getD, replicate, length-replicate}
 use Rattle.scope.specs.Modules.{Modules}
 use Rattle.scope.specs.Kept.{modulesOf}
 use Rattle.scope.specs.declared.Scope.{Scope}
 use Rattle.tree.specs.Layout.{Bytes}
 use Rattle.writer.specs.Finished.{zeroed}
-use Rattle.lent.specs.Outcome.{Outcome, done, refused, numberOf, placeOf}
+use Rattle.lent.specs.Outcome.{Outcome, done, refused, refusalIn}
 use Rattle.lent.specs.Buffer.{bufferOf}
 use Rattle.extraction_rules.specs.State.{State, start, setTop, setModules}
 use Rattle.extraction_rules.specs.Call.{Lent, Lengths, Extracted, Left, modulesAfter, extracted, extraction}
@@ -18,9 +19,9 @@ use Rattle.kept.specs.Kept.{At, cells, Good, Shows}
 use Rattle.kept.specs.Does.{Tells, Turns}
 use Rattle.kept.proofs.RestLaws.{zero-good, zero-shows}
 use Rattle.extraction.specs.declared.ExtractAnswer.{ExtractAnswer}
-use Rattle.extraction.specs.declared.ExtractAnswer.the-variants.{Extracted as Accepted}
+use Rattle.extraction.specs.declared.ExtractAnswer.the-variants.{Extracted as Accepted, BadLists, NamedTwice, Unread, Refused, NoRoom}
 use Rattle.extraction.specs.declared.Extraction.{Extraction}
-use Rattle.extraction.specs.Answer.{answerNumber, answerPlace, roomIn, left, Calls}
+use Rattle.extraction.specs.Answer.{answerRefusal, answerNumber, answerPlace, roomIn, left, Calls}
 
 -- ---- The array at the start
 
@@ -40,8 +41,7 @@ zeros-show x = zero-shows (replicate cells 0) (length-replicate {A = ℕ} cells 
 abbrev leftBy : Outcome Extracted → Lengths → Modules → Left
 leftBy o room ms =
     record {
-      number = numberOf o;
-      place = placeOf o;
+      refusal = refusalIn o;
       modules = modulesAfter o ms;
       work = bufferOf (λ r. r .work) o (room .work);
       out = bufferOf (λ r. r .out) o (room .out);
@@ -52,13 +52,22 @@ left-is : (l : Lent) (room : Lengths) (ms : Modules) (o : Outcome Extracted) →
 unfolding extraction
 left-is l room ms o e = ap (λ (z : Outcome Extracted). leftBy z room ms) (sym e)
 
-abbrev leaving : ℕ → ℕ → Modules → List ℕ → List ℕ → List ℕ → Left
-leaving n p ms w o k = record { number = n; place = p; modules = ms; work = w; out = o; records = k }
+abbrev leaving : Option (ℕ × ℕ) → Modules → List ℕ → List ℕ → List ℕ → Left
+leaving r ms w o k = record { refusal = r; modules = ms; work = w; out = o; records = k }
 
-left-same : (n p : ℕ) {ms ns : Modules} {w o k w' o' k' : List ℕ} → ms ≡ ns → w ≡ w' → o ≡ o' → k ≡ k' → leaving n p ms w o k ≡ leaving n p ns w' o' k'
-left-same n p {ms} {ns} {w} {o} {k} {w'} {o'} {k'} a b c d =
-    ap (λ (z : Modules). leaving n p z w o k) a ∙ ap (λ (z : List ℕ). leaving n p ns z o k) b ∙ ap (λ (z : List ℕ). leaving n p ns w' z k) c
-    ∙ ap (λ (z : List ℕ). leaving n p ns w' o' z) d
+left-same : (r : Option (ℕ × ℕ)) {ms ns : Modules} {w o k w' o' k' : List ℕ} → ms ≡ ns → w ≡ w' → o ≡ o' → k ≡ k' → leaving r ms w o k ≡ leaving r ns w' o' k'
+left-same r {ms} {ns} {w} {o} {k} {w'} {o'} {k'} a b c d =
+    ap (λ (z : Modules). leaving r z w o k) a ∙ ap (λ (z : List ℕ). leaving r ns z o k) b ∙ ap (λ (z : List ℕ). leaving r ns w' z k) c
+    ∙ ap (λ (z : List ℕ). leaving r ns w' o' z) d
+
+-- another answer is a refusal
+refusal-some : (a : ExtractAnswer) → (a ≡ Accepted → ⊥) → answerRefusal a ≡ some (answerNumber a, answerPlace a)
+refusal-some Accepted e = absurd (e refl)
+refusal-some BadLists e = refl
+refusal-some NamedTwice e = refl
+refusal-some (Unread w p) e = refl
+refusal-some (Refused w p) e = refl
+refusal-some NoRoom e = refl
 
 zeroed-is : (l k : List ℕ) {m : List ℕ} → m ≡ zeroed l → length l ≡ length k → m ≡ replicate (length k) 0
 unfolding zeroed
@@ -74,7 +83,7 @@ module _ (l : Lent) (scope : Scope) {t1 t2 work out records work2 out2 records2 
   left-accepted r e g =
       let z = c .is (modulesOf scope) shown bs .accepted e in
       let b = z .buffers in
-      left-same 0 0 (g .is (z .modules .state) (z .modules .shows) ∙ z .modules .modules) (b .work) (b .last .out) (b .last .records)
+      left-same nothing (g .is (z .modules .state) (z .modules .shows) ∙ z .modules .modules) (b .work) (b .last .out) (b .last .records)
       ∙ left-is l (roomIn work out records) (modulesOf scope) (done (z .result)) (z .is)
 
   pub left-refused : {work3 out3 records3 : List ℕ} → (a ≡ Accepted → ⊥) → work3 ≡ zeroed work2 → out3 ≡ zeroed out2 → records3 ≡ zeroed records2 →
@@ -82,5 +91,6 @@ module _ (l : Lent) (scope : Scope) {t1 t2 work out records work2 out2 records2 
       left (record { scope = scope; answer = a }) work3 out3 records3 ≡ extraction l (roomIn work out records) (modulesOf scope)
   left-refused e p q r i j k =
       let z = c .is (modulesOf scope) shown bs .refused e in
-      left-same (answerNumber a) (answerPlace a) refl (zeroed-is work2 work p i) (zeroed-is out2 out q j) (zeroed-is records2 records r k)
+      left-same (answerRefusal a) refl (zeroed-is work2 work p i) (zeroed-is out2 out q j) (zeroed-is records2 records r k)
+      ∙ ap (λ (o : Option (ℕ × ℕ)). leaving o (modulesOf scope) (replicate (length work) 0) (replicate (length out) 0) (replicate (length records) 0)) (refusal-some a e)
       ∙ left-is l (roomIn work out records) (modulesOf scope) (refused (answerNumber a) (answerPlace a)) z

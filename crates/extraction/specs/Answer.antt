@@ -3,6 +3,7 @@ use Prim.Native.Nat.{ℕ, _≤_}
 use mathlib.Core.Path.{_≡_}
 use mathlib.Core.Bool.{Bool, true, false}
 use mathlib.Core.List.{List, map}
+use mathlib.Core.Option.{Option, none as nothing, some}
 use lib.ListN.{length, drop}
 use Rattle.scope.specs.Modules.{Modules, request}
 use Rattle.scope.specs.Kept.{modulesOf}
@@ -14,7 +15,7 @@ use Rattle.tree.specs.Read.{fine, read, refusalOf as readRefusal}
 use Rattle.tree.specs.Standing.{Row}
 use Rattle.writer.specs.Wrote.{Wrote}
 use Rattle.writer.specs.Finished.{hasRoom, delivered}
-use Rattle.lent.specs.Outcome.{Outcome, done, refused, onto, placeless}
+use Rattle.lent.specs.Outcome.{Outcome, done, refused, onto, placeless, numberIn, placeIn}
 use Rattle.lent.specs.Table.{rowsIn}
 use Rattle.lent.specs.Buffer.{fits}
 use Rattle.extraction_rules.specs.State.{State, Setting, Act, start, setTop}
@@ -38,22 +39,14 @@ use Rattle.extraction.specs.declared.Extraction.{Extraction}
 
 -- ---- What answers stand for
 
--- document 01's number of a refusal, and its place: 0 and 0 where the call is accepted
-abbrev pub answerNumber : ExtractAnswer → ℕ
-answerNumber Accepted = 0
-answerNumber BadLists = 1
-answerNumber NamedTwice = 2
-answerNumber (Unread w p) = readRefusal w
-answerNumber (Refused w p) = refusalOf w
-answerNumber NoRoom = 9
-
-abbrev pub answerPlace : ExtractAnswer → ℕ
-answerPlace Accepted = 0
-answerPlace BadLists = 0
-answerPlace NamedTwice = 0
-answerPlace (Unread w p) = p
-answerPlace (Refused w p) = p
-answerPlace NoRoom = 0
+-- document 01's number of a refusal, and its place; none where the call is accepted
+abbrev pub answerRefusal : ExtractAnswer → Option (ℕ × ℕ)
+answerRefusal Accepted = nothing
+answerRefusal BadLists = some (1, 0)
+answerRefusal NamedTwice = some (2, 0)
+answerRefusal (Unread w p) = some (readRefusal w, p)
+answerRefusal (Refused w p) = some (refusalOf w, p)
+answerRefusal NoRoom = some (9, 0)
 
 -- what is lent, the room in the buffers, and what a call leaves
 abbrev pub lentAs : ℕ → Bool → List ℕ → List ℕ → List ℕ → Lent
@@ -66,8 +59,7 @@ roomIn work out records = record { work = length work; out = length out; records
 abbrev pub left : Extraction → List ℕ → List ℕ → List ℕ → Left
 left r work out records =
     record {
-      number = answerNumber (r .answer);
-      place = answerPlace (r .answer);
+      refusal = answerRefusal (r .answer);
       modules = modulesOf (r .scope);
       work = work;
       out = out;
@@ -75,6 +67,13 @@ left r work out records =
     }
 
 -- ---- How a part of the call ends
+
+-- the number and the place alone, 0 and 0 where there is no refusal
+abbrev pub answerNumber : ExtractAnswer → ℕ
+answerNumber a = numberIn (answerRefusal a)
+
+abbrev pub answerPlace : ExtractAnswer → ℕ
+answerPlace a = placeIn (answerRefusal a)
 
 -- the array shows a state with these modules
 pub record ShowsModules (t : List ℕ) (ms : Modules) : Type 0 where

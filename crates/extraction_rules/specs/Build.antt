@@ -3,6 +3,7 @@
 use Prim.Native.Nat.{ℕ, _-_}
 use mathlib.Core.Bool.{Bool, false}
 use mathlib.Core.List.{List, [], _∷_, _++_}
+use mathlib.Core.Option.{none as nothing, some}
 use lib.ListN.{replicate}
 use Rattle.scope.specs.Modules.{Module, Modules, unmarked}
 use Rattle.tree.specs.Layout.{two, four}
@@ -144,8 +145,8 @@ abbrev pub files : Bool → Bool → Modules
 files c w = unmarked 9 ∷ record { file = 10; loaded = false; stored = false; cjs = c; wrapping = w } ∷ []
 
 abbrev pub accepts : Modules → Field → Field → Field → Left
-accepts ms w o r = record { number = 0; place = 0; modules = ms; work = holding w; out = holding o; records = holding r }
+accepts ms w o r = record { refusal = nothing; modules = ms; work = holding w; out = holding o; records = holding r }
 
 -- refused in a fresh scope
 abbrev pub refuses : ℕ → ℕ → Left
-refuses n p = record { number = n; place = p; modules = []; work = replicate room 0; out = replicate room 0; records = replicate room 0 }
+refuses n p = record { refusal = some (n, p); modules = []; work = replicate room 0; out = replicate room 0; records = replicate room 0 }

@@ -10,7 +10,7 @@ use Rattle.scope.specs.Modules.{Modules, request}
 use Rattle.tree.specs.declared.grammar.Set.the-variants.{Module}
 use Rattle.tree.specs.Tree.{Field, field, Fields, none, more, partsOf, size}
 use Rattle.tree.specs.Read.{Reading, fine, refused as unread, read, refusalOf}
-use Rattle.lent.specs.Outcome.{Outcome, done, refused, _>>=_, _>>_, refuseIf, placeless, numberOf, placeOf}
+use Rattle.lent.specs.Outcome.{Outcome, done, refused, _>>=_, _>>_, refuseIf, placeless, refusalIn}
 use Rattle.lent.specs.Table.{Row, atomsIn, badExternals, badTable, tableOf}
 use Rattle.lent.specs.Buffer.{fits, bufferOf}
 use Rattle.extraction_rules.specs.State.{State, Pass, first, second, Config, Setting, start}
@@ -88,10 +88,9 @@ extracted l room ms = do
 abbrev pub lengthsOf : Extracted → Lengths
 lengthsOf r = record { work = size (r .work); out = size (r .out); records = size (r .records) }
 
--- what a call leaves: the refusal's number and place (0 and 0 if accepted), the scope's modules, the buffers
+-- what a call leaves: the refusal's number and place, none if it is accepted; the scope's modules, the buffers
 pub record Left : Type 0 where
-  pub number : ℕ
-  pub place : ℕ
+  pub refusal : Option (ℕ × ℕ)
   pub modules : Modules
   pub work : List ℕ
   pub out : List ℕ
@@ -106,8 +105,7 @@ unfoldable pub extraction : Lent → Lengths → Modules → Left
 extraction l room ms =
     let o = extracted l room ms in
     record {
-      number = numberOf o;
-      place = placeOf o;
+      refusal = refusalIn o;
       modules = modulesAfter o ms;
       work = bufferOf (λ r. r .work) o (room .work);
       out = bufferOf (λ r. r .out) o (room .out);

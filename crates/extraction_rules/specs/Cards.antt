@@ -3,6 +3,7 @@ use Prim.Native.Nat.{ℕ, zero, suc}
 use mathlib.Core.Path.{_≡_, refl}
 use mathlib.Core.Bool.{Bool, true, false}
 use mathlib.Core.List.{List, [], _∷_, _++_, map}
+use mathlib.Core.Option.{none as nothing}
 use lib.ListN.{replicate}
 use Rattle.scope.specs.Modules.{unmarked}
 use Rattle.tree.specs.Layout.{two}
@@ -16,8 +17,7 @@ pub card1 : Case
 card1 = record {
   lent = lending false (0x01 ∷ 0x00 ∷ 0x00 ∷ []);
   left = record {
-    number = 0;
-    place = 0;
+    refusal = nothing;
     modules = unmarked 9 ∷ [];
     work = 0x01 ∷ 0x00 ∷ 0x00 ∷ replicate 247 0;
     out = 0x01 ∷ 0x00 ∷ 0x00 ∷ replicate 247 0;
@@ -53,8 +53,7 @@ pub card2 : Case
 card2 = record {
   lent = lending false bytes2;
   left = record {
-    number = 0;
-    place = 0;
+    refusal = nothing;
     modules = files false false;
     work = holding (program (imports (namespace (own a) ∷ metadata ∷ []) ∷ ax ∷ []));
     out = holding (program (imports (named (exp x) ∷ metadata ∷ []) ∷ apart ∷ []));

@@ -11,15 +11,15 @@ use Rattle.scope.specs.declared.FileAnswer.the-variants.{Given, TooManyFiles}
 use Rattle.writer.specs.Finished.{zeroed}
 use Rattle.extraction_rules.specs.Call.{Lent, Lengths, Left, extraction}
 use Rattle.extraction.specs.declared.Extraction.{Extraction}
-use Rattle.extraction.specs.Answer.{answerNumber, answerPlace, left, roomIn}
-use Rattle.host.specs.Answer.{packed, scopeBytes, noFiles, extractWith, extractCall, Leaves}
+use Rattle.extraction.specs.Answer.{answerRefusal, left, roomIn}
+use Rattle.host.specs.Answer.{packed, packedIn, scopeBytes, noFiles, extractWith, extractCall, Leaves}
 
 -- extraction in a scope
 pub leaves-extracted : {e : Left} (r : Extraction) {a : ℕ} {s w o k : List ℕ} → left r w o k ≡ e → s ≡ scopeBytes (modulesOf (r .scope)) →
-    a ≡ packed (answerNumber (r .answer)) (answerPlace (r .answer)) → Leaves e a s w o k
+    a ≡ packedIn (answerRefusal (r .answer)) → Leaves e a s w o k
 leaves-extracted r h s a =
     record {
-      answer = a ∙ ap (λ (l : Left). packed (l .number) (l .place)) h;
+      answer = a ∙ ap (λ (l : Left). packedIn (l .refusal)) h;
       scope = s ∙ ap (λ (l : Left). scopeBytes (l .modules)) h;
       work = ap (λ (l : Left). l .work) h;
       out = ap (λ (l : Left). l .out) h;

@@ -18,6 +18,11 @@ use Rattle.extraction_rules.specs.Call.{Lent, Lengths, Left, extraction}
 abbrev pub packed : ℕ → ℕ → ℕ
 packed number place = number * 4294967296 + place % 4294967296
 
+-- of an answer that may be a refusal: 0 where it is none
+abbrev pub packedIn : Option (ℕ × ℕ) → ℕ
+packedIn none = 0
+packedIn (some r) = packed (r .0) (r .1)
+
 abbrev pub bit : Bool → ℕ
 bit b = cond b 1 0
 
@@ -74,8 +79,7 @@ scopeBytes ms = listed ms ++ replicate (770 - length (listed ms)) 0
 abbrev pub noFiles : ℕ → Modules → Lengths → Left
 noFiles n ms room =
     record {
-      number = n;
-      place = 0;
+      refusal = some (n, 0);
       modules = ms;
       work = replicate (room .work) 0;
       out = replicate (room .out) 0;
@@ -94,7 +98,7 @@ extractCall files l room =
 
 -- a call answers a, and leaves s in the array for the scope and w, o, r in the buffers
 pub record Leaves (l : Left) (a : ℕ) (s w o r : List ℕ) : Type 0 where
-  pub answer : a ≡ packed (l .number) (l .place)
+  pub answer : a ≡ packedIn (l .refusal)
   pub scope : s ≡ scopeBytes (l .modules)
   pub work : w ≡ l .work
   pub out : o ≡ l .out

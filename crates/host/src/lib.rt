@@ -27,8 +27,8 @@ ghost use Rattle.metadata.specs.Calls.{decodeCall, encodeAnswer, encodeOut};
 ghost use Rattle.scope.specs.Kept.{modulesOf};
 ghost use Rattle.steps.specs.Step.{refusalOf as walkRefusal};
 ghost use Rattle.extraction_rules.specs.Call.{extraction};
-ghost use Rattle.extraction.specs.Answer.{answerNumber, answerPlace, lentAs, roomIn};
-ghost use Rattle.host.specs.Answer.{packed, bit, detectAnswer, encodeAnswerOf, decodeAnswerOf, bytesOf, metadataBytes, metadataGiven, noFiles, extractCall, Leaves};
+ghost use Rattle.extraction.specs.Answer.{answerRefusal, lentAs, roomIn};
+ghost use Rattle.host.specs.Answer.{packed, packedIn, bit, detectAnswer, encodeAnswerOf, decodeAnswerOf, bytesOf, metadataBytes, metadataGiven, noFiles, extractCall, Leaves};
 
 fn pack(number: u8, place: usize) -> u64
     ensures { λ r. ⌜ r ≡ packed number place ⌝ }
@@ -158,7 +158,7 @@ fn walk_number(why: steps::Why) -> u8
 }
 
 fn extract_answer(r: ExtractAnswer) -> u64
-    ensures { λ a. ⌜ a ≡ packed (answerNumber r) (answerPlace r) ⌝ }
+    ensures { λ a. ⌜ a ≡ packedIn (answerRefusal r) ⌝ }
 {
     match r {
         ExtractAnswer::Extracted => 0,

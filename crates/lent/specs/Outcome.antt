@@ -2,6 +2,7 @@
 -- Document 01, 'Where a call turns back'.
 use Prim.Native.Nat.{ℕ}
 use mathlib.Core.Bool.{Bool, cond}
+use mathlib.Core.Option.{Option, none as nothing, some}
 
 pub data Outcome (A : Type 0) : Type 0 where
   done : A → Outcome A
@@ -29,11 +30,16 @@ abbrev pub placeless : {A : Type 0} → Outcome A → Outcome A
 placeless (done a) = done a
 placeless (refused n p) = refused n 0
 
--- a call's number and place: 0 and 0 where it is accepted
-abbrev pub numberOf : {A : Type 0} → Outcome A → ℕ
-numberOf (done a) = 0
-numberOf (refused n p) = n
+-- a refusal's number and place; none where the call is accepted
+abbrev pub refusalIn : {A : Type 0} → Outcome A → Option (ℕ × ℕ)
+refusalIn (done a) = nothing
+refusalIn (refused n p) = some (n, p)
 
-abbrev pub placeOf : {A : Type 0} → Outcome A → ℕ
-placeOf (done a) = 0
-placeOf (refused n p) = p
+-- the two of a refusal, 0 and 0 of none
+abbrev pub numberIn : Option (ℕ × ℕ) → ℕ
+numberIn nothing = 0
+numberIn (some r) = r .0
+
+abbrev pub placeIn : Option (ℕ × ℕ) → ℕ
+placeIn nothing = 0
+placeIn (some r) = r .1

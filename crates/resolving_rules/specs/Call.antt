@@ -2,11 +2,12 @@
 -- Document 01, 'Where a call turns back': "resolving tests 1, 2, 10, 5, then 11 or 6, then 9".
 use Prim.Native.Nat.{ℕ}
 use mathlib.Core.List.{List, []}
+use mathlib.Core.Option.{Option}
 use Rattle.scope.specs.Modules.{Modules}
 use Rattle.tree.specs.declared.grammar.Set.the-variants.{Records}
 use Rattle.tree.specs.Tree.{Field, field, Fields, none, more, partsOf}
 use Rattle.tree.specs.Read.{Reading, fine, refused as unread, read}
-use Rattle.lent.specs.Outcome.{Outcome, done, refused, _>>=_, _>>_, refuseIf, numberOf, placeOf}
+use Rattle.lent.specs.Outcome.{Outcome, done, refused, _>>=_, _>>_, refuseIf, refusalIn}
 use Rattle.lent.specs.Table.{Row, badTable, tableOf}
 use Rattle.lent.specs.Buffer.{fits, bufferOf}
 use Rattle.resolving_rules.specs.Resolve.{sourcesIn, forcedIn, numberAll, resolvedAll}
@@ -59,10 +60,9 @@ abbrev pub modulesAfter : Outcome Numbered → Modules → Modules
 modulesAfter (done q) ms = q .modules
 modulesAfter (refused n p) ms = ms
 
--- what a call leaves: the refusal's number and place (0 and 0 if accepted), the scope's modules, the buffer
+-- what a call leaves: the refusal's number and place, none if it is accepted; the scope's modules, the buffer
 pub record Left : Type 0 where
-  pub number : ℕ
-  pub place : ℕ
+  pub refusal : Option (ℕ × ℕ)
   pub modules : Modules
   pub list : List ℕ
 
@@ -70,8 +70,7 @@ unfoldable pub resolving : Lent → ℕ → Modules → Left
 resolving l room ms =
     let o = resolved l room ms in
     record {
-      number = numberOf o;
-      place = placeOf o;
+      refusal = refusalIn o;
       modules = modulesAfter (numbered l ms) ms;
       list = bufferOf (λ r. r .list) o room;
     }

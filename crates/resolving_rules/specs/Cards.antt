@@ -2,6 +2,7 @@
 use Prim.Native.Nat.{ℕ}
 use mathlib.Core.Path.{_≡_, refl}
 use mathlib.Core.List.{List, [], _∷_, _++_, map}
+use mathlib.Core.Option.{none as nothing, some}
 use lib.ListN.{replicate}
 use Rattle.scope.specs.Modules.{Modules, unmarked}
 use Rattle.tree.specs.Layout.{two, four}
@@ -36,7 +37,7 @@ pub card2 : Case
 card2 = record {
   lent = lending records2;
   modules = unmarked 9 ∷ unmarked 10 ∷ [];
-  left = record { number = 0; place = 0; modules = unmarked 9 ∷ unmarked 10 ∷ []; list = list2 ++ replicate 215 0 };
+  left = record { refusal = nothing; modules = unmarked 9 ∷ unmarked 10 ∷ []; list = list2 ++ replicate 215 0 };
 }
 
 -- First source unresolved, second not: 11, the second keeps its number
@@ -44,7 +45,7 @@ pub card12 : Case
 card12 = record {
   lent = lending (encode (field 0x02 [] (more (field 0x80 (two 30 ++ four 1) none) (more (field 0x80 (two 20 ++ four 2) none) none))));
   modules = [];
-  left = record { number = 11; place = 3; modules = unmarked 10 ∷ []; list = replicate 250 0 };
+  left = record { refusal = some (11, 3); modules = unmarked 10 ∷ []; list = replicate 250 0 };
 }
 
 pub cards : List Case
