@@ -20,7 +20,7 @@ use Rattle.extraction_rules.specs.First.{external}
 use Rattle.extraction_rules.specs.Second.{usagesOf}
 use Rattle.extraction_rules.specs.Walk.{walkModule, walkAgain}
 use Rattle.extraction_rules.specs.Records.{recordFields, recordsOf}
-use Rattle.extraction_rules.specs.Call.{Lent, Extracted, setting}
+use Rattle.extraction_rules.specs.Call.{Lent, Lengths, Extracted, setting}
 use Rattle.extraction_rules.proofs.OutcomeLaws.{After, after-both, after-done}
 use Rattle.extraction_rules.proofs.ListLaws.{all-weaken}
 use Rattle.extraction_rules.proofs.TableLaws.{Each, each-weaken}
@@ -152,8 +152,8 @@ module _ (i lit : List ℕ) (own file : ℕ) (context : contextOf i ≡ four (lo
     end-of false k items outs gs s t ms n q h held sp o en shape number e = ends-kept k items outs gs t ms n q h o en e
 
     -- the resolved list of the end's records
-    pub run-ends : (k : ℕ) (items : Fields) (ms new : Modules) (r : Extracted) (gs : Fields) → Items items → Surrounded k items (takesApart (stands items i)) →
-        ((n : ℕ) → OtherBut i lit own file n (stands items i) context named again refl within k items) → (u : Run l rows own items ms r) →
+    pub run-ends : (k : ℕ) (items : Fields) {room : Lengths} (ms new : Modules) (r : Extracted) (gs : Fields) → Items items → Surrounded k items (takesApart (stands items i)) →
+        ((n : ℕ) → OtherBut i lit own file n (stands items i) context named again refl within k items) → (u : Run l room rows own items ms r) →
         numberAll rows (sourcesIn (partsOf (recordsOf (u .end)))) (u .end .modules) 3 ≡ done new → resolvedAll rows (u .end .forced) new (append (recordFields 0x80 (u .end .collected)) (recordFields 0x81 (u .end .lazy))) 3 ≡ done gs →
         EndsBy (takesApart (stands items i)) k (stands items i) items (u .outs) gs new
     run-ends k items ms new r gs shape h d u numbered resolved =
@@ -168,8 +168,8 @@ module _ (i lit : List ℕ) (own file : ℕ) (context : contextOf i ≡ four (lo
         (numberAll-keeps rows file (x .1 .0 .0) (sourcesIn (partsOf (recordsOf (u .end)))) (u .end .modules) new 3 numbered number) resolved
 
     -- An accepted extraction, and an accepted resolving of its records as they were written: taken apart or kept
-    pub core : (k : ℕ) (items : Fields) (ms new : Modules) (r : Extracted) (gs : Fields) → Items items → Surrounded k items (takesApart (stands items i)) →
-        ((n : ℕ) → OtherBut i lit own file n (stands items i) context named again refl within k items) → Run l rows own items ms r →
+    pub core : (k : ℕ) (items : Fields) {room : Lengths} (ms new : Modules) (r : Extracted) (gs : Fields) → Items items → Surrounded k items (takesApart (stands items i)) →
+        ((n : ℕ) → OtherBut i lit own file n (stands items i) context named again refl within k items) → Run l room rows own items ms r →
         numberAll rows (sourcesIn (partsOf (r .records))) (r .modules) 3 ≡ done new → resolvedAll rows (forcedIn (partsOf (r .records))) new (sourcesIn (partsOf (r .records))) 3 ≡ done gs →
         EndsBy (takesApart (stands items i)) k (stands items i) items (partsOf (r .out)) gs new
     core k items ms new r gs shape h d u a b =

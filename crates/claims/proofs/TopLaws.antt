@@ -168,7 +168,7 @@ some-file : (o : Option ℕ) → isSome o ≡ true → (f : ℕ) × (o ≡ some 
 some-file nothing h = absurd (true≢false (sym h))
 some-file (some f) h = (f, refl)
 
-pub source-resolves : (l : Lent) (r : Extracted) (q : Resolved) (items : Fields) (own : ℕ × Modules) (k : ℕ) (x : List ℕ) (cs : Fields) → Run l (rowsIn (l .table)) (own .0) items (own .1) r →
+pub source-resolves : (l : Lent) {room : Lengths} (r : Extracted) (q : Resolved) (items : Fields) (own : ℕ × Modules) (k : ℕ) (x : List ℕ) (cs : Fields) → Run l room (rowsIn (l .table)) (own .0) items (own .1) r →
     itemAt k items ≡ some (field 0x10 x cs) → among (valueOf x) (atomsIn (l .externals)) ≡ false → Listed (rowsIn (l .table)) (partsOf (r .records)) (r .modules) q → (f : ℕ) × (fileOf (valueOf x) (rowsIn (l .table)) ≡ some f)
 unfolding external
 source-resolves l r q items own k x cs u w d h =

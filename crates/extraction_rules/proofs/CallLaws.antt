@@ -25,8 +25,7 @@ use Rattle.extraction_rules.proofs.SanityLaws.{Numbered, numbered-steps
 
 -- ---- Both passes of an accepted call
 
-pub record Run (l : Lent) (rows : List Row) (own : ℕ) (items : Fields) (ms : Modules) (r : Extracted) : Type 0 where
-  pub room : Lengths
+pub record Run (l : Lent) (room : Lengths) (rows : List Row) (own : ℕ) (items : Fields) (ms : Modules) (r : Extracted) : Type 0 where
   -- the first pass
   pub works : Fields
   pub middle : State
@@ -41,7 +40,7 @@ pub record Run (l : Lent) (rows : List Row) (own : ℕ) (items : Fields) (ms : M
   pub given : extractedFrom works outs end ≡ r
 
 passes-done : (l : Lent) (room : Lengths) (rows : List Row) (items : Fields) (own : ℕ × Modules) (r : Extracted) →
-    passes l room rows items own ≡ done r → Run l rows (own .0) items (own .1) r
+    passes l room rows items own ≡ done r → Run l room rows (own .0) items (own .1) r
 unfolding passes
 passes-done l room rows items own r e =
     let a = onto-done (walkModule (setting first (own .0) l rows) items (start (own .1))) _ r e in
@@ -50,7 +49,6 @@ passes-done l room rows items own r e =
     let d = onto-done (fits (moduleWith (c .0 .0)) (room .out)) _ r (c .2) in
     let f = onto-done (fits (recordsOf (c .0 .1)) (room .records)) _ r (d .2) in
     record {
-      room = room;
       works = a .0 .0;
       middle = a .0 .1;
       once = a .1;
@@ -68,14 +66,14 @@ own-done nothing r e = done-refused e
 own-done (some q) r e = ap some (done-inj e)
 
 -- the items that the call read, its own module, and its passes
-pub record Made (l : Lent) (ms : Modules) (r : Extracted) : Type 0 where
+pub record Made (l : Lent) (room : Lengths) (ms : Modules) (r : Extracted) : Type 0 where
   pub items : Fields
   pub reads : itemsRead (read Module (l .tree)) ≡ done items
   pub own : ℕ × Modules
   pub requests : request (l .file) ms ≡ some own
-  pub run : Run l (rowsIn (l .table)) (own .0) items (own .1) r
+  pub run : Run l room (rowsIn (l .table)) (own .0) items (own .1) r
 
-pub call-made : (l : Lent) (room : Lengths) (ms : Modules) (r : Extracted) → extracted l room ms ≡ done r → Made l ms r
+pub call-made : (l : Lent) (room : Lengths) (ms : Modules) (r : Extracted) → extracted l room ms ≡ done r → Made l room ms r
 unfolding extracted
 call-made l room ms r e =
     let a = onto-done (refuseIf (badLists l) 1) _ r e in
@@ -87,20 +85,20 @@ call-made l room ms r e =
       reads = c .1;
       own = d .0;
       requests = own-done (request (l .file) ms) (d .0) (d .1);
-      run = subst (λ (rows : List Row). Run l rows (d .0 .0) (c .0) (d .0 .1) r) (table-rows (l .table) (b .0) (b .1)) (passes-done l room (b .0) (c .0) (d .0) r (d .2));
+      run = subst (λ (rows : List Row). Run l room rows (d .0 .0) (c .0) (d .0 .1) r) (table-rows (l .table) (b .0) (b .1)) (passes-done l room (b .0) (c .0) (d .0) r (d .2));
     }
 
 -- the same for items and a module that are known
 pub call-run : (l : Lent) (room : Lengths) (ms : Modules) (r : Extracted) (items : Fields) (own : ℕ × Modules) → extracted l room ms ≡ done r →
-    itemsRead (read Module (l .tree)) ≡ done items → request (l .file) ms ≡ some own → Run l (rowsIn (l .table)) (own .0) items (own .1) r
+    itemsRead (read Module (l .tree)) ≡ done items → request (l .file) ms ≡ some own → Run l room (rowsIn (l .table)) (own .0) items (own .1) r
 call-run l room ms r items own e p q =
     let m = call-made l room ms r e in
     let i : m .items ≡ items = done-inj (sym (m .reads) ∙ p) in
     let o : m .own ≡ own = done-inj (ap ownModule (sym (m .requests) ∙ q)) in
-    subst (λ (o : ℕ × Modules). Run l (rowsIn (l .table)) (o .0) items (o .1) r) o (subst (λ (fs : Fields). Run l (rowsIn (l .table)) (m .own .0) fs (m .own .1) r) i (m .run))
+    subst (λ (o : ℕ × Modules). Run l room (rowsIn (l .table)) (o .0) items (o .1) r) o (subst (λ (fs : Fields). Run l room (rowsIn (l .table)) (m .own .0) fs (m .own .1) r) i (m .run))
 
 -- what both passes say of a run
-pub run-both : (l : Lent) (rows : List Row) (own : ℕ) (items : Fields) (ms : Modules) (r : Extracted) (u : Run l rows own items ms r) (P Q : Fields → State → Type 0) →
+pub run-both : (l : Lent) {room : Lengths} (rows : List Row) (own : ℕ) (items : Fields) (ms : Modules) (r : Extracted) (u : Run l room rows own items ms r) (P Q : Fields → State → Type 0) →
     After (walkModule (setting first own l rows) items (start ms)) (λ works s. P works s × After (walkAgain (setting second own l rows) works s) Q) → P (u .works) (u .middle) × Q (u .outs) (u .end)
 run-both l rows own items ms r u P Q h =
     let a = after-done (walkModule (setting first own l rows) items (start ms)) (λ works s. P works s × After (walkAgain (setting second own l rows) works s) Q) (u .works, u .middle) (u .once) h in

@@ -195,7 +195,7 @@ abbrev pub Readable : Field → Type 0
 Readable f = read Module (encode f) ≡ fine (more f none)
 
 -- the items that an accepted call read are within the grammar
-pub made-items : (l : Lent) (ms : Modules) (r : Extracted) → Bytes (l .tree) → (m : Made l ms r) → Items (m .items)
+pub made-items : (l : Lent) {room : Lengths} (ms : Modules) (r : Extracted) → Bytes (l .tree) → (m : Made l room ms r) → Items (m .items)
 made-items l ms r bs m = of-done (itemsRead (read Module (l .tree))) Items (m .items) (m .reads) (read-items (l .tree) bs)
 
 pub call-readable : (l : Lent) (room : Lengths) (ms : Modules) → Bytes (l .tree) → (r : Extracted) → extracted l room ms ≡ done r →
@@ -206,4 +206,4 @@ call-readable l room ms bs r e =
     let rows = rowsIn (l .table) in
     let w = run-both l rows (m .own .0) (m .items) (m .own .1) r u (λ works s. Items works) (λ outs s. Items outs) (run-within l rows (m .own .0) (m .own .1) (m .items) (made-items l ms r bs m)) in
     subst (λ (z : Extracted). Readable (z .work) × Readable (z .out)) (u .given)
-    (items-readable (u .works) (u .room .work) (w .0) (u .work-room), items-readable (u .outs) (u .room .out) (w .1) (u .out-room))
+    (items-readable (u .works) (room .work) (w .0) (u .work-room), items-readable (u .outs) (room .out) (w .1) (u .out-room))

@@ -186,5 +186,5 @@ call-records l room ms bs r e =
     let u = m .run in
     let rows = rowsIn (l .table) in
     subst (λ (z : Extracted). ReadBack (z .records)) (u .given)
-    (records-readable (u .end) (u .room .records)
+    (records-readable (u .end) (room .records)
     (run-both l rows (m .own .0) (m .items) (m .own .1) r u (λ works s. Whole s) (λ outs s. Whole s) (run-whole l rows (m .own .0) (m .own .1) (m .items) (made-items l ms r bs m)) .1) (u .records-room))
