@@ -97,6 +97,14 @@ call-run l room ms r items own e p q =
     let o : m .own ≡ own = done-inj (ap ownModule (sym (m .requests) ∙ q)) in
     subst (λ (o : ℕ × Modules). Run l room (rowsIn (l .table)) (o .0) items (o .1) r) o (subst (λ (fs : Fields). Run l room (rowsIn (l .table)) (m .own .0) fs (m .own .1) r) i (m .run))
 
+-- each buffer of an accepted call has room for what it is to hold
+pub call-room : (l : Lent) (room : Lengths) (ms : Modules) (r : Extracted) → extracted l room ms ≡ done r →
+    (hasRoom (size (r .work)) (room .work) ≡ true) × (hasRoom (size (r .out)) (room .out) ≡ true) × (hasRoom (size (r .records)) (room .records) ≡ true)
+call-room l room ms r e =
+    let u = call-made l room ms r e .run in
+    subst (λ (z : Extracted). (hasRoom (size (z .work)) (room .work) ≡ true) × (hasRoom (size (z .out)) (room .out) ≡ true) × (hasRoom (size (z .records)) (room .records) ≡ true))
+    (u .given) (u .work-room, u .out-room, u .records-room)
+
 -- what both passes say of a run
 pub run-both : (l : Lent) {room : Lengths} (rows : List Row) (own : ℕ) (items : Fields) (ms : Modules) (r : Extracted) (u : Run l room rows own items ms r) (P Q : Fields → State → Type 0) →
     After (walkModule (setting first own l rows) items (start ms)) (λ works s. P works s × After (walkAgain (setting second own l rows) works s) Q) → P (u .works) (u .middle) × Q (u .outs) (u .end)

@@ -3,8 +3,9 @@ use Prim.Native.Nat.{ℕ}
 use mathlib.Core.Path.{_≡_, refl, sym}
 use mathlib.Core.Bool.{Bool, true, false, not}
 use mathlib.Core.List.{List}
+use mathlib.Core.Option.{none as nothing}
 use native.Mathlib.Omega.{arith}
-use Rattle.lent.specs.Outcome.{Outcome, done, refused, onto, placeless, refuseIf}
+use Rattle.lent.specs.Outcome.{Outcome, done, refused, onto, placeless, refuseIf, refusalIn}
 use Rattle.tree.specs.Tree.{Field, size}
 use Rattle.writer.specs.Finished.{hasRoom}
 use Rattle.lent.specs.Buffer.{fits}
@@ -15,6 +16,11 @@ done-inj e = cc
 
 pub done-refused : {A B : Type 0} {a : A} {n p : ℕ} → refused n p ≡ done a → B
 done-refused {a = a} e = absurd (let z : _≡_ {A = ℕ} 0 1 = cc in omega arith)
+
+-- without a refusal there is a value
+pub refusal-none : {A : Type 0} (m : Outcome A) → refusalIn m ≡ nothing → (a : A) × (m ≡ done a)
+refusal-none (done a) e = (a, refl)
+refusal-none (refused n p) e = absurd (let z : _≡_ {A = ℕ} 0 1 = cc in omega arith)
 
 -- a step that is accepted, and the next
 pub onto-done : {A B : Type 0} (m : Outcome A) (f : A → Outcome B) (b : B) → onto m f ≡ done b → (a : A) × (m ≡ done a) × (f a ≡ done b)

@@ -1,3 +1,5 @@
--- Laws of the lent lists: their entries, two or four bytes at a time (TableLaws); and of accepted outcomes (AcceptedLaws).
+-- Laws of the lent lists: their entries, two or four bytes at a time (TableLaws); of accepted outcomes (AcceptedLaws), and of
+-- what stands in their buffers (BufferLaws).
 pub mod TableLaws
 pub mod AcceptedLaws
+pub mod BufferLaws

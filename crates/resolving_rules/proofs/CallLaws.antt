@@ -1,16 +1,18 @@
 -- What an accepted call is made of.
 use Prim.Native.Nat.{ℕ}
 use mathlib.Core.Path.{_≡_, sym, ap, subst, _∙_}
+use mathlib.Core.Bool.{true}
 use mathlib.Core.List.{List, []}
 use mathlib.Core.Option.{some}
 use Rattle.scope.specs.Modules.{Modules, numberOf}
 use Rattle.tree.specs.declared.grammar.Set.the-variants.{Records}
-use Rattle.tree.specs.Tree.{field, Fields, partsOf}
+use Rattle.tree.specs.Tree.{field, Fields, partsOf, size}
 use Rattle.tree.specs.Read.{read}
+use Rattle.writer.specs.Finished.{hasRoom}
 use Rattle.lent.specs.Outcome.{done, refuseIf}
 use Rattle.lent.specs.Table.{Row, rowsIn, badTable, tableOf}
 use Rattle.lent.specs.Buffer.{fits}
-use Rattle.lent.proofs.AcceptedLaws.{done-inj, onto-done, table-rows}
+use Rattle.lent.proofs.AcceptedLaws.{done-inj, onto-done, table-rows, fits-room}
 use Rattle.resolving_rules.specs.Resolve.{sourcesIn, forcedIn, numberAll, resolvedAll}
 use Rattle.resolving_rules.specs.Call.{Lent, recordsRead, Numbered, numbered, Resolved, listed, resolved}
 use Rattle.resolving_rules.proofs.ResolveLaws.{numberAll-keeps}
@@ -42,12 +44,17 @@ numbered-made l ms q e =
 listed-made : (q : Numbered) (room : ℕ) (r : Resolved) → listed q room ≡ done r →
     (r .modules ≡ q .modules)
     × (resolvedAll (q .rows) (forcedIn (q .records)) (q .modules) (sourcesIn (q .records)) 3 ≡ done (partsOf (r .list)))
+    × (hasRoom (size (r .list)) room ≡ true)
 unfolding listed
 listed-made q room r e =
     let a = onto-done (resolvedAll (q .rows) (forcedIn (q .records)) (q .modules) (sourcesIn (q .records)) 3) _ r e in
     let b = onto-done (fits (field 0x03 [] (a .0)) room) _ r (a .2) in
     let m = done-inj (b .2) in
-    (sym (ap (λ (n : Resolved). n .modules) m), a .1 ∙ ap (λ (n : Resolved). done (partsOf (n .list))) m)
+    (
+      sym (ap (λ (n : Resolved). n .modules) m),
+      a .1 ∙ ap (λ (n : Resolved). done (partsOf (n .list))) m,
+      subst (λ (n : Resolved). hasRoom (size (n .list)) room ≡ true) m (fits-room (field 0x03 [] (a .0)) room (b .0) (b .1)),
+    )
 
 pub call-listed : (l : Lent) (room : ℕ) (ms : Modules) (q : Resolved) (cs : Fields) → resolved l room ms ≡ done q →
     recordsRead (read Records (l .records)) ≡ done cs → Listed (rowsIn (l .table)) cs ms q
@@ -58,6 +65,11 @@ call-listed l room ms q cs e r =
     let m = listed-made (a .0) room q (a .2) in
     let c : a .0 .records ≡ cs = done-inj (sym (n .1) ∙ r) in
     record { numbers = rw (n .0, c, sym (m .0)) at (n .2); lists = rw (n .0, c, sym (m .0)) at (m .1) }
+
+-- the buffer of an accepted call has room for the list
+pub call-room : (l : Lent) (room : ℕ) (ms : Modules) (q : Resolved) → resolved l room ms ≡ done q → hasRoom (size (q .list)) room ≡ true
+unfolding resolved
+call-room l room ms q e = let a = onto-done (numbered l ms) _ q e in listed-made (a .0) room q (a .2) .2
 
 -- no accepted call changes a number that was given
 pub call-keeps-numbers : (l : Lent) (room : ℕ) (ms : Modules) (q : Resolved) → resolved l room ms ≡ done q →
