@@ -1,0 +1,68 @@
+use mathlib.Core.Path.{_≡_, refl, sym, ap, _∙_}
+use mathlib.Core.Bool.{Bool, _||_}
+use native.Mathlib.Omega.{arith}
+use Prim.Native.Nat.{_-_}
+use lib.ListN.{length}
+use borrow.Author.Needs.{needs}
+use Rattle.lent.specs.Lists.{among}
+use Rattle.tree.specs.Layout.{two}
+use Rattle.tree.specs.Standing.{rowAt}
+use Rattle.tree.proofs.AccessLaws.{extent-upto}
+use Rattle.resolving_rules.specs.Resolve.{forcedIn}
+use Rattle.resolving.specs.Records.{RecordsFrom, recordsIn}
+use Rattle.resolving.proofs.RecordsLaws.{records-next, forced-end, forced-inside, forced-step}
+use Rattle.resolving.proofs.sources.is_forced.Statement.{statement}
+use Rattle.resolving.proofs.sources.is_forced.Tie as tie
+use Rattle.resolving.proofs.sources.is_forced.Reads as reads
+use Rattle.resolving.proofs.sources.is_forced.Lts as lts
+use Rattle.resolving.proofs.sources.forces_at.Reads as forces-at-reads
+use Rattle.tree.proofs.access.extent.Reads as extent-reads
+
+abbrev Inv-loop : tie.InvT-loop
+Inv-loop records source at₀ at = (among (two source) (forcedIn (recordsIn records)) ≡ among (two source) (forcedIn (rowAt records at (length records)))) × RecordsFrom records at
+
+abbrev μ-loop : tie.MeasureT-loop
+μ-loop records source at₀ at = length records - at
+
+loop-holds : tie.Need-loop-holds Inv-loop μ-loop
+loop-holds c = (refl, c .before .pre)
+
+extent-requires : tie.Need-extent-requires Inv-loop μ-loop
+extent-requires c κs = let i = c .loop .inv .1 .inside in omega arith
+
+enum-known-stop : tie.Need-enum-known-stop Inv-loop μ-loop
+enum-known-stop c = search needs
+
+enum-told : tie.Need-enum-told Inv-loop μ-loop
+enum-told c = search needs
+
+returns : tie.Need-returns Inv-loop μ-loop
+returns c = sym (c .before .before .before .loop .inv .0 ∙ forced-end (c .before .before .before .before .before .args .source) (c .before .before .before .before .before .fits .source .fits) (c .before .before .before .loop .inv .1) (sym (c .before .before .extent .ensures) ∙ c .enum-told .given .1))
+
+forces-at-requires : tie.Need-forces-at-requires Inv-loop μ-loop
+forces-at-requires c κs = forced-inside (c .before .before .before .before .before .before .args .source) (c .before .before .before .before .before .before .fits .source .fits) (c .before .before .before .before .loop .inv .1) (sym (c .before .before .before .extent .ensures) ∙ c .before .stop .given .1)
+
+returns-2 : tie.Need-returns-2 Inv-loop μ-loop
+returns-2 c = sym (c .before .before .before .before .before .before .loop .inv .0 ∙ forced-step (c .before .before .before .before .before .before .before .before .args .source) (c .before .before .before .before .before .before .before .before .fits .source .fits) (c .before .before .before .before .before .before .loop .inv .1) (sym (c .before .before .before .before .before .extent .ensures) ∙ c .before .before .before .stop .given .1) ∙ ap (λ (b : Bool). b || among (two (c .before .before .before .before .before .before .before .before .args .source)) (forcedIn (rowAt (c .before .before .before .before .before .before .before .before .args .records .now) (c .before .before .before .stop .given .0 .0) (length (c .before .before .before .before .before .before .before .before .args .records .now))))) (sym (c .before .forces-at .ensures) ∙ c .if1 .taken))
+
+loop-less : tie.Need-loop-less Inv-loop μ-loop
+loop-less c = let i = extent-upto (c .before .before .before .before .before .before .before .before .args .records .now) (c .before .before .before .before .before .before .loop .at) _ (c .before .before .before .before .before .before .loop .inv .1 .inside) (sym (c .before .before .before .before .before .extent .ensures) ∙ c .before .before .before .stop .given .1) in omega arith
+
+loop-again : tie.Need-loop-again Inv-loop μ-loop
+loop-again c = (c .before .before .before .before .before .before .loop .inv .0 ∙ forced-step (c .before .before .before .before .before .before .before .before .args .source) (c .before .before .before .before .before .before .before .before .fits .source .fits) (c .before .before .before .before .before .before .loop .inv .1) (sym (c .before .before .before .before .before .extent .ensures) ∙ c .before .before .before .stop .given .1) ∙ ap (λ (b : Bool). b || among (two (c .before .before .before .before .before .before .before .before .args .source)) (forcedIn (rowAt (c .before .before .before .before .before .before .before .before .args .records .now) (c .before .before .before .stop .given .0 .0) (length (c .before .before .before .before .before .before .before .before .args .records .now))))) (sym (c .before .forces-at .ensures) ∙ c .if1 .left), records-next (c .before .before .before .before .before .before .loop .inv .1) (sym (c .before .before .before .before .before .extent .ensures) ∙ c .before .before .before .stop .given .1))
+
+pub is-forced-spec : {M : Type 1} → statement M
+is-forced-spec =
+    tie.close
+    (tie.spec
+    Inv-loop
+    μ-loop
+    loop-holds
+    extent-requires
+    enum-known-stop
+    enum-told
+    returns
+    forces-at-requires
+    returns-2
+    loop-less
+    loop-again)
