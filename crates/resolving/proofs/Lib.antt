@@ -1,5 +1,7 @@
--- Where the fixed bytes of records end (WidthLaws), records that were read (RecordsLaws), and the numbers of their sources
--- (NumbersLaws).
+-- Where the fixed bytes of records end (WidthLaws), records that were read (RecordsLaws), the numbers of their sources
+-- (NumbersLaws), what is written of values (WritesLaws) and of specifiers (SpecifiersLaws).
 pub mod WidthLaws
 pub mod RecordsLaws
 pub mod NumbersLaws
+pub mod WritesLaws
+pub mod SpecifiersLaws

@@ -1,0 +1,106 @@
+-- Specifiers, one by one as they are written.
+use Prim.Native.Nat.{ℕ, _+_, _-_, _≤_}
+use native.Mathlib.Omega.{arith}
+use mathlib.Core.Path.{_≡_, sym, ap, _∙_}
+use mathlib.Core.Bool.{Bool, cond}
+use mathlib.Core.List.{List, [], _∷_, _++_, append-assoc}
+use lib.ListN.{getD}
+use lib.Seq.{slice}
+use borrow.Author.Tests.{eq-eqb, ne-eqb}
+use Rattle.tree.specs.declared.layout.Reach.the-variants.{Upto, Short}
+use Rattle.tree.specs.Layout.{two, four}
+use Rattle.tree.specs.Tree.{Field, field, Fields, none, tagOf, fixedOf, encode, size}
+use Rattle.writer.specs.Bytes.{twoBytes, fourBytes, framed}
+use Rattle.tree.specs.Access.{fixedAt, extentAt}
+use Rattle.tree.specs.Standing.{treeAt, rowAt}
+use Rattle.tree.proofs.FixedLaws.{no-upto}
+use Rattle.tree.proofs.SliceLaws.{getD-slice}
+use Rattle.tree.proofs.StandingLaws.{row-more, row-none, tree-upto, whole-step}
+use Rattle.lent.specs.Outcome.{done, refused}
+use Rattle.lent.specs.Fields.{has}
+use Rattle.resolving_rules.specs.Resolve.{resolvedNamed, resolvedDefault, resolvedNamespace, resolvedSpecifier, resolvedSpecifiers}
+use Rattle.resolving.specs.Records.{FieldRead}
+use Rattle.resolving.proofs.WritesLaws.{framed-leaf, consed, Cons}
+
+-- ---- A 20
+
+module _ (s : List ℕ) (at end : ℕ) (h : at + 10 ≤ end) where
+  name-kind : getD (slice (at + 3) end s) 6 0 ≡ getD s (at + 9) 0
+  name-kind = let z : at + 3 + 6 ≡ at + 9 = omega arith in getD-slice (at + 3) end s 6 (omega arith) ∙ ap (λ (i : ℕ). getD s i 0) z
+
+  pub named-string : getD s (at + 9) 0 ≡ 2 → resolvedNamed (slice (at + 3) end s) at ≡ refused 6 at
+  unfolding resolvedNamed
+  named-string e =
+      ap (λ (b : Bool). cond b (refused 6 at) (done (field 0x91 (slice (at + 3) end s) none))) (eq-eqb (getD (slice (at + 3) end s) 6 0) 2 (name-kind ∙ e))
+
+  pub named-plain : (getD s (at + 9) 0 ≡ 2 → ⊥) → resolvedNamed (slice (at + 3) end s) at ≡ done (field 0x91 (slice (at + 3) end s) none)
+  unfolding resolvedNamed
+  named-plain n =
+      ap (λ (b : Bool). cond b (refused 6 at) (done (field 0x91 (slice (at + 3) end s) none)))
+      (ne-eqb (getD (slice (at + 3) end s) 6 0) 2 (λ q. n (sym name-kind ∙ q)))
+
+-- ---- A 21
+
+pub default-bytes : (x : List ℕ) → framed 0x91 (x ++ ((1 ∷ []) ++ (twoBytes 3 ++ fourBytes 0))) ≡ encode (resolvedDefault x)
+default-bytes x = framed-leaf 0x91 (x ++ ((1 ∷ []) ++ (twoBytes 3 ++ fourBytes 0))) ∙ ap (λ (y : List ℕ). encode (field 0x91 y none)) (sym (append-assoc x (1 ∷ two 3) (four 0)))
+
+-- ---- By the tag
+
+module _ (all : Bool) (p : ℕ) (f : Field) where
+  by-20 : tagOf f ≡ 0x20 → resolvedSpecifier all f p ≡ resolvedNamed (fixedOf f) p
+  unfolding resolvedSpecifier
+  by-20 h =
+      ap (λ (b : Bool). cond b (resolvedNamed (fixedOf f) p) (cond (has 0x21 f) (done (resolvedDefault (fixedOf f))) (done (resolvedNamespace all (fixedOf f)))))
+      (eq-eqb (tagOf f) 0x20 h)
+
+  past-20 : (tagOf f ≡ 0x20 → ⊥) → resolvedSpecifier all f p ≡ cond (has 0x21 f) (done (resolvedDefault (fixedOf f))) (done (resolvedNamespace all (fixedOf f)))
+  unfolding resolvedSpecifier
+  past-20 h =
+      ap (λ (b : Bool). cond b (resolvedNamed (fixedOf f) p) (cond (has 0x21 f) (done (resolvedDefault (fixedOf f))) (done (resolvedNamespace all (fixedOf f)))))
+      (ne-eqb (tagOf f) 0x20 h)
+
+module _ (all : Bool) (s : List ℕ) (at stop b : ℕ) (e : fixedAt s (getD s at 0) (at + 3) stop ≡ Upto b) where
+  tree-here : treeAt s at stop ≡ field (getD s at 0) (slice (at + 3) b s) (rowAt s b stop)
+  tree-here = tree-upto s at stop b e
+
+  pub specifier-named : getD s at 0 ≡ 0x20 → resolvedSpecifier all (treeAt s at stop) at ≡ resolvedNamed (slice (at + 3) b s) at
+  specifier-named h = by-20 all at (treeAt s at stop) (ap tagOf tree-here ∙ h) ∙ ap (λ (f : Field). resolvedNamed (fixedOf f) at) tree-here
+
+  pub specifier-default : getD s at 0 ≡ 0x21 → resolvedSpecifier all (treeAt s at stop) at ≡ done (resolvedDefault (slice (at + 3) b s))
+  specifier-default h =
+      let t : tagOf (treeAt s at stop) ≡ 0x21 = ap tagOf tree-here ∙ h in
+      past-20 all at (treeAt s at stop) (λ q. absurd (omega arith))
+      ∙ ap (λ (c : Bool). cond c (done (resolvedDefault (fixedOf (treeAt s at stop)))) (done (resolvedNamespace all (fixedOf (treeAt s at stop))))) (eq-eqb (tagOf (treeAt s at stop)) 0x21 t)
+      ∙ ap (λ (f : Field). done (resolvedDefault (fixedOf f))) tree-here
+
+  pub specifier-namespace : (getD s at 0 ≡ 0x20 → ⊥) → (getD s at 0 ≡ 0x21 → ⊥) → resolvedSpecifier all (treeAt s at stop) at ≡ done (resolvedNamespace all (slice (at + 3) b s))
+  specifier-namespace m n =
+      let t : tagOf (treeAt s at stop) ≡ getD s at 0 = ap tagOf tree-here in
+      past-20 all at (treeAt s at stop) (λ q. m (sym t ∙ q))
+      ∙ ap (λ (c : Bool). cond c (done (resolvedDefault (fixedOf (treeAt s at stop)))) (done (resolvedNamespace all (fixedOf (treeAt s at stop)))))
+      (ne-eqb (tagOf (treeAt s at stop)) 0x21 (λ q. n (sym t ∙ q)))
+      ∙ ap (λ (f : Field). done (resolvedNamespace all (fixedOf f))) tree-here
+
+-- the fixed bytes of a field that was read are whole
+pub read-short : {A : Type 0} {s : List ℕ} {at stop : ℕ} → FieldRead s at stop → fixedAt s (getD s at 0) (at + 3) stop ≡ Short → A
+read-short {s = s} {at} {stop} r e = absurd (let w = whole-step s at stop (r .whole) in no-upto (sym e ∙ w .1))
+
+-- ---- All of them
+
+module _ (all : Bool) (s : List ℕ) (at end : ℕ) (le : at ≤ end) where
+  pub specifiers-end : extentAt s at end ≡ Short → resolvedSpecifiers all (rowAt s at end) at ≡ done none
+  unfolding resolvedSpecifiers
+  specifiers-end e = ap (λ (fs : Fields). resolvedSpecifiers all fs at) (row-none s at end le e)
+
+  pub specifiers-more : {stop : ℕ} → extentAt s at end ≡ Upto stop → FieldRead s at stop →
+      Cons (resolvedSpecifiers all (rowAt s at end) at) (resolvedSpecifier all (treeAt s at stop) at) (resolvedSpecifiers all (rowAt s stop end) stop)
+  unfolding resolvedSpecifiers
+  specifiers-more {stop} e r =
+      let l = r .long in
+      let i = r .inside in
+      let z : at + size (treeAt s at stop) ≡ stop = omega arith in
+      record {
+        is =
+            ap (λ (fs : Fields). resolvedSpecifiers all fs at) (row-more s at end stop le e)
+            ∙ ap (λ (p : ℕ). consed (resolvedSpecifier all (treeAt s at stop) at) (resolvedSpecifiers all (rowAt s stop end) p)) z;
+      }

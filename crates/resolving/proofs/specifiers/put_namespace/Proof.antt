@@ -1,0 +1,50 @@
+use mathlib.Core.Path.{ap, _∙_}
+use mathlib.Core.List.{_∷_, [], _++_}
+use Prim.Native.Nat.{ℕ}
+use lib.Seq.{slice}
+use Rattle.tree.specs.Tree.{field, none, encode}
+use Rattle.writer.proofs.Wrote.{wrote-as, wrote-then, wrote-field}
+use Rattle.resolving.proofs.WritesLaws.{framed-leaf}
+use borrow.Author.Needs.{needs}
+use Rattle.resolving.proofs.specifiers.put_namespace.Statement.{statement}
+use Rattle.resolving.proofs.specifiers.put_namespace.Tie as tie
+use Rattle.resolving.proofs.specifiers.put_namespace.Reads as reads
+use Rattle.resolving.proofs.specifiers.put_namespace.Lts as lts
+use Rattle.resolving.proofs.specifiers.all_byte.Reads as all-byte-reads
+use Rattle.writer.proofs.close_field.Reads as close-field-reads
+use Rattle.writer.proofs.copy.Reads as copy-reads
+use Rattle.writer.proofs.open_field.Reads as open-field-reads
+use Rattle.writer.proofs.put.Reads as put-reads
+
+open-field-requires : tie.Need-open-field-requires
+open-field-requires c κs = search needs
+
+copy-requires : tie.Need-copy-requires
+copy-requires c κs = search needs
+
+all-byte-requires : tie.Need-all-byte-requires
+all-byte-requires c κs = search needs
+
+put-requires : tie.Need-put-requires
+put-requires c κs = search needs
+
+close-field-requires : tie.Need-close-field-requires
+close-field-requires c κs = search needs
+
+same-length : tie.Need-same-length
+same-length c = search needs
+
+returns : tie.Need-returns
+returns c = wrote-as (wrote-field (c .before .before .before .before .before .before .before .before .before .before .before .before .before .before .before .open-field .ensures) (wrote-then (c .before .before .before .before .before .before .before .before .before .before .before .copy .ensures) (c .before .before .before .before .before .before .put .ensures)) (c .before .before .close-field .ensures)) (framed-leaf 0x92 _ ∙ ap (λ (b : ℕ). encode (field 0x92 (slice (c .before .before .before .before .before .before .before .before .before .before .before .before .before .before .before .before .before .before .before .args .from) (c .before .before .before .before .before .before .before .before .before .before .before .before .before .before .before .before .before .before .before .args .end) (c .before .before .before .before .before .before .before .before .before .before .before .before .before .before .before .before .before .before .before .args .s .now) ++ b ∷ []) none)) (c .before .before .before .before .before .before .before .all-byte .ensures))
+
+pub put-namespace-spec : {M : Type 1} → statement M
+put-namespace-spec =
+    tie.close
+    (tie.spec
+    open-field-requires
+    copy-requires
+    all-byte-requires
+    put-requires
+    close-field-requires
+    same-length
+    returns)

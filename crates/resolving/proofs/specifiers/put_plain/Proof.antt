@@ -1,0 +1,29 @@
+use Rattle.writer.proofs.Wrote.{wrote-as, wrote-field}
+use Rattle.resolving.proofs.WritesLaws.{framed-leaf}
+use borrow.Author.Needs.{needs}
+use Rattle.resolving.proofs.specifiers.put_plain.Statement.{statement}
+use Rattle.resolving.proofs.specifiers.put_plain.Tie as tie
+use Rattle.resolving.proofs.specifiers.put_plain.Reads as reads
+use Rattle.resolving.proofs.specifiers.put_plain.Lts as lts
+use Rattle.writer.proofs.close_field.Reads as close-field-reads
+use Rattle.writer.proofs.copy.Reads as copy-reads
+use Rattle.writer.proofs.open_field.Reads as open-field-reads
+
+open-field-requires : tie.Need-open-field-requires
+open-field-requires c κs = search needs
+
+copy-requires : tie.Need-copy-requires
+copy-requires c κs = search needs
+
+close-field-requires : tie.Need-close-field-requires
+close-field-requires c κs = search needs
+
+same-length : tie.Need-same-length
+same-length c = search needs
+
+returns : tie.Need-returns
+returns c = wrote-as (wrote-field (c .before .before .before .before .before .before .before .before .before .before .open-field .ensures) (c .before .before .before .before .before .before .copy .ensures) (c .before .before .close-field .ensures)) (framed-leaf 0x91 _)
+
+pub put-plain-spec : {M : Type 1} → statement M
+put-plain-spec =
+    tie.close (tie.spec open-field-requires copy-requires close-field-requires same-length returns)
