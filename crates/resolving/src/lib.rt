@@ -2,3 +2,4 @@
 // `resolve_imports`.
 pub mod sources; // the records with a source, and their numbers
 pub mod specifiers; // specifiers, resolved
+pub mod list; // the resolved list

@@ -1,0 +1,62 @@
+use mathlib.Core.Path.{ap}
+use native.Mathlib.Omega.{arith}
+use lib.Seq.{slice}
+use Rattle.scope.specs.declared.id.SyntaxContext.{SyntaxContext}
+use Rattle.writer.proofs.Wrote.{wrote-as, wrote-then}
+use Rattle.resolving.proofs.ListLaws.{heading-bytes}
+use borrow.Author.Needs.{needs}
+use Rattle.resolving.proofs.list.put_heading.Statement.{statement}
+use Rattle.resolving.proofs.list.put_heading.Tie as tie
+use Rattle.resolving.proofs.list.put_heading.Reads as reads
+use Rattle.resolving.proofs.list.put_heading.Lts as lts
+use Rattle.scope.proofs.id.ModuleId.export_ctxt.Reads as export-ctxt-reads
+use Rattle.scope.proofs.id.ModuleId.local_ctxt.Reads as local-ctxt-reads
+use Rattle.writer.proofs.copy.Reads as copy-reads
+use Rattle.writer.proofs.put.Reads as put-reads
+use Rattle.writer.proofs.put_u16.Reads as put-u16-reads
+use Rattle.writer.proofs.put_u32.Reads as put-u32-reads
+
+put-requires : tie.Need-put-requires
+put-requires c κs = search needs
+
+put-u16-requires : tie.Need-put-u16-requires
+put-u16-requires c κs = search needs
+
+put-u16-requires-2 : tie.Need-put-u16-requires-2
+put-u16-requires-2 c κs = search needs
+
+local-ctxt-requires : tie.Need-local-ctxt-requires
+local-ctxt-requires c κs = search needs
+
+put-u32-requires : tie.Need-put-u32-requires
+put-u32-requires c κs = search needs
+
+export-ctxt-requires : tie.Need-export-ctxt-requires
+export-ctxt-requires c κs = search needs
+
+put-u32-requires-2 : tie.Need-put-u32-requires-2
+put-u32-requires-2 c κs = search needs
+
+copy-requires : tie.Need-copy-requires
+copy-requires c κs = search needs
+
+same-length : tie.Need-same-length
+same-length c = search needs
+
+returns : tie.Need-returns
+returns c = wrote-as (wrote-then (wrote-then (wrote-then (wrote-then (wrote-then (c .before .before .before .before .before .before .before .before .before .before .before .before .before .before .before .before .before .before .before .before .before .before .before .before .put .ensures) (c .before .before .before .before .before .before .before .before .before .before .before .before .before .before .before .before .before .before .before .before .put-u16 .ensures)) (c .before .before .before .before .before .before .before .before .before .before .before .before .before .before .before .before .put-u162 .ensures)) (c .before .before .before .before .before .before .before .before .before .before .before .put-u32 .ensures)) (c .before .before .before .before .before .before .put-u322 .ensures)) (c .before .before .copy .ensures)) (heading-bytes (c .before .before .before .before .before .before .before .before .before .before .before .before .before .before .before .before .before .before .before .before .before .before .before .before .before .before .before .before .args .kind) (c .before .before .before .before .before .before .before .before .before .before .before .before .before .before .before .before .before .before .before .before .before .before .before .before .before .before .before .before .args .id .0) (c .before .before .before .before .before .before .before .before .before .before .before .before .before .before .before .before .before .before .before .before .before .before .before .before .before .before .before .before .args .file) _ _ (slice (c .before .before .before .before .before .before .before .before .before .before .before .before .before .before .before .before .before .before .before .before .before .before .before .before .before .before .before .before .args .from) (c .before .before .before .before .before .before .before .before .before .before .before .before .before .before .before .before .before .before .before .before .before .before .before .before .before .before .before .before .args .end) (c .before .before .before .before .before .before .before .before .before .before .before .before .before .before .before .before .before .before .before .before .before .before .before .before .before .before .before .before .args .records .now)) (omega (arith, c .before .before .before .before .before .before .before .before .before .before .before .before .before .before .before .before .before .before .before .before .before .before .before .before .before .before .before .before .good .1 .0)) (c .before .before .before .before .before .before .before .before .before .before .before .before .before .before .before .before .before .before .before .before .before .before .before .before .before .before .before .before .fits .file .fits) (ap (λ (x : SyntaxContext). x .0) (c .before .before .before .before .before .before .before .before .before .before .before .before .local-ctxt .ensures)) (ap (λ (x : SyntaxContext). x .0) (c .before .before .before .before .before .before .before .export-ctxt .ensures)))
+
+pub put-heading-spec : {M : Type 1} → statement M
+put-heading-spec =
+    tie.close
+    (tie.spec
+    put-requires
+    put-u16-requires
+    put-u16-requires-2
+    local-ctxt-requires
+    put-u32-requires
+    export-ctxt-requires
+    put-u32-requires-2
+    copy-requires
+    same-length
+    returns)

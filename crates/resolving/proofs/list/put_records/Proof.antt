@@ -1,0 +1,86 @@
+use mathlib.Core.Path.{sym, _∙_}
+use native.Mathlib.Omega.{arith}
+use Prim.Native.Nat.{_-_}
+use lib.ListN.{length}
+use borrow.Author.Needs.{needs}
+use Rattle.lent.specs.Table.{rowsIn}
+use Rattle.scope.specs.Kept.{modulesOf}
+use Rattle.tree.specs.Standing.{rowAt}
+use Rattle.resolving_rules.specs.Resolve.{sourcesIn, forcedIn, resolvedAll}
+use Rattle.resolving.specs.Records.{RecordsFrom, recordsIn}
+use Rattle.resolving.specs.Numbers.{NumbersAll}
+use Rattle.resolving.specs.Writes.{Onward}
+use Rattle.resolving.proofs.RecordsLaws.{source-stands}
+use Rattle.resolving.proofs.WritesLaws.{onward-all, onward-end, onward-more, onward-stop}
+use Rattle.resolving.proofs.ListLaws.{list-end, list-more, numbers-next}
+use Rattle.resolving.proofs.list.put_records.Statement.{statement}
+use Rattle.resolving.proofs.list.put_records.Tie as tie
+use Rattle.resolving.proofs.list.put_records.Reads as reads
+use Rattle.resolving.proofs.list.put_records.Lts as lts
+use Rattle.resolving.proofs.list.put_record.Reads as put-record-reads
+use Rattle.resolving.proofs.sources.source_end.Reads as source-end-reads
+
+abbrev Inv-loop : tie.InvT-loop
+Inv-loop scope table records list₀ o at₀ to₀ list at to = Onward (resolvedAll (rowsIn table) (forcedIn (recordsIn records)) (modulesOf scope) (sourcesIn (recordsIn records)) 3) (resolvedAll (rowsIn table) (forcedIn (recordsIn records)) (modulesOf scope) (sourcesIn (rowAt records at (length records))) at) list₀ o list to × RecordsFrom records at × NumbersAll (rowsIn table) (modulesOf scope) (sourcesIn (rowAt records at (length records)))
+
+abbrev μ-loop : tie.MeasureT-loop
+μ-loop scope table records list₀ o at₀ to₀ list at to = length records - at
+
+loop-holds : tie.Need-loop-holds Inv-loop μ-loop
+loop-holds c = (onward-all, c .before .before .before .pre .0, c .before .before .before .pre .1)
+
+source-end-requires : tie.Need-source-end-requires Inv-loop μ-loop
+source-end-requires c κs = c .loop .inv .1 .inside
+
+enum-known-stop : tie.Need-enum-known-stop Inv-loop μ-loop
+enum-known-stop c = search needs
+
+enum-told : tie.Need-enum-told Inv-loop μ-loop
+enum-told c = search needs
+
+same-length : tie.Need-same-length Inv-loop μ-loop
+same-length c = c .before .before .before .loop .inv .0 .size
+
+returns : tie.Need-returns Inv-loop μ-loop
+returns c = onward-end (c .before .before .before .loop .inv .0) (list-end (rowsIn (c .before .before .before .before .before .before .before .args .table .now)) (forcedIn (recordsIn (c .before .before .before .before .before .before .before .args .records .now))) (modulesOf (c .before .before .before .before .before .before .before .args .scope)) (c .before .before .before .loop .inv .1) (sym (c .before .before .source-end .ensures) ∙ c .enum-told .given .1))
+
+put-record-requires : tie.Need-put-record-requires Inv-loop μ-loop
+put-record-requires c κs = (c .before .before .before .before .before .before .before .before .before .pre .0, (source-stands (c .before .before .before .before .before .loop .inv .1) (sym (c .before .before .before .before .source-end .ensures) ∙ c .before .before .stop .given .1)) .source, (numbers-next (rowsIn (c .before .before .before .before .before .before .before .before .before .args .table .now)) (forcedIn (recordsIn (c .before .before .before .before .before .before .before .before .before .args .records .now))) (modulesOf (c .before .before .before .before .before .before .before .before .before .args .scope)) (c .before .before .before .before .before .loop .inv .1) (sym (c .before .before .before .before .source-end .ensures) ∙ c .before .before .stop .given .1) (c .before .before .before .before .before .loop .inv .2)) .0)
+
+enum-known-p : tie.Need-enum-known-p Inv-loop μ-loop
+enum-known-p c = search needs
+
+loop-less : tie.Need-loop-less Inv-loop μ-loop
+loop-less c = let w = (source-stands (c .before .before .before .before .before .before .before .before .before .before .before .loop .inv .1) (sym (c .before .before .before .before .before .before .before .before .before .before .source-end .ensures) ∙ c .before .before .before .before .before .before .before .before .stop .given .1)) in let a = w .source .wide in let b = w .source .parts .fits in omega arith
+
+loop-again : tie.Need-loop-again Inv-loop μ-loop
+loop-again c = (onward-more (c .before .before .before .before .before .before .before .before .before .before .before .loop .inv .0) (list-more (rowsIn (c .before .before .before .before .before .before .before .before .before .before .before .before .before .before .before .args .table .now)) (forcedIn (recordsIn (c .before .before .before .before .before .before .before .before .before .before .before .before .before .before .before .args .records .now))) (modulesOf (c .before .before .before .before .before .before .before .before .before .before .before .before .before .before .before .args .scope)) (c .before .before .before .before .before .before .before .before .before .before .before .loop .inv .1) (sym (c .before .before .before .before .before .before .before .before .before .before .source-end .ensures) ∙ c .before .before .before .before .before .before .before .before .stop .given .1)) (c .before .before .before .before .before .put-record .ensures) (c .before .p .given .1), (source-stands (c .before .before .before .before .before .before .before .before .before .before .before .loop .inv .1) (sym (c .before .before .before .before .before .before .before .before .before .before .source-end .ensures) ∙ c .before .before .before .before .before .before .before .before .stop .given .1)) .rest, (numbers-next (rowsIn (c .before .before .before .before .before .before .before .before .before .before .before .before .before .before .before .args .table .now)) (forcedIn (recordsIn (c .before .before .before .before .before .before .before .before .before .before .before .before .before .before .before .args .records .now))) (modulesOf (c .before .before .before .before .before .before .before .before .before .before .before .before .before .before .before .args .scope)) (c .before .before .before .before .before .before .before .before .before .before .before .loop .inv .1) (sym (c .before .before .before .before .before .before .before .before .before .before .source-end .ensures) ∙ c .before .before .before .before .before .before .before .before .stop .given .1) (c .before .before .before .before .before .before .before .before .before .before .before .loop .inv .2)) .1)
+
+enum-known-why : tie.Need-enum-known-why Inv-loop μ-loop
+enum-known-why c = search needs
+
+same-length-2 : tie.Need-same-length-2 Inv-loop μ-loop
+same-length-2 c = c .before .before .before .before .before .put-record .ensures .size ∙ c .before .before .before .before .before .before .before .before .before .before .before .loop .inv .0 .size
+
+returns-2 : tie.Need-returns-2 Inv-loop μ-loop
+returns-2 c = onward-stop (c .before .before .before .before .before .before .before .before .before .before .before .loop .inv .0) (list-more (rowsIn (c .before .before .before .before .before .before .before .before .before .before .before .before .before .before .before .args .table .now)) (forcedIn (recordsIn (c .before .before .before .before .before .before .before .before .before .before .before .before .before .before .before .args .records .now))) (modulesOf (c .before .before .before .before .before .before .before .before .before .before .before .before .before .before .before .args .scope)) (c .before .before .before .before .before .before .before .before .before .before .before .loop .inv .1) (sym (c .before .before .before .before .before .before .before .before .before .before .source-end .ensures) ∙ c .before .before .before .before .before .before .before .before .stop .given .1)) (c .before .before .before .before .before .put-record .ensures) (c .before .why .given .1)
+
+pub put-records-spec : {M : Type 1} → statement M
+put-records-spec =
+    tie.close
+    (tie.spec
+    Inv-loop
+    μ-loop
+    loop-holds
+    source-end-requires
+    enum-known-stop
+    enum-told
+    same-length
+    returns
+    put-record-requires
+    enum-known-p
+    loop-less
+    loop-again
+    enum-known-why
+    same-length-2
+    returns-2)
