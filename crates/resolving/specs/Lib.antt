@@ -1,4 +1,6 @@
--- Records that were read (Records), the numbers of their sources (Numbers), and what is written of them (Writes).
+-- Records that were read (Records), the numbers of their sources (Numbers), what is written of them (Writes), and what the call
+-- answers (Answer).
 pub mod Records
 pub mod Numbers
 pub mod Writes
+pub mod Answer

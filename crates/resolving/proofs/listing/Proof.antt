@@ -1,0 +1,59 @@
+use Rattle.scope.specs.Kept.{modulesOf}
+use Rattle.resolving.proofs.AnswerLaws.{list-turned, list-fits, list-long}
+use borrow.Author.Needs.{needs}
+use Rattle.resolving.proofs.listing.Statement.{statement}
+use Rattle.resolving.proofs.listing.Tie as tie
+use Rattle.resolving.proofs.listing.Reads as reads
+use Rattle.resolving.proofs.listing.Lts as lts
+use Rattle.resolving.proofs.list.put_list.Reads as put-list-reads
+use Rattle.writer.proofs.clear.Reads as clear-reads
+use Rattle.writer.proofs.finish.Reads as finish-reads
+
+put-list-requires : tie.Need-put-list-requires
+put-list-requires c κs = search needs
+
+enum-known-n : tie.Need-enum-known-n
+enum-known-n c = search needs
+
+finish-requires : tie.Need-finish-requires
+finish-requires c κs = search needs
+
+enum-known-why : tie.Need-enum-known-why
+enum-known-why c = search needs
+
+clear-requires : tie.Need-clear-requires
+clear-requires c κs = search needs
+
+same-length : tie.Need-same-length
+same-length c = search needs
+
+returns : tie.Need-returns
+returns c = list-fits (c .before .before .before .before .before .before .before .before .before .before .before .before .before .before .before .args .table .now) (c .before .before .before .before .before .before .before .before .before .before .before .before .before .before .before .args .records .now) (modulesOf (c .before .before .before .before .before .before .before .before .before .before .before .before .before .before .before .args .scope)) (c .before .before .before .before .before .before .before .before .before .before .put-list .ensures) (c .before .before .before .before .before .before .n .given .1) (c .before .before .before .finish .ensures) (c .if1 .taken)
+
+same-length-2 : tie.Need-same-length-2
+same-length-2 c = search needs
+
+returns-2 : tie.Need-returns-2
+returns-2 c = list-long (c .before .before .before .before .before .before .before .before .before .before .before .before .before .before .before .args .table .now) (c .before .before .before .before .before .before .before .before .before .before .before .before .before .before .before .args .records .now) (modulesOf (c .before .before .before .before .before .before .before .before .before .before .before .before .before .before .before .args .scope)) (c .before .before .before .before .before .before .before .before .before .before .put-list .ensures) (c .before .before .before .before .before .before .n .given .1) (c .before .before .before .finish .ensures) (c .if1 .left)
+
+same-length-3 : tie.Need-same-length-3
+same-length-3 c = search needs
+
+returns-3 : tie.Need-returns-3
+returns-3 c = list-turned (c .before .before .before .before .before .before .before .before .before .before .before .before .before .before .args .table .now) (c .before .before .before .before .before .before .before .before .before .before .before .before .before .before .args .records .now) (modulesOf (c .before .before .before .before .before .before .before .before .before .before .before .before .before .before .args .scope)) (c .before .before .before .before .before .before .before .before .before .put-list .ensures) (c .before .before .before .before .before .why .given .1) (c .before .before .clear .ensures)
+
+pub listing-spec : {M : Type 1} → statement M
+listing-spec =
+    tie.close
+    (tie.spec
+    put-list-requires
+    enum-known-n
+    finish-requires
+    enum-known-why
+    clear-requires
+    same-length
+    returns
+    same-length-2
+    returns-2
+    same-length-3
+    returns-3)
