@@ -17,7 +17,7 @@ use Rattle.tree.proofs.ReadLaws.{good-fine, verdict-refused}
 use Rattle.tree.proofs.TreeLaws.{size-encode}
 use Rattle.writer.specs.Finished.{hasRoom, zeroed, Finished, Delivered}
 use Rattle.writer.proofs.Finished.{delivered-none, delivers}
-use Rattle.lent.specs.Outcome.{Outcome, done, refused, onto, refuseIf, numberOf, placeOf}
+use Rattle.lent.specs.Outcome.{Outcome, done, refused, onto, refuseIf, refusalIn, numberIn, placeIn}
 use Rattle.lent.specs.Table.{rowsIn, badTable, repeats, tableOf}
 use Rattle.lent.specs.Buffer.{fits, bufferOf}
 use Rattle.lent.proofs.AcceptedLaws.{done-inj, done-refused, onto-done}
@@ -30,7 +30,7 @@ use Rattle.resolving.specs.declared.ResolveAnswer.{ResolveAnswer}
 use Rattle.resolving.specs.declared.ResolveAnswer.the-variants.{Listed, BadTable, NamedTwice, Unread, TooManyFiles, Refused, NoRoom}
 use Rattle.resolving.specs.Records.{RecordsRead, recordsIn}
 use Rattle.resolving.specs.Writes.{whyNumber, Puts, listWith}
-use Rattle.resolving.specs.Answer.{outcomeOf, answerNumber, answerPlace, lentAs, leftBy, tested, listedLeft, onNumbers, numberedLeft}
+use Rattle.resolving.specs.Answer.{outcomeOf, lentAs, leftBy, tested, listedLeft, onNumbers, numberedLeft}
 use Rattle.resolving.proofs.RecordsLaws.{records-read, records-sound}
 
 -- ---- '1, 2, 10'
@@ -70,16 +70,6 @@ tested-sound table records {cs} e bs =
     go (fine fs) q z = records-sound records fs q bs
     go (unread w p) q z = done-refused z
 
--- an answer that is none of acceptance is a refusal
-pub not-listed : (a : ResolveAnswer) (cs : Fields) → (a ≡ Listed → ⊥) → outcomeOf a cs ≡ refused (answerNumber a) (answerPlace a)
-not-listed Listed cs n = absurd (n refl)
-not-listed BadTable cs n = refl
-not-listed NamedTwice cs n = refl
-not-listed (Unread w p) cs n = refl
-not-listed (TooManyFiles p) cs n = refl
-not-listed (Refused w p) cs n = refl
-not-listed NoRoom cs n = refl
-
 -- ---- '11 or 6, then 9'
 
 fits-by : (g : Field) (room : ℕ) {c : Bool} → hasRoom (length (encode g)) room ≡ c → fits g room ≡ refuseIf (not c) 9
@@ -92,7 +82,7 @@ module _ (table records : List ℕ) (ms : Modules) where
 
   -- what is left by what the list is
   abbrev leftAs : Outcome Resolved → ℕ → Left
-  leftAs o room = record { number = numberOf o; place = placeOf o; modules = ms; list = bufferOf (λ r. r .list) o room }
+  leftAs o room = record { refusal = refusalIn o; modules = ms; list = bufferOf (λ r. r .list) o room }
 
   abbrev made : ℕ → Fields → Outcome Resolved
   made room gs = onto (fits (field 0x03 [] gs) room) (λ _. done (record { modules = ms; list = field 0x03 [] gs }))
@@ -109,7 +99,7 @@ module _ (table records : List ℕ) (ms : Modules) where
       where
         back : (m : Outcome Fields) → listWith m ≡ refused (whyNumber v) q → m ≡ refused (whyNumber v) q
         back (done gs) e = absurd (let z : _≡_ {A = ℕ} 0 1 = cc in omega arith)
-        back (refused n p) e = ap (λ (o : Outcome Field). refused (numberOf o) (placeOf o)) e
+        back (refused n p) e = ap (λ (o : Outcome Field). refused (numberIn (refusalIn o)) (placeIn (refusalIn o))) e
 
     module _ {n : ℕ} {r : Bool} (e : k ≡ Done n) (f : Finished n l1 r l2) where
       list-given : (gs : Fields) × (all ≡ done gs) × Delivered (encode (field 0x03 [] gs)) l r l2
@@ -173,7 +163,7 @@ module _ (table records : List ℕ) (ms : Modules) (room : ℕ) where
   abbrev leftFrom : Outcome Numbered → Left
   leftFrom n =
       let o = onto n (λ q. listed q room) in
-      record { number = numberOf o; place = placeOf o; modules = modulesAfter n ms; list = bufferOf (λ r. r .list) o room }
+      record { refusal = refusalIn o; modules = modulesAfter n ms; list = bufferOf (λ r. r .list) o room }
 
   left-from : {m : Outcome Fields} → tested table records ≡ m → resolving (lentAs table records) room ms ≡ leftFrom (numberedBy m)
   unfolding resolving resolved
@@ -187,7 +177,17 @@ module _ (table records : List ℕ) (ms : Modules) (room : ℕ) where
       go (done new) = refl
       go (refused n p) = refl
 
-  pub call-refused : (a : ResolveAnswer) (l : List ℕ) {l' : List ℕ} → tested table records ≡ refused (answerNumber a) (answerPlace a) → l' ≡ zeroed l → length l ≡ room →
-      leftBy a ms l' ≡ resolving (lentAs table records) room ms
+  -- an answer that does not go on is a refusal
+  turned-back : (a : ResolveAnswer) → (a ≡ Listed → ⊥) → leftBy a ms (replicate room 0) ≡ leftFrom (numberedBy (outcomeOf a (recordsIn records)))
+  turned-back Listed n = absurd (n refl)
+  turned-back BadTable n = refl
+  turned-back NamedTwice n = refl
+  turned-back (Unread w p) n = refl
+  turned-back (TooManyFiles p) n = refl
+  turned-back (Refused w p) n = refl
+  turned-back NoRoom n = refl
+
+  pub call-refused : (a : ResolveAnswer) (l : List ℕ) {l' : List ℕ} → outcomeOf a (recordsIn records) ≡ tested table records → (a ≡ Listed → ⊥) →
+      l' ≡ zeroed l → length l ≡ room → leftBy a ms l' ≡ resolving (lentAs table records) room ms
   unfolding zeroed
-  call-refused a l e z n = ap (leftBy a ms) (z ∙ ap (λ (i : ℕ). replicate i 0) n) ∙ sym (left-from e)
+  call-refused a l e k z n = ap (leftBy a ms) (z ∙ ap (λ (i : ℕ). replicate i 0) n) ∙ turned-back a k ∙ sym (left-from (sym e))

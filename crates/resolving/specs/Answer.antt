@@ -1,13 +1,14 @@
 -- What the call answers and leaves, and what each of its parts does. Document 01, 'Where a call turns back'.
 use Prim.Native.Nat.{ℕ}
 use mathlib.Core.List.{List}
+use mathlib.Core.Option.{Option, some}
 use lib.ListN.{replicate}
 use Rattle.scope.specs.Modules.{Modules}
 use Rattle.scope.specs.Kept.{modulesOf}
 use Rattle.tree.specs.declared.grammar.Set.the-variants.{Records}
 use Rattle.tree.specs.Tree.{Fields}
 use Rattle.tree.specs.Read.{read}
-use Rattle.lent.specs.Outcome.{Outcome, done, refused, onto, refuseIf, numberOf, placeOf}
+use Rattle.lent.specs.Outcome.{Outcome, done, refused, onto, refuseIf, refusalIn}
 use Rattle.lent.specs.Table.{rowsIn, badTable, repeats}
 use Rattle.lent.specs.Buffer.{bufferOf}
 use Rattle.resolving_rules.specs.Resolve.{sourcesIn, numberAll}
@@ -30,19 +31,16 @@ outcomeOf (TooManyFiles p) a = refused 5 p
 outcomeOf (Refused w p) a = refused (whyNumber w) p
 outcomeOf NoRoom a = refused 9 0
 
--- 0 and 0 where the call is accepted
-abbrev pub answerNumber : ResolveAnswer → ℕ
-answerNumber a = numberOf (outcomeOf a (tt {0}))
-
-abbrev pub answerPlace : ResolveAnswer → ℕ
-answerPlace a = placeOf (outcomeOf a (tt {0}))
+-- the number and the place, none where the call is accepted
+abbrev pub answerRefusal : ResolveAnswer → Option (ℕ × ℕ)
+answerRefusal a = refusalIn (outcomeOf a (tt {0}))
 
 -- what is lent, and what a call leaves
 abbrev pub lentAs : List ℕ → List ℕ → Lent
 lentAs table records = record { table = table; records = records }
 
 abbrev pub leftBy : ResolveAnswer → Modules → List ℕ → Left
-leftBy a ms list = record { number = answerNumber a; place = answerPlace a; modules = ms; list = list }
+leftBy a ms list = record { refusal = answerRefusal a; modules = ms; list = list }
 
 abbrev pub left : Resolved → List ℕ → Left
 left r list = leftBy (r .answer) (modulesOf (r .scope)) list
@@ -64,11 +62,11 @@ numberedAs table records ms = record { rows = rowsIn table; records = recordsIn 
 unfoldable pub listedLeft : List ℕ → List ℕ → ℕ → Modules → Left
 listedLeft table records room ms =
     let o = listed (numberedAs table records ms) room in
-    record { number = numberOf o; place = placeOf o; modules = ms; list = bufferOf (λ r. r .list) o room }
+    record { refusal = refusalIn o; modules = ms; list = bufferOf (λ r. r .list) o room }
 
 abbrev pub onNumbers : Outcome Modules → List ℕ → List ℕ → ℕ → Modules → Left
 onNumbers (done new) table records room ms = listedLeft table records room new
-onNumbers (refused n p) table records room ms = record { number = n; place = p; modules = ms; list = replicate room 0 }
+onNumbers (refused n p) table records room ms = record { refusal = some (n, p); modules = ms; list = replicate room 0 }
 
 -- what is left once the records are read
 unfoldable pub numberedLeft : List ℕ → List ℕ → ℕ → Modules → Left

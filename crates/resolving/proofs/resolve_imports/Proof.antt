@@ -6,7 +6,7 @@ use Rattle.resolving.specs.declared.ResolveAnswer.{ResolveAnswer}
 use Rattle.resolving.specs.Records.{recordsIn}
 use Rattle.resolving.specs.Answer.{outcomeOf}
 use Rattle.scope.specs.Kept.{modulesOf}
-use Rattle.resolving.proofs.AnswerLaws.{tested-sound, not-listed, call-goes, call-refused}
+use Rattle.resolving.proofs.AnswerLaws.{tested-sound, call-goes, call-refused}
 use borrow.Author.Needs.{needs}
 use Rattle.resolving.proofs.resolve_imports.Statement.{statement}
 use Rattle.resolving.proofs.resolve_imports.Tie as tie
@@ -38,7 +38,7 @@ same-length-2 : tie.Need-same-length-2
 same-length-2 c = search needs
 
 returns-2 : tie.Need-returns-2
-returns-2 c = call-refused (c .before .before .before .before .before .before .before .before .before .args .table .now) (c .before .before .before .before .before .before .before .before .before .args .records .now) (modulesOf (c .before .before .before .before .before .before .before .before .before .args .scope)) (length (c .before .before .before .before .before .before .before .before .before .args .list .now)) (c .before .before .before .before .before .lists .result) (c .before .before .before .before .before .before .before .before .before .args .list .now) (sym (c .before .before .before .before .before .lists .ensures) ∙ not-listed (c .before .before .before .before .before .lists .result) (recordsIn (c .before .before .before .before .before .before .before .before .before .args .records .now)) (λ h. ⊎-elim (λ w. omega arith) (λ v. ⊎-elim (λ w. omega arith) (λ v2. ⊎-elim (λ w. omega arith) (λ v3. ⊎-elim (λ w. omega arith) (λ v4. ⊎-elim (λ w. omega arith) (λ w. omega arith) v4) v3) v2) v) (rw h at (c .before .before .before .before .match .keys2)))) (c .before .before .clear .ensures) refl
+returns-2 c = call-refused (c .before .before .before .before .before .before .before .before .before .args .table .now) (c .before .before .before .before .before .before .before .before .before .args .records .now) (modulesOf (c .before .before .before .before .before .before .before .before .before .args .scope)) (length (c .before .before .before .before .before .before .before .before .before .args .list .now)) (c .before .before .before .before .before .lists .result) (c .before .before .before .before .before .before .before .before .before .args .list .now) (c .before .before .before .before .before .lists .ensures) (λ h. ⊎-elim (λ w. omega arith) (λ v. ⊎-elim (λ w. omega arith) (λ v2. ⊎-elim (λ w. omega arith) (λ v3. ⊎-elim (λ w. omega arith) (λ v4. ⊎-elim (λ w. omega arith) (λ w. omega arith) v4) v3) v2) v) (rw h at (c .before .before .before .before .match .keys2))) (c .before .before .clear .ensures) refl
 
 pub resolve-imports-spec : {M : Type 1} → statement M
 resolve-imports-spec =
