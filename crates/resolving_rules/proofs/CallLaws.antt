@@ -9,12 +9,12 @@ use Rattle.tree.specs.declared.grammar.Set.the-variants.{Records}
 use Rattle.tree.specs.Tree.{field, Fields, partsOf, size}
 use Rattle.tree.specs.Read.{read}
 use Rattle.writer.specs.Finished.{hasRoom}
-use Rattle.lent.specs.Outcome.{done, refuseIf}
+use Rattle.lent.specs.Outcome.{Outcome, done, refuseIf}
 use Rattle.lent.specs.Table.{Row, rowsIn, badTable, tableOf}
 use Rattle.lent.specs.Buffer.{fits}
 use Rattle.lent.proofs.AcceptedLaws.{done-inj, onto-done, table-rows, fits-room}
 use Rattle.resolving_rules.specs.Resolve.{sourcesIn, forcedIn, numberAll, resolvedAll}
-use Rattle.resolving_rules.specs.Call.{Lent, recordsRead, Numbered, numbered, Resolved, listed, resolved}
+use Rattle.resolving_rules.specs.Call.{Lent, recordsRead, Numbered, numbered, Resolved, listed, resolved, modulesAfter}
 use Rattle.resolving_rules.proofs.ResolveLaws.{numberAll-keeps}
 
 -- the sources in the records cs are numbered, and the list is made of them
@@ -70,6 +70,13 @@ call-listed l room ms q cs e r =
 pub call-room : (l : Lent) (room : ℕ) (ms : Modules) (q : Resolved) → resolved l room ms ≡ done q → hasRoom (size (q .list)) room ≡ true
 unfolding resolved
 call-room l room ms q e = let a = onto-done (numbered l ms) _ q e in listed-made (a .0) room q (a .2) .2
+
+-- the modules that an accepted call leaves
+pub call-modules : (l : Lent) (room : ℕ) (ms : Modules) (q : Resolved) → resolved l room ms ≡ done q → modulesAfter (numbered l ms) ms ≡ q .modules
+unfolding resolved
+call-modules l room ms q e =
+    let a = onto-done (numbered l ms) _ q e in
+    ap (λ (m : Outcome Numbered). modulesAfter m ms) (a .1) ∙ sym (listed-made (a .0) room q (a .2) .0)
 
 -- no accepted call changes a number that was given
 pub call-keeps-numbers : (l : Lent) (room : ℕ) (ms : Modules) (q : Resolved) → resolved l room ms ≡ done q →
