@@ -1,7 +1,6 @@
 -- Demand 3, first part: a namespace import is kept whole or taken apart completely.
-use Prim.Native.Nat.{ℕ}
-use mathlib.Core.Path.{_≡_, ap}
-use Rattle.tree.specs.declared.grammar.Set.the-variants.{Records, Module}
+use mathlib.Core.Path.{ap}
+use Rattle.tree.specs.declared.grammar.Set.the-variants.{Module}
 use Rattle.tree.specs.Read.{read}
 use Rattle.extraction_rules.proofs.OutcomeLaws.{of-done}
 use Rattle.extraction_rules.proofs.ReadableLaws.{Items, read-items}

@@ -1,28 +1,28 @@
 -- What both passes leave of a tree behind the imports: if the import is taken apart, no way of its id to stand is left.
-use Prim.Native.Nat.{ℕ, _+_, _≤_}
-use mathlib.Core.Path.{_≡_, refl, sym, ap, ap₂, subst, _∙_}
+use Prim.Native.Nat.{ℕ, _+_}
+use mathlib.Core.Path.{_≡_, refl, sym, ap, subst, _∙_}
 use mathlib.Core.Logic.{_⊎_, inl, inr}
-use mathlib.Core.Bool.{Bool, true, false, not, cond, _&&_, _||_, true≢false}
-use mathlib.Core.List.{List, [], _∷_, _++_, map, append-nil}
+use mathlib.Core.Bool.{Bool, true, false, cond, true≢false}
+use mathlib.Core.List.{List, [], _∷_, _++_}
 use native.Mathlib.Omega.{arith}
 use lib.Dec.{eqb}
-use lib.ListN.{length, take, getD}
+use lib.ListN.{length, getD}
 use borrow.Author.Tests.{eqb-true}
 use Rattle.scope.specs.Id.{require-atom, local}
 use Rattle.tree.specs.Layout.{same, two, four, idAt, nameOf, contextOf}
 use Rattle.tree.specs.Tree.{Field, field, Fields, none, more, tagOf, fixedOf, partsOf}
-use Rattle.tree.proofs.LayoutLaws.{same-refl, same-equal}
+use Rattle.tree.proofs.LayoutLaws.{same-refl}
 use Rattle.lent.specs.Lists.{filter}
 use Rattle.lent.specs.Fields.{has}
 use Rattle.extraction_rules.specs.Walk.{Parts, unwalked, member, super, assignment, children, partsFor}
-use Rattle.extraction_rules.proofs.ListLaws.{same-not, not-same, All}
-use Rattle.extraction_rules.proofs.TagLaws.{find-any, parts-member, parts-unwalked, parts-assignment}
-use Rattle.extraction_rules.proofs.AlikeLaws.{Two, RegularAt, Regular, RegularAll, SameBytes, equal, behind, callee, same-other, same-trans, Alike, AlikeAll, alike-more, alike-none, alike-tag, alikeAll-none}
-use Rattle.claims.specs.Stands.{How, plain, computed, bare, original, imported, otherwise, firstId, namedIds, originalIds, idsIn, byMember, objectIds, isUse, isPlain, isMisplaced, properties}
+use Rattle.extraction_rules.proofs.ListLaws.{same-not, not-same}
+use Rattle.extraction_rules.proofs.TagLaws.{find-any, parts-member}
+use Rattle.extraction_rules.proofs.AlikeLaws.{Two, Regular, RegularAll, SameBytes, equal, behind, callee, same-other, same-trans, Alike, AlikeAll, alike-more, alike-none, alike-tag}
+use Rattle.claims.specs.Stands.{How, bare, original, otherwise, firstId, originalIds, idsIn, byMember, objectIds, isUse, isPlain, isMisplaced}
 use Rattle.claims.specs.Placed.{all}
 use Rattle.claims.proofs.WaysLaws.{met, ways, waysAll, waysMember, waysAssignment, waysTarget, waysParts, waysObject, ids-alike, met-append}
-use Rattle.claims.proofs.HowLaws.{allPlain, idTable}
-use Rattle.claims.proofs.OutLaws.{Foreign, Turned, Unturned, Out, OutAll, out-more, out-none, out-lacking, out-tag, fits, Fine, fine-append}
+use Rattle.claims.proofs.HowLaws.{idTable}
+use Rattle.claims.proofs.OutLaws.{Foreign, Turned, Unturned, Out, OutAll, out-more, out-none, out-lacking, out-tag, Fine, fine-append}
 
 module _ (taken : Bool) (i c : List ℕ) (own : ℕ) (named : same (nameOf i) (two require-atom) ≡ false) where
   abbrev O : Field → Field → Type 0

@@ -1,14 +1,12 @@
 -- Lists of ways to stand: which of them are uses, whether these are all plain, and their properties.
 use Prim.Native.Nat.{ℕ}
-use mathlib.Core.Path.{_≡_, refl, sym, ap, ap₂, _∙_}
-use mathlib.Core.Bool.{Bool, true, false, not, cond, _&&_, _||_, true≢false, and-assoc, and-comm}
-use mathlib.Core.List.{List, [], _∷_, _++_, map, append-nil, append-assoc}
-use native.Mathlib.Omega.{arith}
+use mathlib.Core.Path.{_≡_, refl, sym, ap, _∙_}
+use mathlib.Core.Bool.{Bool, true, false, cond, _&&_, true≢false, and-assoc}
+use mathlib.Core.List.{List, [], _∷_, _++_, append-nil}
 use lib.Dec.{eqb}
 use lib.ListN.{getD}
 use Rattle.tree.specs.Layout.{same, idAt}
 use Rattle.tree.specs.Tree.{field, Fields, none, more, fixedOf}
-use Rattle.tree.specs.Grammar.{find}
 use Rattle.extraction_rules.specs.Walk.{partsFor}
 use Rattle.lent.specs.Lists.{filter}
 use Rattle.lent.specs.Fields.{has}

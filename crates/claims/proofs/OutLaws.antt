@@ -3,15 +3,14 @@ use Prim.Native.Nat.{ℕ, _+_, _*_, _%_, _≤_}
 use mathlib.Core.Path.{_≡_, refl, sym, ap, ap₂, subst, _∙_}
 use mathlib.Core.Logic.{_⊎_, inl, inr}
 use mathlib.Core.Bool.{Bool, true, false, not, cond, _||_, true≢false, or-assoc}
-use mathlib.Core.List.{List, [], _∷_, _++_, map, append-nil, append-assoc}
+use mathlib.Core.List.{List, [], _∷_, _++_}
 use mathlib.Core.Option.{Option, none as nothing, some}
 use native.Mathlib.Omega.{arith}
 use lib.Dec.{eqb}
-use lib.ListN.{length, take, drop, getD}
-use lib.Seq.{take-at, length-take-le}
+use lib.ListN.{length, getD}
 use borrow.Author.Tests.{eqb-true}
 use Rattle.scope.specs.Id.{require-atom, local, export}
-use Rattle.scope.specs.Modules.{Modules, numberOf, request, setMark}
+use Rattle.scope.specs.Modules.{setMark}
 use Rattle.scope.specs.declared.Mark.the-variants.{Cjs}
 use Rattle.scope.proofs.Laws.{request-keeps-numbers, mark-keeps-numbers}
 use Rattle.tree.specs.Layout.{same, two, four, idAt, nameOf, contextOf, valueOf}
@@ -20,25 +19,25 @@ use Rattle.tree.specs.Grammar.{within}
 use Rattle.tree.proofs.LayoutLaws.{same-refl, same-equal}
 use Rattle.tree.proofs.Table.{both-true}
 use Rattle.lent.specs.Outcome.{Outcome, done, onto}
-use Rattle.lent.specs.Lists.{find, filter, isSome, mapped, among}
+use Rattle.lent.specs.Lists.{filter, among}
 use Rattle.lent.specs.Fields.{has, inside}
-use Rattle.extraction_rules.specs.State.{Record, Usage, State, Pass, first, second, Setting, refuse, setModules, setLazy, setTop}
+use Rattle.extraction_rules.specs.State.{Usage, State, Pass, first, second, Setting, refuse, setModules, setLazy, setTop}
 use Rattle.extraction_rules.specs.First.{idFrom, forceId, onIdent, importedAs, required, withCallee, exportSpecifier, declarator}
 use Rattle.extraction_rules.specs.Second.{usagesOf, asProperty, rewritten}
 use Rattle.extraction_rules.specs.Walk.{Rule, import, export as exporting, declare, express, nothing as nil, afterExpression, ruleFor, after, Parts, unwalked, member, super, assignment, children, partsFor, enter, walk, walkAll, walkMember, walkAssignment, walkTarget}
-use Rattle.extraction_rules.proofs.OutcomeLaws.{After, after-bind, after-weaken, after-both, after-if}
+use Rattle.extraction_rules.proofs.OutcomeLaws.{After, after-bind, after-both, after-if}
 use Rattle.extraction_rules.proofs.ListLaws.{same-not, not-same, same-swap}
 use Rattle.extraction_rules.proofs.ValueLaws.{required-call, declarator-value}
 use Rattle.extraction_rules.proofs.WalkLaws.{walkParts}
-use Rattle.extraction_rules.proofs.TagLaws.{rule-import, ruleCode, other-rule, rule-export, partsCode, other-parts, parts-member, parts-assignment, parts-unwalked}
+use Rattle.extraction_rules.proofs.TagLaws.{rule-import, rule-export, other-parts, parts-member, parts-unwalked}
 use Rattle.extraction_rules.proofs.TableLaws.{recordOf, seek, holdsIn, force-own, force-tables, forgotten-usages, other-imported, other-usages}
 use Rattle.extraction_rules.proofs.StepLaws.{RequireSteps, enter-keeps, declarator-keeps}
 use Rattle.extraction_rules.proofs.AlikeLaws.{Two, RegularAt, Regular, RegularAll, SameBytes, equal, behind, callee, same-other, required-named, callee-bytes, export-front}
 use Rattle.extraction_rules.proofs.TestLaws.{or-neither}
-use Rattle.claims.specs.Stands.{How, plain, computed, bare, original, imported, otherwise, idsIn, byMember, objectIds, isUse, isPlain, isMisplaced, properties}
+use Rattle.claims.specs.Stands.{How, bare, original, imported, otherwise, idsIn, objectIds, isMisplaced, properties}
 use Rattle.claims.specs.Placed.{all}
 use Rattle.claims.proofs.WaysLaws.{met-append, met, ways, waysAll, waysMember, waysAssignment, waysTarget, waysParts, waysObject}
-use Rattle.claims.proofs.HowLaws.{all-append, allPlain, plain-append, properties-append, Neutral, Unused, unused-neutral, ids-unused}
+use Rattle.claims.proofs.HowLaws.{all-append, allPlain, plain-append, properties-append}
 use Rattle.claims.proofs.HeldLaws.{usagesFor, Unfelt, unfelt-modules, unfelt-force}
 use Rattle.claims.proofs.SettledLaws.{Sits, Settled, settled-unfelt}
 

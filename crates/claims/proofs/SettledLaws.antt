@@ -1,31 +1,24 @@
 -- The second pass over the imports: the namespace's own import settles what becomes of it; the others do not touch it.
-use Prim.Native.Nat.{ℕ, zero, suc, _+_}
-use mathlib.Core.Path.{_≡_, refl, sym, ap, ap₂, subst, _∙_}
-use mathlib.Core.Logic.{_⊎_, inl, inr}
-use mathlib.Core.Bool.{Bool, true, false, not, cond, _&&_, _||_, true≢false, or-false, and-false, and-true}
+use Prim.Native.Nat.{ℕ, _+_}
+use mathlib.Core.Path.{_≡_, refl, sym, ap, _∙_}
+use mathlib.Core.Bool.{Bool, true, false, _&&_, _||_, true≢false, or-false, and-false, and-true}
 use mathlib.Core.List.{List, [], _∷_, _++_, map}
 use mathlib.Core.Option.{Option, none as nothing, some}
 use native.Mathlib.Omega.{arith}
-use lib.Dec.{eqb}
 use Rattle.scope.specs.Id.{export}
-use Rattle.scope.specs.Modules.{Modules, numberOf, request, setMark}
-use Rattle.scope.specs.declared.Mark.the-variants.{Cjs}
-use Rattle.scope.proofs.Laws.{request-keeps-numbers, mark-keeps-numbers}
-use Rattle.tree.specs.Layout.{same, four, nameOf, valueOf}
-use Rattle.tree.specs.Tree.{Field, field, Fields, none, more, tagOf, fixedOf, partsOf, size}
-use Rattle.tree.proofs.LayoutLaws.{same-refl, same-equal}
+use Rattle.tree.specs.Layout.{same, four, valueOf}
+use Rattle.tree.specs.Tree.{Field, field, Fields, none, more, fixedOf}
 use Rattle.metadata.specs.Metadata.{append}
-use Rattle.lent.specs.Outcome.{Outcome, done, onto}
-use Rattle.lent.specs.Lists.{find, filter, isSome, mapped, among}
-use Rattle.lent.specs.Fields.{has, keep, findField, sole}
-use Rattle.extraction_rules.specs.State.{Record, Usage, State, Setting, give, setModules, setCollected, setLazy, setTop}
-use Rattle.extraction_rules.specs.First.{external, forceSource, forceId, importedAs, suits, collectIn, specifiersIn, attributesIn}
+use Rattle.lent.specs.Lists.{filter, isSome, mapped, among}
+use Rattle.lent.specs.Fields.{has, findField, sole}
+use Rattle.extraction_rules.specs.State.{Record, Usage, State, Setting, give, setCollected}
+use Rattle.extraction_rules.specs.First.{external, forceSource, importedAs, suits, specifiersIn, attributesIn}
 use Rattle.extraction_rules.specs.Second.{usagesOf, specifiersFrom, extend, takeApart, onSole, importSecond}
-use Rattle.extraction_rules.proofs.OutcomeLaws.{After, after-bind, after-weaken, after-if}
-use Rattle.extraction_rules.proofs.ListLaws.{same-not, not-same, same-swap, among-last, among-new}
+use Rattle.extraction_rules.proofs.OutcomeLaws.{After, after-if}
+use Rattle.extraction_rules.proofs.ListLaws.{same-swap, among-last, among-new}
 use Rattle.extraction_rules.proofs.FirstLaws.{source-cases, extend-literal}
-use Rattle.extraction_rules.proofs.TableLaws.{recordOf, record-empty, record-map, record-extend, seek, holdsIn, suitsIn, seek-collect, seek-extend, extend-own, from-finds, find-append, append-none, suits-append, source-forced, source-other, force-other, force-own, force-tables, other-imported, other-usages, forgotten-usages}
-use Rattle.claims.specs.Stands.{How, plain, computed, bare, original, imported, otherwise, isUse, isPlain, properties}
+use Rattle.extraction_rules.proofs.TableLaws.{recordOf, record-map, record-extend, seek, holdsIn, suitsIn, seek-extend, extend-own, from-finds, find-append}
+use Rattle.claims.specs.Stands.{How, plain, computed, bare, original, imported, otherwise, isUse, properties}
 use Rattle.claims.specs.Demand.{propertyFields, isUsed}
 use Rattle.claims.specs.Placed.{all}
 use Rattle.claims.proofs.HowLaws.{allPlain}

@@ -1,30 +1,30 @@
 -- What both passes leave of a tree behind the imports: each use of the namespace is the property in the source's export context, or
 -- as it was.
-use Prim.Native.Nat.{ℕ, _+_, _≤_}
+use Prim.Native.Nat.{ℕ, _+_}
 use mathlib.Core.Path.{_≡_, refl, sym, ap, ap₂, subst, _∙_}
 use mathlib.Core.Logic.{_⊎_, inl, inr}
-use mathlib.Core.Bool.{Bool, true, false, not, cond, _&&_, _||_, true≢false}
-use mathlib.Core.List.{List, [], _∷_, _++_, map, append-nil}
+use mathlib.Core.Bool.{Bool, true, false, cond, true≢false}
+use mathlib.Core.List.{List, [], _∷_, _++_}
 use native.Mathlib.Omega.{arith}
 use lib.Dec.{eqb}
-use lib.ListN.{length, take, getD}
+use lib.ListN.{take, getD}
 use borrow.Author.Tests.{eqb-true, ne-eqb}
 use Rattle.scope.specs.Id.{require-atom}
 use Rattle.tree.specs.Layout.{same, two, idAt, nameOf}
 use Rattle.tree.specs.Tree.{Field, field, Fields, none, more, tagOf, fixedOf, partsOf}
-use Rattle.tree.proofs.LayoutLaws.{same-refl, same-equal}
+use Rattle.tree.proofs.LayoutLaws.{same-equal}
 use Rattle.lent.specs.Lists.{filter}
 use Rattle.lent.specs.Fields.{has}
 use Rattle.extraction_rules.specs.Walk.{Parts, unwalked, member, super, assignment, children, partsFor}
-use Rattle.extraction_rules.proofs.ListLaws.{same-not, not-same, All}
-use Rattle.extraction_rules.proofs.TagLaws.{parts-member, parts-unwalked, parts-assignment}
+use Rattle.extraction_rules.proofs.ListLaws.{not-same, All}
+use Rattle.extraction_rules.proofs.TagLaws.{parts-member, parts-assignment}
 use Rattle.extraction_rules.proofs.AlikeLaws.{Two, RegularAt, Regular, RegularAll, SameBytes, equal, behind, callee, same-other}
-use Rattle.claims.specs.Stands.{How, plain, computed, bare, original, imported, idsIn, byMember, objectIds, Standing, matching, headOf, tailOf, standings, standingsAll, standingsMember, standingsAssignment, standingsTarget, isUse, isPlain}
+use Rattle.claims.specs.Stands.{How, plain, computed, bare, original, idsIn, byMember, objectIds, Standing, matching, standings, standingsAll, standingsMember, standingsAssignment, standingsTarget, isUse, isPlain}
 use Rattle.claims.specs.Placed.{all}
-use Rattle.claims.specs.Demand.{counted, Unchanged, AsProperty, Rewritten, Every}
-use Rattle.claims.proofs.WaysLaws.{met, ways, waysAll, waysMember, waysAssignment, waysTarget, waysParts, waysObject, standingsParts, met-append}
-use Rattle.claims.proofs.HowLaws.{Unused, unused-append, ids-unused, allPlain, object-unused}
-use Rattle.claims.proofs.OutLaws.{Turned, Unturned, Out, OutAll, out-more, out-none, out-lacking, Fine, fine-append}
+use Rattle.claims.specs.Demand.{counted, Unchanged, Rewritten, Every}
+use Rattle.claims.proofs.WaysLaws.{met, ways, waysAll, waysMember, waysAssignment, waysTarget, waysParts, waysObject, standingsParts}
+use Rattle.claims.proofs.HowLaws.{Unused, unused-append, ids-unused, object-unused}
+use Rattle.claims.proofs.OutLaws.{Turned, Out, OutAll, out-more, out-lacking, Fine, fine-append}
 
 -- ---- Every use
 

@@ -1,22 +1,20 @@
 -- How an id stands in one tree, without what stands at the same place of another; alike trees have the same ways.
-use Prim.Native.Nat.{ℕ, _≤_}
-use mathlib.Core.Path.{_≡_, refl, sym, ap, ap₂, subst, _∙_}
-use mathlib.Core.Logic.{_⊎_, inl, inr}
-use mathlib.Core.Bool.{Bool, true, false, not, cond, _&&_, true≢false}
-use mathlib.Core.List.{List, [], _∷_, _++_, map, append-nil, append-assoc}
+use Prim.Native.Nat.{ℕ}
+use mathlib.Core.Path.{_≡_, refl, sym, ap, ap₂, _∙_}
+use mathlib.Core.Bool.{Bool, true, false, cond}
+use mathlib.Core.List.{List, [], _∷_, _++_, map}
 use native.Mathlib.Omega.{arith}
 use lib.Dec.{eqb}
-use lib.ListN.{length, take, drop}
+use lib.ListN.{take}
 use borrow.Author.Tests.{eqb-true}
 use Rattle.scope.specs.Id.{require-atom}
-use Rattle.tree.specs.Layout.{same, two, four, idAt, nameOf}
-use Rattle.tree.specs.Tree.{Field, field, Fields, none, more, tagOf, fixedOf, partsOf}
-use Rattle.tree.proofs.LayoutLaws.{same-refl, same-equal}
+use Rattle.tree.specs.Layout.{same, two, idAt, nameOf}
+use Rattle.tree.specs.Tree.{Field, field, Fields, none, more, tagOf, partsOf}
 use Rattle.lent.specs.Fields.{has}
 use Rattle.extraction_rules.specs.Walk.{Parts, unwalked, member, super, assignment, children, partsFor}
 use Rattle.extraction_rules.proofs.ListLaws.{same-not, not-same}
 use Rattle.extraction_rules.proofs.AlikeLaws.{SameBytes, equal, behind, callee, Alike, AlikeAll, alike-more, alike-none, same-other, alike-tag, first-byte}
-use Rattle.claims.specs.Stands.{How, plain, computed, bare, original, imported, otherwise, idsIn, Standing, matching, headOf, tailOf, byMember, objectIds, standings, standingsAll, standingsMember, standingsAssignment, standingsTarget, stands}
+use Rattle.claims.specs.Stands.{How, plain, computed, bare, otherwise, idsIn, Standing, matching, headOf, tailOf, byMember, objectIds, standings, standingsAll, standingsMember, standingsAssignment, standingsTarget, stands}
 
 -- those of the ids that are i
 unfoldable pub met : List (How × List ℕ) → List ℕ → List How

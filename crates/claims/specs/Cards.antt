@@ -1,14 +1,13 @@
 -- The twelve cards of document 01: one list, and one sentence about the rules.
 -- The cards' trees and results stand with the rules they speak of, in the crates extraction and resolving.
-use Prim.Native.Nat.{ℕ, _*_}
+use Prim.Native.Nat.{ℕ}
 use mathlib.Core.Path.{_≡_, refl}
-use mathlib.Core.Bool.{Bool, false}
-use mathlib.Core.List.{List, [], _∷_, _++_, map}
+use mathlib.Core.Bool.{false}
+use mathlib.Core.List.{List, [], _∷_, map}
 use mathlib.Core.Option.{Option, none as nothing, some}
-use Rattle.scope.specs.Modules.{Modules}
 use Rattle.tree.specs.declared.grammar.Set.the-variants.{Module}
 use Rattle.tree.specs.declared.read.Why.the-variants.{Deep}
-use Rattle.tree.specs.Tree.{Field, field, Fields, none, more, encode}
+use Rattle.tree.specs.Tree.{field, Fields, none, more, encode}
 use Rattle.tree.specs.Read.{Reading, fine, refused, read}
 use Rattle.metadata.specs.Decimal.{numberFrom, number, unsigned, parsed}
 use Rattle.metadata.specs.Metadata.{Metadata, startsWith, contextIn, injectedAttribute, told, decodeFrom, decode, contextKey, attribute}

@@ -2,12 +2,12 @@
 use Prim.Native.Nat.{ℕ}
 use mathlib.Core.Path.{_≡_, refl}
 use mathlib.Core.Bool.{Bool, true, false}
-use mathlib.Core.List.{List, [], _∷_, _++_, map}
+use mathlib.Core.List.{[], _∷_, _++_, map}
 use Rattle.tree.specs.Layout.{two, four}
 use Rattle.tree.specs.Tree.{Field, field, Fields, none, more}
 use Rattle.extraction_rules.specs.Computes.{computing}
 use Rattle.extraction_rules.specs.Build.{a, x, b, d, f, y, own, exp, listed, leaf, fields, imports, named, default, namespace, statement, ident, member, call}
-use Rattle.claims.specs.Stands.{How, plain, computed, bare, original, imported, otherwise, idsIn, matching, objectIds, standings, stands, properties}
+use Rattle.claims.specs.Stands.{plain, computed, bare, original, imported, otherwise, idsIn, matching, objectIds, standings, stands, properties}
 use Rattle.claims.specs.Placed.{all, importsIn, importsPrecede, localIds, hasSource, hasLocal, sharesNone, ownLocals, soleNamespace, fitNamespace, fitNamespaces, wellPlaced}
 use Rattle.claims.specs.Demand.{usesOf, recordFor, takes}
 

@@ -1,7 +1,7 @@
 -- 'Well placed', clause by clause. Document 01, 'Records and resolving'.
 use Prim.Native.Nat.{ℕ}
 use mathlib.Core.Bool.{Bool, true, false, not, cond, _&&_, _||_}
-use mathlib.Core.List.{List, [], _∷_, _++_}
+use mathlib.Core.List.{List, [], _∷_}
 use Rattle.scope.specs.Id.{require-atom, local}
 use Rattle.tree.specs.Layout.{two, four, same, idAt, nameOf, contextOf, valueOf}
 use Rattle.tree.specs.Tree.{Field, Fields, none, more, fixedOf, partsOf}

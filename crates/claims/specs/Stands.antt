@@ -1,15 +1,15 @@
 -- How an id stands in a tree, each time with what stands at the same place of another tree.
 -- Document 01, 'Well placed': "stand elsewhere only as ..", and 'Tree': which fields hold an id.
 use Prim.Native.Nat.{ℕ}
-use mathlib.Core.Bool.{Bool, true, false, cond, _&&_}
+use mathlib.Core.Bool.{Bool, true, false, cond}
 use mathlib.Core.List.{List, [], _∷_, _++_, map}
 use lib.Dec.{eqb}
 use lib.ListN.{getD}
 use Rattle.tree.specs.Layout.{same, idAt}
-use Rattle.tree.specs.Tree.{Field, field, Fields, none, more, tagOf, fixedOf, partsOf}
+use Rattle.tree.specs.Tree.{Field, field, Fields, none, more, fixedOf, partsOf}
 use Rattle.tree.specs.Grammar.{find}
 use Rattle.lent.specs.Fields.{has}
-use Rattle.extraction_rules.specs.Walk.{Parts, unwalked, member, super, assignment, children, partsFor}
+use Rattle.extraction_rules.specs.Walk.{unwalked, member, super, assignment, children, partsFor}
 
 pub data How : Type 0 where
   plain : List ℕ → How  -- 'as object of an expression 63 with 70': the property

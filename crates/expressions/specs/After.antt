@@ -1,7 +1,7 @@
 -- What a walked expression is, told before it is walked: which id it has become, and whether it meets the require conditions.
 -- Document 01, 'First pass', "After an expression's children"; 'Second pass', "becomes a 60".
 use Prim.Native.Nat.{ℕ}
-use mathlib.Core.Bool.{Bool, cond, _&&_}
+use mathlib.Core.Bool.{cond, _&&_}
 use mathlib.Core.List.{List, [], _∷_, _++_}
 use mathlib.Core.Option.{Option, none as nothing, some}
 use lib.Dec.{eqb}

@@ -1,16 +1,15 @@
 -- What a pass keeps of what its tables lean on: in the first pass an item that is no import brings no namespace; in the second the sources of the
 -- collected records stay.
-use Prim.Native.Nat.{ℕ, _+_, _*_, _≤_}
-use native.Mathlib.Omega.{arith}
-use mathlib.Core.Path.{_≡_, refl, sym, ap, _∙_}
+use Prim.Native.Nat.{ℕ, _+_}
+use mathlib.Core.Path.{_≡_, refl, ap, _∙_}
 use mathlib.Core.Bool.{Bool, true, false, cond}
-use mathlib.Core.List.{List, [], _∷_, _++_, map}
+use mathlib.Core.List.{List, [], _∷_, _++_}
 use mathlib.Core.Option.{Option, none as nothing, some}
 use Rattle.tree.specs.Layout.{same, valueOf}
 use Rattle.tree.specs.Tree.{Field, Fields, none, more}
 use Rattle.metadata.specs.Metadata.{append}
 use Rattle.lent.specs.Lists.{find, among}
-use Rattle.extraction_rules.specs.State.{Record, State, Pass, first, second, Setting, setForced}
+use Rattle.extraction_rules.specs.State.{Record, State, first, second, Setting, setForced}
 use Rattle.extraction_rules.specs.First.{holdsNamespace, forceSource, forceHolder, forget, forceId, collectIn}
 use Rattle.extraction_rules.specs.Walk.{walk}
 use Rattle.extraction_rules.proofs.StepLaws.{Keeps}

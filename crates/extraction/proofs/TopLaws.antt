@@ -1,6 +1,5 @@
 -- The call: an array of zeros, the scope's modules in it, and what is left at the end.
 use Prim.Native.Nat.{ℕ, zero, suc}
-use native.Mathlib.Omega.{arith}
 use mathlib.Core.Path.{_≡_, refl, sym, ap, _∙_}
 use mathlib.Core.Bool.{false}
 use mathlib.Core.List.{List, []}
@@ -13,14 +12,13 @@ use Rattle.tree.specs.Layout.{Bytes}
 use Rattle.writer.specs.Finished.{zeroed}
 use Rattle.lent.specs.Outcome.{Outcome, done, refused, refusalIn}
 use Rattle.lent.specs.Buffer.{bufferOf}
-use Rattle.extraction_rules.specs.State.{State, start, setTop, setModules}
+use Rattle.extraction_rules.specs.State.{start, setTop, setModules}
 use Rattle.extraction_rules.specs.Call.{Lent, Lengths, Extracted, Left, modulesAfter, extracted, extraction}
 use Rattle.kept.specs.Kept.{At, cells, Good, Shows}
 use Rattle.kept.specs.Does.{Tells, Turns}
 use Rattle.kept.proofs.RestLaws.{zero-good, zero-shows}
 use Rattle.extraction.specs.declared.ExtractAnswer.{ExtractAnswer}
 use Rattle.extraction.specs.declared.ExtractAnswer.the-variants.{Extracted as Accepted, BadLists, NamedTwice, Unread, Refused, NoRoom}
-use Rattle.extraction.specs.declared.Extraction.{Extraction}
 use Rattle.extraction.specs.Answer.{answerRefusal, answerNumber, answerPlace, roomIn, left, Calls}
 
 -- ---- The array at the start

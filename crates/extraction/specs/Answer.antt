@@ -10,7 +10,6 @@ use Rattle.scope.specs.Kept.{modulesOf}
 use Rattle.tree.specs.declared.grammar.Set.the-variants.{Module}
 use Rattle.tree.specs.Grammar.{ruleOf}
 use Rattle.tree.specs.Tree.{Field, Fields, none, more, encode, size}
-use Rattle.tree.specs.Layout.{Bytes}
 use Rattle.tree.specs.Read.{fine, read, refusalOf as readRefusal}
 use Rattle.tree.specs.Standing.{Row}
 use Rattle.writer.specs.Wrote.{Wrote}
@@ -23,7 +22,7 @@ use Rattle.extraction_rules.specs.First.{moduleFor}
 use Rattle.extraction_rules.specs.Second.{wrapModule, wrapAll}
 use Rattle.extraction_rules.specs.Walk.{walkAgain}
 use Rattle.extraction_rules.specs.Records.{recordsOf}
-use Rattle.extraction_rules.specs.Call.{Lent, Lengths, Extracted, Left, ownModule, moduleWith, extractedFrom, passes, extracted}
+use Rattle.extraction_rules.specs.Call.{Lent, Lengths, Extracted, Left, ownModule, moduleWith, extractedFrom, passes}
 use Rattle.extraction_rules.proofs.OutcomeLaws.{After}
 use Rattle.extraction_rules.proofs.WalkLaws.{ImportsAll}
 use Rattle.extraction_rules.proofs.SanityLaws.{Known}

@@ -3,26 +3,25 @@
 use Prim.Native.Nat.{ℕ, _+_, _≤_}
 use mathlib.Core.Path.{_≡_, refl, sym, ap, subst, _∙_}
 use mathlib.Core.Logic.{_⊎_, inl, inr}
-use mathlib.Core.Bool.{Bool, true, false, not, cond, _&&_, _||_, true≢false}
-use mathlib.Core.List.{List, [], _∷_, _++_, append-assoc}
-use mathlib.Core.Option.{Option, none as nothing, some}
+use mathlib.Core.Bool.{Bool, true, false, cond, _&&_, _||_}
+use mathlib.Core.List.{List, [], _∷_, _++_}
+use mathlib.Core.Option.{none as nothing, some}
 use native.Mathlib.Omega.{arith}
 use lib.Dec.{eqb}
-use lib.ListN.{length, take, drop, getD, length-take}
+use lib.ListN.{length, take, getD, length-take}
 use lib.Seq.{take-at, length-take-le}
-use borrow.Author.Tests.{eqb-true}
-use Rattle.scope.specs.Id.{require-atom, local, export}
+use Rattle.scope.specs.Id.{require-atom, export}
 use Rattle.tree.specs.Layout.{same, two, four, idAt, nameOf}
 use Rattle.tree.specs.Tree.{Field, field, Fields, none, more, tagOf, fixedOf, partsOf, size}
 use Rattle.tree.proofs.LayoutLaws.{same-equal}
 use Rattle.lent.specs.Outcome.{Outcome, done, onto}
 use Rattle.lent.specs.Fields.{has, sole, inside}
-use Rattle.extraction_rules.specs.State.{State, Pass, first, second, Setting, change, refuse}
-use Rattle.extraction_rules.specs.First.{idFrom, argument, notExternal, required, withCallee, forceId, exportedName, exportSpecifier, declarator}
+use Rattle.extraction_rules.specs.State.{State, first, Setting, refuse}
+use Rattle.extraction_rules.specs.First.{idFrom, argument, notExternal, required, withCallee, exportSpecifier, declarator}
 use Rattle.extraction_rules.specs.Walk.{Rule, import, export as exporting, declare, express, nothing as plain, ruleFor, after, Parts, unwalked, member, super, assignment, children, partsFor, enter, walk, walkAll, walkMember, walkAssignment, walkTarget}
 use Rattle.extraction_rules.proofs.OutcomeLaws.{After, after-bind, after-if}
-use Rattle.extraction_rules.proofs.ValueLaws.{required-call, Called, first-expression, declarator-value}
-use Rattle.extraction_rules.proofs.TagLaws.{rule-import, rule-export, parts-assignment}
+use Rattle.extraction_rules.proofs.ValueLaws.{required-call, first-expression, declarator-value}
+use Rattle.extraction_rules.proofs.TagLaws.{rule-import, rule-export}
 use Rattle.extraction_rules.proofs.WalkLaws.{walkParts}
 
 -- ---- Trees behind the imports

@@ -12,16 +12,15 @@ use borrow.Author.Tests.{eqb-true}
 use Rattle.scope.specs.Id.{export}
 use Rattle.tree.specs.Layout.{valueOf}
 use Rattle.tree.specs.Tree.{Field, field, Fields, none, more, tagOf, fixedOf, size}
-use Rattle.tree.specs.Grammar.{within}
 use Rattle.lent.specs.Outcome.{Outcome, done, onto}
 use Rattle.lent.specs.Fields.{has, inside}
 use Rattle.extraction_rules.specs.State.{Record, Usage, State, Pass, first, second, Setting, change, refuse, setModules, setUsages}
-use Rattle.extraction_rules.specs.First.{idFrom, moduleFor, forceId, onIdent, importedAs, usedRecord, addUsage, useProperty, useFrom, useImported, usage, require, declarator}
+use Rattle.extraction_rules.specs.First.{idFrom, moduleFor, forceId, onIdent, importedAs, usedRecord, addUsage, useProperty, useFrom, useImported, usage, declarator}
 use Rattle.extraction_rules.specs.Walk.{Rule, import, export as exporting, declare, express, nothing as plain, afterExpression, ruleFor, after, Parts, unwalked, member, super, assignment, children, partsFor, enter, walk, walkAll, walkMember, walkAssignment, walkTarget}
 use Rattle.extraction_rules.proofs.OutcomeLaws.{after-bind, after-both, after-if}
 use Rattle.extraction_rules.proofs.StepLaws.{Keeps, CommonSteps, EmptyKeeps, then-keeps, enter-keeps, moduleFor-stays, addUsage-keeps, require-keeps, declarator-keeps, exportSpecifier-keeps, moduleFor-keeps}
 use Rattle.extraction_rules.proofs.WalkLaws.{walkParts}
-use Rattle.extraction_rules.proofs.TagLaws.{rule-import, parts-member}
+use Rattle.extraction_rules.proofs.TagLaws.{rule-import}
 use Rattle.extraction_rules.proofs.AlikeLaws.{Two, RegularAt, Regular, RegularAll, AlikeAll, alike-two, regularAll-alike, parts-alike, walkAll-alike, walkMember-alike, walkAssignment-alike}
 
 pub record ItemSteps (e : Setting) (J : State → Type 0) : Type 0 where

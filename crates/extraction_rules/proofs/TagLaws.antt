@@ -7,7 +7,7 @@ use mathlib.Core.List.{List, [], _∷_}
 use native.Mathlib.Omega.{arith}
 use lib.Dec.{eqb}
 use borrow.Author.Tests.{eqb-true}
-use Rattle.tree.specs.Grammar.{within, expressionTag, find}
+use Rattle.tree.specs.Grammar.{expressionTag, find}
 use Rattle.extraction_rules.specs.Walk.{Rule, import, export, declare, express, nothing, ruleFor, Parts, unwalked, member, super, assignment, children, partsFor}
 use Rattle.extraction_rules.proofs.ListLaws.{All}
 

@@ -5,7 +5,7 @@ use mathlib.Core.Bool.{Bool, false}
 use mathlib.Core.List.{List, [], _∷_, _++_}
 use mathlib.Core.Option.{none as nothing, some}
 use lib.ListN.{replicate}
-use Rattle.scope.specs.Modules.{Module, Modules, unmarked}
+use Rattle.scope.specs.Modules.{Modules, unmarked}
 use Rattle.tree.specs.Layout.{two, four}
 use Rattle.tree.specs.Tree.{Field, field, Fields, none, more, encode, size}
 use Rattle.extraction_rules.specs.Call.{Lent, Lengths, Left}

@@ -1,16 +1,15 @@
 -- The cards of document 01 that ask for an extraction, each with what the card says it gives, and one sentence: the rules give that.
 use Prim.Native.Nat.{ℕ, zero, suc}
 use mathlib.Core.Path.{_≡_, refl}
-use mathlib.Core.Bool.{Bool, true, false}
+use mathlib.Core.Bool.{true, false}
 use mathlib.Core.List.{List, [], _∷_, _++_, map}
 use mathlib.Core.Option.{none as nothing}
 use lib.ListN.{replicate}
 use Rattle.scope.specs.Modules.{unmarked}
-use Rattle.tree.specs.Layout.{two}
 use Rattle.tree.specs.Tree.{Field, encode}
 use Rattle.extraction_rules.specs.Call.{extraction}
 use Rattle.extraction_rules.specs.Computes.{computing}
-use Rattle.extraction_rules.specs.Build.{a, x, b, d, f, y, q, own, exp, literal, leaf, fields, program, imports, named, default, namespace, const, statement, ident, member, call, requiring, require, metadata, records, collected, lazy, forced, Case, lending, room, rooms, holding, files, accepts, refuses}
+use Rattle.extraction_rules.specs.Build.{a, x, b, d, f, y, q, own, exp, literal, leaf, fields, program, imports, named, default, namespace, const, statement, ident, member, call, requiring, require, metadata, records, collected, lazy, forced, Case, lending, rooms, holding, files, accepts, refuses}
 
 -- `01 0000` gives itself, records `02 0000`
 pub card1 : Case

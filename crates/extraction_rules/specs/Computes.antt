@@ -1,6 +1,4 @@
 -- One name that unfolds every rule of extraction: a worked case says `unfolding computing`.
-use mathlib.Core.List.{List}
-use Prim.Native.Nat.{ℕ}
 use Rattle.scope.specs.Modules.{Modules}
 use Rattle.tree.specs.Example.{reading}
 use Rattle.tree.specs.Layout.{same}

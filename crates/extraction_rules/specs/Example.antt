@@ -3,12 +3,11 @@ use Prim.Native.Nat.{ℕ}
 use mathlib.Core.Path.{_≡_, refl}
 use mathlib.Core.Bool.{true, false}
 use mathlib.Core.List.{List, [], _∷_, _++_, map}
-use Rattle.scope.specs.Modules.{unmarked}
 use Rattle.tree.specs.Layout.{two, four}
 use Rattle.tree.specs.Tree.{Field, field, none, more, encode}
-use Rattle.extraction_rules.specs.Call.{Lengths, Left, extraction}
+use Rattle.extraction_rules.specs.Call.{extraction}
 use Rattle.extraction_rules.specs.Computes.{computing}
-use Rattle.extraction_rules.specs.Build.{m, a, x, b, d, f, y, q, own, exp, literal, listed, leaf, fields, program, imports, named, default, namespace, const, statement, ident, member, call, requiring, require, context5, metadata, records, collected, lazy, forced, Case, lending, room, rooms, holding, files, accepts, refuses}
+use Rattle.extraction_rules.specs.Build.{a, x, b, d, y, q, own, exp, literal, listed, leaf, fields, program, imports, named, default, namespace, statement, ident, member, requiring, require, context5, metadata, records, collected, lazy, forced, Case, lending, rooms, files, accepts, refuses}
 
 -- a.x, and what it becomes
 abbrev ax : Field

@@ -1,7 +1,7 @@
 -- The rules of the first pass, in the order of document 01, 'First pass'. Those for 23 and 42 hold in both passes.
 -- A place p is the offset of the field that a rule stands at.
 use Prim.Native.Nat.{ℕ, _+_}
-use mathlib.Core.Bool.{Bool, true, false, not, cond, _&&_, _||_}
+use mathlib.Core.Bool.{Bool, false, not, cond, _&&_, _||_}
 use mathlib.Core.List.{List, [], _∷_, _++_}
 use mathlib.Core.Option.{Option, none as nothing, some}
 use lib.Dec.{eqb}
@@ -12,7 +12,7 @@ use Rattle.scope.specs.declared.Mark.the-variants.{Cjs}
 use Rattle.tree.specs.Layout.{two, four, same, atomAt, idAt, nameOf, contextOf, valueOf}
 use Rattle.tree.specs.Tree.{Field, field, Fields, none, more, tagOf, fixedOf, partsOf, size}
 use Rattle.metadata.specs.Metadata.{append, withMetadata}
-use Rattle.lent.specs.Outcome.{done, refused}
+use Rattle.lent.specs.Outcome.{done}
 use Rattle.lent.specs.Lists.{find, filter, isSome, mapped, among}
 use Rattle.lent.specs.Table.{fileOf}
 use Rattle.lent.specs.Fields.{has, keep, findField, sole, inside}

@@ -1,6 +1,6 @@
 -- The rules of the second pass, in the order of document 01, 'Second pass', and what its end does.
 use Prim.Native.Nat.{ℕ}
-use mathlib.Core.Bool.{Bool, not, cond, _||_}
+use mathlib.Core.Bool.{not, cond, _||_}
 use mathlib.Core.List.{List, [], _∷_, _++_, map}
 use mathlib.Core.Option.{Option, none as nothing, some}
 use Rattle.scope.specs.Modules.{setMark}
@@ -8,11 +8,10 @@ use Rattle.scope.specs.declared.Mark.the-variants.{Wrapping}
 use Rattle.tree.specs.Layout.{same, valueOf, sameLiteral}
 use Rattle.tree.specs.Tree.{Field, field, Fields, none, more, fixedOf}
 use Rattle.metadata.specs.Metadata.{append}
-use Rattle.lent.specs.Outcome.{done}
 use Rattle.lent.specs.Lists.{filter, among}
 use Rattle.lent.specs.Fields.{has, keep, sole}
 use Rattle.extraction_rules.specs.State.{Record, Usage, State, Setting, Act, _>>=_, _>>_, give, skip, change, setModules, setCollected}
-use Rattle.extraction_rules.specs.First.{external, moduleFor, forceSource, importedAs, onIdent, specifiersIn, attributesIn}
+use Rattle.extraction_rules.specs.First.{external, moduleFor, forceSource, importedAs, specifiersIn, attributesIn}
 
 -- ---- 'A 10, not external, unforced, with a sole 22'
 

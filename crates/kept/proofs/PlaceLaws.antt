@@ -4,10 +4,10 @@ use native.Mathlib.Omega.{arith}
 use native.Mathlib.Numerals.{add-one}
 use mathlib.Core.Path.{_≡_, refl, sym, ap, _∙_}
 use mathlib.Core.List.{List, [], _∷_, map}
-use lib.ListN.{length, length-map, getD, drop}
+use lib.ListN.{length, length-map, drop}
 use Rattle.tables.specs.Rows.{Row, rows}
 use Rattle.tree.specs.Layout.{two}
-use Rattle.extraction_rules.specs.State.{Record, State}
+use Rattle.extraction_rules.specs.State.{Record}
 use Rattle.kept.specs.Kept.{records, lazies, forces, id-limit, place-limit, tableOf, held, Good, idOf, Brief, brief, briefOf, lazyOf, atomOf}
 use Rattle.kept.specs.Does.{Tells, Holds}
 use Rattle.kept.proofs.ListLaws.{below-row, rowOf}

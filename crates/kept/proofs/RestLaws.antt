@@ -8,7 +8,7 @@ use lib.ListN.{length, getD, set, length-map}
 use lib.Seq.{getD-set-same}
 use lib.Dec.{eqb}
 use Rattle.tables.specs.declared.Table.{Table}
-use Rattle.tables.specs.Rows.{Row, rowsFrom, rows, Lies, leastOf}
+use Rattle.tables.specs.Rows.{rowsFrom, rows, Lies, leastOf}
 use Rattle.tables.specs.Only.{Only}
 use Rattle.tables.proofs.OnlyLaws.{store-count, apart-rows, apart-lies}
 use Rattle.tree.specs.Tree.{Fields}

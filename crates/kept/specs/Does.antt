@@ -1,7 +1,7 @@
 -- What a function on the array does to the state of the rules that the array shows: it tells something of it, changes it, or acts by a rule.
 use Prim.Native.Nat.{ℕ, zero, suc, _+_, _<_}
 use mathlib.Core.Path.{_≡_}
-use mathlib.Core.List.{List, [], _∷_, map}
+use mathlib.Core.List.{List, [], _∷_}
 use mathlib.Core.Bool.{Bool, true, false}
 use mathlib.Core.Option.{Option, none as nothing, some}
 use lib.ListN.{getD, drop}

@@ -5,7 +5,7 @@ use mathlib.Core.List.{List}
 use mathlib.Core.Option.{Option, none as nothing, some}
 use lib.Dec.{eqb}
 use lib.ListN.{length}
-use Rattle.tree.specs.Tree.{Field, field, Fields, none, more, tagOf}
+use Rattle.tree.specs.Tree.{Field, Fields, none, more, tagOf}
 
 abbrev pub has : ℕ → Field → Bool
 has t f = eqb (tagOf f) t

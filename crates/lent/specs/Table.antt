@@ -1,6 +1,6 @@
 -- The lent lists of atoms and of sources with their files. Document 01, 'Where a call turns back', rows 1 and 2.
 use Prim.Native.Nat.{ℕ, _+_, _*_, _%_}
-use mathlib.Core.Bool.{Bool, true, false, not, _||_}
+use mathlib.Core.Bool.{Bool, false, not, _||_}
 use mathlib.Core.List.{List, [], _∷_}
 use mathlib.Core.Option.{Option}
 use lib.Dec.{ltb, eqb}

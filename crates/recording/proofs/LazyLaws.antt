@@ -2,15 +2,15 @@
 use Prim.Native.Nat.{ℕ, _+_, _-_, _/_, _%_, _≤_, _<_}
 use native.Mathlib.Omega.{arith}
 use mathlib.Core.Path.{_≡_, refl, sym, ap, ap₂, _∙_}
-use mathlib.Core.Bool.{Bool, true, false, cond}
+use mathlib.Core.Bool.{Bool, cond}
 use mathlib.Core.List.{List, [], _∷_, _++_}
-use lib.Dec.{leb, ltb, eqb}
+use lib.Dec.{ltb}
 use lib.ListN.{length, drop}
 use borrow.Author.Tests.{le-leb, lt-leb, eq-eqb, ne-eqb, lt-ltb, le-ltb}
 use Rattle.tree.specs.declared.layout.Reach.{Reach}
 use Rattle.tree.specs.declared.layout.Reach.the-variants.{Upto, Short}
 use Rattle.tree.specs.Layout.{two}
-use Rattle.tree.specs.Tree.{Field, field, Fields, none, framed as framedField, encode, encodes}
+use Rattle.tree.specs.Tree.{Field, field, none, framed as framedField, encode, encodes}
 use Rattle.tree.specs.Access.{extentAt}
 use Rattle.tree.specs.Standing.{treeAt}
 use Rattle.writer.specs.Bytes.{twoBytes, framed}
@@ -20,7 +20,7 @@ use Rattle.extraction_rules.specs.State.{Record, State}
 use Rattle.extraction_rules.specs.First.{bindings}
 use Rattle.extraction_rules.specs.Records.{recordFields, forcedFields}
 use Rattle.kept.specs.Kept.{At, place-limit, idOf, Shows}
-use Rattle.kept.specs.Does.{Tells, Holds}
+use Rattle.kept.specs.Does.{Holds}
 use Rattle.recording.specs.Writes.{patternOn, patternAt, placed, Placing}
 
 -- ---- The pattern at a place

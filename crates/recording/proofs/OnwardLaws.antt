@@ -1,14 +1,14 @@
 -- Writing a list of the shown state one entry after another: what is left, with what is written, is the whole.
 use Prim.Native.Nat.{ℕ, _+_, _≤_}
 use native.Mathlib.Omega.{arith}
-use mathlib.Core.Path.{_≡_, refl, sym, ap, _∙_}
-use mathlib.Core.List.{List, [], _∷_, _++_}
+use mathlib.Core.Path.{_≡_, refl, sym, _∙_}
+use mathlib.Core.List.{List, [], _++_}
 use lib.ListN.{length, drop, drop-of-length-le}
 use Rattle.writer.specs.Wrote.{Wrote}
 use Rattle.writer.proofs.Wrote.{wrote-none, wrote-then, wrote-as}
 use Rattle.extraction_rules.specs.State.{State}
 use Rattle.kept.specs.Kept.{At, Shows}
-use Rattle.kept.specs.Does.{Tells, Holds}
+use Rattle.kept.specs.Does.{Tells}
 use Rattle.recording.specs.Writes.{WroteFor, Onward}
 
 pub onward-start : {P : At → Type 0} {f : State → List ℕ} {t l : List ℕ} {o : ℕ} → Onward P f f t l o l o

@@ -1,5 +1,4 @@
 -- One name that unfolds every rule of resolving: a worked case says `unfolding computing`.
-use mathlib.Core.List.{List}
 use Prim.Native.Nat.{ℕ}
 use Rattle.scope.specs.Modules.{Modules, placeOf, numberOf, request}
 use Rattle.tree.specs.Example.{reading}

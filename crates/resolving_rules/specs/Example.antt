@@ -4,10 +4,10 @@ use mathlib.Core.Path.{_≡_, refl}
 use mathlib.Core.List.{List, [], _∷_, _++_}
 use mathlib.Core.Option.{none as nothing, some}
 use lib.ListN.{replicate}
-use Rattle.scope.specs.Modules.{Modules, unmarked}
+use Rattle.scope.specs.Modules.{unmarked}
 use Rattle.tree.specs.Layout.{two, four}
 use Rattle.tree.specs.Tree.{Field, field, Fields, none, more, encode}
-use Rattle.resolving_rules.specs.Call.{Left, resolving}
+use Rattle.resolving_rules.specs.Call.{resolving}
 use Rattle.resolving_rules.specs.Computes.{computing}
 use Rattle.resolving_rules.specs.Cards.{lending}
 

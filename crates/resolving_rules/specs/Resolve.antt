@@ -1,6 +1,6 @@
 -- From records to the resolved list. Document 01, 'Records and resolving'; the Rust's `resolve_imports`.
 use Prim.Native.Nat.{ℕ, _+_}
-use mathlib.Core.Bool.{Bool, true, false, not, cond}
+use mathlib.Core.Bool.{Bool, not, cond}
 use mathlib.Core.List.{List, [], _∷_, _++_}
 use mathlib.Core.Option.{Option, none as nothing, some, Option·getD}
 use lib.Dec.{eqb}

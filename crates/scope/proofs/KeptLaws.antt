@@ -1,20 +1,19 @@
 -- What a store into the arrays of a scope does to the modules that they stand for.
 use Prim.Native.Nat.{ℕ, zero, suc, _+_, _-_, _*_, _/_, _%_, _≤_, _<_, min}
 use native.Mathlib.Omega.{arith}
-use native.Mathlib.Nat.{add-zero, add-suc}
+use native.Mathlib.Nat.{add-zero}
 use mathlib.Core.Path.{_≡_, refl, sym, ap, _∙_}
 use mathlib.Core.Bool.{Bool, true, false, cond}
 use mathlib.Core.List.{List, [], _∷_, _++_, map}
 use mathlib.Core.Option.{Option, none, some}
-use mathlib.Core.Logic.{⊎-elim}
-use lib.Dec.{ltb, eqb}
+use lib.Dec.{eqb}
 use lib.ListN.{length, getD, take, drop, set, length-set, length-take, length-drop}
 use borrow.Author.Tests.{eq-eqb, ne-eqb}
 use native.Mathlib.Numerals.{add-one}
 use lib.Seq.{getD-set-same, getD-set-other, getD-take, drop-cons}
 use Rattle.scope.specs.declared.Mark.{Mark}
 use Rattle.scope.specs.declared.Mark.the-variants.{Loaded, Stored, Cjs, Wrapping}
-use Rattle.scope.specs.Modules.{Module, Modules, next, placeOf, numberOf, Generated, generatedBy, gen, filesIn, Left, requestAll, unmarked, withMark, marked, setMark, isMarked}
+use Rattle.scope.specs.Modules.{Modules, next, placeOf, numberOf, Generated, generatedBy, gen, filesIn, requestAll, unmarked, withMark, marked, setMark, isMarked}
 use Rattle.scope.proofs.Laws.{gen-added, request-all-more, request-all-stops, cells-agree, cells-more}
 use Rattle.scope.specs.Kept.{rankOf, slotOf, moduleAt, stored, modulesFrom, modulesOf, modulesIn, placeBy, generated, fileRefusal}
 use Rattle.scope.specs.declared.id.FileName.{FileName}

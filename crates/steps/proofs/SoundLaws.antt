@@ -1,7 +1,7 @@
 -- Fields that were read: from a field to its parts, from a row to its first field and the rest, and how long they are.
-use Prim.Native.Nat.{ℕ, _+_, _-_, _≤_, _<_}
+use Prim.Native.Nat.{ℕ, _+_, _-_, _≤_}
 use native.Mathlib.Omega.{arith}
-use mathlib.Core.Path.{_≡_, refl, sym, ap, subst, _∙_}
+use mathlib.Core.Path.{_≡_, sym, ap, subst, _∙_}
 use mathlib.Core.List.{List}
 use lib.ListN.{length, getD}
 use lib.Seq.{slice, length-slice}
@@ -14,7 +14,7 @@ use Rattle.tree.specs.Tree.{encode, size}
 use Rattle.tree.specs.Within.{Formed}
 use Rattle.tree.specs.Access.{fixedAt, extentAt}
 use Rattle.tree.specs.Grammar.{ruleOf, stepAt}
-use Rattle.tree.specs.Standing.{treeAt, rowAt, Whole, Row}
+use Rattle.tree.specs.Standing.{treeAt, Whole, Row}
 use Rattle.tree.proofs.FixedLaws.{no-upto, upto-inj}
 use Rattle.tree.proofs.AccessLaws.{extent-upto}
 use Rattle.tree.proofs.TreeLaws.{size-encode}

@@ -3,15 +3,15 @@ use Prim.Native.Nat.{ℕ, zero, suc, _+_, _-_, _*_, _≤_, _<_}
 use native.Mathlib.Numerals.{add-one}
 use native.Mathlib.Omega.{arith}
 use mathlib.Core.Path.{_≡_, refl, sym, ap, _∙_}
-use mathlib.Core.Bool.{Bool, true, false, cond, _&&_}
+use mathlib.Core.Bool.{Bool, true, false, cond}
 use mathlib.Core.List.{List, [], _∷_, _++_, map, append-nil}
 use mathlib.Core.Option.{Option, none, some}
-use lib.Dec.{leb, ltb, eqb}
+use lib.Dec.{eqb}
 use lib.ListN.{length, getD, set, length-set}
 use lib.Seq.{getD-set-same, getD-set-other}
 use borrow.Author.Tests.{le-leb, lt-leb, eq-eqb, ne-eqb}
 use Rattle.tables.specs.declared.Table.{Table}
-use Rattle.tables.specs.Rows.{Row, rowsFrom, rows, Lies, next, between, flip, firstIn, lesser, leastOf, without}
+use Rattle.tables.specs.Rows.{Row, rowsFrom, rows, next, between, flip, firstIn, lesser, leastOf, without}
 
 pub from-length : (k at : ℕ) (t : List ℕ) → length (rowsFrom k at t) ≡ k
 unfolding rowsFrom

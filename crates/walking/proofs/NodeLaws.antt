@@ -2,31 +2,30 @@
 use Prim.Native.Nat.{ℕ, _+_, _≤_}
 use native.Mathlib.Omega.{arith}
 use mathlib.Core.Path.{_≡_, refl, sym, ap, subst, _∙_}
-use mathlib.Core.Bool.{Bool, true, false, cond}
-use mathlib.Core.List.{List, []}
+use mathlib.Core.Bool.{Bool, false}
+use mathlib.Core.List.{List}
 use lib.ListN.{length, getD}
 use lib.Seq.{slice}
 use Rattle.tree.specs.declared.layout.Reach.the-variants.{Upto, Short}
-use Rattle.tree.specs.Tree.{Field, field, Fields, none, more, encode, encodes, fixedOf}
+use Rattle.tree.specs.Tree.{Field, field, Fields, encode, fixedOf}
 use Rattle.tree.specs.Access.{fixedAt}
 use Rattle.tree.specs.Standing.{treeAt, rowAt}
 use Rattle.tree.proofs.AccessLaws.{upto-in}
 use Rattle.tree.proofs.StandingLaws.{tree-upto}
 use Rattle.lent.specs.Outcome.{Outcome, done, refused, onto}
 use Rattle.lent.specs.Fields.{inside}
-use Rattle.extraction_rules.specs.State.{State, Pass, first, second, Setting, Act, setTop}
+use Rattle.extraction_rules.specs.State.{State, Setting, Act, setTop}
 use Rattle.extraction_rules.specs.First.{exportSpecifier, declarator}
 use Rattle.extraction_rules.specs.Walk.{walk, walkAll, walkMember, walkAssignment, walkTarget}
 use Rattle.extraction_rules.proofs.AlikeLaws.{Regular}
-use Rattle.kept.specs.Kept.{At, Good}
+use Rattle.kept.specs.Kept.{Good}
 use Rattle.kept.specs.Does.{Turns}
 use Rattle.steps.specs.declared.Setting.{Setting as CodeSetting}
 use Rattle.steps.specs.declared.Step.{Step}
-use Rattle.steps.specs.declared.Step.the-variants.{Done}
-use Rattle.steps.specs.Step.{Sound, SoundAll, Steps, withParts}
+use Rattle.steps.specs.Step.{Steps, withParts}
 use Rattle.steps.proofs.SoundLaws.{read-short, inside-fixed, sound-parts}
-use Rattle.steps.proofs.StepsLaws.{steps-by, steps-as, steps-changed, steps-never}
-use Rattle.walking.specs.Walking.{Reads, FieldSteps, RowSteps, NodeSteps}
+use Rattle.steps.proofs.StepsLaws.{steps-as, steps-changed, steps-never}
+use Rattle.walking.specs.Walking.{FieldSteps, NodeSteps}
 use Rattle.walking.proofs.TagLaws.{walk-plain, walk-45, walk-64, walk-66, walk-23, walk-42}
 
 -- bytes that are no field cannot have been read

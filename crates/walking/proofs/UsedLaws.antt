@@ -3,16 +3,15 @@ use Prim.Native.Nat.{ℕ, _+_}
 use native.Mathlib.Omega.{arith}
 use mathlib.Core.Path.{_≡_, refl, sym, ap, subst, _∙_}
 use mathlib.Core.Logic.{_⊎_, inl, inr}
-use mathlib.Core.Bool.{Bool, true, false, cond, _&&_}
-use mathlib.Core.List.{List, [], _∷_, _++_}
+use mathlib.Core.Bool.{Bool, true, false, cond}
+use mathlib.Core.List.{List}
 use mathlib.Core.Option.{Option, none as nothing, some}
 use lib.Dec.{eqb}
 use borrow.Author.Tests.{eqb-true, eqb-false, eq-eqb, ne-eqb}
 use Rattle.tree.specs.Layout.{valueOf}
 use Rattle.tree.specs.Tree.{Field, field, Fields, none, more, tagOf, fixedOf, size}
 use Rattle.lent.specs.Outcome.{Outcome, done, refused, onto}
-use Rattle.lent.specs.Fields.{has, inside}
-use Rattle.extraction_rules.specs.State.{Record, State, Pass, first, second, Setting}
+use Rattle.extraction_rules.specs.State.{Record, State, first, Setting}
 use Rattle.extraction_rules.specs.First.{importedAs, onIdent, usedRecord, moduleFor, useProperty, useFrom, useImported, usage}
 use Rattle.extraction_rules.specs.Walk.{walk, walkAll, walkMember}
 use Rattle.extraction_rules.proofs.OutcomeLaws.{After, after-bind, after-weaken}

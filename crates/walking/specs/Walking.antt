@@ -8,7 +8,7 @@ use Rattle.writer.specs.Wrote.{Wrote}
 use Rattle.tree.specs.Tree.{Field, field, Fields, none, more, encode, encodes}
 use Rattle.tree.specs.Standing.{treeAt, rowAt}
 use Rattle.lent.specs.Table.{atomsIn, rowsIn}
-use Rattle.lent.specs.Outcome.{Outcome, done, refused, onto}
+use Rattle.lent.specs.Outcome.{refused, onto}
 use Rattle.extraction_rules.specs.State.{State, Setting, Act, _>>=_, give}
 use Rattle.extraction_rules.specs.First.{bindings, required, collect, addLazy, requireLazily, declarator}
 use Rattle.extraction_rules.specs.Walk.{walkAll}

@@ -6,7 +6,6 @@ use Prim.Native.Nat.{ℕ, suc, _+_, _-_, _≤_, _<_, min}
 use native.Mathlib.Numerals.{add-one}
 use native.Mathlib.Omega.{arith}
 use borrow.Author.Tests.{leb-true, leb-false, le-leb, lt-leb}
-use lib.Dec.{leb}
 use lib.ListN.{length, take, drop, replicate, set, length-set}
 use lib.Seq.{sets-eq, take-all, take-suc-set, take-append-seam, append-snoc}
 use Rattle.writer.specs.Wrote.{Wrote}

@@ -1,6 +1,5 @@
-use mathlib.Core.Path.{sym, ap, subst, _∙_, _≡_}
+use mathlib.Core.Path.{sym, ap, _∙_}
 use native.Mathlib.Omega.{arith}
-use Prim.Native.Nat.{ℕ, _+_}
 use Rattle.lent.specs.Table.{rowsIn}
 use Rattle.steps.specs.Step.{passOf}
 use Rattle.walking.specs.Walking.{set}

@@ -1,4 +1,4 @@
-use mathlib.Core.Path.{sym, ap, subst, _∙_, _≡_}
+use mathlib.Core.Path.{sym, _∙_}
 use native.Mathlib.Omega.{arith}
 use Rattle.walking.specs.Walking.{set}
 use Rattle.extraction.proofs.ItemLaws.{item-plain, item-40, item-41, item-bare}

@@ -1,5 +1,4 @@
 -- `kept::imported::add_usage` meets its contract.
-use mathlib.Core.Path.{refl}
 use Rattle.kept.specs.Kept.{uses}
 use native.Mathlib.Omega.{arith}
 use Rattle.kept.proofs.UsageLaws.{usage-made, usage-full}

@@ -1,5 +1,4 @@
 -- `kept::imported::forget` meets its contract.
-use mathlib.Core.Path.{refl, _∙_}
 use Rattle.kept.specs.Kept.{imports, uses}
 use Rattle.kept.proofs.UsageLaws.{uses-dropped, forgotten}
 use borrow.Author.Needs.{needs}

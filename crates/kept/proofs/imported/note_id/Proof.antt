@@ -1,5 +1,5 @@
 -- `kept::imported::note_id` meets its contract.
-use mathlib.Core.Path.{refl, _∙_, sym, ap}
+use mathlib.Core.Path.{_∙_, sym, ap}
 use Rattle.tables.specs.Rows.{placeBy}
 use Rattle.kept.specs.Kept.{imports}
 use native.Mathlib.Omega.{arith}

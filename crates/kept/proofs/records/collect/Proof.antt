@@ -1,5 +1,5 @@
 -- `kept::records::collect` meets its contract.
-use mathlib.Core.Path.{refl, _∙_, sym, ap}
+use mathlib.Core.Path.{_∙_, sym, ap}
 use Rattle.tables.specs.Rows.{placeBy}
 use Rattle.kept.specs.Kept.{records}
 use native.Mathlib.Omega.{arith}

@@ -1,5 +1,4 @@
 use mathlib.Core.Path.{_≡_, sym, ap, subst, _∙_}
-use mathlib.Core.Option.{none as nothing}
 use native.Mathlib.Omega.{arith}
 use Rattle.tables.specs.Rows.{leastBy}
 use Rattle.lent.specs.Lists.{find}

@@ -1,4 +1,4 @@
-use mathlib.Core.Path.{sym, _∙_}
+use mathlib.Core.Path.{_∙_}
 use native.Mathlib.Omega.{arith}
 use Rattle.recording.proofs.CollectedLaws.{whole-other, whole-is, whole-differs}
 use borrow.Author.Needs.{needs}
