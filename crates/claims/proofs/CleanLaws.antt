@@ -1,35 +1,32 @@
 -- Other imports in both passes: none of their specifiers comes to hold the namespace's id.
 use Prim.Native.Nat.{ℕ, _+_, _<_}
-use mathlib.Core.Path.{_≡_, refl, sym, ap, ap₂, subst, _∙_}
-use mathlib.Core.Logic.{_⊎_, inl, inr}
-use mathlib.Core.Bool.{Bool, true, false, not, cond, _&&_, _||_, true≢false}
-use mathlib.Core.List.{List, [], _∷_, _++_, append-nil}
+use mathlib.Core.Path.{_≡_, refl, sym, ap, subst, _∙_}
+use mathlib.Core.Bool.{Bool, true, false, not, cond, _||_}
+use mathlib.Core.List.{List, [], _∷_, _++_}
 use mathlib.Core.Option.{Option, none as nothing, some}
 use native.Mathlib.Omega.{arith}
-use lib.Dec.{leb, eqb}
+use lib.Dec.{eqb}
 use lib.ListN.{length, take, drop, getD, length-take, length-drop}
 use borrow.Author.Tests.{eqb-true}
 use Rattle.scope.specs.Id.{local, export}
-use Rattle.tree.specs.Layout.{same, four, idAt, nameOf, contextOf, valueOf}
+use Rattle.tree.specs.Layout.{same, four, idAt, contextOf, valueOf}
 use Rattle.tree.specs.Tree.{Field, field, Fields, none, more, tagOf, fixedOf, partsOf, size}
 use Rattle.tree.specs.Within.{Exact}
-use Rattle.tree.proofs.LayoutLaws.{same-refl, same-equal}
-use Rattle.metadata.specs.Metadata.{append, withMetadata}
-use Rattle.lent.specs.Outcome.{Outcome, done, onto}
+use Rattle.metadata.specs.Metadata.{append}
+use Rattle.lent.specs.Outcome.{done, onto}
 use Rattle.lent.specs.Lists.{filter, among}
-use Rattle.lent.specs.Fields.{has, keep, sole, inside}
-use Rattle.extraction_rules.specs.State.{Record, Imported, Usage, State, Setting, give, change, refuse}
-use Rattle.extraction_rules.specs.First.{external, idFrom, moduleFor, collect, noteId, outsideName, noteNamed, notedContext, noteSpecifier, noteAll, noteSpecifiers, specifiersIn, attributesIn, attributesOf, withContext, importFirst}
+use Rattle.lent.specs.Fields.{has, sole, inside}
+use Rattle.extraction_rules.specs.State.{Usage, State, Setting, give, refuse}
+use Rattle.extraction_rules.specs.First.{external, idFrom, moduleFor, collect, noteId, outsideName, noteNamed, notedContext, noteSpecifier, noteAll, noteSpecifiers, specifiersIn, attributesIn, withContext, importFirst}
 use Rattle.extraction_rules.specs.Second.{usagesOf, specifiersFrom, takeApart, onSole, importSecond}
 use Rattle.extraction_rules.specs.Walk.{partsFor}
 use Rattle.extraction_rules.proofs.OutcomeLaws.{After, after-bind, after-if}
 use Rattle.extraction_rules.proofs.ValueLaws.{after-any}
 use Rattle.extraction_rules.proofs.ListLaws.{All, all-filter, same-not, not-same}
 use Rattle.extraction_rules.proofs.ExactLaws.{width-20}
-use Rattle.extraction_rules.proofs.TableLaws.{Each, each-append, append-none, each-weaken}
 use Rattle.extraction_rules.proofs.SpaceLaws.{Property}
-use Rattle.claims.specs.Stands.{How, imported, otherwise, namedIds, idsIn}
-use Rattle.claims.specs.Demand.{propertyFields}
+use Rattle.extraction_rules.proofs.KeepLaws.{specifiers-front, notAttributes, no-context, no-specifiers, Each, each-weaken}
+use Rattle.claims.specs.Stands.{How, imported, otherwise, idsIn}
 use Rattle.claims.proofs.WaysLaws.{met, ways, waysAll}
 use Rattle.claims.proofs.OutLaws.{export-foreign}
 
@@ -42,50 +39,12 @@ outside-two x l k = go (eqb (getD x 6 0) 1) refl
     go true q = let z = k (eqb-true (getD x 6 0) 1 q) in simp (length-drop, length-take) (omega arith)
     go false q = simp length-take (omega arith)
 
--- specifiers and attributes apart
-pub keep-append : (p : Field → Bool) (fs gs : Fields) → keep p (append fs gs) ≡ append (keep p fs) (keep p gs)
-unfolding keep append
-keep-append p none gs = refl
-keep-append p (more f fs) gs = go (p f) (keep-append p fs gs)
-  where
-    go : (b : Bool) → keep p (append fs gs) ≡ append (keep p fs) (keep p gs) → cond b (more f (keep p (append fs gs))) (keep p (append fs gs)) ≡ append (cond b (more f (keep p fs)) (keep p fs)) (keep p gs)
-    go true h = ap (more f) h
-    go false h = h
-
-pub no-specifiers : (ds : Fields) → specifiersIn (attributesIn ds) ≡ none
-unfolding keep
-no-specifiers none = refl
-no-specifiers (more f fs) = go (has 0x2F f) refl (no-specifiers fs)
-  where
-    go : (b : Bool) → has 0x2F f ≡ b → specifiersIn (attributesIn fs) ≡ none → specifiersIn (cond b (more f (attributesIn fs)) (attributesIn fs)) ≡ none
-    go true q h = rw q h
-    go false q h = h
-
-pub no-context : (m : Option ℕ) (ds : Fields) → specifiersIn (withContext m ds) ≡ none
-unfolding keep withContext withMetadata
-no-context nothing ds = no-specifiers ds
-no-context (some n) ds = refl
-
 -- a specifier is no 2F
 abbrev pub Spec : Field → Type 0
 Spec f = has 0x2F f ≡ false
 
-pub specs-kept : (fs : Fields) → Each Spec fs → specifiersIn fs ≡ fs
-unfolding keep
-specs-kept none h = refl
-specs-kept (more f fs) h = rw (h .0) (ap (more f) (specs-kept fs (h .1)))
-
 pub specs-of : (fs gs : Fields) → Each Spec fs → specifiersIn gs ≡ none → specifiersIn (append fs gs) ≡ fs
-specs-of fs gs h k = keep-append (λ f. not (has 0x2F f)) fs gs ∙ ap₂ {C = Fields} append (specs-kept fs h) k ∙ append-none fs
-
-pub keep-specs : (ds : Fields) → Each Spec (specifiersIn ds)
-unfolding keep
-keep-specs none = tt
-keep-specs (more f fs) = go (has 0x2F f) refl (keep-specs fs)
-  where
-    go : (b : Bool) → has 0x2F f ≡ b → Each Spec (specifiersIn fs) → Each Spec (cond (not b) (more f (specifiersIn fs)) (specifiersIn fs))
-    go true q h = h
-    go false q h = (q, h)
+specs-of fs gs h k = specifiers-front fs gs (each-weaken Spec (λ f. notAttributes f ≡ true) fs (λ f q. ap not q) h) k
 
 module _ (i : List ℕ) (own : ℕ) (context : contextOf i ≡ four (local own)) where
   -- the id stands nowhere in it

@@ -23,13 +23,13 @@ use Rattle.extraction_rules.specs.Records.{recordFields, recordsOf}
 use Rattle.extraction_rules.specs.Call.{Lent, Lengths, Extracted, setting}
 use Rattle.extraction_rules.proofs.OutcomeLaws.{After, after-both, after-done}
 use Rattle.extraction_rules.proofs.ListLaws.{all-weaken}
-use Rattle.extraction_rules.proofs.TableLaws.{Each, each-weaken}
 use Rattle.extraction_rules.proofs.SpaceLaws.{Property, Spaces, spaces-say}
 use Rattle.extraction_rules.proofs.SanityLaws.{Numbered, numbered-steps, numbered-end}
 use Rattle.extraction_rules.proofs.ShapeLaws.{Shaped, ShapedAll, shaped-parts, shaped-each}
 use Rattle.extraction_rules.proofs.ReadableLaws.{Items, run-within}
 use Rattle.extraction_rules.proofs.WalkLaws.{walkAgain-keeps, imports-any-all}
 use Rattle.extraction_rules.proofs.CallLaws.{Run, run-both}
+use Rattle.extraction_rules.proofs.KeepLaws.{Each, each-weaken}
 use Rattle.resolving_rules.specs.Resolve.{sourcesIn, forcedIn, numberAll, resolvedSpecifiers, resolvedAll}
 use Rattle.resolving_rules.proofs.ResolveLaws.{numberAll-keeps, namespace-made}
 use Rattle.claims.specs.Stands.{How, stands, isUse, properties}

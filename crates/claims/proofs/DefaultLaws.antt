@@ -1,27 +1,23 @@
 -- In a well placed tree no default import has the id of a namespace: which ids have usages.
 use Prim.Native.Nat.{ℕ, zero, suc}
-use mathlib.Core.Path.{_≡_, refl, sym, ap, ap₂, subst, _∙_}
-use mathlib.Core.Logic.{_⊎_, inl, inr}
-use mathlib.Core.Bool.{Bool, true, false, not, cond, _&&_, _||_, true≢false}
-use mathlib.Core.List.{List, [], _∷_}
-use mathlib.Core.Option.{Option, none as nothing, some}
+use mathlib.Core.Path.{_≡_, refl, sym, ap, subst, _∙_}
+use mathlib.Core.Logic.{inl, inr}
+use mathlib.Core.Bool.{Bool, true, false, not, cond, _||_, true≢false}
+use mathlib.Core.List.{List}
+use mathlib.Core.Option.{some}
 use native.Mathlib.Omega.{arith}
-use lib.Dec.{eqb}
-use borrow.Author.Tests.{eqb-true, eq-eqb}
+use borrow.Author.Tests.{eqb-true}
 use Rattle.scope.specs.Id.{local}
-use Rattle.tree.specs.declared.grammar.Rule.{Rule}
-use Rattle.tree.specs.declared.grammar.Set.the-variants.{Specifier}
 use Rattle.tree.specs.Layout.{same, four, idAt, contextOf, valueOf}
 use Rattle.tree.specs.Tree.{Field, Fields, none, more, tagOf, fixedOf, partsOf}
-use Rattle.tree.specs.Grammar.{holdsAt}
 use Rattle.tree.proofs.LayoutLaws.{same-refl, same-equal}
 use Rattle.lent.specs.Lists.{isSome, among}
 use Rattle.lent.specs.Fields.{has, keep, findField, sole}
 use Rattle.extraction_rules.specs.First.{specifiersIn}
 use Rattle.extraction_rules.proofs.ShapeLaws.{Shaped, Specifiers, import-parts, shaped-parts}
-use Rattle.extraction_rules.proofs.TableLaws.{Each}
-use Rattle.extraction_rules.proofs.SpaceLaws.{OfSpace, OfImport}
-use Rattle.claims.specs.Placed.{all, importsIn, sharesNone, localsOf, localIds, ownLocals, soleNamespace}
+use Rattle.extraction_rules.proofs.SpaceLaws.{OfImport}
+use Rattle.extraction_rules.proofs.KeepLaws.{Each}
+use Rattle.claims.specs.Placed.{importsIn, sharesNone, localIds, ownLocals, soleNamespace}
 use Rattle.claims.specs.Demand.{itemAt}
 use Rattle.claims.proofs.SpecifierLaws.{locals-other, locals-all, whole-specifier}
 use Rattle.claims.proofs.PlacedLaws.{EachImport, EachBut, Apart, shares-apart, each-at, but-with}

@@ -1,32 +1,28 @@
 -- From what the two passes leave to the words of demand 3: the declaration, the uses, and the name that is gone.
-use Prim.Native.Nat.{ℕ, zero, suc, _+_}
-use mathlib.Core.Path.{_≡_, refl, sym, ap, ap₂, subst, _∙_}
-use mathlib.Core.Logic.{_⊎_, inl, inr}
-use mathlib.Core.Bool.{Bool, true, false, not, cond, _&&_, _||_, true≢false}
-use mathlib.Core.List.{List, [], _∷_, _++_, map, append-nil}
-use mathlib.Core.Option.{Option, none as nothing, some}
+use Prim.Native.Nat.{ℕ, zero, suc}
+use mathlib.Core.Path.{_≡_, refl, sym, ap, subst, _∙_}
+use mathlib.Core.Logic.{inl, inr}
+use mathlib.Core.Bool.{Bool, true, false, cond, true≢false}
+use mathlib.Core.List.{List, [], _∷_}
+use mathlib.Core.Option.{some}
 use native.Mathlib.Omega.{arith}
-use lib.Dec.{eqb}
 use Rattle.scope.specs.Id.{require-atom, local, export}
-use Rattle.tree.specs.Layout.{same, two, four, nameOf, contextOf, valueOf}
-use Rattle.tree.specs.Tree.{Field, field, Fields, none, more, tagOf, fixedOf, partsOf, size}
+use Rattle.tree.specs.Layout.{same, two, four, nameOf, contextOf}
+use Rattle.tree.specs.Tree.{Field, field, Fields, none, more, tagOf, fixedOf, partsOf}
 use Rattle.lent.specs.Lists.{filter}
-use Rattle.lent.specs.Fields.{has, keep}
+use Rattle.lent.specs.Fields.{keep}
 use Rattle.extraction_rules.specs.First.{specifiersIn, stays}
-use Rattle.extraction_rules.specs.Walk.{partsFor}
-use Rattle.extraction_rules.proofs.AlikeLaws.{RegularAll}
-use Rattle.extraction_rules.proofs.TableLaws.{Each}
-use Rattle.claims.specs.Stands.{How, Standing, idsIn, headOf, tailOf, standings, standingsAll, stands, isUse, properties}
+use Rattle.extraction_rules.proofs.StayLaws.{import-stays}
+use Rattle.extraction_rules.proofs.KeepLaws.{Each}
+use Rattle.claims.specs.Stands.{How, Standing, standings, standingsAll, stands, isUse, properties}
 use Rattle.claims.specs.Demand.{Every, itemAt, Declares, usesOf, propertyFields}
-use Rattle.claims.proofs.WaysLaws.{met, ways, waysAll, hows, hows-standings, stands-ways}
-use Rattle.claims.proofs.HowLaws.{Neutral}
-use Rattle.claims.proofs.FirstPassLaws.{OtherImport, OwnImport, Behind, Around, QuietAll, quietAll-neutral, import-ways}
+use Rattle.claims.proofs.WaysLaws.{ways, waysAll, hows, hows-standings, stands-ways}
+use Rattle.claims.proofs.FirstPassLaws.{Behind, Around, QuietAll, quietAll-neutral, import-ways}
 use Rattle.claims.proofs.SettledLaws.{takesApart}
-use Rattle.claims.proofs.OutLaws.{OutAll, Fine, fine-append}
+use Rattle.claims.proofs.OutLaws.{Fine, fine-append}
 use Rattle.claims.proofs.GoneLaws.{goneAll}
 use Rattle.claims.proofs.UsesLaws.{every-append, every-filter, Good, Uses, usesAll}
-use Rattle.claims.proofs.CleanLaws.{Clean, CleanSpec, Absent}
-use Rattle.claims.proofs.WorkedLaws.{import-stays}
+use Rattle.claims.proofs.CleanLaws.{Clean, CleanSpec}
 use Rattle.claims.proofs.OutsLaws.{keep-ways, keep-regular, ownSpecifiers, OwnOut, OutsBehind, Outs}
 
 -- no use among these standings

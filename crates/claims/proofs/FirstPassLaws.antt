@@ -1,33 +1,32 @@
 -- The whole first pass: at its end the state holds of a namespace what all its ways to stand tell.
 use Prim.Native.Nat.{ℕ, zero, suc, _+_}
-use mathlib.Core.Path.{_≡_, refl, sym, ap, ap₂, subst, _∙_}
+use mathlib.Core.Path.{_≡_, refl, sym, subst, _∙_}
 use mathlib.Core.Logic.{_⊎_, inl, inr}
-use mathlib.Core.Bool.{Bool, true, false, not, cond, _&&_, _||_, true≢false, and-true}
-use mathlib.Core.List.{List, [], _∷_, _++_, append-nil, append-assoc}
-use mathlib.Core.Option.{Option, none as nothing, some}
+use mathlib.Core.Bool.{Bool, true, false}
+use mathlib.Core.List.{List, [], _++_, append-nil}
+use mathlib.Core.Option.{some}
 use borrow.Author.Tests.{eqb-true, ne-eqb}
 use Rattle.scope.specs.Id.{require-atom, local}
 use Rattle.scope.specs.Modules.{Modules}
 use Rattle.tree.specs.Layout.{same, two, four, nameOf, contextOf, valueOf}
 use Rattle.tree.specs.Tree.{Field, field, Fields, none, more, tagOf, fixedOf, partsOf, size}
-use Rattle.lent.specs.Outcome.{Outcome, done, onto}
 use Rattle.lent.specs.Lists.{find, filter, among}
 use Rattle.lent.specs.Table.{fileOf}
-use Rattle.lent.specs.Fields.{has}
 use Rattle.extraction_rules.specs.State.{State, first, Setting, start, setTop}
 use Rattle.extraction_rules.specs.First.{external, specifiersIn, importFirst}
 use Rattle.extraction_rules.specs.Second.{usagesOf}
-use Rattle.extraction_rules.specs.Walk.{Parts, unwalked, member, super, assignment, children, partsFor, walk, walkAll, walkModule}
+use Rattle.extraction_rules.specs.Walk.{children, partsFor, walk, walkAll, walkModule}
 use Rattle.extraction_rules.proofs.OutcomeLaws.{After, after-bind, after-weaken}
 use Rattle.extraction_rules.proofs.AlikeLaws.{RegularAll}
-use Rattle.extraction_rules.proofs.TableLaws.{Each, filter-append}
+use Rattle.extraction_rules.proofs.TableLaws.{filter-append}
 use Rattle.extraction_rules.proofs.ValueLaws.{walk-first}
-use Rattle.claims.specs.Stands.{stands, How, idsIn, objectIds, isUse, properties}
+use Rattle.extraction_rules.proofs.KeepLaws.{Each}
+use Rattle.claims.specs.Stands.{stands, How, idsIn, isUse, properties}
 use Rattle.claims.specs.Placed.{all}
-use Rattle.claims.proofs.WaysLaws.{stands-ways, met, ways, waysAll, waysMember, waysAssignment, waysTarget, waysParts}
+use Rattle.claims.proofs.WaysLaws.{stands-ways, met, ways, waysAll}
 use Rattle.claims.proofs.HowLaws.{plain-append, properties-append, Neutral, unused-neutral, ids-unused}
-use Rattle.claims.proofs.HeldLaws.{Held, Unfelt, held-unfelt, held-like, held-neutral, held-assoc, held-top, walkAll-held}
-use Rattle.claims.proofs.ImportedLaws.{unfelt-refl, OtherSpace, OtherLocal, import-other, Before, before-unfelt, Redeclared, import-own}
+use Rattle.claims.proofs.HeldLaws.{Held, Unfelt, held-unfelt, held-like, held-neutral, held-assoc, walkAll-held}
+use Rattle.claims.proofs.ImportedLaws.{OtherSpace, OtherLocal, import-other, Before, before-unfelt, Redeclared, import-own}
 
 -- ---- Imports hold no use
 

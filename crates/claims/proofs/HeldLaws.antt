@@ -1,6 +1,6 @@
 -- The first pass over the items behind the imports: what the state holds of one namespace is told by how its id has stood so far.
 use Prim.Native.Nat.{ℕ, _+_, _≤_}
-use mathlib.Core.Path.{_≡_, refl, sym, ap, ap₂, subst, _∙_}
+use mathlib.Core.Path.{_≡_, refl, sym, ap, subst, _∙_}
 use mathlib.Core.Logic.{_⊎_, inl, inr}
 use mathlib.Core.Bool.{Bool, true, false, not, cond, _&&_, _||_, true≢false, and-assoc, and-comm, and-false, and-true}
 use mathlib.Core.List.{List, [], _∷_, _++_, map, append-nil, append-assoc}
@@ -8,31 +8,32 @@ use mathlib.Core.Option.{Option, none as nothing, some}
 use native.Mathlib.Omega.{arith}
 use lib.Dec.{eqb}
 use lib.ListN.{length, getD}
-use borrow.Author.Tests.{eqb-true, ne-eqb}
+use borrow.Author.Tests.{eqb-true, ne-eqb, eqb-false}
 use Rattle.scope.specs.Id.{require-atom, export}
-use Rattle.scope.specs.Modules.{Modules, numberOf, request, requestBy, setMark}
+use Rattle.scope.specs.Modules.{Modules, numberOf, request, setMark}
 use Rattle.scope.specs.declared.Mark.the-variants.{Cjs}
 use Rattle.scope.proofs.Laws.{request-keeps-numbers, mark-keeps-numbers}
 use Rattle.tree.specs.Layout.{same, two, four, idAt, nameOf, valueOf}
-use Rattle.tree.specs.Tree.{Field, field, Fields, none, more, tagOf, fixedOf, partsOf, size}
+use Rattle.tree.specs.Tree.{Field, field, Fields, none, more, tagOf, fixedOf, size}
 use Rattle.tree.proofs.LayoutLaws.{same-refl, same-equal}
 use Rattle.tree.specs.Grammar.{within}
-use Rattle.metadata.specs.Metadata.{append}
-use Rattle.lent.specs.Outcome.{Outcome, done, refused, onto}
-use Rattle.lent.specs.Lists.{find, filter, isSome, mapped, among}
+use Rattle.metadata.proofs.EncodeLaws.{append-none}
+use Rattle.lent.specs.Outcome.{Outcome, done, onto}
+use Rattle.lent.specs.Lists.{find, filter, mapped, among}
 use Rattle.lent.specs.Table.{fileOf}
 use Rattle.lent.specs.Fields.{has, findField, inside}
-use Rattle.extraction_rules.specs.State.{Record, Imported, Usage, State, Pass, first, second, Setting, Act, change, refuse, roomFor, setModules, setImported, setUsages, setCollected, setLazy, setTop}
-use Rattle.extraction_rules.specs.First.{idFrom, requested, moduleOf, moduleFor, forceId, onIdent, importedAs, usedRecord, useProperty, useFrom, useImported, usage, required, collectIn, require, exportSpecifier, declarator}
+use Rattle.extraction_rules.specs.State.{Record, Usage, State, Pass, first, second, Setting, Act, change, refuse, setModules, setUsages, setCollected, setLazy, setTop}
+use Rattle.extraction_rules.specs.First.{idFrom, moduleFor, forceId, onIdent, importedAs, usedRecord, useProperty, useFrom, useImported, usage, required, collectIn, require, exportSpecifier, declarator}
 use Rattle.extraction_rules.specs.Second.{usagesOf}
 use Rattle.extraction_rules.specs.Walk.{Rule, import, export as exporting, declare, express, nothing as nil, afterExpression, ruleFor, after, Parts, unwalked, member, super, assignment, children, partsFor, enter, walk, walkAll, walkMember, walkAssignment, walkTarget}
 use Rattle.extraction_rules.proofs.OutcomeLaws.{After, after-bind, after-weaken, after-both, after-if}
-use Rattle.extraction_rules.proofs.ListLaws.{same-not, not-same}
+use Rattle.extraction_rules.proofs.ListLaws.{not-same}
 use Rattle.extraction_rules.proofs.WalkLaws.{walkParts}
-use Rattle.extraction_rules.proofs.TagLaws.{rule-import, ruleCode, other-rule, rule-export, partsCode, other-parts, parts-member, parts-assignment, parts-unwalked}
-use Rattle.extraction_rules.proofs.TableLaws.{recordOf, record-empty, seek, holdsIn, suitsIn, seek-collect, append-none, force-own, force-other, force-tables, forgotten-imported, other-imported, forgotten-usages, other-usages, usages-last, usages-other}
+use Rattle.extraction_rules.proofs.TagLaws.{rule-import, other-rule, rule-export, other-parts, parts-member, parts-assignment, parts-unwalked}
+use Rattle.extraction_rules.proofs.TableLaws.{recordOf, record-empty, seek, holdsIn, suitsIn, seek-collect, force-own, force-other, force-tables, forgotten-imported, other-imported, forgotten-usages, other-usages, usages-last, usages-other}
 use Rattle.extraction_rules.proofs.StepLaws.{RequireSteps, enter-keeps, moduleFor-keeps, declarator-keeps, require-keeps, addUsage-keeps}
-use Rattle.extraction_rules.proofs.AlikeLaws.{Two, RegularAt, Regular, RegularAll, SameBytes, Alike, AlikeAll, alike-more, alike-two, walk-alike, walkAll-alike, walkMember-alike, walkAssignment-alike, walkTarget-alike, parts-alike}
+use Rattle.extraction_rules.proofs.AlikeLaws.{Two, RegularAt, Regular, RegularAll, AlikeAll, alike-two, walkAll-alike, walkMember-alike, walkAssignment-alike, parts-alike}
+use Rattle.extraction_rules.proofs.StayLaws.{no-member}
 use Rattle.claims.specs.Stands.{How, plain, computed, bare, original, imported, otherwise, idsIn, byMember, objectIds, isUse, isPlain, properties}
 use Rattle.claims.specs.Placed.{all}
 use Rattle.claims.proofs.WaysLaws.{met, ways, waysAll, waysMember, waysAssignment, waysTarget, waysParts, waysObject, object-alike}
@@ -331,12 +332,6 @@ module _ (i lit : List ℕ) (own file n : ℕ) where
     then-require : (us : List How) (f : Field) (p : ℕ) (m : Outcome (Unit {0} × State)) → After m (λ r t. H us t) → After (onto m (λ r. require (required e f) e f p (r .1))) (λ g t. H us t)
     then-require us f p m h = after-bind m _ (λ r t. H us t) (λ g t. H us t) h λ r s h. require-keeps e (H us) (held-requires e us) (λ s l b h. held-unfelt us s (setCollected (collectIn (record { literal = l; specifiers = none }) (s .collected)) s) (unfelt-empty us s l h) h) f p s h
 
-    no-ident : (t : ℕ) (x : List ℕ) (ds : Fields) → eqb t 0x63 ≡ false → onIdent (field t x ds) ≡ nothing
-    unfolding onIdent
-    no-ident t x none d = refl
-    no-ident t x (more o none) d = refl
-    no-ident t x (more o (more q qs)) d = rw d
-
     -- a 60 where *object* is clear
     bare-held : (us : List How) (t : ℕ) (x : List ℕ) (s : State) → t ≡ 0x60 → (t ≡ 0x60 → idAt x 0 ≡ x) → H us s → H (us ++ met (idsIn t x false) i) (forceId x s)
     unfolding idsIn
@@ -349,7 +344,7 @@ module _ (i lit : List ℕ) (own file n : ℕ) where
     expression-held us t x ds object p s d k w h = go (eqb t 0x60) object refl
       where
         quietly : (b : Bool) → (eqb t 0x60 ≡ true → b ≡ true) → After (onto (usage (onIdent (field t x ds)) e p s) (λ r. require (required e (field t x ds)) e (field t x ds) p (r .1))) (λ g t′. H (us ++ met (idsIn t x b) i) t′)
-        quietly b v = then-require (us ++ met (idsIn t x b) i) (field t x ds) p (usage (onIdent (field t x ds)) e p s) (rw (no-ident t x ds d) (held-neutral us (met (idsIn t x b) i) s (unused-neutral (idsIn t x b) i (ids-unused t x b k v)) h))
+        quietly b v = then-require (us ++ met (idsIn t x b) i) (field t x ds) p (usage (onIdent (field t x ds)) e p s) (rw (no-member t x ds (eqb-false t 0x63 d)) (held-neutral us (met (idsIn t x b) i) s (unused-neutral (idsIn t x b) i (ids-unused t x b k v)) h))
 
         go : (c b : Bool) → eqb t 0x60 ≡ c →
             After (cond {A = Act Field} (c && not b) (λ s. done (field t x ds, forceId x s)) (λ s. onto (usage (onIdent (field t x ds)) e p s) (λ r. require (required e (field t x ds)) e (field t x ds) p (r .1))) s) (λ g t′. H (us ++ met (idsIn t x b) i) t′)

@@ -1,33 +1,31 @@
 -- The first pass over the imports: how a namespace comes to be held, and that other imports do not touch it.
 use Prim.Native.Nat.{ℕ, _+_}
-use mathlib.Core.Path.{_≡_, refl, sym, ap, ap₂, subst, _∙_}
-use mathlib.Core.Bool.{Bool, true, false, not, cond, _&&_, _||_, true≢false, or-false}
-use mathlib.Core.List.{List, [], _∷_, _++_, map}
+use mathlib.Core.Path.{_≡_, refl, sym, ap, _∙_}
+use mathlib.Core.Bool.{Bool, true, false, cond, _&&_, true≢false}
+use mathlib.Core.List.{List, []}
 use mathlib.Core.Option.{Option, none as nothing, some}
-use native.Mathlib.Omega.{arith}
 use lib.Dec.{leb, eqb}
 use lib.ListN.{length, getD}
 use Rattle.scope.specs.Id.{local, export}
 use Rattle.scope.specs.Modules.{Modules, numberOf, request}
 use Rattle.scope.proofs.Laws.{request-keeps-numbers, request-numbers}
 use Rattle.tree.specs.Layout.{same, four, idAt, nameOf, contextOf, valueOf}
-use Rattle.tree.specs.Tree.{Field, field, Fields, none, more, tagOf, fixedOf, partsOf, size}
+use Rattle.tree.specs.Tree.{Field, field, Fields, none, more, fixedOf, size}
 use Rattle.tree.proofs.LayoutLaws.{same-refl, same-equal}
 use Rattle.metadata.specs.Metadata.{append}
-use Rattle.lent.specs.Outcome.{Outcome, done, refused, onto}
+use Rattle.lent.specs.Outcome.{done, onto}
 use Rattle.lent.specs.Lists.{filter, isSome, among}
 use Rattle.lent.specs.Table.{fileOf}
-use Rattle.lent.specs.Fields.{has, keep, findField, inside}
+use Rattle.lent.specs.Fields.{has, findField, inside}
 use Rattle.extraction_rules.specs.State.{Record, Imported, State, Setting, give, change, refuse, setModules, setImported, setCollected}
-use Rattle.extraction_rules.specs.First.{external, idFrom, requested, moduleOf, moduleFor, importedAs, suits, collectIn, collect, noteIn, noteId, outsideName, noteNamed, notedContext, noteSpecifier, noteAll, noteSpecifiers, specifiersIn, withContext, importFirst}
+use Rattle.extraction_rules.specs.First.{external, requested, moduleOf, moduleFor, importedAs, suits, collectIn, collect, noteIn, noteId, noteNamed, notedContext, noteSpecifier, noteAll, noteSpecifiers, specifiersIn, withContext, importFirst}
 use Rattle.extraction_rules.specs.Second.{usagesOf}
-use Rattle.extraction_rules.proofs.OutcomeLaws.{After, after-bind, after-weaken, after-if}
-use Rattle.extraction_rules.proofs.ListLaws.{same-not, not-same}
-use Rattle.extraction_rules.proofs.TableLaws.{Each, recordOf, record-other, record-absent, record-last, seek, holdsIn, suitsIn, seek-collect, seek-back, seek-last, seek-own, collect-new, noted-own, noted-other, find-append, suits-append, holds-left}
-use Rattle.claims.specs.Stands.{How, properties}
+use Rattle.extraction_rules.proofs.OutcomeLaws.{After, after-bind, after-if}
+use Rattle.extraction_rules.proofs.TableLaws.{recordOf, record-other, record-absent, record-last, seek, holdsIn, suitsIn, seek-collect, seek-back, seek-last, seek-own, collect-new, noted-own, noted-other, find-append, suits-append, holds-left}
+use Rattle.extraction_rules.proofs.KeepLaws.{Each}
+use Rattle.claims.specs.Stands.{properties}
 use Rattle.claims.specs.Placed.{all}
-use Rattle.claims.proofs.HowLaws.{allPlain}
-use Rattle.claims.proofs.HeldLaws.{usagesFor, Stood, ownRecord, Held, Unfelt, unfelt-modules, held-unfelt}
+use Rattle.claims.proofs.HeldLaws.{ownRecord, Held, Unfelt, unfelt-modules}
 
 module _ (i lit : List ℕ) (own file : ℕ) where
   abbrev a : List ℕ

@@ -1,9 +1,9 @@
 -- The whole second pass: what it makes of *work*, and the state that it leaves.
 use Prim.Native.Nat.{ℕ, zero, suc, _+_}
-use mathlib.Core.Path.{_≡_, refl, sym, ap, ap₂, subst, _∙_}
+use mathlib.Core.Path.{_≡_, refl, sym, ap, subst, _∙_}
 use mathlib.Core.Logic.{_⊎_, inl, inr}
 use mathlib.Core.Bool.{Bool, true, false, not, cond, _||_, true≢false}
-use mathlib.Core.List.{List, [], _∷_, _++_, append-nil}
+use mathlib.Core.List.{List, [], _∷_, _++_}
 use mathlib.Core.Option.{Option, none as nothing, some}
 use native.Mathlib.Omega.{arith}
 use lib.Dec.{eqb}
@@ -13,20 +13,21 @@ use Rattle.tree.specs.Layout.{same, two, four, nameOf, contextOf, valueOf}
 use Rattle.tree.specs.Tree.{Field, field, Fields, none, more, tagOf, fixedOf, partsOf, size}
 use Rattle.tree.proofs.Table.{both-true}
 use Rattle.metadata.specs.Metadata.{append}
-use Rattle.lent.specs.Outcome.{Outcome, done, onto}
+use Rattle.lent.specs.Outcome.{done, onto}
 use Rattle.lent.specs.Lists.{filter, among}
 use Rattle.lent.specs.Fields.{has, keep, sole}
 use Rattle.extraction_rules.specs.State.{State, Usage, second, Setting, give, setTop}
-use Rattle.extraction_rules.specs.First.{external, importedAs, specifiersIn, attributesIn, withContext, stays}
+use Rattle.extraction_rules.specs.First.{external, specifiersIn, attributesIn, withContext, stays}
 use Rattle.extraction_rules.specs.Second.{usagesOf, takeApart, onSole, importSecond, finish}
 use Rattle.extraction_rules.specs.Walk.{partsFor, walk, walkAll, walkModule, walkAgain}
 use Rattle.extraction_rules.proofs.OutcomeLaws.{After, after-bind, after-both, after-weaken, after-if}
 use Rattle.extraction_rules.proofs.ListLaws.{All}
 use Rattle.extraction_rules.proofs.FirstLaws.{source-cases}
-use Rattle.extraction_rules.proofs.AlikeLaws.{RegularAt, Regular, RegularAll, AlikeAll, regularAll-alike}
-use Rattle.extraction_rules.proofs.TableLaws.{Each}
+use Rattle.extraction_rules.proofs.AlikeLaws.{Regular, RegularAll, AlikeAll, regularAll-alike}
 use Rattle.extraction_rules.proofs.SpaceLaws.{Property}
 use Rattle.extraction_rules.proofs.ValueLaws.{walk-second}
+use Rattle.extraction_rules.proofs.StayLaws.{import-stays}
+use Rattle.extraction_rules.proofs.KeepLaws.{Each, no-context, no-specifiers, keep-all, keep-meets, keep-yes}
 use Rattle.claims.specs.Stands.{How, idsIn, isUse, properties}
 use Rattle.claims.specs.Demand.{propertyFields, isUsed}
 use Rattle.claims.proofs.WaysLaws.{met, ways, waysAll, waysAll-alike}
@@ -34,10 +35,10 @@ use Rattle.claims.proofs.HowLaws.{allPlain}
 use Rattle.claims.proofs.HeldLaws.{Held, Unfelt, held-unfelt, held-top}
 use Rattle.claims.proofs.ImportedLaws.{Redeclared}
 use Rattle.claims.proofs.SettledLaws.{Settled, settled-unfelt, takesApart, used-properties, Declared, second-own, second-other}
-use Rattle.claims.proofs.OutLaws.{Out, OutAll, Turned, Fine, fine-append, Says, At, at-top, walkAll-out}
+use Rattle.claims.proofs.OutLaws.{Out, OutAll, Fine, fine-append, Says, At, walkAll-out}
 use Rattle.claims.proofs.GoneLaws.{outAll-alike}
-use Rattle.claims.proofs.CleanLaws.{Clean, Spec, second-clean, specs-of, no-context, no-specifiers}
-use Rattle.claims.proofs.WorkedLaws.{import-stays, WorkedBehind, Worked, keep-more}
+use Rattle.claims.proofs.CleanLaws.{Clean, Spec, second-clean, specs-of}
+use Rattle.claims.proofs.WorkedLaws.{WorkedBehind, Worked}
 use Rattle.claims.proofs.RecordLaws.{Ended, finish-ended}
 
 -- ---- An import changes neither usages nor imported ids
@@ -102,21 +103,6 @@ keep-regular (more f fs) w = go (stays f) (keep-regular fs (w .1))
     go true h = (w .0, h)
     go false h = h
 
--- what stayed stays
-keep-kept : (fs : Fields) → Each (λ f. stays f ≡ true) fs → keep stays fs ≡ fs
-unfolding keep
-keep-kept none h = refl
-keep-kept (more f fs) h = rw (h .0) (ap (more f) (keep-kept fs (h .1)))
-
-kept-stays : (fs : Fields) → Each (λ f. stays f ≡ true) (keep stays fs)
-unfolding keep
-kept-stays none = tt
-kept-stays (more f fs) = go (stays f) refl (kept-stays fs)
-  where
-    go : (b : Bool) → stays f ≡ b → Each (λ f. stays f ≡ true) (keep stays fs) → Each (λ f. stays f ≡ true) (cond b (more f (keep stays fs)) (keep stays fs))
-    go true q h = (q, h)
-    go false q h = h
-
 module _ (taken : Bool) (i c : List ℕ) (own : ℕ) where
   stays-out : (f g : Field) → Out taken i c own f g → stays f ≡ true → stays g ≡ true
   unfolding stays
@@ -131,7 +117,7 @@ module _ (taken : Bool) (i c : List ℕ) (own : ℕ) where
   stays-outs (more f fs) gs h k = subst (Each (λ f. stays f ≡ true)) (sym (h .2)) (stays-out f (h .0) (h .3) (k .0), stays-outs fs (h .1) (h .4) (k .1))
 
   pub keep-out : (fs gs : Fields) → OutAll taken i c own (keep stays fs) gs → keep stays gs ≡ gs
-  keep-out fs gs h = keep-kept gs (stays-outs (keep stays fs) gs h (kept-stays fs))
+  keep-out fs gs h = keep-all stays gs (stays-outs (keep stays fs) gs h (keep-meets stays fs))
 
 module _ (i lit : List ℕ) (own file n : ℕ) (us : List How) (context : contextOf i ≡ four (local own)) (named : same (nameOf i) (two require-atom) ≡ false) where
   abbrev c : List ℕ
@@ -212,7 +198,7 @@ module _ (i lit : List ℕ) (own file n : ℕ) (us : List How) (context : contex
         (after-weaken (walk (w .1) e false p s) (λ g t. Clean i own context (fixedOf f) g × Unfelt i lit own file s t × Same s t) (λ g t. Clean i own context (fixedOf f) g × Now t) (λ g t k. (k .0, at-same s t (k .1) (k .2) h)) (other-again (fixedOf f) (w .1) p s (d .0 (w .0)) (w .4) (h .1))) λ g s k.
         after-bind (walkAll (w .2) e false (p + size (w .1)) s) _ (λ hs t. At taken i lit own file n ps t × OutsBehind fs (keep stays hs)) (λ hs t. At taken i lit own file n ps t × OutsBehind (more f fs) (keep stays hs))
         (behind-again fs (w .2) (p + size (w .1)) s (w .5) (d .1) (fine-append taken (ways f i false) (waysAll fs i false) fine .1) (k .1)) λ hs s r.
-        (r .0, inl (w .0, g, keep stays hs, keep-more g hs (import-stays g (k .0 .0)), k .0, r .1)))
+        (r .0, inl (w .0, g, keep stays hs, keep-yes stays g hs (import-stays g (k .0 .0)), k .0, r .1)))
 
     -- before its own import
     abbrev pub Early : State → Type 0
@@ -256,14 +242,14 @@ module _ (i lit : List ℕ) (own file n : ℕ) (us : List How) (context : contex
         (after-bind (walk (w .0) e false p s) _ (λ g t. OwnOut g × Now t) (λ hs t. At taken i lit own file n ps t × Outs zero (more f fs) (keep stays hs)) (own-again (partsOf f) (w .0) p s (w .4) h) λ g s k.
         after-bind (walkAll (w .1) e false (p + size (w .0)) s) _ (λ hs t. At taken i lit own file n ps t × OutsBehind fs (keep stays hs)) (λ hs t. At taken i lit own file n ps t × Outs zero (more f fs) (keep stays hs))
         (behind-again fs (w .1) (p + size (w .0)) s (w .5) d (fine-append taken (ways f i false) (waysAll fs i false) fine .1) (k .1)) λ hs s r.
-        (r .0, (g, keep stays hs, keep-more g hs (import-stays g (ap tagOf (k .0 .1))), w .3, k .0, r .1)))
+        (r .0, (g, keep stays hs, keep-yes stays g hs (import-stays g (ap tagOf (k .0 .1))), w .3, k .0, r .1)))
     around-again (suc k) (more f fs) gs p s w d fine h =
         rw (w .3)
         (after-bind (walk (w .1) e false p s) _ (λ g t. Clean i own context (fixedOf f) g × Early t) (λ hs t. At taken i lit own file n ps t × Outs (suc k) (more f fs) (keep stays hs))
         (after-weaken (walk (w .1) e false p s) (λ g t. Clean i own context (fixedOf f) g × Unfelt i lit own file s t × Same s t) (λ g t. Clean i own context (fixedOf f) g × Early t) (λ g t k. (k .0, early-same s t (k .1) (k .2) h)) (other-again (fixedOf f) (w .1) p s (d .0) (w .4) (h .2))) λ g s q.
         after-bind (walkAll (w .2) e false (p + size (w .1)) s) _ (λ hs t. At taken i lit own file n ps t × Outs k fs (keep stays hs)) (λ hs t. At taken i lit own file n ps t × Outs (suc k) (more f fs) (keep stays hs))
         (around-again k fs (w .2) (p + size (w .1)) s (w .5) (d .1) (fine-append taken (ways f i false) (waysAll fs i false) fine .1) (q .1)) λ hs s r.
-        (r .0, (w .0, g, keep stays hs, keep-more g hs (import-stays g (q .0 .0)), q .0, r .1)))
+        (r .0, (w .0, g, keep stays hs, keep-yes stays g hs (import-stays g (q .0 .0)), q .0, r .1)))
 
     -- the second pass with its end
     pub second-pass : (k : ℕ) (items works : Fields) (s : State) → Worked i lit own file context k items works → OtherBut k items → Fine taken (waysAll items i false) → Early s →

@@ -1,32 +1,31 @@
 -- From 'well placed' and the grammar to what the passes need of the items around a namespace's import.
-use Prim.Native.Nat.{ℕ, zero, suc, _≤_}
-use mathlib.Core.Path.{_≡_, refl, sym, ap, ap₂, subst, _∙_}
+use Prim.Native.Nat.{ℕ, zero, suc}
+use mathlib.Core.Path.{_≡_, refl, sym, ap, subst, _∙_}
 use mathlib.Core.Logic.{_⊎_, inl, inr}
 use mathlib.Core.Bool.{Bool, true, false, not, cond, _&&_, _||_, true≢false}
-use mathlib.Core.List.{List, [], _∷_, _++_}
+use mathlib.Core.List.{List, [], _∷_}
 use mathlib.Core.Option.{Option, none as nothing, some}
 use native.Mathlib.Omega.{arith}
-use lib.Dec.{leb, eqb}
-use borrow.Author.Tests.{eqb-true, eq-eqb}
+use borrow.Author.Tests.{eqb-true, eq-eqb, not-true}
 use Rattle.tree.proofs.Table.{both-true}
 use Rattle.scope.specs.Id.{require-atom, local}
-use Rattle.tree.specs.Layout.{same, two, four, idAt, nameOf, contextOf, valueOf}
+use Rattle.tree.specs.Layout.{same, two, four, nameOf, contextOf, valueOf}
 use Rattle.tree.specs.Tree.{Field, field, Fields, none, more, tagOf, fixedOf, partsOf}
 use Rattle.tree.specs.Grammar.{ruleOf}
 use Rattle.tree.proofs.LayoutLaws.{same-refl, same-equal}
+use Rattle.tree.proofs.FixedLaws.{or-right}
 use Rattle.lent.specs.Lists.{filter, isSome, among}
-use Rattle.lent.specs.Fields.{has, keep, findField}
+use Rattle.lent.specs.Fields.{has, findField}
 use Rattle.extraction_rules.specs.First.{specifiersIn}
 use Rattle.extraction_rules.proofs.TestLaws.{or-neither, is-false}
-use Rattle.extraction_rules.proofs.RuleLaws.{or-true}
-use Rattle.extraction_rules.proofs.ShapeLaws.{Shaped, ShapedAll}
-use Rattle.extraction_rules.proofs.AlikeLaws.{Regular, RegularAll}
+use Rattle.extraction_rules.proofs.ShapeLaws.{ShapedAll}
+use Rattle.extraction_rules.proofs.AlikeLaws.{RegularAll}
 use Rattle.extraction_rules.proofs.RegularLaws.{regular, item-outer}
-use Rattle.extraction_rules.proofs.TableLaws.{Each, each-weaken, each-both}
 use Rattle.extraction_rules.proofs.SpaceLaws.{OfImport}
 use Rattle.extraction_rules.proofs.ReadableLaws.{item-step}
-use Rattle.claims.specs.Stands.{How, stands, isUse, isMisplaced, properties}
-use Rattle.claims.specs.Placed.{all, importsIn, importsPrecede, hasSource, hasLocal, sharesNone, localIds, localsOf, fitNamespace, wellPlaced}
+use Rattle.extraction_rules.proofs.KeepLaws.{Each, each-weaken, each-both}
+use Rattle.claims.specs.Stands.{How, stands, isUse, properties}
+use Rattle.claims.specs.Placed.{all, importsIn, importsPrecede, hasSource, hasLocal, sharesNone, localsOf, fitNamespace}
 use Rattle.claims.specs.Demand.{itemAt, isUsed}
 use Rattle.claims.proofs.WaysLaws.{waysAll, stands-ways}
 use Rattle.claims.proofs.HowLaws.{allPlain}
@@ -45,10 +44,6 @@ rest-regular (more f fs) h k = go (has 0x10 f) refl k (rest-regular fs)
     go : (b : Bool) → has 0x10 f ≡ b → cond b (some f) (findField (has 0x10) fs) ≡ nothing → (ShapedAll fs (ruleOf 0x01) → findField (has 0x10) fs ≡ nothing → RegularAll fs) → RegularAll (more f fs)
     go true q k ih = absurd (let z : _≡_ {A = ℕ} 0 1 = cc in omega arith)
     go false q k ih = let w = item-step (tagOf f) (h .0) (h .1) in (regular f (item-outer (tagOf f) (w .0) q) (h .2), ih (subst (ShapedAll fs) (w .1) (h .3)) k)
-
-unnot : (b : Bool) → not b ≡ true → b ≡ false
-unnot true h = absurd (true≢false (sym h))
-unnot false h = refl
 
 pub not-some : {A : Type 0} (o : Option A) → not (isSome o) ≡ true → o ≡ nothing
 not-some nothing h = refl
@@ -153,8 +148,8 @@ fine-placed items i h =
     let hs = stands items i in
     let a = both-true (fits hs && not (same (nameOf i) (two require-atom))) (not (among (two require-atom) (properties hs))) h in
     let b = both-true (fits hs) (not (same (nameOf i) (two require-atom))) (a .0) in (
-      unnot (same (nameOf i) (two require-atom)) (b .1),
-      subst (Fine (takesApart hs)) (stands-ways items i) ((λ t. both-true (isUsed (filter isUse hs)) (allPlain hs) t .1), unnot (among (two require-atom) (properties hs)) (a .1), λ _. b .0),
+      not-true (same (nameOf i) (two require-atom)) (b .1),
+      subst (Fine (takesApart hs)) (stands-ways items i) ((λ t. both-true (isUsed (filter isUse hs)) (allPlain hs) t .1), not-true (among (two require-atom) (properties hs)) (a .1), λ _. b .0),
     )
 
 -- ---- 'share no source or local id'
@@ -196,7 +191,7 @@ has-at i zero (more g fs) f e t m =
 has-at i (suc k) (more g fs) f e t m = go (has 0x10 g) (has-at i k fs f e t m)
   where
     go : (b : Bool) → (hasSource (valueOf (fixedOf f)) (importsIn fs) ≡ true) × (hasLocal i (importsIn fs) ≡ true) → (hasSource (valueOf (fixedOf f)) (cond b (g ∷ importsIn fs) (importsIn fs)) ≡ true) × (hasLocal i (cond b (g ∷ importsIn fs) (importsIn fs)) ≡ true)
-    go true h = (or-true (same (valueOf (fixedOf g)) (valueOf (fixedOf f))) _ (h .0), or-true (among i (localsOf g)) _ (h .1))
+    go true h = (or-right (same (valueOf (fixedOf g)) (valueOf (fixedOf f))) _ (h .0), or-right (among i (localsOf g)) _ (h .1))
     go false h = h
 
 has-source : (b : List ℕ) (a : List ℕ) (l : List Field) → same b a ≡ true → hasSource a l ≡ hasSource b l
@@ -210,7 +205,7 @@ shares-apart i zero (more g fs) f h e t m =
     let a : not (hasSource (valueOf (fixedOf f)) (importsIn fs)) && all (λ i. not (hasLocal i (importsIn fs))) (localsOf f) && sharesNone (importsIn fs) ≡ true = rw (q, eq-eqb (tagOf f) 0x10 t) at h in
     let b = both-true (not (hasSource (valueOf (fixedOf f)) (importsIn fs)) && all (λ i. not (hasLocal i (importsIn fs))) (localsOf f)) (sharesNone (importsIn fs)) a in
     let c = both-true (not (hasSource (valueOf (fixedOf f)) (importsIn fs))) (all (λ i. not (hasLocal i (importsIn fs))) (localsOf f)) (b .0) in
-    apart-rest i (valueOf (fixedOf f)) fs (unnot (hasSource (valueOf (fixedOf f)) (importsIn fs)) (c .0)) (unnot (hasLocal i (importsIn fs)) (all-among (λ i. not (hasLocal i (importsIn fs))) i (localsOf f) (c .1) m))
+    apart-rest i (valueOf (fixedOf f)) fs (not-true (hasSource (valueOf (fixedOf f)) (importsIn fs)) (c .0)) (not-true (hasLocal i (importsIn fs)) (all-among (λ i. not (hasLocal i (importsIn fs))) i (localsOf f) (c .1) m))
 shares-apart i (suc k) (more g fs) f h e t m = go (has 0x10 g) refl h (λ v. shares-apart i k fs f v e t m)
   where
     own : (hasSource (valueOf (fixedOf f)) (importsIn fs) ≡ true) × (hasLocal i (importsIn fs) ≡ true)
@@ -221,8 +216,8 @@ shares-apart i (suc k) (more g fs) f h e t m = go (has 0x10 g) refl h (λ v. sha
         let b = both-true (not (hasSource (valueOf (fixedOf g)) (importsIn fs)) && all (λ i. not (hasLocal i (importsIn fs))) (localsOf g)) (sharesNone (importsIn fs)) h in
         let c = both-true (not (hasSource (valueOf (fixedOf g)) (importsIn fs))) (all (λ i. not (hasLocal i (importsIn fs))) (localsOf g)) (b .0) in (
           (λ _. (
-            is-false (same (valueOf (fixedOf g)) (valueOf (fixedOf f))) (λ z. true≢false (sym (own .0) ∙ has-source (valueOf (fixedOf g)) (valueOf (fixedOf f)) (importsIn fs) z ∙ unnot (hasSource (valueOf (fixedOf g)) (importsIn fs)) (c .0))),
-            is-false (among i (localsOf g)) (λ z. true≢false (sym (own .1) ∙ unnot (hasLocal i (importsIn fs)) (all-among (λ i. not (hasLocal i (importsIn fs))) i (localsOf g) (c .1) z))),
+            is-false (same (valueOf (fixedOf g)) (valueOf (fixedOf f))) (λ z. true≢false (sym (own .0) ∙ has-source (valueOf (fixedOf g)) (valueOf (fixedOf f)) (importsIn fs) z ∙ not-true (hasSource (valueOf (fixedOf g)) (importsIn fs)) (c .0))),
+            is-false (among i (localsOf g)) (λ z. true≢false (sym (own .1) ∙ not-true (hasLocal i (importsIn fs)) (all-among (λ i. not (hasLocal i (importsIn fs))) i (localsOf g) (c .1) z))),
           )),
           ih (b .1),
         )

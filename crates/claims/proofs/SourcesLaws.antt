@@ -6,10 +6,11 @@ use lib.Dec.{eqb}
 use mathlib.Core.Path.{_≡_, refl, ap, _∙_}
 use Rattle.tree.specs.Tree.{Fields, none, more, partsOf}
 use Rattle.metadata.specs.Metadata.{append}
+use Rattle.metadata.proofs.EncodeLaws.{append-none}
 use Rattle.lent.specs.Fields.{has, keep}
 use Rattle.extraction_rules.specs.State.{Record, State}
 use Rattle.extraction_rules.specs.Records.{recordFields, forcedFields, recordsOf}
-use Rattle.extraction_rules.proofs.TableLaws.{Each, append-none}
+use Rattle.extraction_rules.proofs.KeepLaws.{Each}
 use Rattle.resolving_rules.specs.Resolve.{sourcesIn, forcedIn}
 
 append-all : (fs gs : Fields) → Each (λ f. has 0x83 f ≡ false) fs → sourcesIn (append fs gs) ≡ append fs (sourcesIn gs)

@@ -1,41 +1,39 @@
 -- The specifiers of a well placed tree's imports: what the passes need of them.
-use Prim.Native.Nat.{ℕ, zero, suc, _≤_}
-use mathlib.Core.Path.{_≡_, refl, sym, ap, ap₂, subst, _∙_}
+use Prim.Native.Nat.{ℕ, _≤_}
+use mathlib.Core.Path.{_≡_, refl, sym, ap, subst, _∙_}
 use mathlib.Core.Logic.{_⊎_, inl, inr}
-use mathlib.Core.Bool.{Bool, true, false, not, cond, _&&_, _||_, true≢false}
-use mathlib.Core.List.{List, [], _∷_, _++_, append-nil}
-use mathlib.Core.Option.{Option, none as nothing, some}
+use mathlib.Core.Bool.{Bool, true, false, not, cond, true≢false}
+use mathlib.Core.List.{List, [], _∷_, _++_}
 use native.Mathlib.Omega.{arith}
 use lib.Dec.{eqb}
-use lib.ListN.{length, getD, take, drop}
-use borrow.Author.Tests.{eqb-true, eqb-false, eq-eqb, ne-eqb}
+use lib.ListN.{getD}
+use borrow.Author.Tests.{eqb-true, eqb-false}
 use Rattle.tree.proofs.Table.{both-true}
-use Rattle.scope.specs.Id.{require-atom, local}
+use Rattle.scope.specs.Id.{local}
 use Rattle.tree.specs.declared.grammar.Set.the-variants.{Specifier}
-use Rattle.tree.specs.Layout.{same, two, four, idAt, nameOf, contextOf, valueOf}
-use Rattle.tree.specs.Tree.{Field, field, Fields, none, more, tagOf, fixedOf, partsOf}
-use Rattle.tree.specs.Access.{fixedAt}
-use Rattle.tree.specs.Grammar.{holdsAt, ruleOf, piecesOf}
+use Rattle.tree.specs.Layout.{same, four, idAt, nameOf, contextOf}
+use Rattle.tree.specs.Tree.{Field, field, Fields, none, more, tagOf, fixedOf}
+use Rattle.tree.specs.Grammar.{holdsAt}
 use Rattle.tree.specs.Within.{Exact}
-use Rattle.tree.proofs.LayoutLaws.{same-refl, same-equal}
+use Rattle.tree.proofs.LayoutLaws.{same-equal}
+use Rattle.tree.proofs.WidthLaws.{plain-width}
+use Rattle.tree.specs.declared.grammar.Value.the-variants.{Id}
 use Rattle.lent.specs.Lists.{among}
-use Rattle.lent.specs.Fields.{has, keep, sole}
-use Rattle.extraction_rules.specs.First.{specifiersIn}
-use Rattle.extraction_rules.specs.Walk.{children, partsFor}
-use Rattle.extraction_rules.proofs.TestLaws.{or-neither, is-false}
+use Rattle.lent.specs.Fields.{keep}
+use Rattle.extraction_rules.specs.Walk.{partsFor}
+use Rattle.extraction_rules.proofs.TestLaws.{or-neither}
 use Rattle.extraction_rules.proofs.ListLaws.{same-not, not-same, same-swap}
-use Rattle.extraction_rules.proofs.ExactLaws.{width-21}
-use Rattle.extraction_rules.proofs.ShapeLaws.{Shaped, ShapedAll, shaped-none, specifier-is, specifier-rule, Specifiers, import-parts}
-use Rattle.extraction_rules.proofs.TableLaws.{Each}
+use Rattle.extraction_rules.proofs.ShapeLaws.{Shaped, ShapedAll, shaped-none, specifier-is, specifier-rule, Specifiers}
 use Rattle.extraction_rules.proofs.SpaceLaws.{same-id}
 use Rattle.extraction_rules.proofs.RegularLaws.{whole-id}
-use Rattle.claims.specs.Stands.{How, imported, otherwise, idsIn, isMisplaced}
-use Rattle.claims.specs.Placed.{all, localIds, localsOf}
+use Rattle.extraction_rules.proofs.KeepLaws.{Each}
+use Rattle.claims.specs.Stands.{How, otherwise, idsIn, isMisplaced}
+use Rattle.claims.specs.Placed.{all, localIds}
 use Rattle.claims.proofs.WaysLaws.{met, ways, waysAll}
 use Rattle.claims.proofs.HowLaws.{all-append}
 use Rattle.claims.proofs.OutLaws.{fits}
 use Rattle.claims.proofs.ImportedLaws.{OtherSpace, OtherLocal}
-use Rattle.claims.proofs.CleanLaws.{CleanSpec, Whole, Spec}
+use Rattle.claims.proofs.CleanLaws.{CleanSpec, Whole}
 
 -- ---- Fit ways, part by part
 
@@ -67,14 +65,10 @@ unfolding localIds all
 locals-all t none h = tt
 locals-all t (more f fs) h = let w = both-true (t (idAt (fixedOf f) 0)) (all t (localIds fs)) h in (w .0, locals-all t fs (w .1))
 
-width-22 : (x : List ℕ) → Exact 0x22 x → length x ≡ 6
-unfolding fixedAt piecesOf
-width-22 x h = width-21 x h
-
 -- a 21 or 22 is an id
 id-whole : (t : ℕ) (x : List ℕ) → (t ≡ 0x21) ⊎ (t ≡ 0x22) → Exact t x → idAt x 0 ≡ x
-id-whole t x (inl q) h = whole-id x (width-21 x (subst (λ (k : ℕ). Exact k x) q h))
-id-whole t x (inr q) h = whole-id x (width-22 x (subst (λ (k : ℕ). Exact k x) q h))
+id-whole t x (inl q) h = whole-id x (plain-width 0x21 Id refl x q h)
+id-whole t x (inr q) h = whole-id x (plain-width 0x22 Id refl x q h)
 
 pub whole-specifier : (s : Field) → (tagOf s ≡ 0x21) ⊎ (tagOf s ≡ 0x22) → Shaped s → idAt (fixedOf s) 0 ≡ fixedOf s
 whole-specifier (field t x cs) q h = id-whole t x q (h .0)

@@ -1,34 +1,29 @@
 -- A well placed tree within the grammar: what the passes need of the items around a namespace's import.
 use Prim.Native.Nat.{ℕ}
-use mathlib.Core.Path.{_≡_, refl, sym, ap, ap₂, subst, _∙_}
-use mathlib.Core.Logic.{_⊎_, inl, inr}
-use mathlib.Core.Bool.{Bool, true, false, not, cond, _&&_, _||_, true≢false}
-use mathlib.Core.List.{List, [], _∷_, _++_}
-use mathlib.Core.Option.{Option, none as nothing, some}
-use native.Mathlib.Omega.{arith}
-use lib.Dec.{eqb}
-use borrow.Author.Tests.{eqb-true, eq-eqb}
+use mathlib.Core.Path.{_≡_, refl, sym, subst, _∙_}
+use mathlib.Core.Bool.{Bool, true, false, not, cond, true≢false}
+use mathlib.Core.List.{List, _∷_}
+use mathlib.Core.Option.{some}
+use borrow.Author.Tests.{eq-eqb}
 use Rattle.tree.proofs.Table.{both-true}
-use Rattle.scope.specs.Id.{require-atom, local}
-use Rattle.tree.specs.Layout.{same, two, four, idAt, nameOf, contextOf, valueOf}
-use Rattle.tree.specs.Tree.{Field, field, Fields, none, more, tagOf, fixedOf, partsOf}
+use Rattle.scope.specs.Id.{local}
+use Rattle.tree.specs.Layout.{same, four, idAt, contextOf, valueOf}
+use Rattle.tree.specs.Tree.{Field, field, Fields, none, more, tagOf, partsOf}
 use Rattle.tree.specs.Grammar.{ruleOf}
-use Rattle.tree.proofs.LayoutLaws.{same-refl, same-equal}
-use Rattle.lent.specs.Lists.{isSome, among}
-use Rattle.lent.specs.Fields.{has, keep, findField, sole}
+use Rattle.tree.proofs.LayoutLaws.{same-refl}
+use Rattle.lent.specs.Lists.{among}
+use Rattle.lent.specs.Fields.{has, sole}
 use Rattle.extraction_rules.specs.First.{specifiersIn}
-use Rattle.extraction_rules.proofs.TestLaws.{or-neither}
-use Rattle.extraction_rules.proofs.ListLaws.{not-same}
-use Rattle.extraction_rules.proofs.ShapeLaws.{Shaped, ShapedAll, Specifiers, import-parts, shaped-parts, shaped-each}
-use Rattle.extraction_rules.proofs.TableLaws.{each-weaken, each-both}
-use Rattle.claims.specs.Stands.{How, stands}
-use Rattle.claims.specs.Placed.{all, importsIn, importsPrecede, sharesNone, localsOf, localIds, ownLocals, soleNamespace, namespacesOf, fitNamespace, fitNamespaces, wellPlaced}
+use Rattle.extraction_rules.proofs.ShapeLaws.{Shaped, ShapedAll, import-parts, shaped-parts, shaped-each}
+use Rattle.extraction_rules.proofs.KeepLaws.{each-weaken, each-both}
+use Rattle.claims.specs.Stands.{How}
+use Rattle.claims.specs.Placed.{all, importsIn, importsPrecede, sharesNone, localIds, ownLocals}
 use Rattle.claims.specs.Demand.{itemAt}
-use Rattle.claims.proofs.WaysLaws.{ways, waysAll, stands-ways}
+use Rattle.claims.proofs.WaysLaws.{ways, waysAll}
 use Rattle.claims.proofs.ImportedLaws.{OtherSpace, OtherLocal}
-use Rattle.claims.proofs.FirstPassLaws.{OtherImport, OwnImport, Around, import-ways}
+use Rattle.claims.proofs.FirstPassLaws.{Around, import-ways}
 use Rattle.claims.proofs.CleanLaws.{CleanSpec, Whole}
-use Rattle.claims.proofs.WorkedLaws.{CleanImport, CleanAround}
+use Rattle.claims.proofs.WorkedLaws.{CleanAround}
 use Rattle.claims.proofs.OutLaws.{fits}
 use Rattle.claims.proofs.TidyLaws.{import-quiet}
 use Rattle.claims.proofs.SpecifierLaws.{fits-each, each-keep, locals-other, locals-all, SpecFacts, specs-facts}

@@ -1,37 +1,33 @@
 -- The imports of a tree within the grammar hold ids in their specifiers alone, and no uses; the 20s of an import that is taken apart do
 -- not hold the namespace's id.
-use Prim.Native.Nat.{ℕ, _≤_}
+use Prim.Native.Nat.{ℕ}
 use mathlib.Core.Path.{_≡_, refl, sym, ap, ap₂, subst, _∙_}
-use mathlib.Core.Logic.{_⊎_, inl, inr}
-use mathlib.Core.Bool.{Bool, true, false, not, cond, true≢false}
-use mathlib.Core.List.{List, [], _∷_, _++_, append-nil}
+use mathlib.Core.Logic.{inl, inr}
+use mathlib.Core.Bool.{false, not, cond}
+use mathlib.Core.List.{List, [], _∷_, _++_}
 use native.Mathlib.Omega.{arith}
-use lib.Dec.{eqb}
-use borrow.Author.Tests.{eqb-true, ne-eqb, eq-eqb}
-use Rattle.scope.specs.Id.{local, export}
-use Rattle.tree.specs.declared.grammar.Set.the-variants.{Specifier}
+use borrow.Author.Tests.{ne-eqb}
+use Rattle.scope.specs.Id.{local}
 use Rattle.tree.specs.declared.grammar.Rule.{Rule}
-use Rattle.tree.specs.declared.grammar.Step.the-variants.{Go}
-use Rattle.tree.specs.Layout.{same, four, contextOf, valueOf}
-use Rattle.tree.specs.Tree.{Field, field, Fields, none, more, tagOf, fixedOf, partsOf}
-use Rattle.tree.specs.Grammar.{holdsAt, parts0, ruleOf, stepAt}
-use Rattle.lent.specs.Lists.{filter}
+use Rattle.tree.specs.Layout.{same, four, contextOf}
+use Rattle.tree.specs.Tree.{Field, field, Fields, none, more, tagOf}
+use Rattle.tree.specs.Grammar.{ruleOf}
 use Rattle.lent.specs.Fields.{has, keep}
 use Rattle.extraction_rules.specs.State.{Usage, State}
 use Rattle.extraction_rules.specs.First.{specifiersIn}
 use Rattle.extraction_rules.specs.Second.{usagesOf}
-use Rattle.extraction_rules.specs.Walk.{unwalked, member, super, assignment, children, partsFor}
+use Rattle.extraction_rules.specs.Walk.{children, partsFor}
 use Rattle.extraction_rules.proofs.ListLaws.{All, all-filter}
-use Rattle.extraction_rules.proofs.TagLaws.{find-any}
-use Rattle.extraction_rules.proofs.TableLaws.{Each}
 use Rattle.extraction_rules.proofs.SpaceLaws.{Property}
 use Rattle.extraction_rules.proofs.ShapeLaws.{Shaped, ShapedAll, shaped-none, ImportStep, import-step, specifier-is, specifier-rule, attribute-step, attribute-rule, shaped-parts}
+use Rattle.extraction_rules.proofs.WalkLaws.{parts-children}
+use Rattle.extraction_rules.proofs.KeepLaws.{Each}
 use Rattle.claims.specs.Stands.{How, idsIn}
 use Rattle.claims.specs.Demand.{propertyFields}
 use Rattle.claims.proofs.WaysLaws.{met, ways, waysAll}
 use Rattle.claims.proofs.HeldLaws.{usagesFor}
 use Rattle.claims.proofs.FirstPassLaws.{Quiet, QuietAll}
-use Rattle.claims.proofs.CleanLaws.{Absent, property-absent}
+use Rattle.claims.proofs.CleanLaws.{property-absent}
 
 -- ---- Attributes
 
@@ -100,12 +96,6 @@ properties-absent i own context c ps s h q =
     usages-absent i own context c ps (subst (All (λ (u : Usage). Property (u .property))) q (all-filter (λ (u : Usage). Property (u .property)) (λ (u : Usage). Property (u .property)) (λ (u : Usage). same (u .id) i) (s .usages) (λ u _ k. k) h))
 
 -- ---- No use stands in an import
-
-parts-children : (t : ℕ) → (t ≡ 0x10 → ⊥) → (t ≡ 0x23 → ⊥) → (t ≡ 0x63 → ⊥) → (t ≡ 0x64 → ⊥) → (t ≡ 0x66 → ⊥) → partsFor t ≡ children
-unfolding partsFor
-parts-children t a b c d e =
-    find-any (λ r. r ≡ children) t ((0x10, unwalked) ∷ (0x23, unwalked) ∷ (0x63, member) ∷ (0x64, super) ∷ (0x66, assignment) ∷ []) children
-    ((λ q. absurd (a (eqb-true t 0x10 q))), ((λ q. absurd (b (eqb-true t 0x23 q))), ((λ q. absurd (c (eqb-true t 0x63 q))), ((λ q. absurd (d (eqb-true t 0x64 q))), ((λ q. absurd (e (eqb-true t 0x66 q))), tt))))) refl
 
 part-quiet : (f : Field) (q : Rule) → ImportStep (tagOf f) q → Shaped f → Quiet f
 part-quiet (field t x cs) q (inl w) s =

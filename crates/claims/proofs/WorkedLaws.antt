@@ -1,42 +1,35 @@
 -- What the first pass makes of the items around a namespace's import: *work*, import by import, and alike behind them.
 use Prim.Native.Nat.{ℕ, zero, suc, _+_}
-use mathlib.Core.Path.{_≡_, refl, sym, ap, ap₂, subst, _∙_}
+use mathlib.Core.Path.{_≡_, refl, sym, ap, subst}
 use mathlib.Core.Logic.{_⊎_, inl, inr}
-use mathlib.Core.Bool.{Bool, true, false, not, cond, _&&_, _||_, true≢false}
-use mathlib.Core.List.{List, [], _∷_, _++_}
+use mathlib.Core.Bool.{Bool, true, false, cond, true≢false}
+use mathlib.Core.List.{List}
 use mathlib.Core.Option.{Option, none as nothing, some}
 use native.Mathlib.Omega.{arith}
-use lib.Dec.{eqb}
-use borrow.Author.Tests.{eqb-true}
 use Rattle.scope.specs.Id.{require-atom, local, export}
 use Rattle.scope.specs.Modules.{Modules}
 use Rattle.tree.specs.Layout.{same, two, four, nameOf, contextOf, valueOf}
 use Rattle.tree.specs.Tree.{Field, field, Fields, none, more, tagOf, fixedOf, partsOf, size}
 use Rattle.metadata.specs.Metadata.{append}
-use Rattle.lent.specs.Outcome.{Outcome, done, onto}
+use Rattle.lent.specs.Outcome.{done, onto}
 use Rattle.lent.specs.Lists.{find}
 use Rattle.lent.specs.Table.{fileOf}
-use Rattle.lent.specs.Fields.{has, keep, inside}
-use Rattle.extraction_rules.specs.State.{State, Pass, first, second, Setting, start, setTop}
+use Rattle.lent.specs.Fields.{keep, inside}
+use Rattle.extraction_rules.specs.State.{State, first, Setting, start, setTop}
 use Rattle.extraction_rules.specs.First.{external, moduleFor, importedAs, collect, noteId, noteAll, noteSpecifier, noteSpecifiers, specifiersIn, withContext, importFirst, stays}
 use Rattle.extraction_rules.specs.Walk.{walk, walkAll, walkModule}
 use Rattle.extraction_rules.proofs.OutcomeLaws.{After, after-bind, after-weaken}
 use Rattle.extraction_rules.proofs.ValueLaws.{after-any, walk-first}
-use Rattle.extraction_rules.proofs.AlikeLaws.{RegularAll, Alike, AlikeAll, alike-tag, walkAll-alike}
-use Rattle.extraction_rules.proofs.TableLaws.{Each}
+use Rattle.extraction_rules.proofs.AlikeLaws.{RegularAll, Alike, AlikeAll, walkAll-alike}
 use Rattle.extraction_rules.proofs.SpaceLaws.{OfImport, Spaces, space-steps, import-space}
 use Rattle.extraction_rules.proofs.ItemsLaws.{items-keep}
-use Rattle.claims.proofs.ImportedLaws.{Before, Redeclared, import-own}
-use Rattle.claims.proofs.FirstPassLaws.{OtherImport, OwnImport, Behind, Around}
+use Rattle.extraction_rules.proofs.StayLaws.{import-stays}
+use Rattle.extraction_rules.proofs.KeepLaws.{Each, keep-yes}
+use Rattle.claims.proofs.ImportedLaws.{Redeclared}
+use Rattle.claims.proofs.FirstPassLaws.{OwnImport}
 use Rattle.claims.proofs.CleanLaws.{CleanSpec, Whole, Clean, first-clean}
 
 -- ---- Dropped items
-
--- imports stay
-pub import-stays : (f : Field) → tagOf f ≡ 0x10 → stays f ≡ true
-unfolding stays
-import-stays (field t x none) q = rw q
-import-stays (field t x (more f fs)) q = rw q
 
 stays-alike : (f g : Field) → Alike f g → stays g ≡ stays f
 unfolding stays
@@ -57,10 +50,6 @@ keep-alike (more f fs) gs h =
     go true false q k = absurd (true≢false (sym q))
     go false true q k = absurd (true≢false q)
     go false false q k = k
-
-pub keep-more : (f : Field) (fs : Fields) → stays f ≡ true → keep stays (more f fs) ≡ more f (keep stays fs)
-unfolding keep
-keep-more f fs q = rw q
 
 module _ (i lit : List ℕ) (own file : ℕ) (context : contextOf i ≡ four (local own)) where
   -- what is known besides of another import
@@ -102,7 +91,7 @@ module _ (i lit : List ℕ) (own file : ℕ) (context : contextOf i ≡ four (lo
     behind-worked (more f fs) p s (inl h) =
         after-bind (walk f e false p s) _ (λ g t. Clean i own context (fixedOf f) g) (λ gs t. KeptBehind (more f fs) gs) (clean-walk f p s (h .0) (h .1)) λ g s c.
         after-bind (walkAll fs e false (p + size f) s) _ (λ gs t. KeptBehind fs gs) (λ gs t. KeptBehind (more f fs) gs) (behind-worked fs (p + size f) s (h .2)) λ gs s k.
-        inl (h .0, g, keep stays gs, keep-more g gs (import-stays g (c .0)), c, k)
+        inl (h .0, g, keep stays gs, keep-yes stays g gs (import-stays g (c .0)), c, k)
     behind-worked (more f fs) p s (inr h) =
         after-weaken (walkAll (more f fs) e false p s) (λ gs t. AlikeAll (more f fs) gs) (λ gs t. KeptBehind (more f fs) gs) (λ gs t a. inr (h, keep-alike (more f fs) gs a)) (walkAll-alike e one (more f fs) false p s h)
 
@@ -136,11 +125,11 @@ module _ (i lit : List ℕ) (own file : ℕ) (context : contextOf i ≡ four (lo
     around-worked zero (more f fs) p s h =
         after-bind (walk f e false p s) _ (λ g t. Redeclared i lit own file context (partsOf f) g) (λ gs t. Worked zero (more f fs) (keep stays gs)) (own-walk f p s (h .0)) λ g s c.
         after-bind (walkAll fs e false (p + size f) s) _ (λ gs t. KeptBehind fs gs) (λ gs t. Worked zero (more f fs) (keep stays gs)) (behind-worked fs (p + size f) s (h .1)) λ gs s k.
-        (g, keep stays gs, keep-more g gs (import-stays g (redeclared-tag (partsOf f) g c)), h .0 .tag, c, k)
+        (g, keep stays gs, keep-yes stays g gs (import-stays g (redeclared-tag (partsOf f) g c)), h .0 .tag, c, k)
     around-worked (suc k) (more f fs) p s h =
         after-bind (walk f e false p s) _ (λ g t. Clean i own context (fixedOf f) g) (λ gs t. Worked (suc k) (more f fs) (keep stays gs)) (clean-walk f p s (h .0) (h .1)) λ g s c.
         after-bind (walkAll fs e false (p + size f) s) _ (λ gs t. Worked k fs (keep stays gs)) (λ gs t. Worked (suc k) (more f fs) (keep stays gs)) (around-worked k fs (p + size f) s (h .2)) λ gs s r.
-        (h .0, g, keep stays gs, keep-more g gs (import-stays g (c .0)), c, r)
+        (h .0, g, keep stays gs, keep-yes stays g gs (import-stays g (c .0)), c, r)
 
     -- the first pass, as a tree
     pub first-worked : (k : ℕ) (items : Fields) (s : State) → CleanAround k items → After (walkModule e items s) (λ works t. Worked k items works)

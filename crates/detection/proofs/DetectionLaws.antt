@@ -1,35 +1,31 @@
 -- Detection over bytes: what the definitions say of the fields that stand at a place, and where the items of a module stand.
 use Prim.Native.Nat.{ℕ, _+_, _-_, _*_, _≤_, _<_}
 use mathlib.Core.Path.{_≡_, refl, sym, ap, ap₂, subst, _∙_}
-use mathlib.Core.Bool.{Bool, true, false, _||_, cond}
+use mathlib.Core.Bool.{Bool, false, _||_, cond}
 use mathlib.Core.List.{List}
 use native.Mathlib.Omega.{arith}
-use lib.Dec.{leb, eqb}
+use lib.Dec.{eqb}
 use lib.ListN.{length, getD}
 use lib.Seq.{slice}
-use borrow.Author.Tests.{leb-true, eqb-true, eq-eqb, ne-eqb, lt-ltb, le-ltb}
+use borrow.Author.Tests.{eq-eqb, ne-eqb, lt-ltb, le-ltb}
 use Rattle.scope.specs.Id.{atom}
-use Rattle.tree.specs.declared.layout.Reach.{Reach}
 use Rattle.tree.specs.declared.layout.Reach.the-variants.{Upto, Short}
 use Rattle.tree.specs.declared.grammar.Set.the-variants.{Module}
-use Rattle.tree.specs.declared.grammar.Rule.{Rule}
-use Rattle.tree.specs.declared.grammar.Value.{Value}
-use Rattle.tree.specs.declared.grammar.Value.the-variants.{Empty, Byte, Atom, Id, Literal, Number}
-use Rattle.tree.specs.declared.grammar.Piece.the-variants.{Plain}
+use Rattle.tree.specs.declared.grammar.Value.the-variants.{Id}
 use Rattle.tree.specs.declared.read.Why.{Why}
 use Rattle.tree.specs.declared.read.Verdict.the-variants.{Good, Refused}
-use Rattle.tree.specs.Layout.{skipAt, twoAt, literalWidth, literalEnd}
-use Rattle.tree.specs.Tree.{Field, Fields, more, tagOf, partsOf}
-use Rattle.tree.specs.Grammar.{within, holdsAt, only, ruleOf, piecesOf}
-use Rattle.tree.specs.Access.{valueAt, pieceAt, thenPiece, fixedAt, extentAt}
-use Rattle.tree.specs.Read.{Reading, fine, refused, verdict, refusalOf, read}
-use Rattle.tree.specs.Standing.{rowAt, treeAt, Whole, Row}
+use Rattle.tree.specs.Layout.{twoAt}
+use Rattle.tree.specs.Tree.{Field, Fields, more, tagOf}
+use Rattle.tree.specs.Grammar.{within, ruleOf}
+use Rattle.tree.specs.Access.{fixedAt, extentAt}
+use Rattle.tree.specs.Read.{Reading, fine, verdict, refusalOf, read}
+use Rattle.tree.specs.Standing.{rowAt, treeAt, Whole}
 use Rattle.tree.proofs.SliceLaws.{getD-slice}
-use Rattle.tree.proofs.AccessLaws.{cond-ind, extent-upto}
-use Rattle.tree.proofs.FixedLaws.{no-upto, upto-inj}
-use Rattle.tree.proofs.ExactLaws.{widthOf}
+use Rattle.tree.proofs.AccessLaws.{extent-upto}
+use Rattle.tree.proofs.FixedLaws.{upto-inj}
 use Rattle.tree.proofs.ReadLaws.{good-fine, verdict-refused}
-use Rattle.tree.proofs.StandingLaws.{row-more, row-none, tree-upto, tree-short, whole-step, row-next, read-field}
+use Rattle.tree.proofs.StandingLaws.{row-more, row-none, tree-upto, tree-short, whole-step, row-next}
+use Rattle.tree.proofs.WidthLaws.{plain-ends, read-module}
 use Rattle.detection.specs.declared.Ident.{Ident}
 use Rattle.detection.specs.declared.Ident.the-variants.{Name, Other}
 use Rattle.detection.specs.Detection.{firstIdent, anyName, moduleOrExports, otherHere, foundOther, foundOtherIn, forcedEs6, es6, itemsOf, answers, refuses, onReading, detect, Accepted}
@@ -87,41 +83,6 @@ unfolding firstIdent
 first-upto s at end stop b le e x =
     ap firstIdent (row-more s at end stop le e ∙ ap (λ (f : Field). more f (rowAt s stop end)) (tree-upto s at stop b x))
 
--- where the fixed bytes of a tag end that are one plain value
-skip-ends : (n at stop b : ℕ) → skipAt at n stop ≡ Upto b → b ≡ at + n
-unfolding skipAt
-skip-ends n at stop b =
-    cond-ind (λ (r : Reach). r ≡ Upto b → b ≡ at + n) (leb n (stop - at)) (Upto (at + n)) Short (λ _ e. sym (upto-inj e))
-    (λ _ e. absurd (no-upto e))
-
-value-ends : (v : Value) (at stop b : ℕ) → valueAt v at stop ≡ Upto b → b ≡ at + widthOf v
-unfolding valueAt literalEnd
-value-ends Empty at stop b e = skip-ends 0 at stop b e
-value-ends Byte at stop b e = skip-ends 1 at stop b e
-value-ends Atom at stop b e = skip-ends 2 at stop b e
-value-ends Id at stop b e = skip-ends 6 at stop b e
-value-ends Literal at stop b e = skip-ends literalWidth at stop b e
-value-ends Number at stop b e = skip-ends 8 at stop b e
-
-only-on : (r : Reach) (s : List ℕ) (n at stop b : ℕ) → ((c : ℕ) → r ≡ Upto c → c ≡ at + n) →
-    thenPiece r s (Plain Empty) stop ≡ Upto b → b ≡ at + n
-unfolding thenPiece pieceAt
-only-on Short s n at stop b h e = absurd (no-upto e)
-only-on (Upto c) s n at stop b h e = let i = h c refl in let j = value-ends Empty c stop b e in omega arith
-
-pub plain-ends : (t : ℕ) (v : Value) (s : List ℕ) (at stop b : ℕ) → piecesOf t ≡ only (Plain v) → fixedAt s t at stop ≡ Upto b →
-    b ≡ at + widthOf v
-unfolding fixedAt pieceAt
-plain-ends t v s at stop b h e = only-on (valueAt v at stop) s (widthOf v) at stop b (value-ends v at stop) (rw h at e)
-
-pub ident-ends : (s : List ℕ) (t at stop b : ℕ) → t ≡ 0x60 → fixedAt s t at stop ≡ Upto b → b ≡ at + 6
-unfolding piecesOf
-ident-ends s t at stop b h e = plain-ends t Id s at stop b (ap piecesOf h) e
-
-module-ends : (s : List ℕ) (t at stop b : ℕ) → t ≡ 0x01 → fixedAt s t at stop ≡ Upto b → b ≡ at + 0
-unfolding piecesOf
-module-ends s t at stop b h e = plain-ends t Empty s at stop b (ap piecesOf h) e
-
 name-slice : (s : List ℕ) (at b : ℕ) → b ≡ at + 6 → twoAt (slice at b s) 0 ≡ twoAt s at
 name-slice s at b h =
     let z : at + 0 ≡ at = omega arith in
@@ -131,7 +92,7 @@ name-slice s at b h =
 pub first-named : (s : List ℕ) (at end stop b : ℕ) → at ≤ end → extentAt s at end ≡ Upto stop →
     fixedAt s (getD s at 0) (at + 3) stop ≡ Upto b → getD s at 0 ≡ 0x60 → firstIdent (rowAt s at end) ≡ Name (atom (twoAt s (at + 3)))
 first-named s at end stop b le e x h =
-    let six = ident-ends s (getD s at 0) (at + 3) stop b h x in
+    let six = plain-ends 0x60 Id refl s (getD s at 0) (at + 3) stop b h x in
     first-upto s at end stop b le e x ∙ rw (eq-eqb _ _ h) (ap (λ (n : ℕ). Name (atom n)) (name-slice s (at + 3) b six))
 
 pub first-other : (s : List ℕ) (at end stop b : ℕ) → at ≤ end → extentAt s at end ≡ Upto stop →
@@ -169,32 +130,11 @@ forced-more s at end stop le a e =
 
 -- ---- the whole call
 
-module-tag : (t : ℕ) → holdsAt Module t ≡ true → t ≡ 0x01
-unfolding holdsAt
-module-tag t e = eqb-true t 0x01 e
-
--- the items of a module that was read stand from 3 on
-record ItemsAt (s : List ℕ) (fs : Fields) : Type 0 where
-  room : 3 ≤ length s
-  items : itemsOf fs ≡ rowAt s 3 (length s)
-  accepted : Accepted s 3 (length s)
-
-items-at : (s : List ℕ) (fs : Fields) → read Module s ≡ fine fs → ItemsAt s fs
-items-at s fs e =
-    let r = read-field Module s fs e in
-    let t = getD s 0 0 in
-    let w = whole-step s 0 (length s) (r .whole) in
-    let from : w .0 ≡ 3 = module-ends s t 3 (length s) (w .0) (module-tag t (r .tag)) (w .1) in
-    record {
-      room = r .room;
-      items =
-          ap itemsOf (r .tree) ∙ ap partsOf (tree-upto s 0 (length s) (w .0) (w .1))
-          ∙ ap (λ (b : ℕ). rowAt s b (length s)) from;
-      accepted = (ruleOf t, subst (λ (b : ℕ). Row s b (length s) (ruleOf t)) from (w .2));
-    }
+items-are : (s : List ℕ) (fs : Fields) → read Module s ≡ fine fs → itemsOf fs ≡ rowAt s 3 (length s)
+items-are s fs e = ap itemsOf (read-module s fs e .tree)
 
 pub items-accepted : (s : List ℕ) → verdict (read Module s) ≡ Good → (3 ≤ length s) × Accepted s 3 (length s)
-items-accepted s e = let r = good-fine (read Module s) e in let m = items-at s (r .0) (r .1) in (m .room, m .accepted)
+items-accepted s e = let r = good-fine (read Module s) e in let m = read-module s (r .0) (r .1) in (m .room, (ruleOf 0x01, m .row))
 
 pub detect-long : (config : Bool) (s : List ℕ) → 65538 < length s → detect config s ≡ refuses 1 0
 unfolding detect
@@ -213,4 +153,4 @@ detect-read config s h e =
     let r = good-fine (read Module s) e in
     rw (le-ltb _ _ h)
     (ap (λ (x : Reading Fields). onReading x config) (r .1)
-    ∙ ap (λ (x : Fields). answers (es6 config x)) (items-at s (r .0) (r .1) .items))
+    ∙ ap (λ (x : Fields). answers (es6 config x)) (items-are s (r .0) (r .1)))

@@ -8,7 +8,7 @@ use native.Mathlib.Omega.{arith}
 use lib.Dec.{eqb}
 use lib.ListN.{length, getD}
 use lib.Seq.{slice}
-use borrow.Author.Tests.{eq-eqb, ne-eqb}
+use borrow.Author.Tests.{eq-eqb, ne-eqb, not-true, not-false}
 use Rattle.tree.specs.declared.layout.Reach.the-variants.{Upto, Short}
 use Rattle.tree.specs.Layout.{Bytes, two, four, twoAt, idAt}
 use Rattle.tree.specs.Tree.{Field, Fields, none, more, fixedOf}
@@ -16,6 +16,8 @@ use Rattle.tree.specs.Access.{fixedAt, extentAt}
 use Rattle.tree.specs.Standing.{treeAt, rowAt}
 use Rattle.tree.proofs.LayoutLaws.{two-at}
 use Rattle.tree.proofs.StandingLaws.{row-more, row-none, tree-upto, tree-short}
+use Rattle.tree.proofs.WidthLaws.{plain-ends}
+use Rattle.tree.specs.declared.grammar.Value.the-variants.{Atom, Id}
 use Rattle.lent.specs.Fields.{has}
 use Rattle.extraction_rules.specs.State.{Usage, State, Pass, first, second}
 use Rattle.extraction_rules.specs.First.{importedAs}
@@ -28,16 +30,10 @@ use Rattle.scope.specs.declared.id.SyntaxContext.{SyntaxContext}
 use Rattle.steps.specs.Step.{passOf, identBy, Small}
 use Rattle.steps.specs.declared.Ident.{Ident}
 use Rattle.steps.specs.declared.Ident.the-variants.{Is, Other}
+use Rattle.steps.proofs.StepsLaws.{no-id, an-id}
 use Rattle.expressions.specs.After.{asIdent, becomes, identAfter, memberAfter, namedFirst}
-use Rattle.expressions.proofs.WidthLaws.{ends-60, ends-70}
 
 -- ---- Ids are small
-
-pub no-id : Small Other
-no-id n e = absurd (let z : _≡_ {A = ℕ} 0 1 = cc in omega arith)
-
-pub an-id : {n : ℕ} → n < id-limit → Small (Is n)
-an-id {n} h m e = let z : n ≡ m = cc in omega arith
 
 -- ---- A field
 
@@ -60,7 +56,7 @@ module _ (s : List ℕ) (at stop : ℕ) where
   pub after-60 : (k : Pass) {b n : ℕ} {t : List ℕ} → fixedAt s (getD s at 0) (at + 3) stop ≡ Upto b → getD s at 0 ≡ 0x60 → (idOf n ≡ idAt s (at + 3)) × (n < id-limit) →
       Small (Is n) × Tells (identAfter (treeAt s at stop) k) t (some (idOf n))
   after-60 k {b} {n} e h i =
-      let w = ends-60 s (getD s at 0) (at + 3) stop b h e in
+      let w = plain-ends 0x60 Id refl s (getD s at 0) (at + 3) stop b h e in
       let x : idOf n ≡ slice (at + 3) b s = i .0 ∙ ap (λ (c : ℕ). slice (at + 3) c s) (sym w) in
       (an-id (i .1), record { is = λ u _. sym (is-tree k u b e ∙ rw (ne-eqb (getD s at 0) 0x63 (λ z. omega arith), eq-eqb (getD s at 0) 0x60 h) (ap some (sym x))) })
 
@@ -85,14 +81,6 @@ module _ (s : List ℕ) (at stop : ℕ) where
   )
 
 -- ---- The parts of a 63, in the second pass
-
-pub is-false : (b : Bool) → not b ≡ true → b ≡ false
-is-false true h = sym h
-is-false false h = refl
-
-pub is-true : (b : Bool) → not b ≡ false → b ≡ true
-is-true true h = refl
-is-true false h = sym h
 
 -- the object is no id
 no-object : (o : Field) (r : Fields) (u : State) → identAfter o second u ≡ nothing → memberAfter (more o r) second u ≡ nothing
@@ -158,7 +146,7 @@ module _ (s : List ℕ) (at end : ℕ) (le : at ≤ end) where
 
       pub member-unused : {b : Bool} → not b ≡ true → Tells (λ u. any (usagesOf (idOf n) (u .usages))) t b → Small Other × Tells (memberAfter (rowAt s at end) second) t nothing
       member-unused {b} k p =
-          (no-id, record { is = λ u v. sym (row-is u ∙ object-unused (treeAt s at stop) (rowAt s stop end) u (idOf n) (object-is u v) (sym (is-false b k) ∙ p .is u v)) })
+          (no-id, record { is = λ u v. sym (row-is u ∙ object-unused (treeAt s at stop) (rowAt s stop end) u (idOf n) (object-is u v) (sym (not-true b k) ∙ p .is u v)) })
 
       pub member-nowhere : {c : Context} → c ≡ Nowhere → Tells (λ u. importedAs (idOf n) (u .imported)) t (contextBy c) →
           Small Other × Tells (memberAfter (rowAt s at end) second) t nothing
@@ -171,7 +159,7 @@ module _ (s : List ℕ) (at end : ℕ) (le : at ≤ end) where
         f .0,
         record {
           is = λ u v.
-              f .1 ∙ sym (row-is u ∙ object-named (treeAt s at stop) (rowAt s stop end) u (idOf n) (four (d .0)) (object-is u v) (sym (is-true b k) ∙ p .is u v) (ap contextBy (sym m) ∙ o .is u v));
+              f .1 ∙ sym (row-is u ∙ object-named (treeAt s at stop) (rowAt s stop end) u (idOf n) (four (d .0)) (object-is u v) (sym (not-false b k) ∙ p .is u v) (ap contextBy (sym m) ∙ o .is u v));
         },
       )
 
@@ -195,7 +183,7 @@ module _ (s : List ℕ) (at end : ℕ) (c : List ℕ) (le : at ≤ end) where
     pub named-70 : {b n a : ℕ} → Bytes s → at + 5 ≤ length s → fixedAt s (getD s at 0) (at + 3) stop ≡ Upto b → getD s at 0 ≡ 0x70 → a ≡ twoAt s (at + 3) →
         (idOf n ≡ two a ++ c) × (n < id-limit) → Small (Is n) × (some (idOf n) ≡ namedFirst (rowAt s at end) c)
     named-70 {b} {n} {a} bs fits x h z i =
-        let w = ends-70 s (getD s at 0) (at + 3) stop b h x in
+        let w = plain-ends 0x70 Atom refl s (getD s at 0) (at + 3) stop b h x in
         let y : two a ≡ slice (at + 3) b s = ap two z ∙ two-at s (at + 3) bs (omega arith) ∙ ap (λ (k : ℕ). slice (at + 3) k s) (sym w) in
         (an-id (i .1), sym (named-is b x ∙ rw (eq-eqb (getD s at 0) 0x70 h) (ap some (sym (i .0 ∙ ap (λ (l : List ℕ). l ++ c) y)))))
 

@@ -1,17 +1,15 @@
 -- A walked pattern binds the ids that it bound.
 use Prim.Native.Nat.{ℕ, _+_}
 use mathlib.Core.Path.{_≡_, refl, sym, ap, ap₂, subst, _∙_}
-use mathlib.Core.Logic.{_⊎_, inl, inr}
-use mathlib.Core.Bool.{Bool, true, false, not, cond, _&&_, _||_}
+use mathlib.Core.Logic.{_⊎_}
+use mathlib.Core.Bool.{Bool, true, false, cond, _||_}
 use mathlib.Core.List.{List, [], _∷_, _++_}
 use mathlib.Core.Option.{Option, none as nothing, some}
 use native.Mathlib.Omega.{arith}
 use lib.Dec.{eqb}
 use lib.ListN.{getD}
-use Rattle.tree.specs.Layout.{idAt}
-use borrow.Author.Tests.{eqb-true, eqb-false, eq-eqb, ne-eqb}
-use Rattle.scope.specs.Id.{export}
-use Rattle.tree.specs.Tree.{Field, field, Fields, none, more, tagOf, fixedOf, partsOf, size}
+use borrow.Author.Tests.{eqb-true, eqb-false}
+use Rattle.tree.specs.Tree.{Field, field, Fields, none, more, tagOf, fixedOf, size}
 use Rattle.lent.specs.Outcome.{Outcome, done, onto}
 use Rattle.lent.specs.Fields.{has, inside}
 use Rattle.metadata.specs.Metadata.{append}
@@ -20,13 +18,14 @@ use Rattle.extraction_rules.specs.First.{importedAs, onIdent, required, withCal
 use Rattle.extraction_rules.specs.Second.{usagesOf, asProperty, rewritten}
 use Rattle.extraction_rules.specs.Walk.{Rule, import, export as exporting, declare, express, nothing as plain, afterExpression, ruleFor, after, Parts, unwalked, member, super, assignment, children, partsFor, enter, walk, walkAll, walkMember, walkAssignment, walkTarget}
 use Rattle.extraction_rules.proofs.OutcomeLaws.{After, after-bind, after-if, after-weaken, after-both}
-use Rattle.extraction_rules.proofs.ValueLaws.{after-any, required-call, first-expression, declarator-value}
+use Rattle.extraction_rules.proofs.ValueLaws.{required-call, first-expression, declarator-value}
 use Rattle.extraction_rules.proofs.TagLaws.{rule-import, rule-export}
 use Rattle.extraction_rules.proofs.WalkLaws.{walkParts}
 use Rattle.extraction_rules.proofs.WholeLaws.{bindingsBy}
 use Rattle.extraction_rules.proofs.AlikeLaws.{Two, RegularAt, Regular, RegularAll}
-use Rattle.expressions.specs.After.{identOf, identAfter}
-use Rattle.expressions.proofs.IdentLaws.{no-member, Became, walk-ident, Membered, parts-63}
+use Rattle.extraction_rules.proofs.StayLaws.{no-member}
+use Rattle.expressions.specs.After.{identOf}
+use Rattle.expressions.proofs.IdentLaws.{Became, walk-ident, Membered, parts-63}
 
 -- ---- Fields and rows that bind the same
 

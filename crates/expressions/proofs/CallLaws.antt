@@ -1,14 +1,14 @@
 -- The literal of a call that is a require call once it is walked, read off the bytes: one law for each way through required_at.
 use Prim.Native.Nat.{ℕ, _+_, _/_, _≤_, _<_}
 use mathlib.Core.Path.{_≡_, refl, sym, ap, _∙_}
-use mathlib.Core.Bool.{Bool, true, false, not, cond, _&&_}
+use mathlib.Core.Bool.{Bool, true, false, not, cond, _&&_, and-false}
 use mathlib.Core.List.{List, []}
 use mathlib.Core.Option.{Option, none as nothing, some}
 use native.Mathlib.Omega.{arith}
 use lib.Dec.{eqb}
 use lib.ListN.{getD}
 use lib.Seq.{slice}
-use borrow.Author.Tests.{eq-eqb, ne-eqb}
+use borrow.Author.Tests.{eq-eqb, ne-eqb, not-true, not-false}
 use Rattle.tree.specs.declared.layout.Reach.{Reach}
 use Rattle.tree.specs.declared.layout.Reach.the-variants.{Upto, Short}
 use Rattle.tree.specs.Layout.{two, same, nameOf}
@@ -17,6 +17,7 @@ use Rattle.tree.specs.Access.{fixedAt, extentAt}
 use Rattle.tree.specs.Standing.{treeAt, rowAt}
 use Rattle.tree.proofs.LayoutLaws.{same-two}
 use Rattle.tree.proofs.StandingLaws.{row-more, row-none, tree-upto, tree-short}
+use Rattle.tree.proofs.WidthLaws.{tree-bare}
 use Rattle.lent.specs.Lists.{among}
 use Rattle.lent.specs.Fields.{sole}
 use Rattle.lent.specs.Table.{Row}
@@ -33,9 +34,7 @@ use Rattle.expressions.specs.After.{identAfter, ifRequire, requiredAfter
 use Rattle.expressions.specs.Require.{literalBy, SmallLiteral}
 use Rattle.expressions.specs.declared.require.Literal.{Literal}
 use Rattle.expressions.specs.declared.require.Literal.the-variants.{Is as Lit, Other as NoLit}
-use Rattle.expressions.proofs.WidthLaws.{tree-65}
-use Rattle.expressions.proofs.AfterLaws.{is-false, is-true}
-use Rattle.expressions.proofs.LiteralLaws.{and-none, no-literal}
+use Rattle.expressions.proofs.LiteralLaws.{no-literal}
 
 -- ---- Fields
 
@@ -50,7 +49,7 @@ unfolding requiredAfter
 not-call e t x none u h = refl
 not-call e t x (more c gs) u h =
     ap (λ (b : Bool). cond b (ifRequire (identAfter c (e .pass) u) (notExternal e (argument (sole gs)))) nothing)
-    (ap (λ (b : Bool). e .config .require && b) (ne-eqb t 0x65 h) ∙ and-none (e .config .require))
+    (ap (λ (b : Bool). e .config .require && b) (ne-eqb t 0x65 h) ∙ and-false (e .config .require))
 
 is-call : (e : Setting) (c : Field) (gs : Fields) (u : State) → e .config .require ≡ true →
     requiredAfter e (field 0x65 [] (more c gs)) u ≡ ifRequire (identAfter c (e .pass) u) (notExternal e (argument (sole gs)))
@@ -81,7 +80,7 @@ module _ (k : CodeSetting) (externals : List (List ℕ)) (s : List ℕ) (at stop
   Reads t r = SmallLiteral r × ((rows : List Row) → Tells (requiredAfter (settingOf k externals rows) (treeAt s at stop)) t (literalBy r))
 
   pub call-off : {t : List ℕ} → not (k .require) ≡ true → Reads t NoLit
-  call-off {t} h = (no-literal, λ rows. record { is = λ u _. sym (not-on (settingOf k externals rows) (treeAt s at stop) u (is-false (k .require) h)) })
+  call-off {t} h = (no-literal, λ rows. record { is = λ u _. sym (not-on (settingOf k externals rows) (treeAt s at stop) u (not-true (k .require) h)) })
 
   pub call-other : {t : List ℕ} → (getD s at 0 ≡ 0x65 → ⊥) → Reads t NoLit
   call-other {t} h = (no-literal, λ rows. record { is = λ u _. sym (go (settingOf k externals rows) u (fixedAt s (getD s at 0) (at + 3) stop) refl) })
@@ -99,7 +98,7 @@ module _ (k : CodeSetting) (externals : List (List ℕ)) (s : List ℕ) (at stop
           record {
             is = λ u _.
                 sym (ap (λ (f : Field). requiredAfter (settingOf k externals rows) f u)
-                (tree-65 s at stop le tag ∙ ap (field 0x65 []) (row-none s (at + 3) stop le x)));
+                (tree-bare 0x65 refl s at stop le tag ∙ ap (field 0x65 []) (row-none s (at + 3) stop le x)));
           },
     )
 
@@ -109,8 +108,8 @@ module _ (k : CodeSetting) (externals : List (List ℕ)) (s : List ℕ) (at stop
           ≡ ifRequire (identAfter (treeAt s (at + 3) callee) (passOf (k .second)) u) (notExternal (settingOf k externals rows) (argument (sole (rowAt s callee stop))))
       call-is rows u =
           ap (λ (f : Field). requiredAfter (settingOf k externals rows) f u)
-          (tree-65 s at stop le tag ∙ ap (field 0x65 []) (row-more s (at + 3) stop callee le x))
-          ∙ is-call (settingOf k externals rows) (treeAt s (at + 3) callee) (rowAt s callee stop) u (is-true (k .require) on)
+          (tree-bare 0x65 refl s at stop le tag ∙ ap (field 0x65 []) (row-more s (at + 3) stop callee le x))
+          ∙ is-call (settingOf k externals rows) (treeAt s (at + 3) callee) (rowAt s callee stop) u (not-false (k .require) on)
 
       pub call-nameless : {t : List ℕ} {r : Ident} → r ≡ Other → Tells (identAfter (treeAt s (at + 3) callee) (passOf (k .second))) t (identBy r) → Reads t NoLit
       call-nameless h w = (

@@ -2,13 +2,13 @@
 use Prim.Native.Nat.{ℕ, zero, suc, _+_, _/_, _%_, _≤_, _<_}
 use mathlib.Core.Path.{_≡_, refl, sym, ap, _∙_}
 use mathlib.Core.List.{List, [], _∷_, _++_}
-use native.Mathlib.Nat.{add-zero}
 use native.Mathlib.Omega.{arith}
 use lib.ListN.{length, set, length-append, length-set}
-use lib.Seq.{sets, length-sets, set-out, set-comm}
+use lib.Seq.{sets, length-sets, set-out}
 use Rattle.scope.specs.Id.{export}
 use Rattle.writer.specs.Bytes.{fourBytes}
 use Rattle.writer.specs.Wrote.{capped, Wrote}
+use Rattle.writer.proofs.Wrote.{sets-append, set-sets}
 use Rattle.tree.specs.Layout.{four}
 use Rattle.tree.specs.Tree.{Field, field, Fields, more, framed, encode, encodes}
 use Rattle.extraction_rules.specs.First.{withCallee}
@@ -22,18 +22,7 @@ set-twice (x ∷ l) zero a b = refl
 set-twice (x ∷ l) (suc i) a b = ap (λ (m : List ℕ). x ∷ m) (set-twice l i a b)
 
 -- one part of a run after the other
-sets-append : (xs ys l : List ℕ) (i : ℕ) → sets l i (xs ++ ys) ≡ sets (sets l i xs) (i + length xs) ys
-sets-append [] ys l i = rw add-zero
-sets-append (x ∷ xs) ys l i =
-    sets-append xs ys (set l i x) (suc i) ∙ ap (λ (n : ℕ). sets (sets (set l i x) (suc i) xs) n ys) (omega arith)
-
 -- a store before a run may come first
-set-sets : (vs l : List ℕ) (i j b : ℕ) → j < i → set (sets l i vs) j b ≡ sets (set l j b) i vs
-set-sets [] l i j b h = refl
-set-sets (a ∷ vs) l i j b h =
-    set-sets vs (set l i a) (suc i) j b (omega arith)
-    ∙ ap (λ (x : List ℕ). sets x (suc i) vs) (set-comm l i j a b (omega arith))
-
 -- a run over the start of another
 sets-over : (ds cs vs l : List ℕ) (i : ℕ) → length ds ≡ length cs → sets (sets l i (cs ++ vs)) i ds ≡ sets l i (ds ++ vs)
 sets-over [] [] vs l i h = refl

@@ -1,8 +1,7 @@
 -- Steps that write nothing: one that is passed over, one that is refused, one of a table, and the same step said otherwise.
 use Prim.Native.Nat.{ℕ}
-use mathlib.Core.Path.{_≡_, ap, _∙_}
+use mathlib.Core.Path.{_≡_, _∙_, sym}
 use mathlib.Core.List.{List}
-use native.Mathlib.Omega.{arith}
 use Rattle.lent.specs.Outcome.{done, refused}
 use Rattle.extraction_rules.specs.State.{State, Act}
 use Rattle.kept.specs.Kept.{At, Good, Shows}
@@ -14,18 +13,7 @@ use Rattle.steps.specs.declared.Why.{Why}
 use Rattle.steps.specs.declared.Why.the-variants.{TableFull}
 use Rattle.steps.specs.declared.Effect.{Effect}
 use Rattle.steps.specs.declared.Effect.the-variants.{Fine, Refused as Turned}
-
-pub fine-turned : {A : Type 0} {w : Why} {q : ℕ} → Fine ≡ Turned w q → A
-fine-turned e = absurd (let z : _≡_ {A = ℕ} 0 1 = cc in omega arith)
-
-pub turned-fine : {A : Type 0} {w : Why} {q : ℕ} → Turned w q ≡ Fine → A
-turned-fine e = absurd (let z : _≡_ {A = ℕ} 0 1 = cc in omega arith)
-
-same-why : {v w : Why} {p q : ℕ} → Turned v p ≡ Turned w q → v ≡ w
-same-why e = cc
-
-same-place : {v w : Why} {p q : ℕ} → Turned v p ≡ Turned w q → p ≡ q
-same-place e = cc
+use Rattle.steps.proofs.StepsLaws.{fine-turned, turned-as}
 
 module _ {P : At → State → Type 0} {act : Act (Unit {0})} {t : List ℕ} where
   -- nothing is done
@@ -38,9 +26,8 @@ module _ {P : At → State → Type 0} {act : Act (Unit {0})} {t : List ℕ} whe
   effects-refuse w q g h =
       record {
         good = g;
-        fine = λ e. turned-fine e;
-        turned = λ v p e {x} s k m.
-            h x s k m ∙ ap (λ (u : Why). refused (refusalOf u) q) (same-why e) ∙ ap (refused (refusalOf v)) (same-place e);
+        fine = λ e. fine-turned (sym e);
+        turned = λ v p e {x} s k m. turned-as (h x s k m) e;
       }
 
   -- the state is changed

@@ -2,70 +2,25 @@
 use Prim.Native.Nat.{ℕ, _+_}
 use mathlib.Core.Path.{_≡_, refl, sym, ap, subst, _∙_}
 use mathlib.Core.Logic.{_⊎_, inl, inr}
-use mathlib.Core.Bool.{Bool, true, false, not, cond, _&&_, _||_}
+use mathlib.Core.Bool.{Bool, true, false, cond}
 use mathlib.Core.List.{List, [], _∷_, _++_}
 use mathlib.Core.Option.{Option, none as nothing, some}
 use native.Mathlib.Omega.{arith}
 use lib.Dec.{eqb}
-use lib.ListN.{getD}
-use borrow.Author.Tests.{eqb-true, eqb-false, eq-eqb, ne-eqb}
+use borrow.Author.Tests.{eqb-true, eqb-false, ne-eqb}
 use Rattle.tree.specs.Tree.{Field, field, Fields, none, more, tagOf, fixedOf, size}
-use Rattle.tree.specs.Grammar.{within, expressionTag, find}
-use Rattle.lent.specs.Outcome.{Outcome, done, onto}
+use Rattle.tree.specs.Grammar.{within}
+use Rattle.lent.specs.Outcome.{done}
 use Rattle.lent.specs.Fields.{has, inside}
-use Rattle.extraction_rules.specs.State.{Usage, State, Pass, first, second, Setting, refuse}
-use Rattle.extraction_rules.specs.First.{importedAs, onIdent, usage, required, require, withCallee, exportSpecifier, declarator}
+use Rattle.extraction_rules.specs.State.{Usage, State, Pass, first, second, Setting}
+use Rattle.extraction_rules.specs.First.{importedAs, onIdent, usage, required, require}
 use Rattle.extraction_rules.specs.Second.{usagesOf, asProperty, rewritten}
-use Rattle.extraction_rules.specs.Walk.{Rule, import, export as exporting, declare, express, nothing as plain, afterExpression, ruleFor, after, partsFor, enter, walk, walkAll, walkMember}
-use Rattle.extraction_rules.proofs.OutcomeLaws.{After, after-bind, after-if, after-weaken}
-use Rattle.extraction_rules.proofs.ValueLaws.{after-any, first-expression}
-use Rattle.extraction_rules.proofs.TagLaws.{rule-import, rule-export}
-use Rattle.extraction_rules.proofs.WalkLaws.{walkParts}
+use Rattle.extraction_rules.specs.Walk.{afterExpression, ruleFor, after, partsFor, walk, walkAll, walkMember}
+use Rattle.extraction_rules.proofs.OutcomeLaws.{After, after-bind, after-weaken}
 use Rattle.extraction_rules.proofs.AlikeLaws.{Two, RegularAt, Regular, RegularAll}
+use Rattle.extraction_rules.proofs.StayLaws.{Same, expression-same, walk-same}
 use Rattle.expressions.specs.After.{identOf, asIdent, becomes, identAfter, memberAfter}
-
--- ---- The tag stays, but for a 63, and the fixed bytes, but for a 23
-
--- g has the tag t and the fixed bytes x
-abbrev pub Same : ℕ → List ℕ → Field → Type 0
-Same t x g = (tagOf g ≡ t) × ((t ≡ 0x23 → ⊥) → fixedOf g ≡ x)
-
-callee-same : (n : ℕ) (t : ℕ) (x : List ℕ) (ds : Fields) → Same t x (withCallee n (field t x ds))
-unfolding withCallee
-callee-same n t x none = (refl, λ _. refl)
-callee-same n t x (more c gs) = (refl, λ _. refl)
-
-pub no-member : (t : ℕ) (x : List ℕ) (cs : Fields) → (t ≡ 0x63 → ⊥) → onIdent (field t x cs) ≡ nothing
-unfolding onIdent
-no-member t x none h = refl
-no-member t x (more o none) h = refl
-no-member t x (more o (more q qs)) h = ap (λ (b : Bool). cond (b && has 0x60 o) (some (o, q)) nothing) (ne-eqb t 0x63 h)
-
-pub expression-same : (k : Pass) (e : Setting) (t : ℕ) (x : List ℕ) (ds : Fields) (object : Bool) (p : ℕ) (s : State) → (k ≡ second → onIdent (field t x ds) ≡ nothing) →
-    After (afterExpression k e (field t x ds) object p s) (λ g s'. Same t x g)
-unfolding afterExpression rewritten
-expression-same first e t x ds object p s h =
-    first-expression e (Same t x) first refl (field t x ds) object p s ((refl, λ _. refl), λ n l w. callee-same n t x ds)
-expression-same second e t x ds object p s h =
-    subst (λ (o : Option (Field × Field)). Same t x (rewritten o (field t x ds) s)) (sym (h refl)) (refl, λ _. refl)
-
-after-same : (e : Setting) (r : Rule) (t : ℕ) (x : List ℕ) (ds : Fields) (object : Bool) (p : ℕ) (s : State) → ruleFor t ≡ r → (t ≡ 0x10 → ⊥) → (t ≡ 0x63 → ⊥) →
-    After (after r e t x ds object p s) (λ g s'. Same t x g)
-unfolding after exportSpecifier
-after-same e import t x ds object p s q h k = absurd (h (rule-import t q))
-after-same e exporting t x ds object p s q h k =
-    after-if (eqb (getD x 0 0) 2 || eqb (getD x 7 0) 2) (refuse 6 p) _ s (λ g s'. Same t x g) (λ _. tt) (λ _. (sym (rule-export t q), λ n. absurd (n (rule-export t q))))
-after-same e declare t x ds object p s q h k =
-    after-bind (declarator e ds p s) _ (λ _ _. Unit {0}) (λ g s'. Same t x g) (after-any (declarator e ds p s)) λ gs s _. (refl, λ _. refl)
-after-same e express t x ds object p s q h k = expression-same (e .pass) e t x ds object p s (λ _. no-member t x ds k)
-after-same e plain t x ds object p s q h k = (refl, λ _. refl)
-
-pub walk-same : (e : Setting) (t : ℕ) (x : List ℕ) (cs : Fields) (object : Bool) (p : ℕ) (s : State) → (t ≡ 0x10 → ⊥) → (t ≡ 0x63 → ⊥) →
-    After (walk (field t x cs) e object p s) (λ g s'. Same t x g)
-unfolding walk
-walk-same e t x cs object p s h k =
-    after-bind (walkParts (partsFor t) cs e object (inside p x) (enter t s)) _ (λ _ _. Unit {0}) (λ g s'. Same t x g)
-    (after-any (walkParts (partsFor t) cs e object (inside p x) (enter t s))) λ ds s _. after-same e (ruleFor t) t x ds object p s refl h k
+use Rattle.scope.proofs.Laws.{none-some}
 
 -- ---- Fields without parts
 
@@ -92,9 +47,6 @@ module _ (e : Setting) where
   abbrev pub Became : Field → State → Field → State → Type 0
   Became f s g s' = (identAfter f (e .pass) s ≡ identOf g) × (e .pass ≡ second → (i : List ℕ) → identOf g ≡ some i → (g ≡ field 0x60 i none) × (s' ≡ s))
 
-  some-none : {A : Type 0} {i : List ℕ} → nothing ≡ some i → A
-  some-none {i = i} q = absurd (let z : _≡_ {A = ℕ} 0 1 = cc in omega arith)
-
   other-ident : (g : Field) → (tagOf g ≡ 0x60 → ⊥) → identOf g ≡ nothing
   unfolding identOf
   other-ident (field t x cs) h = ap (λ (b : Bool). cond b (some x) nothing) (ne-eqb t 0x60 h)
@@ -106,7 +58,7 @@ module _ (e : Setting) where
       let n = other-ident g (λ z. k (sym q ∙ z)) in (
         ap (λ (b : Bool). cond b (memberAfter cs (e .pass) s) (cond (eqb t 0x60) (some x) nothing)) (ne-eqb t 0x63 h)
             ∙ ap (λ (b : Bool). cond b (some x) nothing) (ne-eqb t 0x60 k) ∙ sym n,
-        λ _ i w. some-none (sym n ∙ w),
+        λ _ i w. none-some (sym n ∙ w),
       )
 
   became-60 : (x : List ℕ) (g : Field) (s s' : State) → (g ≡ field 0x60 x none) × (e .pass ≡ second → s' ≡ s) → Became (field 0x60 x none) s g s'
@@ -153,8 +105,8 @@ module _ (e : Setting) where
   pub as-ident : (us : List Usage) (c : Option (List ℕ)) (q f : Field) → tagOf f ≡ 0x63 →
       (asIdent us c q ≡ identOf (asProperty us c q f)) × ((i : List ℕ) → identOf (asProperty us c q f) ≡ some i → asProperty us c q f ≡ field 0x60 i none)
   unfolding asIdent asProperty identOf
-  as-ident [] c q f t = let n = other-ident f (λ z. let v : _≡_ {A = ℕ} 0x63 0x60 = sym t ∙ z in omega arith) in (sym n, λ i w. some-none (sym n ∙ w))
-  as-ident (u ∷ us) nothing q f t = let n = other-ident f (λ z. let v : _≡_ {A = ℕ} 0x63 0x60 = sym t ∙ z in omega arith) in (sym n, λ i w. some-none (sym n ∙ w))
+  as-ident [] c q f t = let n = other-ident f (λ z. let v : _≡_ {A = ℕ} 0x63 0x60 = sym t ∙ z in omega arith) in (sym n, λ i w. none-some (sym n ∙ w))
+  as-ident (u ∷ us) nothing q f t = let n = other-ident f (λ z. let v : _≡_ {A = ℕ} 0x63 0x60 = sym t ∙ z in omega arith) in (sym n, λ i w. none-some (sym n ∙ w))
   as-ident (u ∷ us) (some c) q f t = go (has 0x70 q)
     where
       rewrote : (i : List ℕ) → identOf (field 0x60 (fixedOf q ++ c) none) ≡ some i → field 0x60 (fixedOf q ++ c) none ≡ field 0x60 i none
@@ -166,7 +118,7 @@ module _ (e : Setting) where
       go : (b : Bool) → (cond b (some (fixedOf q ++ c)) nothing ≡ identOf (cond b (field 0x60 (fixedOf q ++ c) none) f)) ×
           ((i : List ℕ) → identOf (cond b (field 0x60 (fixedOf q ++ c) none) f) ≡ some i → cond b (field 0x60 (fixedOf q ++ c) none) f ≡ field 0x60 i none)
       go true = (went, rewrote)
-      go false = let n = other-ident f (λ z. let v : _≡_ {A = ℕ} 0x63 0x60 = sym t ∙ z in omega arith) in (sym n, λ i w. some-none (sym n ∙ w))
+      go false = let n = other-ident f (λ z. let v : _≡_ {A = ℕ} 0x63 0x60 = sym t ∙ z in omega arith) in (sym n, λ i w. none-some (sym n ∙ w))
 
   -- a property of what has become an id, in the state in which it has: other members are no property
   as-member : (us : List Usage) (c : Option (List ℕ)) (q r f : Field) → tagOf f ≡ 0x63 → tagOf r ≡ tagOf q → (tagOf q ≡ 0x70 → ⊥) →
@@ -189,10 +141,10 @@ module _ (e : Setting) where
   -- the walked object is no id
   rewrote-other : (k : Pass) (o q f : Field) (s s' : State) → tagOf f ≡ 0x63 → identAfter o k s ≡ nothing → Rewrote k o q s f s'
   unfolding becomes
-  rewrote-other first o q f s s' t h = let n = other-ident f (λ z. let v : _≡_ {A = ℕ} 0x63 0x60 = sym t ∙ z in omega arith) in (sym n, λ _ i w. some-none (sym n ∙ w))
+  rewrote-other first o q f s s' t h = let n = other-ident f (λ z. let v : _≡_ {A = ℕ} 0x63 0x60 = sym t ∙ z in omega arith) in (sym n, λ _ i w. none-some (sym n ∙ w))
   rewrote-other second o q f s s' t h =
       let n = other-ident f (λ z. let v : _≡_ {A = ℕ} 0x63 0x60 = sym t ∙ z in omega arith) in
-      (ap (λ (i : Option (List ℕ)). becomes second i q s) h ∙ sym n, λ _ i w. some-none (sym n ∙ w))
+      (ap (λ (i : Option (List ℕ)). becomes second i q s) h ∙ sym n, λ _ i w. none-some (sym n ∙ w))
 
   -- it is the id i
   rewrote-ident : (o q r f : Field) (i : List ℕ) (s s1 s2 : State) → tagOf f ≡ 0x63 → identAfter o second s ≡ some i → s1 ≡ s → Membered q s1 r s2 →
@@ -213,7 +165,7 @@ module _ (e : Setting) where
           let n = other-ident f (λ z. let v : _≡_ {A = ℕ} 0x63 0x60 = sym t ∙ z in omega arith) in
           let a = as-member (usagesOf i (s2 .usages)) (importedAs i (s2 .imported)) q r f t (m .0) (eqb-false (tagOf q) 0x70 k) .1 in
           let b = as-member (usagesOf i (s .usages)) (importedAs i (s .imported)) q r f t (m .0) (eqb-false (tagOf q) 0x70 k) .0 in
-          (told ∙ b ∙ sym n ∙ ap identOf (sym a), λ _ j v. some-none (sym n ∙ ap identOf (sym a) ∙ v))
+          (told ∙ b ∙ sym n ∙ ap identOf (sym a), λ _ j v. none-some (sym n ∙ ap identOf (sym a) ∙ v))
 
   expression-63 : (k : Pass) → e .pass ≡ k → (x : List ℕ) (o q : Field) (o' q' : Field) (object : Bool) (p : ℕ) (s s1 s2 : State) → Became o s o' s1 → Membered q s1 q' s2 →
       After (afterExpression k e (field 0x63 x (more o' (more q' none))) object p s2) (Rewrote k o q s)
@@ -223,7 +175,7 @@ module _ (e : Setting) where
       (λ g s' t. in-first g s' (t .0)) (expression-same first e 0x63 x (more o' (more q' none)) object p s2 (λ z. absurd (let v : _≡_ {A = ℕ} 0 1 = cc in omega arith)))
     where
       in-first : (g : Field) (s' : State) → tagOf g ≡ 0x63 → Rewrote first o q s g s'
-      in-first g s' t = let n = other-ident g (λ z. let v : _≡_ {A = ℕ} 0x63 0x60 = sym t ∙ z in omega arith) in (nothing-first (identAfter o first s) ∙ sym n, λ z i w. some-none (sym n ∙ w))
+      in-first g s' t = let n = other-ident g (λ z. let v : _≡_ {A = ℕ} 0x63 0x60 = sym t ∙ z in omega arith) in (nothing-first (identAfter o first s) ∙ sym n, λ z i w. none-some (sym n ∙ w))
         where
           nothing-first : (i : Option (List ℕ)) → becomes first i q s ≡ nothing
           nothing-first i = first-never i q s

@@ -1,7 +1,7 @@
 -- The literal of the one argument of a call, read off the bytes: one law for each way through sole_literal, argument_at and literal_at.
 use Prim.Native.Nat.{ℕ, _+_, _-_, _≤_, _<_}
 use mathlib.Core.Path.{_≡_, refl, sym, ap, _∙_}
-use mathlib.Core.Bool.{Bool, true, false, cond, _&&_}
+use mathlib.Core.Bool.{Bool, true, false, cond, _&&_, and-false, and-true}
 use mathlib.Core.List.{List, [], _∷_}
 use mathlib.Core.Option.{none as nothing, some}
 use native.Mathlib.Omega.{arith}
@@ -17,13 +17,14 @@ use Rattle.tree.specs.Access.{fixedAt, extentAt}
 use Rattle.tree.specs.Standing.{treeAt, rowAt}
 use Rattle.tree.proofs.SliceLaws.{getD-slice}
 use Rattle.tree.proofs.StandingLaws.{row-more, row-none, tree-upto, tree-short}
+use Rattle.tree.proofs.WidthLaws.{plain-ends}
+use Rattle.tree.specs.declared.grammar.Value.the-variants.{Literal as SixBytes}
 use Rattle.lent.specs.Fields.{has, sole}
 use Rattle.extraction_rules.specs.First.{argument}
 use Rattle.kept.specs.Kept.{id-limit, idOf}
 use Rattle.expressions.specs.Require.{literalBy, SmallLiteral, literalFirst}
 use Rattle.expressions.specs.declared.require.Literal.{Literal}
 use Rattle.expressions.specs.declared.require.Literal.the-variants.{Is, Other}
-use Rattle.expressions.proofs.WidthLaws.{ends-61}
 
 -- ---- Literals are small
 
@@ -53,7 +54,7 @@ module _ (s : List ℕ) (at end : ℕ) (le : at ≤ end) where
     pub first-61 : {b n : ℕ} → fixedAt s (getD s at 0) (at + 3) stop ≡ Upto b → getD s at 0 ≡ 0x61 → (idOf n ≡ idAt s (at + 3)) × (n < id-limit) →
         SmallLiteral (Is n) × (some (idOf n) ≡ literalFirst (rowAt s at end))
     first-61 {b} {n} x h i =
-        let w = ends-61 s (getD s at 0) (at + 3) stop b h x in
+        let w = plain-ends 0x61 SixBytes refl s (getD s at 0) (at + 3) stop b h x in
         let y : idOf n ≡ slice (at + 3) b s = i .0 ∙ ap (λ (k : ℕ). slice (at + 3) k s) (sym w) in
         (a-literal (i .1), sym (first-is b x ∙ rw (eq-eqb (getD s at 0) 0x61 h) (ap some (sym y))))
 
@@ -67,39 +68,31 @@ unfolding argument
 not-75 t x none h = refl
 not-75 t x (more f fs) h = rw (ne-eqb t 0x75 h)
 
-and-false : (a b c : Bool) → b ≡ false → (a && b && c) ≡ false
-and-false true b c h = ap (λ (d : Bool). d && c) h
-and-false false b c h = refl
+and-middle : (a b c : Bool) → b ≡ false → (a && b && c) ≡ false
+and-middle true b c h = ap (λ (d : Bool). d && c) h
+and-middle false b c h = refl
 
 not-plain : (t : ℕ) (x : List ℕ) (cs : Fields) → same x (0 ∷ []) ≡ false → argument (some (field t x cs)) ≡ nothing
 unfolding argument
 not-plain t x none h = refl
-not-plain t x (more f fs) h = ap (λ (b : Bool). cond b (some (fixedOf f)) nothing) (and-false (eqb t 0x75) (same x (0 ∷ [])) (has 0x61 f) h)
+not-plain t x (more f fs) h = ap (λ (b : Bool). cond b (some (fixedOf f)) nothing) (and-middle (eqb t 0x75) (same x (0 ∷ [])) (has 0x61 f) h)
 
 is-plain : (x : List ℕ) (cs : Fields) → same x (0 ∷ []) ≡ true → argument (some (field 0x75 x cs)) ≡ literalFirst cs
 unfolding argument literalFirst
 is-plain x none h = refl
 is-plain x (more f fs) h = ap (λ (b : Bool). cond (b && has 0x61 f) (some (fixedOf f)) nothing) h
 
-pub and-none : (b : Bool) → (b && false) ≡ false
-and-none true = refl
-and-none false = refl
-
 -- one byte that is 0
 same-length : (x : List ℕ) → (length x ≡ 1 → ⊥) → same x (0 ∷ []) ≡ false
 unfolding same
 same-length [] h = refl
 same-length (a ∷ []) h = absurd (h refl)
-same-length (a ∷ (b ∷ x)) h = and-none (eqb a 0)
+same-length (a ∷ (b ∷ x)) h = and-false (eqb a 0)
 
 same-zero : (x : List ℕ) (a : ℕ) → length x ≡ 1 → getD x 0 0 ≡ a → same x (0 ∷ []) ≡ eqb a 0
 unfolding same
 same-zero [] a h e = absurd (omega arith)
 same-zero (b ∷ []) a h e = and-true (eqb b 0) ∙ ap (λ (k : ℕ). eqb k 0) e
-  where
-    and-true : (c : Bool) → (c && true) ≡ c
-    and-true true = refl
-    and-true false = refl
 same-zero (b ∷ (c ∷ x)) a h e = absurd (omega arith)
 
 module _ (s : List ℕ) (at stop : ℕ) where

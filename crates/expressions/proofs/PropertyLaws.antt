@@ -18,6 +18,8 @@ use Rattle.tree.specs.Access.{fixedAt}
 use Rattle.tree.specs.Standing.{treeAt}
 use Rattle.tree.proofs.LayoutLaws.{two-at}
 use Rattle.tree.proofs.StandingLaws.{tree-upto, tree-short}
+use Rattle.tree.proofs.WidthLaws.{plain-ends}
+use Rattle.tree.specs.declared.grammar.Value.the-variants.{Atom as TwoBytes}
 use Rattle.lent.specs.Outcome.{Outcome, done, refused, onto}
 use Rattle.lent.specs.Table.{fileOf}
 use Rattle.extraction_rules.specs.State.{Record, State, Setting}
@@ -36,7 +38,6 @@ use Rattle.steps.specs.declared.Why.the-variants.{TooManyFiles, PrivateName, Ta
 use Rattle.steps.specs.declared.Effect.{Effect}
 use Rattle.steps.specs.declared.Effect.the-variants.{Fine, Refused as Turned}
 use Rattle.expressions.specs.Usage.{Named}
-use Rattle.expressions.proofs.WidthLaws.{ends-70}
 use Rattle.expressions.proofs.EffectLaws.{effects-skip, effects-refuse, effects-made, effects-full}
 
 -- ---- The property
@@ -76,7 +77,7 @@ module _ (s : List ℕ) (at member end id : ℕ) (n : ModuleId) where
         (m : c ≡ exportCtxt n) (i : (idOf j ≡ two a ++ four (c .0)) × (j < id-limit)) (k : Acts (addUsage (record { id = idOf id; property = idOf j })) t t' r) where
       named : idOf j ≡ fixedOf (treeAt s member end) ++ four (export (n .0))
       named =
-          let w = ends-70 s (getD s member 0) (member + 3) end b tag e in
+          let w = plain-ends 0x70 TwoBytes refl s (getD s member 0) (member + 3) end b tag e in
           let y : two a ≡ slice (member + 3) b s = ap two z ∙ two-at s (member + 3) bs (omega arith) ∙ ap (λ (k : ℕ). slice (member + 3) k s) (sym w) in
           i .0 ∙ ap₂ _++_ (y ∙ sym (ap fixedOf (tree-upto s member end b e))) (ap (λ (x : SyntaxContext). four (x .0)) m)
 

@@ -1,29 +1,28 @@
 -- Whether a walked expression meets the require conditions is told before it is walked.
 use Prim.Native.Nat.{ℕ, _+_}
 use mathlib.Core.Path.{_≡_, refl, sym, ap, subst, _∙_}
-use mathlib.Core.Logic.{_⊎_, inl, inr}
-use mathlib.Core.Bool.{Bool, true, false, not, cond, _&&_, _||_}
+use mathlib.Core.Bool.{Bool, true, false, cond, _&&_}
 use mathlib.Core.List.{List, [], _∷_, _++_}
 use mathlib.Core.Option.{Option, none as nothing, some}
 use native.Mathlib.Omega.{arith}
 use lib.Dec.{eqb}
-use borrow.Author.Tests.{eqb-true, eqb-false, eq-eqb, ne-eqb}
+use borrow.Author.Tests.{eqb-true, eqb-false, ne-eqb}
 use Rattle.scope.specs.Id.{require-atom, export}
 use Rattle.tree.specs.Layout.{two, four, same, nameOf}
-use Rattle.tree.specs.Tree.{Field, field, Fields, none, more, tagOf, fixedOf, partsOf, size}
+use Rattle.tree.specs.Tree.{Field, field, Fields, none, more, tagOf, fixedOf, size}
 use Rattle.tree.specs.Grammar.{within}
-use Rattle.lent.specs.Outcome.{Outcome, done, onto}
 use Rattle.lent.specs.Fields.{has, sole, inside}
 use Rattle.extraction_rules.specs.State.{Usage, State, Pass, first, second, Setting}
-use Rattle.extraction_rules.specs.First.{idFrom, importedAs, onIdent, argument, notExternal, required, withCallee}
+use Rattle.extraction_rules.specs.First.{importedAs, onIdent, argument, notExternal, required, withCallee}
 use Rattle.extraction_rules.specs.Second.{usagesOf, asProperty, rewritten}
-use Rattle.extraction_rules.specs.Walk.{afterExpression, ruleFor, after, partsFor, enter, walk, walkAll}
+use Rattle.extraction_rules.specs.Walk.{afterExpression, ruleFor, after, partsFor, walk, walkAll}
 use Rattle.extraction_rules.proofs.OutcomeLaws.{After, after-bind, after-weaken}
 use Rattle.extraction_rules.proofs.ValueLaws.{after-any, first-expression}
 use Rattle.extraction_rules.proofs.WalkLaws.{walkParts}
 use Rattle.extraction_rules.proofs.AlikeLaws.{Regular, RegularAll, required-named}
+use Rattle.extraction_rules.proofs.StayLaws.{Same, no-member, expression-same, walk-same}
 use Rattle.expressions.specs.After.{identOf, identAfter, ifRequire, requiredAfter}
-use Rattle.expressions.proofs.IdentLaws.{Same, no-member, expression-same, walk-same, Became, walk-ident}
+use Rattle.expressions.proofs.IdentLaws.{walk-ident}
 
 -- ---- A walked field has another tag only where a 63 became a 60
 

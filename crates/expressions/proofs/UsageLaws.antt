@@ -13,10 +13,11 @@ use Rattle.scope.specs.declared.id.SyntaxContext.{SyntaxContext}
 use Rattle.tree.specs.declared.layout.Reach.the-variants.{Upto, Short}
 use Rattle.tree.specs.Layout.{Bytes}
 use Rattle.tree.specs.Tree.{Field, field, Fields, none, more, tagOf, fixedOf, size}
-use Rattle.tree.specs.Access.{fixedAt, extentAt}
+use Rattle.tree.specs.Access.{extentAt}
 use Rattle.tree.specs.Standing.{treeAt, rowAt}
 use Rattle.tree.proofs.AccessLaws.{extent-upto}
 use Rattle.tree.proofs.StandingLaws.{row-more, row-none, tree-upto, whole-step}
+use Rattle.tree.proofs.WidthLaws.{tree-bare, bare-upto}
 use Rattle.lent.specs.Outcome.{done}
 use Rattle.extraction_rules.specs.State.{State, first, Setting}
 use Rattle.extraction_rules.specs.First.{forceId, onIdent, importedAs, usedRecord, useFrom, useImported, usage}
@@ -33,7 +34,6 @@ use Rattle.steps.specs.declared.Effect.the-variants.{Fine}
 use Rattle.steps.proofs.SoundLaws.{read-size, sound-parts, soundAll-first, soundAll-rest}
 use Rattle.expressions.specs.After.{identAfter, memberAfter}
 use Rattle.expressions.specs.Usage.{Named}
-use Rattle.expressions.proofs.WidthLaws.{none-63, tree-63}
 use Rattle.expressions.proofs.AfterLaws.{first-none}
 use Rattle.expressions.proofs.EffectLaws.{effects-skip, effects-turn, effects-as}
 
@@ -99,18 +99,18 @@ used e i q at p u c d h k =
 module _ (s : List ℕ) (at stop : ℕ) (le : at + 3 ≤ stop) (tag : getD s at 0 ≡ 0x63) where
   -- its parts
   whole-parts : Sound s at stop → SoundAll s (at + 3) stop
-  whole-parts w = sound-parts w (ap (λ (t : ℕ). fixedAt s t (at + 3) stop) tag ∙ none-63 s (at + 3) stop le)
+  whole-parts w = sound-parts w (bare-upto 0x63 refl s (getD s at 0) (at + 3) stop tag le)
 
   pub usage-bare : (e : Setting) {t : List ℕ} → Good t → extentAt s (at + 3) stop ≡ Short →
       Effects (λ x u. Sound s at stop) (usage (onIdent (treeAt s at stop)) e at) t t Fine
   unfolding onIdent
   usage-bare e g x =
       effects-skip g (λ y u v w. pass-over e at u (onIdent (treeAt s at stop))
-      (ap onIdent (tree-63 s at stop le tag ∙ ap (field 0x63 []) (row-none s (at + 3) stop le x))))
+      (ap onIdent (tree-bare 0x63 refl s at stop le tag ∙ ap (field 0x63 []) (row-none s (at + 3) stop le x))))
 
   module _ {member : ℕ} (x : extentAt s (at + 3) stop ≡ Upto member) where
     with-object : treeAt s at stop ≡ field 0x63 [] (more (treeAt s (at + 3) member) (rowAt s member stop))
-    with-object = tree-63 s at stop le tag ∙ ap (field 0x63 []) (row-more s (at + 3) stop member le x)
+    with-object = tree-bare 0x63 refl s at stop le tag ∙ ap (field 0x63 []) (row-more s (at + 3) stop member le x)
 
     behind : member ≤ stop
     behind = extent-upto s (at + 3) stop le x .1

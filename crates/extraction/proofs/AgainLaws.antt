@@ -9,25 +9,24 @@ use Rattle.scope.specs.declared.id.ModuleId.{ModuleId}
 use Rattle.tree.specs.declared.grammar.Set.the-variants.{Module}
 use Rattle.tree.specs.Tree.{Field, field, Fields, none, more, encode, size}
 use Rattle.tree.specs.Read.{fine, read}
-use Rattle.tree.specs.Standing.{rowAt}
 use Rattle.metadata.specs.Metadata.{append}
 use Rattle.writer.specs.Wrote.{Wrote}
 use Rattle.writer.specs.Finished.{hasRoom, delivered}
 use Rattle.writer.proofs.Wrote.{wrote-as}
-use Rattle.tree.proofs.StandingLaws.{read-field}
+use Rattle.tree.proofs.WidthLaws.{read-module}
 use Rattle.lent.specs.Outcome.{Outcome, done, refused, onto, placeless}
 use Rattle.lent.specs.Buffer.{fits}
-use Rattle.lent.proofs.AcceptedLaws.{done-inj, onto-done, fits-room}
+use Rattle.lent.proofs.AcceptedLaws.{done-inj, onto-done, fits-room, done-refused}
 use Rattle.extraction_rules.specs.State.{Record, State, Setting, setCollected}
 use Rattle.extraction_rules.specs.Second.{wrapAll, loseNamespaces, finish}
 use Rattle.extraction_rules.specs.Walk.{walkModule, walkAgain}
 use Rattle.extraction_rules.specs.Records.{recordsOf, recordFields, forcedFields}
-use Rattle.extraction_rules.specs.Call.{Extracted, moduleWith, extractedFrom}
+use Rattle.extraction_rules.specs.Call.{moduleWith, extractedFrom}
 use Rattle.extraction_rules.proofs.FirstLaws.{lose-literal}
 use Rattle.extraction_rules.proofs.WalkLaws.{ImportsAll}
 use Rattle.extraction_rules.proofs.SanityLaws.{Known}
 use Rattle.extraction_rules.proofs.OutcomeLaws.{after-done}
-use Rattle.extraction_rules.proofs.ReadableLaws.{Items, items-readable}
+use Rattle.extraction_rules.proofs.ReadableLaws.{items-readable}
 use Rattle.kept.specs.Kept.{At, Shows, sourcesIn}
 use Rattle.steps.specs.declared.Setting.{Setting as CodeSetting}
 use Rattle.steps.specs.declared.Why.{Why}
@@ -38,14 +37,14 @@ use Rattle.steps.specs.declared.Effect.the-variants.{Fine, Refused as Turned}
 use Rattle.steps.specs.Step.{refusalOf, Made, Steps}
 use Rattle.walking.specs.Walking.{set}
 use Rattle.recording.specs.Model.{specifiersOf, rebuilt}
-use Rattle.recording.specs.Writes.{Placing, RowRead, itemsIn, recordsIn}
+use Rattle.recording.specs.Writes.{Placing, itemsIn, recordsIn}
 use Rattle.recording.proofs.ToldLaws.{items-read, records-are}
 use Rattle.extraction.specs.declared.ExtractAnswer.{ExtractAnswer}
-use Rattle.extraction.specs.declared.ExtractAnswer.the-variants.{Extracted as Accepted, Refused as Answered}
+use Rattle.extraction.specs.declared.ExtractAnswer.the-variants.{Refused as Answered}
 use Rattle.extraction.specs.Passes.{ItemsRead, passAct}
-use Rattle.extraction.specs.Answer.{answerNumber, answerPlace, Ends, Last, Wraps, wrapFrom, bothFit, Closed, Closes, Between, secondly, Seconds}
-use Rattle.extraction.proofs.EndLaws.{fits-not}
-use Rattle.extraction.proofs.ReadLaws.{module-row, reads-work}
+use Rattle.extraction.specs.Answer.{Wraps, wrapFrom, bothFit, Closes, Between, secondly, Seconds}
+use Rattle.extraction.proofs.EndLaws.{fits-not, answered}
+use Rattle.extraction.proofs.ReadLaws.{reads-work}
 
 -- ---- What a pass did
 
@@ -70,9 +69,6 @@ walked e s u {x} {t' = t'} d =
       shows = subst (Shows x t') (ap (λ (z : Field × State). z .1) (sym q)) (d .shows);
     }
 
-done-refused : {A B : Type 0} {a : A} {n p : ℕ} → done a ≡ refused n p → B
-done-refused {a = a} e = absurd (let z : _≡_ {A = ℕ} 0 1 = cc in omega arith)
-
 refused-number : {A : Type 0} {n m p q : ℕ} → _≡_ {A = Outcome A} (refused n p) (refused m q) → n ≡ m
 refused-number e = cc
 
@@ -81,7 +77,7 @@ refused-place e = cc
 
 -- a refusal is that of the first step, where the next has none
 onto-refused : {A B : Type 0} (m : Outcome A) (f : A → B) (n p : ℕ) → onto m (λ a. done (f a)) ≡ refused n p → m ≡ refused n p
-onto-refused (done a) f n p e = done-refused e
+onto-refused (done a) f n p e = done-refused (sym e)
 onto-refused (refused k q) f n p e = ap₂ refused (refused-number e) (refused-place e)
 
 pub walked-refused : (e : Setting) (s : List ℕ) (u : State) (n p : ℕ) → passAct e s u ≡ refused n p → walkModule e (itemsIn s) u ≡ refused n p
@@ -181,9 +177,6 @@ fit-room g k out records e = let a = onto-done (fits g out) (λ _. fits k record
 
 -- ---- The second pass
 
-answered : {A : Type 0} {w : Why} {p : ℕ} → Answered w p ≡ Accepted → A
-answered {w = w} {p} e = absurd (let z : _≡_ {A = ℕ} 0 1 = cc in omega arith)
-
 module _ (own : ModuleId) (config : Bool) (externals table tree : List ℕ) where
   abbrev code : CodeSetting
   code = record { second = true; own = own; require = config }
@@ -195,8 +188,8 @@ module _ (own : ModuleId) (config : Bool) (externals table tree : List ℕ) wher
       Between rules works s → ItemsRead code rules work 3 (length work) x s
   ready {x} s work works p r n b =
       record {
-        inside = read-field Module work (more (moduleWith works) none) r .room;
-        row = module-row work (more (moduleWith works) none) r .0;
+        inside = read-module work (more (moduleWith works) none) r .room;
+        row = read-module work (more (moduleWith works) none) r .row;
         fits = omega arith;
         reads = reads-work tree work x p n;
         ready = subst (λ (fs : Fields). ImportsAll fs (Known (rules .externals) (sourcesIn (s .collected)))) (sym (items-read work works r .0)) (b .known);

@@ -1,5 +1,5 @@
 -- The tree after the second pass and the records are held to their buffers.
-use Prim.Native.Nat.{ℕ, _-_, _≤_}
+use Prim.Native.Nat.{ℕ, _-_}
 use native.Mathlib.Omega.{arith}
 use mathlib.Core.Path.{_≡_, refl, sym, ap, ap₂, subst, _∙_}
 use mathlib.Core.Bool.{Bool, true, false, not}
@@ -9,7 +9,7 @@ use lib.Seq.{take-append-seam}
 use Rattle.tree.specs.Tree.{Field, encode, size}
 use Rattle.tree.proofs.TreeLaws.{size-encode}
 use Rattle.writer.specs.Wrote.{Wrote}
-use Rattle.writer.specs.Finished.{hasRoom, Finished, delivered, Delivered}
+use Rattle.writer.specs.Finished.{hasRoom, Finished, Delivered}
 use Rattle.writer.proofs.Wrote.{wrote-end}
 use Rattle.writer.proofs.Finished.{room-true, delivered-field, delivers}
 use Rattle.lent.specs.Outcome.{Outcome, done, refused, onto, refuseIf}
@@ -17,9 +17,9 @@ use Rattle.lent.specs.Buffer.{fits}
 use Rattle.extraction_rules.specs.State.{State}
 use Rattle.kept.specs.Kept.{At, Shows}
 use Rattle.recording.specs.Writes.{WroteFor, Placing, BothRead, RowRead, recordsIn}
-use Rattle.extraction.specs.declared.ExtractAnswer.{ExtractAnswer}
-use Rattle.extraction.specs.declared.ExtractAnswer.the-variants.{Extracted as Accepted, NoRoom}
-use Rattle.extraction.specs.Answer.{bothFit, Closed, Closes}
+use Rattle.extraction.specs.declared.ExtractAnswer.the-variants.{Extracted as Accepted, Refused as Answered, NoRoom}
+use Rattle.extraction.specs.Answer.{Closes}
+use Rattle.steps.specs.declared.Why.{Why}
 
 -- ---- Room
 
@@ -45,8 +45,11 @@ finished-part f {l} {m} {k} {n} w g =
 
 -- ---- The end
 
-no-room-accepted : {A : Type 0} → NoRoom ≡ Accepted → A
+pub no-room-accepted : {A : Type 0} → NoRoom ≡ Accepted → A
 no-room-accepted e = absurd (let z : _≡_ {A = ℕ} 0 1 = cc in omega arith)
+
+pub answered : {A : Type 0} {w : Why} {p : ℕ} → Answered w p ≡ Accepted → A
+answered {w = w} {p} e = absurd (let z : _≡_ {A = ℕ} 0 1 = cc in omega arith)
 
 pub closes-short : {tree work t out out1 records : List ℕ} {n : ℕ} {r : Bool} → Finished n out r out1 → r ≡ false → Closes tree work t out n records out1 records NoRoom
 closes-short {work = work} {records = records} f e =

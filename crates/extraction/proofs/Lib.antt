@@ -1,6 +1,7 @@
--- Laws of a pass: what it keeps (KeptLaws), each item (ItemLaws).
+-- Laws of a pass: what it keeps (KeptLaws), each item (ItemLaws), one after the other (PassLaws).
 pub mod KeptLaws
 pub mod ItemLaws
+pub mod PassLaws
 -- Laws of the call: its end (WrapLaws, EndLaws), modules that were read (ReadLaws), the second pass and what follows it (AgainLaws), the first
 -- pass and the own file (OnceLaws), the lent lists (ListsLaws), and the whole (TopLaws).
 pub mod WrapLaws

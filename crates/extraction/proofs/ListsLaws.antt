@@ -1,6 +1,6 @@
 -- The lent lists, and the tree: what stands before the passes.
 use Prim.Native.Nat.{ℕ, _≤_, _<_}
-use mathlib.Core.Path.{_≡_, refl, sym, ap, subst, _∙_}
+use mathlib.Core.Path.{_≡_, refl, sym, ap, _∙_}
 use mathlib.Core.Bool.{Bool, true, false, _||_}
 use mathlib.Core.List.{List}
 use native.Mathlib.Omega.{arith}
@@ -14,7 +14,8 @@ use Rattle.tree.specs.declared.read.Verdict.{Verdict}
 use Rattle.tree.specs.declared.read.Verdict.the-variants.{Good as Well, Refused}
 use Rattle.tree.specs.Layout.{Bytes}
 use Rattle.tree.specs.Tree.{Fields}
-use Rattle.tree.specs.Read.{Reading, fine, refused as unread, read, verdict, refusalOf as readRefusal}
+use Rattle.tree.specs.Read.{read, verdict, refusalOf as readRefusal}
+use Rattle.tree.proofs.ReadLaws.{good-fine, verdict-refused}
 use Rattle.lent.specs.Outcome.{Outcome, done, refused, onto, refuseIf}
 use Rattle.lent.specs.Table.{Row, rowsIn, badExternals, badTable, repeats, tableOf}
 use Rattle.extraction_rules.specs.Call.{Lent, Lengths, Extracted, badLists, itemsRead, ownModule, passes, extracted}
@@ -23,7 +24,7 @@ use Rattle.recording.specs.Writes.{itemsIn}
 use Rattle.extraction.specs.declared.ExtractAnswer.{ExtractAnswer}
 use Rattle.extraction.specs.declared.ExtractAnswer.the-variants.{Extracted as Accepted, BadLists, NamedTwice, Unread}
 use Rattle.extraction.specs.Answer.{lentAs, roomIn, ModuleRead, Calls, ownedBy}
-use Rattle.extraction.proofs.ReadLaws.{module-row, module-read}
+use Rattle.extraction.proofs.ReadLaws.{module-read, module-items}
 use Rattle.extraction.proofs.OnceLaws.{ends-as}
 
 -- ---- 1
@@ -53,22 +54,6 @@ or-first true b e = e
 most : (externals table tree : List ℕ) → badLists (lentAs 0 false externals table tree) ≡ false → length tree ≤ 32768
 unfolding badLists
 most externals table tree e = ltb-false 32768 (length tree) (or-first (ltb 32768 (length tree)) (badExternals externals) (or-first (ltb 32768 (length tree) || badExternals externals) (badTable table) e))
-
--- ---- What reading says
-
-verdict-fine : (r : Reading Fields) → verdict r ≡ Well → (fs : Fields) × (r ≡ fine fs)
-verdict-fine (fine fs) e = (fs, refl)
-verdict-fine (unread w p) e = absurd (let z : _≡_ {A = ℕ} 0 1 = cc in omega arith)
-
-refused-why : {w v : ReadWhy} {p q : ℕ} → Refused w p ≡ Refused v q → w ≡ v
-refused-why e = cc
-
-refused-place : {w v : ReadWhy} {p q : ℕ} → Refused w p ≡ Refused v q → p ≡ q
-refused-place e = cc
-
-verdict-refused : (r : Reading Fields) (w : ReadWhy) (p : ℕ) → verdict r ≡ Refused w p → r ≡ unread w p
-verdict-refused (fine fs) w p e = absurd (let z : _≡_ {A = ℕ} 0 1 = cc in omega arith)
-verdict-refused (unread v q) w p e = ap (λ (j : ReadWhy). unread j q) (refused-why e) ∙ ap (unread w) (refused-place e)
 
 -- ---- The call up to the own file
 
@@ -140,7 +125,7 @@ module _ (file : ℕ) (config : Bool) (externals table tree : List ℕ) {b : Boo
                 accepted = λ a. answered-3 a;
                 refused = λ _.
                     called-read (lentAs file config externals table tree) (roomIn work out records) ms (refused (readRefusal why) p) (bad-is false e) (sym twice ∙ f)
-                    (ap itemsRead (verdict-refused (read Module tree) why p (sym v ∙ q)));
+                    (ap itemsRead (verdict-refused (read Module tree) (sym v ∙ q)));
               };
         }
 
@@ -148,10 +133,10 @@ module _ (file : ℕ) (config : Bool) (externals table tree : List ℕ) {b : Boo
         Calls (ModuleRead tree) (ownedBy (lentAs file config externals table tree) (roomIn work out records)) t work out records t2 work2 out2 records2 a →
         Calls (Bytes tree) (extracted (lentAs file config externals table tree) (roomIn work out records)) t work out records t2 work2 out2 records2 a
     lists-read {work = work} {out} {records} e f v q z =
-        let fs = verdict-fine (read Module tree) (sym v ∙ q) in
+        let fs = good-fine (read Module tree) (sym v ∙ q) in
         record {
           good = z .good;
           is = λ ms w bs.
               ends-as (z .is ms w (module-read tree (fs .0) bs (most externals table tree (sym bad ∙ e)) (fs .1)))
-              (called-read (lentAs file config externals table tree) (roomIn work out records) ms (done (itemsIn tree)) (bad-is false e) (sym twice ∙ f) (module-row tree (fs .0) (fs .1) .1));
+              (called-read (lentAs file config externals table tree) (roomIn work out records) ms (done (itemsIn tree)) (bad-is false e) (sym twice ∙ f) (module-items tree (fs .0) (fs .1)));
         }

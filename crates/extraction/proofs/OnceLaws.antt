@@ -1,36 +1,37 @@
 -- The first pass, and what follows it; the own file's number.
 use Prim.Native.Nat.{ℕ, _-_, _≤_}
 use native.Mathlib.Omega.{arith}
-use mathlib.Core.Path.{_≡_, refl, sym, ap, ap₂, subst, _∙_}
+use mathlib.Core.Path.{_≡_, refl, sym, ap, subst, _∙_}
 use mathlib.Core.Bool.{Bool, true, false}
 use mathlib.Core.List.{List, [], map}
 use mathlib.Core.Option.{Option, none as nothing, some}
 use lib.ListN.{length, take, drop}
 use Rattle.scope.specs.Modules.{Modules, request}
 use Rattle.scope.specs.declared.id.ModuleId.{ModuleId}
+use Rattle.scope.proofs.Laws.{none-some}
 use Rattle.tree.specs.declared.grammar.Set.the-variants.{Module}
-use Rattle.tree.specs.Tree.{Field, Fields, none, more, encode, size}
-use Rattle.tree.specs.Read.{fine, read}
+use Rattle.tree.specs.Tree.{Field, Fields, none, encode, size}
+use Rattle.tree.specs.Read.{read}
 use Rattle.tree.proofs.TreeLaws.{size-encode}
-use Rattle.writer.specs.Wrote.{Wrote}
-use Rattle.writer.specs.Finished.{hasRoom, Finished, delivered}
+use Rattle.writer.specs.Finished.{Finished, delivered}
 use Rattle.writer.proofs.Finished.{delivers}
 use Rattle.lent.specs.Outcome.{Outcome, done, refused, onto, placeless}
 use Rattle.lent.specs.Buffer.{fits}
 use Rattle.lent.specs.Table.{rowsIn}
-use Rattle.lent.proofs.AcceptedLaws.{done-inj, onto-done}
+use Rattle.lent.proofs.AcceptedLaws.{done-inj, onto-done, done-refused}
 use Rattle.extraction_rules.specs.State.{Record, State, first, second, Setting, start, setTop, setModules}
 use Rattle.extraction_rules.specs.First.{requested, moduleOf}
 use Rattle.extraction_rules.specs.Walk.{walkModule, walkAgain}
 use Rattle.extraction_rules.specs.Records.{recordsOf}
-use Rattle.extraction_rules.specs.Call.{Lent, Lengths, Extracted, ownModule, setting, moduleWith, extractedFrom, passes}
+use Rattle.extraction_rules.specs.Call.{Lent, Lengths, Extracted, ownModule, setting, moduleWith, passes}
 use Rattle.extraction_rules.proofs.OutcomeLaws.{After, after-both, after-done}
 use Rattle.extraction_rules.proofs.FirstLaws.{sourcesOf}
 use Rattle.extraction_rules.proofs.WalkLaws.{ImportsAll}
 use Rattle.extraction_rules.proofs.SanityLaws.{Known}
 use Rattle.extraction_rules.proofs.ImportsLaws.{walkModule-known}
 use Rattle.extraction_rules.proofs.ReadableLaws.{Items, items-readable, run-within, room-size as room-most}
-use Rattle.kept.specs.Kept.{At, Good, Shows, namespacesIn}
+use Rattle.extraction_rules.proofs.StepLaws.{some-inj}
+use Rattle.kept.specs.Kept.{At, Shows, namespacesIn}
 use Rattle.kept.specs.Does.{Resolves}
 use Rattle.kept.specs.declared.Module.{Module as ModuleAnswer}
 use Rattle.kept.specs.declared.Module.the-variants.{Is as Numbered, Unresolved, TooMany}
@@ -39,18 +40,18 @@ use Rattle.steps.specs.declared.Why.{Why}
 use Rattle.steps.specs.declared.Why.the-variants.{TooManyFiles}
 use Rattle.steps.specs.declared.Step.{Step}
 use Rattle.steps.specs.declared.Step.the-variants.{Done, Refused}
-use Rattle.steps.specs.Step.{refusalOf, Made, Steps}
+use Rattle.steps.specs.Step.{refusalOf, Steps}
 use Rattle.walking.specs.Walking.{set}
 use Rattle.recording.specs.Writes.{placed, Placing, itemsIn}
 use Rattle.recording.specs.Model.{rebuilt}
 use Rattle.recording.proofs.RebuiltLaws.{run-rebuilt}
 use Rattle.extraction.specs.declared.ExtractAnswer.{ExtractAnswer}
-use Rattle.extraction.specs.declared.ExtractAnswer.the-variants.{Extracted as Accepted, Refused as Answered, NoRoom}
+use Rattle.extraction.specs.declared.ExtractAnswer.the-variants.{Refused as Answered, NoRoom}
 use Rattle.extraction.specs.Passes.{ItemsRead, passAct}
-use Rattle.extraction.specs.Answer.{lentAs, roomIn, Ends, Last, Whole, Between, secondly, Seconds, ModuleRead, Calls, passesBy, ownedBy}
-use Rattle.extraction.proofs.EndLaws.{fits-not, fits-so, room-size, finished-part}
+use Rattle.extraction.specs.Answer.{lentAs, roomIn, Ends, Between, secondly, Seconds, ModuleRead, Calls, passesBy, ownedBy}
+use Rattle.extraction.proofs.EndLaws.{fits-not, fits-so, room-size, finished-part, no-room-accepted, answered}
 use Rattle.extraction.proofs.ReadLaws.{reads-tree}
-use Rattle.extraction.proofs.AgainLaws.{Walked, walked, walked-refused}
+use Rattle.extraction.proofs.AgainLaws.{walked, walked-refused}
 
 -- ---- The passes as the rules have them
 
@@ -112,12 +113,6 @@ between l own ms works s h e =
     }
 
 -- ---- The first pass
-
-no-room-accepted : {A : Type 0} → NoRoom ≡ Accepted → A
-no-room-accepted e = absurd (let z : _≡_ {A = ℕ} 0 1 = cc in omega arith)
-
-answered : {A : Type 0} {w : Why} {p : ℕ} → Answered w p ≡ Accepted → A
-answered {w = w} {p} e = absurd (let z : _≡_ {A = ℕ} 0 1 = cc in omega arith)
 
 module _ (own : ModuleId) (config : Bool) (externals table tree : List ℕ) where
   abbrev code : CodeSetting
@@ -227,35 +222,23 @@ passes-file : (file : ℕ) (config : Bool) (externals table tree : List ℕ) (ro
 unfolding passes
 passes-file file config externals table tree room own ms = refl
 
-done-refused : {A B : Type 0} {a : A} {n p : ℕ} → done a ≡ refused n p → B
-done-refused {a = a} e = absurd (let z : _≡_ {A = ℕ} 0 1 = cc in omega arith)
-
-refused-done : {A B : Type 0} {a : A} {n p : ℕ} → refused n p ≡ done a → B
-refused-done {a = a} e = absurd (let z : _≡_ {A = ℕ} 0 1 = cc in omega arith)
-
-some-nothing : {A B : Type 0} {a : A} → some a ≡ nothing → B
-some-nothing {a = a} e = absurd (let z : _≡_ {A = ℕ} 0 1 = cc in omega arith)
-
-some-inj : {A : Type 0} {a b : A} → some a ≡ some b → a ≡ b
-some-inj e = cc
-
 module _ (s : State) where
   requested-done : (o : Option (ℕ × Modules)) (n : ℕ) (s1 : State) → requested o 0 s ≡ done (some n, s1) → (ms : Modules) × (o ≡ some (n, ms)) × (s1 ≡ setModules ms s)
-  requested-done nothing n s1 e = refused-done e
+  requested-done nothing n s1 e = done-refused e
   requested-done (some r) n s1 e =
       let q : _≡_ {A = Option ℕ × State} (some (r .0), setModules (r .1) s) (some n, s1) = done-inj e in
       let i : r .0 ≡ n = some-inj (ap (λ (z : Option ℕ × State). z .0) q) in
       (r .1, ap (λ (j : ℕ). some (j, r .1)) i, ap (λ (z : Option ℕ × State). z .1) (sym q))
 
   requested-some : {B : Type 0} (o : Option (ℕ × Modules)) (s1 : State) → requested o 0 s ≡ done (nothing, s1) → B
-  requested-some nothing s1 e = refused-done e
+  requested-some nothing s1 e = done-refused e
   requested-some (some r) s1 e =
       let q : _≡_ {A = Option ℕ × State} (some (r .0), setModules (r .1) s) (nothing, s1) = done-inj e in
-      some-nothing (ap (λ (z : Option ℕ × State). z .0) q)
+      none-some (sym (ap (λ (z : Option ℕ × State). z .0) q))
 
   requested-none : (o : Option (ℕ × Modules)) → requested o 0 s ≡ refused 5 0 → ownModule o ≡ refused 5 0
   requested-none nothing e = refl
-  requested-none (some r) e = done-refused e
+  requested-none (some r) e = done-refused (sym e)
 
 module _ (file : ℕ) (config : Bool) (externals table tree : List ℕ) {t t1 : List ℕ} {r : ModuleAnswer} (g : Resolves (moduleOf (some file)) t t1 r) where
   abbrev lent : Lent

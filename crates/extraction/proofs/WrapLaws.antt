@@ -2,7 +2,7 @@
 use Prim.Native.Nat.{ℕ, _+_, _≤_}
 use native.Mathlib.Omega.{arith}
 use mathlib.Core.Path.{_≡_, refl, sym, ap, subst, _∙_}
-use mathlib.Core.List.{List, [], _∷_}
+use mathlib.Core.List.{List, _∷_}
 use mathlib.Core.Option.{Option, none as nothing, some}
 use lib.ListN.{length, drop, drop-of-length-le}
 use Rattle.scope.specs.Modules.{setMark}
@@ -16,31 +16,18 @@ use Rattle.extraction_rules.specs.First.{moduleOf, moduleFor}
 use Rattle.extraction_rules.specs.Second.{wrapModule, wrapAll}
 use Rattle.extraction_rules.proofs.OutcomeLaws.{After, after-bind, after-weaken, after-done}
 use Rattle.extraction_rules.proofs.StepLaws.{moduleFor-stays}
-use Rattle.kept.specs.Kept.{At, Good, Shows, forces, tableOf, held}
+use Rattle.kept.specs.Kept.{Good, forces, tableOf, held}
 use Rattle.tables.proofs.RowLaws.{rows-length}
-use Rattle.kept.specs.Does.{Tells, Holds, Turns, Did, Resolves}
+use Rattle.kept.specs.Does.{Tells, Holds, Turns, Resolves}
 use Rattle.kept.specs.declared.Module.{Module}
 use Rattle.kept.specs.declared.Module.the-variants.{Is as Numbered, Unresolved, TooMany}
 use Rattle.steps.specs.declared.Why.{Why}
 use Rattle.steps.specs.declared.Why.the-variants.{TooManyFiles}
 use Rattle.steps.specs.declared.Effect.{Effect}
 use Rattle.steps.specs.declared.Effect.the-variants.{Fine, Refused as Turned}
-use Rattle.steps.specs.Step.{refusalOf, Effects}
-use Rattle.extraction.specs.Answer.{Anywhere, wrapOne, wrapFrom, Wraps, Wrapping}
-
--- ---- Answers
-
-fine-turned : {A : Type 0} {w : Why} {q : ℕ} → Fine ≡ Turned w q → A
-fine-turned {w = w} {q} e = absurd (let z : _≡_ {A = ℕ} 0 1 = cc in omega arith)
-
-turned-why : {w v : Why} {p q : ℕ} → Turned w p ≡ Turned v q → w ≡ v
-turned-why e = cc
-
-turned-place : {w v : Why} {p q : ℕ} → Turned w p ≡ Turned v q → p ≡ q
-turned-place e = cc
-
-turned-as : {A : Type 0} {m : Outcome A} {w v : Why} {p q : ℕ} → m ≡ refused (refusalOf w) p → Turned w p ≡ Turned v q → m ≡ refused (refusalOf v) q
-turned-as {v = v} {p} e f = e ∙ ap (λ (j : Why). refused (refusalOf j) p) (turned-why f) ∙ ap (refused (refusalOf v)) (turned-place f)
+use Rattle.steps.specs.Step.{refusalOf}
+use Rattle.steps.proofs.StepsLaws.{fine-turned, turned-as}
+use Rattle.extraction.specs.Answer.{wrapOne, wrapFrom, Wraps, Wrapping}
 
 -- ---- One source
 

@@ -1,59 +1,29 @@
 -- The fixed bytes of the fields that the rules read and write: how long they are, and that what is written is whole.
 use Prim.Native.Nat.{ℕ, _+_, _-_, _≤_, _<_}
-use mathlib.Core.Path.{_≡_, refl, sym, ap, subst, _∙_}
+use mathlib.Core.Path.{_≡_, refl, ap, subst, _∙_}
 use mathlib.Core.Bool.{Bool, true, false, cond}
 use mathlib.Core.List.{List, [], _∷_, _++_}
 use native.Mathlib.Omega.{arith}
-use lib.Dec.{ltb, leb, eqb}
+use lib.Dec.{ltb, eqb}
 use lib.ListN.{List·getD-append, length, getD, take, length-append}
 use lib.Seq.{length-slice, length-take-le, getD-at, getD-take}
-use borrow.Author.Tests.{ltb-true, leb-true, le-leb, le-ltb, eqb-true}
+use borrow.Author.Tests.{ltb-true, le-leb, le-ltb, eqb-true}
 use Rattle.scope.specs.Id.{export}
 use Rattle.tree.specs.declared.layout.Reach.{Reach}
 use Rattle.tree.specs.declared.layout.Reach.the-variants.{Upto, Short}
-use Rattle.tree.specs.declared.grammar.Value.the-variants.{Empty, Id, Atom}
-use Rattle.tree.specs.declared.grammar.Piece.the-variants.{Plain, Outside, Original}
+use Rattle.tree.specs.declared.grammar.Value.the-variants.{Id, Atom}
+use Rattle.tree.specs.declared.grammar.Piece.the-variants.{Outside, Original}
 use Rattle.tree.specs.declared.access.Choice.the-variants.{Take, Bad}
 use Rattle.tree.specs.Layout.{skipAt, four, idAt, atomAt, nameOf}
 use Rattle.tree.specs.Grammar.{piecesOf}
 use Rattle.tree.specs.Access.{valueAt, kinds, choiceOf, onChoice, kindAt, keyAt, pieceAt, thenPiece, fixedAt}
 use Rattle.tree.specs.Within.{Exact}
 use Rattle.tree.specs.Tree.{fixedOf}
-use Rattle.tree.proofs.FixedLaws.{no-upto, upto-inj}
+use Rattle.tree.proofs.FixedLaws.{no-upto}
+use Rattle.tree.proofs.WidthLaws.{skip-ends, plain-width, plain-exact}
 use Rattle.metadata.specs.Decimal.{decimal}
 use Rattle.metadata.specs.Metadata.{contextKey, header, contextAttribute}
 use Rattle.extraction_rules.specs.First.{idFrom, outsideName, exportedName}
-
-skip-is : (at n stop b : ℕ) → skipAt at n stop ≡ Upto b → (b ≡ at + n) × (n ≤ stop - at)
-unfolding skipAt
-skip-is at n stop b e = go (leb n (stop - at)) refl e
-  where
-    go : (c : Bool) → leb n (stop - at) ≡ c → cond c (Upto (at + n)) Short ≡ Upto b → (b ≡ at + n) × (n ≤ stop - at)
-    go true w e = (sym (upto-inj e), leb-true n (stop - at) w)
-    go false w e = absurd (no-upto e)
-
--- ---- One value of n bytes
-
-pub plain-is : (n : ℕ) (x : List ℕ) (r : Reach) → skipAt 0 n (length x) ≡ r → thenPiece r x (Plain Empty) (length x) ≡ Upto (length x) → length x ≡ n
-unfolding thenPiece pieceAt valueAt
-plain-is n x Short w e = absurd (no-upto e)
-plain-is n x (Upto b) w e = let a = skip-is 0 n (length x) b w .0 in let c = skip-is b 0 (length x) (length x) e .0 in omega arith
-
-pub width-60 : (x : List ℕ) → Exact 0x60 x → length x ≡ 6
-unfolding fixedAt pieceAt valueAt piecesOf
-width-60 x h = plain-is 6 x (skipAt 0 6 (length x)) refl h
-
-pub width-21 : (x : List ℕ) → Exact 0x21 x → length x ≡ 6
-unfolding fixedAt pieceAt valueAt piecesOf
-width-21 x h = plain-is 6 x (skipAt 0 6 (length x)) refl h
-
-pub width-70 : (x : List ℕ) → Exact 0x70 x → length x ≡ 2
-unfolding fixedAt pieceAt valueAt piecesOf
-width-70 x h = plain-is 2 x (skipAt 0 2 (length x)) refl h
-
-pub exact-60 : (x : List ℕ) → length x ≡ 6 → Exact 0x60 x
-unfolding fixedAt pieceAt valueAt piecesOf skipAt thenPiece
-exact-60 x e = rw e
 
 -- ---- Names inside and outside
 
@@ -63,7 +33,7 @@ outside-is x b stop e = go (ltb b stop) refl e
   where
     go : (c : Bool) → ltb b stop ≡ c → cond c (onChoice (choiceOf Outside (getD x b 0)) (b + 1) stop) Short ≡ Upto stop →
         (b < stop) × (getD x b 0 ≡ 1 → stop ≡ b + 7)
-    go true w e = (ltb-true b stop w, λ q. let z = skip-is (b + 1) 6 stop stop (rw q at e) .0 in omega arith)
+    go true w e = (ltb-true b stop w, λ q. let z = skip-ends (b + 1) 6 stop stop (rw q at e) in omega arith)
     go false w e = absurd (no-upto e)
 
 then-outside : (x : List ℕ) (n : ℕ) (r : Reach) → skipAt 0 n (length x) ≡ r → thenPiece r x Outside (length x) ≡ Upto (length x) →
@@ -71,7 +41,7 @@ then-outside : (x : List ℕ) (n : ℕ) (r : Reach) → skipAt 0 n (length x) �
 unfolding thenPiece pieceAt
 then-outside x n Short w e = absurd (no-upto e)
 then-outside x n (Upto b) w e =
-    let q : b ≡ n = skip-is 0 n (length x) b w .0 ∙ omega arith in
+    let q : b ≡ n = skip-ends 0 n (length x) b w ∙ omega arith in
     subst (λ (k : ℕ). (k < length x) × (getD x k 0 ≡ 1 → length x ≡ k + 7)) q (outside-is x b (length x) e)
 
 pub width-20 : (x : List ℕ) → Exact 0x20 x → (6 < length x) × (getD x 6 0 ≡ 1 → length x ≡ 13)
@@ -96,7 +66,7 @@ original-is x stop b e n = go (ltb 0 stop) e
   where
     kind : (c d : Bool) → eqb (getD x 0 0) 1 ≡ c → d ≡ false → onChoice (cond c (Take Id) (cond d (Take Atom) Bad)) (0 + 1) stop ≡ Upto b →
         (getD x 0 0 ≡ 1) × (b ≡ 7)
-    kind true d w q e = (eqb-true (getD x 0 0) 1 w, let z = skip-is 1 6 stop b e .0 in omega arith)
+    kind true d w q e = (eqb-true (getD x 0 0) 1 w, let z = skip-ends 1 6 stop b e in omega arith)
     kind false false w q e = absurd (no-upto e)
     kind false true w q e = absurd (let z : _≡_ {A = ℕ} 0 1 = cc in omega arith)
 
@@ -121,14 +91,14 @@ width-23 x h n = exported-is x (kindAt x Original 0 (length x)) refl n h
 -- ---- What the rules write
 
 pub rewritten-exact : (a c : List ℕ) → length a ≡ 2 → length c ≡ 4 → Exact 0x60 (a ++ c)
-rewritten-exact a c p q = let l = length-append a c in exact-60 (a ++ c) (omega arith)
+rewritten-exact a c p q = let l = length-append a c in plain-exact 0x60 Id refl (a ++ c) (omega arith)
 
 pub id-width : (a : List ℕ) (c : ℕ) → length a ≡ 2 → length (idFrom a c) ≡ 6
 id-width a c p = let l = length-append a (four c) in omega arith
 
 pub callee-exact : (x : List ℕ) (n : ℕ) → Exact 0x60 x → Exact 0x60 (idFrom (nameOf x) (export n))
-callee-exact x n h = let w = width-60 x h in
-    exact-60 (idFrom (nameOf x) (export n)) (id-width (nameOf x) (export n) (length-take-le 2 x (omega arith)))
+callee-exact x n h = let w = plain-width 0x60 Id refl x refl h in
+    plain-exact 0x60 Id refl (idFrom (nameOf x) (export n)) (id-width (nameOf x) (export n) (length-take-le 2 x (omega arith)))
 
 pub property-exact : (p : List ℕ) → length p ≡ 6 → Exact 0x20 (p ++ 0 ∷ [])
 property-exact p w = let l = length-append p (0 ∷ []) in exact-20-none (p ++ 0 ∷ []) (omega arith) (getD-at p 0 [] 0 6 w)

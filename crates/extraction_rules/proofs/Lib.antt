@@ -2,7 +2,9 @@
 -- (SanityLaws, RunLaws); the walk keeps the grammar (WithinLaws), so that what a pass leaves can be read (ReadableLaws), and the
 -- records whole (WholeLaws), so that they are read back (RecordsLaws). The wrapping marks that an accepted call sets are those of
 -- its forced sources (MarksLaws). What an accepted call is made of (CallLaws). For demand 3: the grammar behind the imports (RegularLaws,
--- TagLaws), what the first pass leaves of trees there (AlikeLaws, ItemsLaws), and the tables (TableLaws, SpaceLaws).
+-- TagLaws), what the first pass leaves of trees there (AlikeLaws, ItemsLaws), what is kept of fields (KeepLaws), and the tables
+-- (TableLaws, SpaceLaws).
+-- For the code: which tags and items the walk keeps (StayLaws).
 pub mod TestLaws
 pub mod ListLaws
 pub mod OutcomeLaws
@@ -26,5 +28,7 @@ pub mod RegularLaws
 pub mod AlikeLaws
 pub mod ItemsLaws
 pub mod SpaceLaws
+pub mod KeepLaws
 pub mod TableLaws
 pub mod TagLaws
+pub mod StayLaws

@@ -10,15 +10,16 @@ use Rattle.tree.specs.declared.grammar.Set.the-variants.{Specifier, Records, La
 use Rattle.tree.specs.declared.grammar.Slot.the-variants.{Nothing, Many}
 use Rattle.tree.specs.declared.grammar.Rule.{Rule}
 use Rattle.tree.specs.declared.grammar.Step.the-variants.{Go}
-use Rattle.tree.specs.Layout.{skipAt, literalEnd, Bytes}
-use Rattle.tree.specs.Access.{valueAt, pieceAt, thenPiece, fixedAt}
+use Rattle.tree.specs.Layout.{Bytes}
 use Rattle.tree.specs.Tree.{Field, field, Fields, none, more, tagOf, size, encode, depths}
-use Rattle.tree.specs.Grammar.{within, holdsAt, parts1, parts3, piecesOf, ruleOf, slotAt, stepBy, stepAt, doneAt}
+use Rattle.tree.specs.Grammar.{within, holdsAt, parts1, parts3, ruleOf, slotAt, stepBy, stepAt, doneAt}
 use Rattle.tree.specs.Read.{fine, read}
 use Rattle.tree.specs.Within.{Exact, Within}
 use Rattle.tree.proofs.GrammarLaws.{many-slot}
 use Rattle.tree.proofs.TreeLaws.{depth-parts, depth-none, depth-first, depth-rest, depth-most}
 use Rattle.tree.proofs.CompleteLaws.{read-complete}
+use Rattle.tree.proofs.WidthLaws.{plain-exact}
+use Rattle.tree.specs.declared.grammar.Value.the-variants.{Empty, Atom, Literal}
 use Rattle.writer.specs.Finished.{hasRoom}
 use Rattle.metadata.specs.Metadata.{append}
 use Rattle.lent.specs.Outcome.{done}
@@ -62,22 +63,6 @@ unfolding forcedFields
 forced-shaped q q′ [] a b x r k m h = k
 forced-shaped q q′ (c ∷ l) a b x r k m h = (q′, a, (x c (h .0), r), forced-shaped q′ q′ l b b x r m m (h .1))
 
-exact-80 : (x : List ℕ) → length x ≡ 6 → Exact 0x80 x
-unfolding fixedAt pieceAt valueAt piecesOf skipAt literalEnd thenPiece
-exact-80 x e = rw e
-
-exact-81 : (x : List ℕ) → length x ≡ 6 → Exact 0x81 x
-unfolding fixedAt pieceAt valueAt piecesOf skipAt literalEnd thenPiece
-exact-81 x e = rw e
-
-exact-83 : (x : List ℕ) → length x ≡ 2 → Exact 0x83 x
-unfolding fixedAt pieceAt valueAt piecesOf skipAt thenPiece
-exact-83 x e = rw e
-
-records-exact : Exact 0x02 []
-unfolding fixedAt pieceAt valueAt piecesOf skipAt thenPiece
-records-exact = refl
-
 records-root : holdsAt Records 0x02 ≡ true
 unfolding holdsAt
 records-root = refl
@@ -90,10 +75,10 @@ row-shaped c l f hc hl hf =
     let q = ruleOf 0x02 in
     let q′ = parts3 (Many Lazy) (Many Dynamic) (Many Forced) in
     let q″ = parts1 (Many Forced) in
-    let end = forced-shaped q q″ f refl refl exact-83 refl refl refl hf in
-    let end′ = forced-shaped q′ q″ f refl refl exact-83 refl refl refl hf in
-    let lazies = records-shaped 0x81 q q′ l (forcedFields f) refl refl exact-81 refl end end′ hl in
-    records-shaped 0x80 q q c (append (recordFields 0x81 l) (forcedFields f)) refl refl exact-80 refl lazies lazies hc
+    let end = forced-shaped q q″ f refl refl (plain-exact 0x83 Atom refl) refl refl refl hf in
+    let end′ = forced-shaped q′ q″ f refl refl (plain-exact 0x83 Atom refl) refl refl refl hf in
+    let lazies = records-shaped 0x81 q q′ l (forcedFields f) refl refl (plain-exact 0x81 Literal refl) refl end end′ hl in
+    records-shaped 0x80 q q c (append (recordFields 0x81 l) (forcedFields f)) refl refl (plain-exact 0x80 Literal refl) refl lazies lazies hc
 
 -- ---- Depth
 
@@ -136,7 +121,7 @@ records-within s room h r =
     let b = append-depth (recordFields 0x80 (s .collected)) lazies 2 (records-depth 0x80 (s .collected) (h .0)) a in (
       records-root,
       shaped-formed (field 0x02 [] row) (room-size (size (field 0x02 [] row)) room r)
-          (records-exact, row-shaped (s .collected) (s .lazy) (s .forced) (h .0) (h .1) (h .2)),
+          ((plain-exact 0x02 Empty refl [] refl), row-shaped (s .collected) (s .lazy) (s .forced) (h .0) (h .1) (h .2)),
       omega arith,
     )
 

@@ -1,12 +1,12 @@
 -- Trees within the grammar are regular behind the imports.
-use Prim.Native.Nat.{ℕ, _≤_, _<_}
+use Prim.Native.Nat.{ℕ, _≤_}
 use mathlib.Core.Path.{_≡_, refl, sym, ap, subst, _∙_}
 use mathlib.Core.Logic.{_⊎_, inl, inr}
-use mathlib.Core.Bool.{Bool, true, false, not, cond, _&&_, _||_, true≢false}
-use mathlib.Core.List.{List, [], _∷_, _++_, append-nil}
+use mathlib.Core.Bool.{Bool, true, false, not, _||_, true≢false}
+use mathlib.Core.List.{List, [], append-nil}
 use native.Mathlib.Omega.{arith}
 use lib.Dec.{leb, eqb}
-use lib.ListN.{length, take, drop, getD}
+use lib.ListN.{length, take, getD}
 use lib.Seq.{take-at}
 use borrow.Author.Tests.{eqb-true, eqb-false, leb-true}
 use Rattle.tree.proofs.Table.{both-true}
@@ -16,13 +16,16 @@ use Rattle.tree.specs.declared.grammar.Slot.the-variants.{Nothing, One}
 use Rattle.tree.specs.declared.grammar.Rule.{Rule}
 use Rattle.tree.specs.declared.grammar.Step.the-variants.{Go}
 use Rattle.tree.specs.Layout.{idAt}
-use Rattle.tree.specs.Tree.{Field, field, Fields, none, more, tagOf, fixedOf, partsOf}
-use Rattle.tree.specs.Grammar.{within, holdsAt, parts0, parts1, ruleOf, stepAt, doneAt}
+use Rattle.tree.specs.Tree.{Field, field, Fields, none, more, tagOf}
+use Rattle.tree.specs.Grammar.{within, holdsAt, parts0, ruleOf, stepAt, doneAt}
 use Rattle.tree.specs.Within.{Exact}
 use Rattle.tree.proofs.GrammarLaws.{step-one}
+use Rattle.tree.proofs.WidthLaws.{plain-width}
+use Rattle.tree.proofs.FixedLaws.{or-right}
+use Rattle.tree.specs.declared.grammar.Value.the-variants.{Atom, Id}
 use Rattle.extraction_rules.proofs.TestLaws.{or-neither, neither-or, is-false}
-use Rattle.extraction_rules.proofs.RuleLaws.{inRule, step-without, step-untaken, rule-passes, or-true, only-by}
-use Rattle.extraction_rules.proofs.ExactLaws.{width-60, width-70, width-23}
+use Rattle.extraction_rules.proofs.RuleLaws.{inRule, step-without, step-untaken, rule-passes, only-by}
+use Rattle.extraction_rules.proofs.ExactLaws.{width-23}
 use Rattle.extraction_rules.proofs.ShapeLaws.{Shaped, ShapedAll, shaped-none, target-step}
 use Rattle.extraction_rules.proofs.AlikeLaws.{Two, RegularAt, Regular, RegularAll}
 
@@ -39,7 +42,7 @@ outers k r = outer k || not (inRule takesOuter r)
 
 rule-outer : (t : ℕ) → outer t ≡ false → inRule takesOuter (ruleOf t) ≡ false
 unfolding outers holdsAt within
-rule-outer t n = only-by (outer t) (inRule takesOuter (ruleOf t)) (rule-passes outers t refl refl refl refl (or-true (outer t) true refl)) n
+rule-outer t n = only-by (outer t) (inRule takesOuter (ruleOf t)) (rule-passes outers t refl refl refl refl (or-right (outer t) true refl)) n
 
 not-outer : (t u : ℕ) → outer t ≡ false → outer u ≡ true → t ≡ u → ⊥
 not-outer t u h k q = true≢false (sym k ∙ ap outer (sym q) ∙ h)
@@ -151,10 +154,10 @@ regular-at t x cs o h k =
       export-kind = λ q. kind-of x (subst (λ (m : ℕ). Exact m x) q h);
       empty-bare = bare-at t 0x40 cs k empty-rule;
       ident-bare = bare-at t 0x60 cs k ident-rule;
-      ident-whole = λ q. whole-id x (width-60 x (subst (λ (m : ℕ). Exact m x) q h));
+      ident-whole = λ q. whole-id x (plain-width 0x60 Id refl x q h);
       member-two = λ q. member-parts cs (subst (λ (m : ℕ). ShapedAll cs (ruleOf m)) q k);
       name-bare = bare-at t 0x70 cs k name-rule;
-      name-two = λ q. width-70 x (subst (λ (m : ℕ). Exact m x) q h);
+      name-two = λ q. plain-width 0x70 Atom refl x q h;
       target = λ q. target-tag cs (subst (λ (m : ℕ). ShapedAll cs (ruleOf m)) q k);
     }
 

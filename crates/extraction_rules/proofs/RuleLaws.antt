@@ -3,11 +3,9 @@
 use Prim.Native.Nat.{ℕ, zero, suc}
 use mathlib.Core.Path.{_≡_, refl, sym, ap, ap₂, _∙_}
 use mathlib.Core.Logic.{_⊎_, inl, inr, ⊎-elim}
-use mathlib.Core.Bool.{Bool, true, false, not, _&&_, _||_, true≢false, cond}
-use mathlib.Core.List.{List, [], _∷_}
+use mathlib.Core.Bool.{Bool, true, false, not, _||_, true≢false, cond}
 use native.Mathlib.Omega.{arith}
 use lib.Dec.{eqb}
-use borrow.Author.Tests.{eqb-true}
 use Rattle.tree.specs.declared.grammar.Set.{Set}
 use Rattle.tree.specs.declared.grammar.Slot.{Slot}
 use Rattle.tree.specs.declared.grammar.Slot.the-variants.{Nothing, One, Maybe, Many}
@@ -16,9 +14,10 @@ use Rattle.tree.specs.declared.grammar.Fit.{Fit}
 use Rattle.tree.specs.declared.grammar.Fit.the-variants.{Stay, Used, Over, No}
 use Rattle.tree.specs.declared.grammar.Step.{Step}
 use Rattle.tree.specs.declared.grammar.Step.the-variants.{Go}
-use Rattle.tree.specs.Grammar.{within, holdsAt, find, parts0, parts1, parts3, parts4, statements, patterns, expressions, others, ruleOf, slotAt, restOf, onFit, stepBy, stepAt}
-use Rattle.tree.proofs.Table.{passes, find-passes, both-true}
-use Rattle.tree.proofs.GrammarLaws.{no-step, maybe-slot, many-slot}
+use Rattle.tree.specs.Grammar.{within, holdsAt, parts0, parts1, parts3, parts4, statements, patterns, expressions, others, ruleOf, slotAt, restOf, onFit, stepBy, stepAt}
+use Rattle.tree.proofs.Table.{passes, find-passes}
+use Rattle.tree.proofs.GrammarLaws.{no-step, maybe-slot, many-slot, go-inj}
+use Rattle.tree.proofs.FixedLaws.{or-right}
 use Rattle.extraction_rules.proofs.TestLaws.{or-neither}
 
 -- ---- Sets in a rule
@@ -45,9 +44,6 @@ rest-without p q h =
     go false false true e f g = g
     go false true z e f g = absurd (true≢false f)
     go true y z e f g = absurd (true≢false e)
-
-go-inj : {a b : Rule} → Go a ≡ Go b → a ≡ b
-go-inj e = cc
 
 -- the rule that is left behind a part has no other sets
 without-by : (p : Set → Bool) (n : ℕ) (q q′ : Rule) (t : ℕ) → inRule p q ≡ false → stepBy n q t ≡ Go q′ → inRule p q′ ≡ false
@@ -149,10 +145,6 @@ rule-passes g t a b c d k =
     (either g t (within 0x50 0x56 t) _ _ (find-passes g t patterns parts0 b k)
     (either g t (within 0x60 0x6e t) _ _ (find-passes g t expressions parts0 c k) (find-passes g t others parts0 d k)))
 
-pub or-true : (a b : Bool) → b ≡ true → a || b ≡ true
-or-true true b e = refl
-or-true false b e = e
-
 pub only-by : (a b : Bool) → a || not b ≡ true → a ≡ false → b ≡ false
 only-by true b e n = absurd (true≢false n)
 only-by false true e n = sym e
@@ -164,7 +156,7 @@ targets k r = eqb k 0x66 || not (inRule takesTarget r)
 
 pub rule-targets : (t : ℕ) → eqb t 0x66 ≡ false → inRule takesTarget (ruleOf t) ≡ false
 unfolding targets holdsAt within
-rule-targets t n = only-by (eqb t 0x66) (inRule takesTarget (ruleOf t)) (rule-passes targets t refl refl refl refl (or-true (eqb t 0x66) true refl)) n
+rule-targets t n = only-by (eqb t 0x66) (inRule takesTarget (ruleOf t)) (rule-passes targets t refl refl refl refl (or-right (eqb t 0x66) true refl)) n
 
 -- only a module has imports
 imports : ℕ → Rule → Bool
@@ -172,7 +164,7 @@ imports k r = eqb k 0x01 || not (inRule takesImport r)
 
 pub rule-imports : (t : ℕ) → eqb t 0x01 ≡ false → inRule takesImport (ruleOf t) ≡ false
 unfolding imports holdsAt within
-rule-imports t n = only-by (eqb t 0x01) (inRule takesImport (ruleOf t)) (rule-passes imports t refl refl refl refl (or-true (eqb t 0x01) true refl)) n
+rule-imports t n = only-by (eqb t 0x01) (inRule takesImport (ruleOf t)) (rule-passes imports t refl refl refl refl (or-right (eqb t 0x01) true refl)) n
 
 -- ---- A step through a slot for many parts, and for one that may be missing
 

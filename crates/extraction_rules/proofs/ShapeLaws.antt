@@ -19,7 +19,9 @@ use Rattle.tree.specs.Tree.{Field, field, Fields, none, more, tagOf, fixedOf, p
 use Rattle.tree.specs.Grammar.{within, holdsAt, parts0, parts1, piecesOf, ruleOf, slotAt, stepBy, stepAt, doneAt}
 use Rattle.tree.specs.Within.{Exact, Formed, FormedAll}
 use Rattle.tree.proofs.GrammarLaws.{no-step, step-one, many-slot}
-use Rattle.tree.proofs.TreeLaws.{content-size, depth-parts, depth-none, depth-most}
+use Rattle.tree.proofs.TreeLaws.{content-size, depth-parts, depth-none, depth-most, row-size}
+use Rattle.tree.proofs.WidthLaws.{plain-width}
+use Rattle.tree.specs.declared.grammar.Value.the-variants.{Atom}
 use Rattle.metadata.specs.Metadata.{Metadata, append, attributesFor, withMetadata, contextAttribute}
 use Rattle.lent.specs.Fields.{has, keep, findField}
 use Rattle.scope.specs.Id.{export}
@@ -28,8 +30,8 @@ use Rattle.extraction_rules.specs.First.{specifiersIn, attributesIn, att
 use Rattle.extraction_rules.specs.Second.{specifiersFrom}
 use Rattle.extraction_rules.proofs.ListLaws.{All}
 use Rattle.extraction_rules.proofs.RuleLaws.{many-step, maybe-step, only-step}
-use Rattle.extraction_rules.proofs.ExactLaws.{width-70, property-exact, attribute-exact}
-use Rattle.extraction_rules.proofs.TableLaws.{Each}
+use Rattle.extraction_rules.proofs.ExactLaws.{property-exact, attribute-exact}
+use Rattle.extraction_rules.proofs.KeepLaws.{Each}
 
 -- ---- Within the grammar
 
@@ -49,10 +51,6 @@ mutual
   pub formed-shaped-all : (fs : Fields) (q : Rule) → FormedAll fs q → ShapedAll fs q
   formed-shaped-all none q h = h
   formed-shaped-all (more f fs) q h = (h .0, h .1, formed-shaped f (h .2), formed-shaped-all fs (h .0) (h .3))
-
-row-size : (f : Field) (fs : Fields) → sizes (more f fs) ≡ size f + sizes fs
-unfolding size
-row-size f fs = refl
 
 -- a shaped tree whose content two bytes can measure is formed: all in it is shorter
 mutual
@@ -141,7 +139,7 @@ member-second t q e = within-is 0x70 0x72 t (step-one Member Nothing Nothing Not
 -- ---- A member's name
 
 pub name-width : (q : Field) → Shaped q → tagOf q ≡ 0x70 → length (fixedOf q) ≡ 2
-name-width (field t x cs) h e = width-70 x (subst (λ (k : ℕ). Exact k x) e (h .0))
+name-width (field t x cs) h e = plain-width 0x70 Atom refl x e (h .0)
 
 -- the member of a 63 that is neither computed nor private
 pub member-width : (o q : Field) (qs : Fields) → ShapedAll (more o (more q qs)) (ruleOf 0x63) → has 0x71 q ≡ false → has 0x72 q ≡ false →

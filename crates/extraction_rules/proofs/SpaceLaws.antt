@@ -2,7 +2,7 @@
 use Prim.Native.Nat.{ℕ, _+_}
 use mathlib.Core.Path.{_≡_, refl, sym, ap, ap₂, subst, _∙_}
 use mathlib.Core.Logic.{_⊎_, inl, inr}
-use mathlib.Core.Bool.{Bool, true, false, not, cond, _&&_, _||_, true≢false}
+use mathlib.Core.Bool.{Bool, true, false, not, cond, _||_, true≢false}
 use mathlib.Core.List.{List, [], _∷_, _++_}
 use mathlib.Core.Option.{Option, none as nothing, some}
 use native.Mathlib.Omega.{arith}
@@ -11,20 +11,20 @@ use lib.ListN.{length, getD, take, drop}
 use Rattle.tree.proofs.Table.{both-true}
 use Rattle.scope.specs.Id.{local, export}
 use Rattle.tree.specs.Layout.{same, four, idAt, nameOf, contextOf, valueOf}
-use Rattle.tree.specs.Tree.{Field, field, Fields, none, more, tagOf, fixedOf, partsOf, size}
-use Rattle.tree.proofs.LayoutLaws.{same-refl, same-equal}
+use Rattle.tree.specs.Tree.{Field, field, Fields, none, more, fixedOf, size}
+use Rattle.tree.proofs.LayoutLaws.{same-equal}
 use Rattle.metadata.specs.Metadata.{append}
-use Rattle.lent.specs.Outcome.{Outcome, done, onto}
-use Rattle.lent.specs.Lists.{find, filter, mapped}
+use Rattle.lent.specs.Lists.{filter}
 use Rattle.lent.specs.Fields.{has, findField, inside}
-use Rattle.extraction_rules.specs.State.{Record, Imported, Usage, State, Pass, first, second, Setting, give, change, refuse, setModules, setImported, setCollected}
-use Rattle.extraction_rules.specs.First.{external, idFrom, moduleFor, forceId, importedAs, suits, usedRecord, collectIn, collect, noteIn, noteId, outsideName, noteNamed, notedContext, noteSpecifier, noteAll, noteSpecifiers, specifiersIn, withContext, importFirst}
+use Rattle.extraction_rules.specs.State.{Record, Imported, Usage, State, Setting, give, change, refuse, setImported, setCollected}
+use Rattle.extraction_rules.specs.First.{external, idFrom, moduleFor, forceId, importedAs, suits, usedRecord, collectIn, collect, noteIn, noteId, noteNamed, notedContext, noteSpecifier, noteAll, noteSpecifiers, specifiersIn, importFirst}
 use Rattle.extraction_rules.specs.Second.{usagesOf}
 use Rattle.extraction_rules.proofs.OutcomeLaws.{After, after-bind, after-if}
-use Rattle.extraction_rules.proofs.ListLaws.{All, all-last, all-filter, all-find, all-first, same-not, not-same}
-use Rattle.extraction_rules.proofs.TableLaws.{Each, each-weaken, each-append, find-meets, forgotten-imported, other-imported, noted-own, noted-other, force-tables}
+use Rattle.extraction_rules.proofs.ListLaws.{All, all-last, all-filter, all-find, all-first}
+use Rattle.extraction_rules.proofs.TableLaws.{find-meets, forgotten-imported, other-imported, noted-own, noted-other, force-tables}
 use Rattle.extraction_rules.proofs.ItemsLaws.{ItemSteps}
 use Rattle.extraction_rules.proofs.StepLaws.{RequireSteps, moduleFor-keeps}
+use Rattle.extraction_rules.proofs.KeepLaws.{Each, each-weaken, each-append}
 
 -- an id is its name and its context
 pub same-id : (i j : List ℕ) → nameOf i ≡ nameOf j → contextOf i ≡ contextOf j → i ≡ j

@@ -4,12 +4,12 @@ use mathlib.Core.Path.{_≡_, refl, sym, ap, _∙_}
 use mathlib.Core.Bool.{Bool, true, false, not, cond, _&&_, _||_}
 use mathlib.Core.List.{List, [], _∷_, _++_, map}
 use mathlib.Core.Option.{Option, none as nothing, some}
-use native.Mathlib.Omega.{arith}
 use lib.Dec.{leb, eqb}
 use lib.ListN.{length, getD}
 use Rattle.scope.specs.Id.{require-atom, export}
 use Rattle.scope.specs.Modules.{Modules, request, setMark}
 use Rattle.scope.specs.declared.Mark.the-variants.{Cjs, Wrapping}
+use Rattle.scope.proofs.Laws.{none-some}
 use Rattle.tree.specs.Layout.{same, two, four, idAt, valueOf, nameOf}
 use Rattle.tree.specs.Tree.{Field, field, Fields, none, more, fixedOf, size}
 use Rattle.lent.specs.Outcome.{Outcome, onto}
@@ -59,11 +59,8 @@ pub record EndSteps (J : State → Type 0) : Type 0 where
 
 -- ---- Not external: of every call that meets the require conditions
 
-some-inj : {a b : List ℕ} → some a ≡ some b → a ≡ b
+pub some-inj : {A : Type 0} {a b : A} → some a ≡ some b → a ≡ b
 some-inj e = cc
-
-none-some : {A : Type 0} {a : List ℕ} → nothing ≡ some a → A
-none-some {a = a} e = absurd (let z : _≡_ {A = ℕ} 0 1 = cc in omega arith)
 
 notExternal-own : (e : Setting) (o : Option (List ℕ)) (l : List ℕ) → notExternal e o ≡ some l → external e l ≡ false
 unfolding notExternal

@@ -10,32 +10,15 @@ use Rattle.tree.specs.Layout.{same, valueOf}
 use Rattle.tree.specs.Tree.{Field, field, Fields, none, more, fixedOf}
 use Rattle.tree.proofs.LayoutLaws.{same-refl, same-equal}
 use Rattle.metadata.specs.Metadata.{append}
+use Rattle.metadata.proofs.EncodeLaws.{append-none}
 use Rattle.lent.specs.Lists.{find, filter, isSome, mapped, among}
-use Rattle.lent.specs.Fields.{has, keep, findField}
-use Rattle.extraction_rules.specs.State.{Record, Imported, Usage, State, setForced}
-use Rattle.extraction_rules.specs.First.{holdsNamespace, forceSource, forceHolder, forget, forceId, importedAs, suits, usedRecord, collectIn, noteIn}
+use Rattle.lent.specs.Fields.{has, findField}
+use Rattle.extraction_rules.specs.State.{Record, Imported, Usage, State}
+use Rattle.extraction_rules.specs.First.{holdsNamespace, forceSource, forceHolder, forget, forceId, importedAs, suits, collectIn, noteIn}
 use Rattle.extraction_rules.specs.Second.{usagesOf, specifiersFrom, extend}
 use Rattle.extraction_rules.proofs.TestLaws.{or-neither}
-use Rattle.extraction_rules.proofs.ListLaws.{same-not, not-same, same-swap, among-last, among-more, among-new}
+use Rattle.extraction_rules.proofs.ListLaws.{same-not, not-same, same-swap, among-last, among-new}
 use Rattle.extraction_rules.proofs.FirstLaws.{source-cases, force-cases, sourcesOf, extend-literal}
-
--- P holds of each field
-abbrev pub Each : (Field → Type 0) → Fields → Type 0
-Each P none = Unit {0}
-Each P (more f fs) = P f × Each P fs
-
-pub each-append : (P : Field → Type 0) (fs gs : Fields) → Each P fs → Each P gs → Each P (append fs gs)
-unfolding append
-each-append P none gs h k = k
-each-append P (more f fs) gs h k = (h .0, each-append P fs gs (h .1) k)
-
-pub each-weaken : (P Q : Field → Type 0) (fs : Fields) → ((f : Field) → P f → Q f) → Each P fs → Each Q fs
-each-weaken P Q none k h = tt
-each-weaken P Q (more f fs) k h = (k f (h .0), each-weaken P Q fs k (h .1))
-
-pub each-both : (P Q : Field → Type 0) (fs : Fields) → Each P fs → Each Q fs → Each (λ f. P f × Q f) fs
-each-both P Q none h k = tt
-each-both P Q (more f fs) h k = ((h .0, k .0), each-both P Q fs (h .1) (k .1))
 
 -- ---- Lists
 
@@ -214,11 +197,6 @@ seek-own t r (q ∷ l) h e =
     go false e k d = k e
 
 -- ---- Appended specifiers
-
-pub append-none : (fs : Fields) → append fs none ≡ fs
-unfolding append
-append-none none = refl
-append-none (more f fs) = ap (more f) (append-none fs)
 
 pub find-append : (p : Field → Bool) (fs gs : Fields) → findField p gs ≡ nothing → findField p (append fs gs) ≡ findField p fs
 unfolding append findField

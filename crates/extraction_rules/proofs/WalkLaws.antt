@@ -65,6 +65,10 @@ pub parts-other : (t : ℕ) (v : Parts) → partsFor t ≡ v → (v ≡ assignme
 unfolding partsFor
 parts-other t v w h = ne-eqb t 0x66 (λ q. h (sym w ∙ ap partsFor q))
 
+pub parts-children : (t : ℕ) → (t ≡ 0x10 → ⊥) → (t ≡ 0x23 → ⊥) → (t ≡ 0x63 → ⊥) → (t ≡ 0x64 → ⊥) → (t ≡ 0x66 → ⊥) → partsFor t ≡ children
+unfolding partsFor
+parts-children t a b c d e = rw (ne-eqb t 0x10 a, ne-eqb t 0x23 b, ne-eqb t 0x63 c, ne-eqb t 0x64 d, ne-eqb t 0x66 e) refl
+
 -- ---- The imports that the walk comes to
 
 abbrev mutual

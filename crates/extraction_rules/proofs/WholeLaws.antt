@@ -11,11 +11,12 @@ use lib.Seq.{length-slice, length-take-le}
 use borrow.Author.Tests.{eqb-true}
 use Rattle.scope.specs.Id.{require-atom}
 use Rattle.tree.specs.declared.grammar.Rule.{Rule}
-use Rattle.tree.specs.Layout.{skipAt, literalEnd, same, two, idAt, nameOf, valueOf, sameLiteral}
-use Rattle.tree.specs.Access.{valueAt, pieceAt, fixedAt}
+use Rattle.tree.specs.Layout.{same, two, idAt, nameOf, valueOf, sameLiteral}
 use Rattle.tree.specs.Tree.{Field, field, Fields, none, more, tagOf, fixedOf, size}
-use Rattle.tree.specs.Grammar.{piecesOf, ruleOf}
+use Rattle.tree.specs.Grammar.{ruleOf}
 use Rattle.tree.specs.Within.{Exact}
+use Rattle.tree.proofs.WidthLaws.{plain-width}
+use Rattle.tree.specs.declared.grammar.Value.the-variants.{Id, Literal}
 use Rattle.metadata.specs.Metadata.{append}
 use Rattle.lent.specs.Outcome.{onto}
 use Rattle.lent.specs.Lists.{among}
@@ -30,7 +31,7 @@ use Rattle.extraction_rules.proofs.FirstLaws.{source-cases, force-cases
 use Rattle.extraction_rules.proofs.StepLaws.{Keeps, moduleFor-keeps, enter-keeps, then-keeps, room-keeps, addUsage-keeps, collect-keeps, noteSpecifiers-keeps, moduleFor-stays}
 use Rattle.extraction_rules.proofs.WalkLaws.{rule-tag, parts-tag, parts-other, walkParts}
 use Rattle.extraction_rules.proofs.RuleLaws.{inRule, takesTarget, step-without, rule-targets}
-use Rattle.extraction_rules.proofs.ExactLaws.{plain-is, property-exact}
+use Rattle.extraction_rules.proofs.ExactLaws.{property-exact}
 use Rattle.extraction_rules.proofs.ShapeLaws.{Shaped, ShapedAll, Specifiers, target-step, import-parts, named-specifier, usages-specifiers}
 use Rattle.extraction_rules.proofs.WithinLaws.{Result, Results, Widths, widths-common, noteSpecifiers-within, used-width, parts-within, enter-widths, not-module, value-row, target-not, walk-within, walkAll-within, walkMember-within, walkAssignment-within, walkTarget-within}
 
@@ -61,22 +62,6 @@ value-width l e = length-take-le 2 l (omega arith)
 
 -- ---- What the tree gives: literals and the ids of patterns
 
-width-10 : (x : List ℕ) → Exact 0x10 x → length x ≡ 6
-unfolding fixedAt pieceAt valueAt piecesOf literalEnd
-width-10 x h = plain-is 6 x (skipAt 0 6 (length x)) refl h
-
-width-61 : (x : List ℕ) → Exact 0x61 x → length x ≡ 6
-unfolding fixedAt pieceAt valueAt piecesOf literalEnd
-width-61 x h = plain-is 6 x (skipAt 0 6 (length x)) refl h
-
-width-50 : (x : List ℕ) → Exact 0x50 x → length x ≡ 6
-unfolding fixedAt pieceAt valueAt piecesOf
-width-50 x h = plain-is 6 x (skipAt 0 6 (length x)) refl h
-
-width-54 : (x : List ℕ) → Exact 0x54 x → length x ≡ 6
-unfolding fixedAt pieceAt valueAt piecesOf
-width-54 x h = plain-is 6 x (skipAt 0 6 (length x)) refl h
-
 bound-width : (t : ℕ) (x : List ℕ) → bindingOf t ≡ bound → Exact t x → length x ≡ 6
 unfolding bindingOf
 bound-width t x e h = go (eqb t 0x50) (eqb t 0x54) (eqb t 0x55) refl refl e
@@ -87,8 +72,8 @@ bound-width t x e h = go (eqb t 0x50) (eqb t 0x54) (eqb t 0x55) refl refl e
     code below = 2
 
     go : (a b c : Bool) → eqb t 0x50 ≡ a → eqb t 0x54 ≡ b → cond (a || b) bound (cond c left below) ≡ bound → length x ≡ 6
-    go true b c v w e = width-50 x (subst (λ (k : ℕ). Exact k x) (eqb-true t 0x50 v) h)
-    go false true c v w e = width-54 x (subst (λ (k : ℕ). Exact k x) (eqb-true t 0x54 w) h)
+    go true b c v w e = plain-width 0x50 Id refl x (eqb-true t 0x50 v) h
+    go false true c v w e = plain-width 0x54 Id refl x (eqb-true t 0x54 w) h
     go false false true v w e = absurd (let z = ap code e in omega arith)
     go false false false v w e = absurd (let z = ap code e in omega arith)
 
@@ -132,7 +117,7 @@ sole-shaped (more g none) q f h e = let w : g ≡ f = cc in subst Shaped w (h .2
 sole-shaped (more g (more k ks)) q f h e = absurd (let z : _≡_ {A = ℕ} 0 1 = cc in omega arith)
 
 literal-61 : (f : Field) → Shaped f → tagOf f ≡ 0x61 → length (fixedOf f) ≡ 6
-literal-61 (field t x cs) h e = width-61 x (subst (λ (k : ℕ). Exact k x) e (h .0))
+literal-61 (field t x cs) h e = plain-width 0x61 Literal refl x e (h .0)
 
 argument-whole : (o : Option Field) (l : List ℕ) → ((f : Field) → o ≡ some f → Shaped f) → argument o ≡ some l → length l ≡ 6
 unfolding argument
@@ -310,7 +295,7 @@ module _ (e : Setting) where
       (after-both (noteSpecifiers n (specifiersIn ds) (inside p x) s) (λ gs s. Specifiers gs × Widths s) (λ gs s. Whole s)
       (noteSpecifiers-within e n (specifiersIn ds) (inside p x) s (import-parts ds m .0) (a .0))
       (noteSpecifiers-keeps Whole (λ s m h. h) n (specifiersIn ds) (inside p x) s (a .1))) λ gs s b.
-      then-keeps Whole (collect (record { literal = x; specifiers = gs }) p s) _ (collect-whole _ p s (width-10 x k, b .0 .0) (b .1)) λ _ s h. h)
+      then-keeps Whole (collect (record { literal = x; specifiers = gs }) p s) _ (collect-whole _ p s (plain-width 0x10 Literal refl x refl k, b .0 .0) (b .1)) λ _ s h. h)
 
   -- ---- The second pass
 
@@ -318,7 +303,7 @@ module _ (e : Setting) where
       Whole s → Keeps Whole (takeApart us x cs s)
   unfolding takeApart
   takeApart-whole [] x cs s u k h =
-      source-cases (valueOf x) s Whole (λ _. h) (source-whole (valueOf x) s (value-width x (width-10 x k)) h)
+      source-cases (valueOf x) s Whole (λ _. h) (source-whole (valueOf x) s (value-width x (plain-width 0x10 Literal refl x refl k)) h)
   takeApart-whole (v ∷ us) x cs s u k h = (
     all-map WholeRecord WholeRecord (extend x (specifiersFrom (v ∷ us))) (s .collected)
         (λ r w. extend-whole x (specifiersFrom (v ∷ us)) r (usages-specifiers (v ∷ us) u) w) (h .0),

@@ -19,6 +19,8 @@ use Rattle.tree.specs.Tree.{Field, field, Fields, none, more, tagOf, fixedOf, p
 use Rattle.tree.specs.Grammar.{within, holdsAt, parts1, ruleOf, stepAt, doneAt}
 use Rattle.tree.specs.Within.{Exact}
 use Rattle.tree.proofs.TreeLaws.{depth-parts, depth-none, depth-first, depth-rest, depth-most, depth-positive}
+use Rattle.tree.proofs.WidthLaws.{plain-width}
+use Rattle.tree.specs.declared.grammar.Value.the-variants.{Id}
 use Rattle.metadata.specs.Metadata.{append}
 use Rattle.lent.specs.Outcome.{onto}
 use Rattle.lent.specs.Lists.{find, mapped, among}
@@ -34,7 +36,7 @@ use Rattle.extraction_rules.proofs.StepLaws.{CommonSteps, Keeps, module
 use Rattle.extraction_rules.proofs.WalkLaws.{rule-tag, parts-tag, parts-other, walkParts}
 use Rattle.extraction_rules.proofs.ValueLaws.{required-call, Called, first-expression, declarator-value}
 use Rattle.extraction_rules.proofs.RuleLaws.{inRule, step-without, takesTarget, takesImport, turned-step, no-module, no-import, rule-targets, rule-imports}
-use Rattle.extraction_rules.proofs.ExactLaws.{width-21, id-width, rewritten-exact, callee-exact, named-exact, exported-exact}
+use Rattle.extraction_rules.proofs.ExactLaws.{id-width, rewritten-exact, callee-exact, named-exact, exported-exact}
 use Rattle.extraction_rules.proofs.ShapeLaws.{Shaped, ShapedAll, name-width, member-width, target-step, Specifiers, import-parts, import-from, context-shaped, named-specifier, usages-specifiers, import-depth}
 use Rattle.extraction_rules.proofs.TestLaws.{or-neither, is-true}
 
@@ -281,7 +283,7 @@ module _ (e : Setting) where
   noted-width n (field t x cs) h = go (eqb t 0x21) refl
     where
       go : (b : Bool) → eqb t 0x21 ≡ b → length (cond b (contextOf x) (four (export n))) ≡ 4
-      go true v = let a = width-21 x (subst (λ (k : ℕ). Exact k x) (eqb-true t 0x21 v) (h .0)) in let b = length-drop 2 x in omega arith
+      go true v = let a = plain-width 0x21 Id refl x (eqb-true t 0x21 v) (h .0) in let b = length-drop 2 x in omega arith
       go false v = refl
 
   noteSpecifier-within : (n : ℕ) (f : Field) (p : ℕ) (s : State) → (holdsAt Specifier (tagOf f) ≡ true) × Shaped f → Widths s →

@@ -7,9 +7,8 @@ use Rattle.scope.specs.Kept.{modulesOf, requested, fileRefusal}
 use Rattle.scope.specs.declared.Scope.{Scope}
 use Rattle.scope.specs.declared.Requested.{Requested}
 use Rattle.scope.specs.declared.FileAnswer.{FileAnswer}
-use Rattle.scope.specs.declared.FileAnswer.the-variants.{Given, TooManyFiles}
 use Rattle.writer.specs.Finished.{zeroed}
-use Rattle.extraction_rules.specs.Call.{Lent, Lengths, Left, extraction}
+use Rattle.extraction_rules.specs.Call.{Lent, Lengths, Left}
 use Rattle.extraction.specs.declared.Extraction.{Extraction}
 use Rattle.extraction.specs.Answer.{answerRefusal, left, roomIn}
 use Rattle.host.specs.Answer.{packed, packedIn, scopeBytes, noFiles, extractWith, extractCall, Leaves}
@@ -40,18 +39,11 @@ unfolding extractCall
 call-is q n files l room e h =
     ap (λ (r : Requesting). extractWith (r .refusal) (r .modules) l room) (ap (λ (ms : Modules). requestAll (filesIn files) ms) (sym e) ∙ sym h)
 
-pub call-given : (q : Requested) (n : Scope) (files : List ℕ) (l : Lent) (room : Lengths) {a : ℕ} {s w o k : List ℕ} →
-    modulesOf n ≡ [] → requested q ≡ requestAll (filesIn files) (modulesOf n) → q .answer ≡ Given →
-    Leaves (extraction l room (modulesOf (q .scope))) a s w o k → Leaves (extractCall files l room) a s w o k
-call-given q n files l room {a} {s} {w} {o} {k} e h g x =
-    subst (λ (z : Left). Leaves z a s w o k)
-    (sym (call-is q n files l room e h ∙ ap (λ (y : FileAnswer). extractWith (fileRefusal y) (modulesOf (q .scope)) l room) g))
-    x
-
-pub call-refused : (q : Requested) (n : Scope) (files : List ℕ) (l : Lent) (room : Lengths) {a : ℕ} {s w o k : List ℕ} →
-    modulesOf n ≡ [] → requested q ≡ requestAll (filesIn files) (modulesOf n) → q .answer ≡ TooManyFiles →
-    Leaves (noFiles 5 (modulesOf (q .scope)) room) a s w o k → Leaves (extractCall files l room) a s w o k
-call-refused q n files l room {a} {s} {w} {o} {k} e h g x =
+-- once they are, or are too many
+pub call-answered : (q : Requested) (n : Scope) (files : List ℕ) (l : Lent) (room : Lengths) {y : FileAnswer} {a : ℕ} {s w o k : List ℕ} →
+    modulesOf n ≡ [] → requested q ≡ requestAll (filesIn files) (modulesOf n) → q .answer ≡ y →
+    Leaves (extractWith (fileRefusal y) (modulesOf (q .scope)) l room) a s w o k → Leaves (extractCall files l room) a s w o k
+call-answered q n files l room {a = a} {s} {w} {o} {k} e h g x =
     subst (λ (z : Left). Leaves z a s w o k)
     (sym (call-is q n files l room e h ∙ ap (λ (y : FileAnswer). extractWith (fileRefusal y) (modulesOf (q .scope)) l room) g))
     x

@@ -27,8 +27,8 @@ use Rattle.steps.specs.declared.Step.{Step}
 use Rattle.steps.specs.declared.Step.the-variants.{Done}
 use Rattle.steps.specs.declared.Ident.{Ident}
 use Rattle.steps.specs.declared.Ident.the-variants.{Is, Other}
+use Rattle.steps.proofs.StepsLaws.{steps-by}
 use Rattle.imports.specs.Parts.{namespaceBy}
-use Rattle.imports.proofs.MadeLaws.{step-when}
 use Rattle.imports.proofs.HeadLaws.{head-external, head-parts, head-row, head-stays}
 
 module _ (E : Setting) (s : List ℕ) (at stop from : ℕ) (bytes : Bytes s) (room : at + 3 ≤ stop) (fits : stop ≤ length s) (tag : getD s at 0 ≡ 0x10) (e : fixedAt s 0x10 (at + 3) stop ≡ Upto from) where
@@ -92,6 +92,8 @@ module _ (E : Setting) (s : List ℕ) (at stop from : ℕ) (bytes : Bytes s) (ro
             Steps encode (λ x u. ReadAt s at stop × (among (valueOf X) (sourcesIn (u .collected)) ≡ true)) (λ u. takeApart (usagesOf (idOf id) (u .usages)) X CS u) t out o t' out' (Done p) →
             Again t out o t' out' (Done p)
         again-apart id q w =
-            step-when w (λ x u k h. (h .0, h .1 (outside false own))) (λ x u k h.
-            by-tests false false u (outside false own) (forced-is false u k un)
-            ∙ sole-by (sole (specifiersIn CS)) (identBy r) u (sole-of (h .0)) .1 (idOf id) (ap identBy q))
+            steps-by _ w (λ x u k h. (
+              (h .0, h .1 (outside false own)),
+              by-tests false false u (outside false own) (forced-is false u k un)
+                  ∙ sole-by (sole (specifiersIn CS)) (identBy r) u (sole-of (h .0)) .1 (idOf id) (ap identBy q),
+            ))

@@ -1,10 +1,10 @@
 -- The attributes of an import, written as they are and with an export context.
 use Prim.Native.Nat.{ℕ, _+_, _≤_}
 use native.Mathlib.Omega.{arith}
-use mathlib.Core.Path.{_≡_, refl, sym, ap, subst, _∙_}
+use mathlib.Core.Path.{_≡_, refl, sym, ap, _∙_}
 use mathlib.Core.Logic.{⊎-elim}
 use mathlib.Core.Bool.{Bool, true, false, cond}
-use mathlib.Core.List.{List, [], _++_, append-nil}
+use mathlib.Core.List.{List, [], _++_}
 use mathlib.Core.Option.{some}
 use lib.ListN.{length, getD}
 use lib.Seq.{slice}
@@ -15,28 +15,25 @@ use Rattle.writer.proofs.Wrote.{wrote-none, wrote-then, wrote-as, wrote-field}
 use Rattle.scope.specs.Id.{export}
 use Rattle.tree.specs.declared.layout.Reach.the-variants.{Upto, Short}
 use Rattle.tree.specs.Layout.{Bytes}
-use Rattle.tree.specs.Tree.{Field, field, Fields, none, more, tagOf, partsOf, encode, encodes, framed as framedIn}
+use Rattle.tree.specs.Tree.{Field, Fields, none, more, tagOf, partsOf, encode, encodes}
 use Rattle.tree.specs.Access.{extentAt}
 use Rattle.tree.specs.Grammar.{ruleOf}
 use Rattle.tree.specs.Standing.{treeAt, rowAt}
-use Rattle.tree.specs.Within.{Exact}
 use Rattle.tree.proofs.StandingLaws.{row-none, whole-step}
 use Rattle.tree.proofs.SoundLaws.{row-sound}
+use Rattle.tree.proofs.WidthLaws.{plain-width}
+use Rattle.tree.proofs.TreeLaws.{encodes-none, encodes-one}
+use Rattle.tree.specs.declared.grammar.Value.the-variants.{Empty}
 use Rattle.metadata.specs.Metadata.{append, attributesFor, withMetadata, contextAttribute}
-use Rattle.metadata.proofs.EncodeLaws.{encodes-append}
+use Rattle.metadata.proofs.EncodeLaws.{encodes-append, framed-field}
 use Rattle.lent.specs.Fields.{has, keep, findField}
 use Rattle.extraction_rules.specs.First.{attributesOf}
 use Rattle.extraction_rules.proofs.ShapeLaws.{specifier-is}
 use Rattle.steps.specs.Step.{ReadAt}
 use Rattle.steps.proofs.SoundLaws.{read-inside}
 use Rattle.imports.specs.Parts.{Behind, Attributes, Framed}
-use Rattle.imports.proofs.WidthLaws.{framing, framed-in, framed-exact, framed-tree, framed-length, width-2F}
+use Rattle.imports.proofs.WidthLaws.{framing, framed-in, framed-exact, framed-tree, framed-length}
 use Rattle.imports.proofs.PartsLaws.{read-tag, LastPart, part-cases}
-
--- a field, as it is written
-pub parts-written : (t : ℕ) (x : List ℕ) (cs : Fields) → framed t (x ++ encodes cs) ≡ encode (field t x cs)
-unfolding framed framedIn encode
-parts-written t x cs = refl
 
 -- what is kept meets the test
 kept-meets : (p : Field → Bool) (fs gs : Fields) (f : Field) → keep p fs ≡ more f gs → p f ≡ true
@@ -67,7 +64,7 @@ content-is {s} {at} {stop} bytes r e =
     let w : Framed s at stop (v .0) = framing (i .0) (i .1) (v .1) in
     let x = slice (at + 3) (v .0) s in
     let j = framed-in w in
-    let n = width-2F x (subst (λ (k : ℕ). Exact k x) e (framed-exact w)) in
+    let n = plain-width 0x2F Empty refl x e (framed-exact w) in
     let l = framed-length w in
     let z : v .0 ≡ at + 3 = omega arith in
     ap (λ (f : Field). encodes (partsOf f)) (framed-tree w) ∙ row-sound s (v .0) stop (ruleOf (getD s at 0)) bytes (j .1) (i .1) (v .2) .0
@@ -80,10 +77,6 @@ old-is f fs e = rw e refl
 old-none : attributesOf (findField (has 0x2F) none) ≡ none
 unfolding findField
 old-none = refl
-
-encodes-none : encodes none ≡ []
-unfolding encode
-encodes-none = refl
 
 module _ {s : List ℕ} {at end : ℕ} (bytes : Bytes s) (le : at ≤ end) (fits : end ≤ length s) {out : List ℕ} {o : ℕ} where
   pub attributes-copied : {stop : ℕ} {out' : List ℕ} {p : ℕ} → extentAt s at end ≡ Upto stop → Wrote out o (slice (at + 3) stop s) out' p → Attributes s at end encodes out o out' p
@@ -105,15 +98,11 @@ module _ {s : List ℕ} {at end : ℕ} (bytes : Bytes s) (le : at ≤ end) (fits
 
 -- ---- With a context
 
-one-written : (f : Field) → encodes (more f none) ≡ encode f
-unfolding encode
-one-written f = append-nil (encode f)
-
 context-written : (old : Fields) (c : ℕ) → framed 0x2F (encodes old ++ encode (contextAttribute c)) ≡ encode (withMetadata (record { injected = false; context = some c }) old)
 unfolding withMetadata attributesFor append
 context-written old c =
-    ap (λ (b : List ℕ). framed 0x2F (encodes old ++ b)) (sym (one-written (contextAttribute c)))
-    ∙ ap (framed 0x2F) (sym (encodes-append old (more (contextAttribute c) none))) ∙ parts-written 0x2F [] (append old (more (contextAttribute c) none))
+    ap (λ (b : List ℕ). framed 0x2F (encodes old ++ b)) (sym (encodes-one (contextAttribute c)))
+    ∙ ap (framed 0x2F) (sym (encodes-append old (more (contextAttribute c) none))) ∙ framed-field 0x2F [] (append old (more (contextAttribute c) none))
 
 pub context-put : {s : List ℕ} {at end : ℕ} (n : ℕ) {c : ℕ} {l m k j out' : List ℕ} {o x q p : ℕ} → c ≡ export n → Opened l o 0x2F m x → Attributes s at end encodes m x k q →
     Wrote k q (encode (contextAttribute c)) j p → out' ≡ closed j o p →

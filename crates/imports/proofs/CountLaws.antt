@@ -15,8 +15,9 @@ use Rattle.tree.specs.declared.grammar.Rule.{Rule}
 use Rattle.tree.specs.Layout.{four, idAt, valueOf}
 use Rattle.tree.specs.Tree.{Field, field, Fields, none, more, tagOf, fixedOf, size, sizes}
 use Rattle.tree.specs.Grammar.{ruleOf}
-use Rattle.tree.specs.Within.{Exact}
-use Rattle.tree.proofs.TreeLaws.{content-size}
+use Rattle.tree.proofs.TreeLaws.{content-size, row-size}
+use Rattle.tree.proofs.WidthLaws.{plain-width}
+use Rattle.tree.specs.declared.grammar.Value.the-variants.{Id}
 use Rattle.metadata.specs.Metadata.{append}
 use Rattle.lent.specs.Fields.{has, keep, inside}
 use Rattle.lent.specs.Table.{fileOf}
@@ -24,9 +25,8 @@ use Rattle.extraction_rules.specs.State.{Record, Imported, State, Setting, give
 use Rattle.extraction_rules.specs.First.{external, requested, moduleOf, moduleFor, noteIn, noteId, noteNamed, notedContext, noteSpecifier, noteAll, noteSpecifiers, specifiersIn, attributesIn, collectIn, collect, importFirst}
 use Rattle.extraction_rules.proofs.OutcomeLaws.{After, after-bind, after-if}
 use Rattle.extraction_rules.proofs.ShapeLaws.{Shaped, ShapedAll, ImportStep, import-step, specifier-is, shaped-none}
+use Rattle.extraction_rules.proofs.KeepLaws.{keep-none, keep-yes, keep-no}
 use Rattle.kept.specs.Kept.{flag, countNamespaces, namespacesIn}
-use Rattle.imports.proofs.WidthLaws.{width-22}
-use Rattle.imports.proofs.PartsLaws.{keep-none, keep-yes, keep-no}
 use Rattle.imports.proofs.GatherLaws.{count-more, collect-count}
 
 -- ---- A namespace takes 9 bytes
@@ -35,12 +35,8 @@ namespace-size : (f : Field) → Shaped f → 9 * flag (has 0x22 f) ≤ size f
 namespace-size (field t x cs) h = by (eqb t 0x22) refl
   where
     by : (b : Bool) → eqb t 0x22 ≡ b → 9 * flag b ≤ size (field t x cs)
-    by true e = let z = content-size t x cs in let n = width-22 x (subst (λ (k : ℕ). Exact k x) (eqb-true t 0x22 e) (h .0)) in omega arith
+    by true e = let z = content-size t x cs in let n = plain-width 0x22 Id refl x (eqb-true t 0x22 e) (h .0) in omega arith
     by false e = omega arith
-
-sizes-more : (f : Field) (fs : Fields) → sizes (more f fs) ≡ size f + sizes fs
-unfolding size
-sizes-more f fs = refl
 
 pub namespaces-size : (cs : Fields) (q : Rule) → ShapedAll cs q → 9 * countNamespaces cs ≤ sizes cs
 unfolding countNamespaces
@@ -48,7 +44,7 @@ namespaces-size none q h = omega arith
 namespaces-size (more f fs) q h =
     let a = namespace-size f (h .2) in
     let b = namespaces-size fs (h .0) (h .3) in
-    let c = sizes-more f fs in
+    let c = row-size f fs in
     omega arith
 
 -- ---- The namespaces among the specifiers

@@ -25,9 +25,9 @@ use Rattle.kept.specs.Does.{Turns}
 use Rattle.steps.specs.Step.{Steps}
 use Rattle.steps.specs.declared.Step.the-variants.{Done, Refused}
 use Rattle.steps.specs.declared.Why.the-variants.{StringName}
+use Rattle.steps.proofs.StepsLaws.{steps-done, steps-refused}
 use Rattle.imports.specs.Parts.{Framed, exportedAt}
 use Rattle.imports.proofs.WidthLaws.{byte-of, slice-of, framed-in, framed-exact, framed-tree, framed-length}
-use Rattle.imports.proofs.MadeLaws.{step-refused, step-done}
 
 -- ---- The exported name
 
@@ -72,7 +72,7 @@ module _ {s : List ℕ} {at stop from : ℕ} (E : Setting) (e : getD s at 0 ≡ 
   pub export-string : {t out : List ℕ} {o : ℕ} → Good t → getD s (at + 3) 0 ≡ 2 →
       Steps encode (λ x u. Unit {0}) (exportSpecifier E (fixedOf (treeAt s at stop)) at) t out o t out (Refused StringName at)
   unfolding exportSpecifier
-  export-string g q = step-refused g refl (λ x s k u. rw (fixed-of, eq-eqb (getD X 0 0) 2 (first-byte ∙ q)) refl)
+  export-string g q = steps-refused g refl (λ x s k u. rw (fixed-of, eq-eqb (getD X 0 0) 2 (first-byte ∙ q)) refl)
 
   module _ (n : getD s (at + 3) 0 ≡ 2 → ⊥) where
     no-string : eqb (getD X 0 0) 2 ≡ false
@@ -98,7 +98,7 @@ module _ {s : List ℕ} {at stop from : ℕ} (E : Setting) (e : getD s at 0 ≡ 
     pub export-outside : {t out : List ℕ} {o : ℕ} → Good t → getD s (at + 10) 0 ≡ 2 →
         Steps encode (λ x u. Unit {0}) (exportSpecifier E (fixedOf (treeAt s at stop)) at) t out o t out (Refused StringName at)
     unfolding exportSpecifier
-    export-outside g q = step-refused g refl (λ x s k u. rw (fixed-of, no-string, eq-eqb (getD X 7 0) 2 (second-byte ∙ q)) refl)
+    export-outside g q = steps-refused g refl (λ x s k u. rw (fixed-of, no-string, eq-eqb (getD X 7 0) 2 (second-byte ∙ q)) refl)
 
     name-is : exportedName X ≡ exportedAt s at
     unfolding exportedName exportedAt
@@ -124,7 +124,7 @@ module _ {s : List ℕ} {at stop from : ℕ} (E : Setting) (e : getD s at 0 ≡ 
         Steps encode (λ x u. Unit {0}) (exportSpecifier E (fixedOf (treeAt s at stop)) at) t out o t' out' (Done p)
     unfolding exportSpecifier
     export-made {t' = t'} {c = c} id m i l f v =
-        step-done (f .good) (v .size) (λ x u k b.
+        steps-done (f .good) (v .size) (λ x u k b.
         record {
           value = field 0x23 (take 7 X ++ 1 ∷ idFrom (exportedName X) (local (E .own))) none;
           state = forceId (idAt X 1) u;

@@ -21,7 +21,7 @@ use Rattle.tree.specs.Standing.{treeAt, rowAt}
 use Rattle.tree.specs.Within.{Formed}
 use Rattle.tree.proofs.TreeLaws.{content-size}
 use Rattle.metadata.specs.Metadata.{append, withMetadata}
-use Rattle.metadata.proofs.EncodeLaws.{encodes-append}
+use Rattle.metadata.proofs.EncodeLaws.{encodes-append, framed-field}
 use Rattle.lent.specs.Lists.{among}
 use Rattle.lent.specs.Fields.{has, keep, findField, inside}
 use Rattle.lent.specs.Outcome.{Outcome, done, onto}
@@ -30,6 +30,7 @@ use Rattle.extraction_rules.specs.State.{State, Setting, Act}
 use Rattle.extraction_rules.specs.First.{external, moduleOf, moduleFor, noteAll, specifiersIn, attributesIn, attributesOf, withContext, collect, importFirst}
 use Rattle.extraction_rules.proofs.OutcomeLaws.{after-done}
 use Rattle.extraction_rules.proofs.ShapeLaws.{ShapedAll, formed-shaped-all}
+use Rattle.extraction_rules.proofs.KeepLaws.{keep-all, keep-meets}
 use Rattle.kept.specs.Kept.{At, Good, Shows, countNamespaces, namespacesIn}
 use Rattle.kept.specs.Does.{Gave, Resolves}
 use Rattle.kept.specs.declared.Module.{Module}
@@ -40,23 +41,16 @@ use Rattle.steps.specs.declared.Step.the-variants.{Done, Refused}
 use Rattle.steps.specs.declared.Why.{Why}
 use Rattle.steps.specs.declared.Why.the-variants.{TooManyFiles}
 use Rattle.steps.proofs.SoundLaws.{read-formed, read-size}
+use Rattle.steps.proofs.StepsLaws.{steps-refused}
 use Rattle.imports.specs.Parts.{Ends, Behind, Attributes, Collected, importOn}
-use Rattle.imports.proofs.MadeLaws.{step-refused}
 use Rattle.imports.proofs.HeadLaws.{head-external, head-in, head-fixed, head-parts, head-tree, head-row, head-copied, head-stays}
-use Rattle.imports.proofs.PartsLaws.{keep-none, keep-yes, keep-no}
-use Rattle.imports.proofs.AttributesLaws.{parts-written}
 use Rattle.imports.proofs.NoteAllLaws.{NotedAll}
 use Rattle.imports.proofs.CountLaws.{namespaces-size, keep-specifiers, parts-again, SameAll, noteAll-same, module-collects}
 
 -- ---- What is kept
 
 keep-again : (p : Field → Bool) (fs : Fields) → keep p (keep p fs) ≡ keep p fs
-keep-again p none = ap (keep p) (keep-none p)
-keep-again p (more f fs) = by (p f) refl (keep-again p fs)
-  where
-    by : (b : Bool) → p f ≡ b → keep p (keep p fs) ≡ keep p fs → keep p (keep p (more f fs)) ≡ keep p (more f fs)
-    by true q h = ap (keep p) (keep-yes p f fs q) ∙ keep-yes p f (keep p fs) q ∙ ap (more f) h ∙ sym (keep-yes p f fs q)
-    by false q h = ap (keep p) (keep-no p f fs q) ∙ h ∙ sym (keep-no p f fs q)
+keep-again p fs = keep-all p (keep p fs) (keep-meets p fs)
 
 find-kept : (p : Field → Bool) (fs : Fields) → findField p (keep p fs) ≡ findField p fs
 unfolding findField keep
@@ -72,7 +66,7 @@ pub last-written : (x : List ℕ) (fs : Fields) (f : Field) → framed 0x10 (x +
 unfolding encode
 last-written x fs f =
     ap (λ (b : List ℕ). framed 0x10 (x ++ (encodes fs ++ b))) (sym (append-nil (encode f)))
-    ∙ ap (λ (b : List ℕ). framed 0x10 (x ++ b)) (sym (encodes-append fs (more f none))) ∙ parts-written 0x10 x (append fs (more f none))
+    ∙ ap (λ (b : List ℕ). framed 0x10 (x ++ b)) (sym (encodes-append fs (more f none))) ∙ framed-field 0x10 x (append fs (more f none))
 
 module _ (s : List ℕ) (at stop from : ℕ) (bytes : Bytes s) (room : at + 3 ≤ stop) (fits : stop ≤ length s) (tag : getD s at 0 ≡ 0x10) (e : fixedAt s 0x10 (at + 3) stop ≡ Upto from) where
   abbrev X : List ℕ
@@ -175,7 +169,7 @@ module _ (s : List ℕ) (at stop from : ℕ) (bytes : Bytes s) (room : at + 3 �
   module _ (n : ℕ) {t l m k t' j : List ℕ} {o c d : ℕ} {y : Step} (op : Opened l o 0x10 m c) (cp : Wrote m c (slice (at + 3) from s) k d) (nt : NotedAll n s from stop t k d y t' j) where
     pub first-refused : {w : Why} {q : ℕ} → y ≡ Refused w q → Steps encode Ready (importOn (some n) X CS at) t l o t' j (Refused w q)
     first-refused {w} {q} f =
-        step-refused (nt .good) (nt .size ∙ cp .size ∙ ap length (op .tag) ∙ length-set l o 0x10) (λ x u b h.
+        steps-refused (nt .good) (nt .size ∙ cp .size ∙ ap length (op .tag) ∙ length-set l o 0x10) (λ x u b h.
         resolved-is n u ∙ ap (rest-of n) (nt .turned w q f u b (head-row s at stop from room fits tag e (h .0))))
 
     pub first-resolved : {q a p : ℕ} {h out' t'' : List ℕ} {z : Step} → y ≡ Done q → Ends s from stop a → Attributes s a stop (λ old. encode (contextual n old)) j q h p → out' ≡ closed h o p →
@@ -268,4 +262,4 @@ module _ (s : List ℕ) (at stop from : ℕ) (bytes : Bytes s) (room : at + 3 �
         first-nowhere q w = on-given nothing (λ x u b. c .unresolved q u at b) w
 
         pub first-many : {out : List ℕ} {o : ℕ} → y ≡ TooMany → Steps encode Ready (importFirst E X CS at) t out o m out (Refused TooManyFiles at)
-        first-many q = step-refused (c .good) refl (λ x u b r. module-is u ∙ ap then-on (c .full q u at b))
+        first-many q = steps-refused (c .good) refl (λ x u b r. module-is u ∙ ap then-on (c .full q u at b))

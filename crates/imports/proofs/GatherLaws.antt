@@ -8,7 +8,7 @@ use mathlib.Core.Option.{none as nothing, some}
 use lib.ListN.{length}
 use lib.Dec.{leb}
 use Rattle.tree.specs.declared.layout.Reach.the-variants.{Upto, Short}
-use Rattle.tree.specs.Tree.{Field, field, Fields, none, more, fixedOf}
+use Rattle.tree.specs.Tree.{Field, Fields, none, more, fixedOf}
 use Rattle.tree.specs.Access.{extentAt}
 use Rattle.tree.specs.Standing.{treeAt, rowAt}
 use Rattle.tree.proofs.AccessLaws.{extent-upto}
@@ -16,9 +16,11 @@ use Rattle.tree.proofs.StandingLaws.{row-more, row-none}
 use Rattle.metadata.specs.Metadata.{append}
 use Rattle.lent.specs.Fields.{has, keep}
 use Rattle.lent.specs.Outcome.{Outcome, done, refused}
+use Rattle.lent.proofs.AcceptedLaws.{done-refused as not-done}
 use Rattle.tree.specs.Layout.{same, valueOf}
 use Rattle.extraction_rules.specs.State.{Record, State, setCollected, change, refuse}
 use Rattle.extraction_rules.specs.First.{collectIn, collect}
+use Rattle.extraction_rules.proofs.KeepLaws.{keep-none, keep-yes, keep-no}
 use Rattle.kept.specs.Kept.{At, records, held, Good, Shows, idOf, flag, countNamespaces, namespacesIn}
 use Rattle.kept.specs.Does.{extendAt, Extends, Collects}
 use Rattle.kept.specs.declared.Place.{Place}
@@ -35,9 +37,8 @@ use Rattle.steps.specs.declared.Ident.the-variants.{Is, Other}
 use Rattle.steps.specs.declared.Step.the-variants.{Done, Refused}
 use Rattle.steps.specs.declared.Why.{Why}
 use Rattle.steps.specs.declared.Why.the-variants.{TableFull}
+use Rattle.steps.proofs.StepsLaws.{done-refused, done-same}
 use Rattle.imports.specs.Parts.{namespaceIn, Gathers, Extending, Gathering, Collected}
-use Rattle.imports.proofs.MadeLaws.{done-inj, no-done, no-refused}
-use Rattle.imports.proofs.PartsLaws.{keep-none, keep-yes, keep-no}
 
 -- ---- Specifiers that are no namespaces
 
@@ -203,9 +204,6 @@ stateOf u (refused n p) = u
 done-state : {u v : State} → _≡_ {A = Outcome (Unit {0} × State)} (done (tt, u)) (done (tt, v)) → u ≡ v
 done-state {u} e = ap (stateOf u) e
 
-no-done-refused : {A : Type 0} {v : State} {n p : ℕ} → _≡_ {A = Outcome (Unit {0} × State)} (refused n p) (done (tt, v)) → A
-no-done-refused e = absurd (let z : _≡_ {A = ℕ} 0 1 = cc in omega arith)
-
 -- collecting a record without specifiers brings no namespace
 gathered-count : (x : List ℕ) (l : List Record) (s : State) → collect (record { literal = x; specifiers = none }) 0 s ≡ done (tt, setCollected l s) → namespacesIn l ≡ namespacesIn (s .collected)
 unfolding collect countNamespaces
@@ -217,7 +215,7 @@ gathered-count x l s e = by (leb (length (collectIn (record { literal = x; speci
         let c = collect-count (record { literal = x; specifiers = none }) (s .collected) in
         let z : collectIn (record { literal = x; specifiers = none }) (s .collected) ≡ l = ap (λ (u : State). u .collected) (done-state e) in
         ap namespacesIn (sym z) ∙ c ∙ omega arith
-    by false e = no-done-refused e
+    by false e = not-done e
 
 module _ (x : List ℕ) (cs : Fields) {t m : List ℕ} {r : Place} (c : Collects x t m r) where
   pub gathering-made : (i : ℕ) {t' : List ℕ} → r ≡ Index i → Gathers i cs m t' → Gathering x cs t t' Made
@@ -255,15 +253,15 @@ module _ {x y : List ℕ} {cs ds : Fields} (at p : ℕ) {t t' : List ℕ} {r : R
   collected-made e =
       record {
         good = g .good;
-        made = λ q d. (sym (done-inj d), subst (Gathering y ds t t') e gathering-as);
-        turned = λ w q d s fs k. no-refused d;
+        made = λ q d. (sym (done-same d), subst (Gathering y ds t t') e gathering-as);
+        turned = λ w q d s fs k. done-refused refl d;
       }
 
   pub collected-full : r ≡ Full → Collected y ds at t t' p (Refused TableFull at)
   collected-full e =
       record {
         good = g .good;
-        made = λ q d. no-done d;
+        made = λ q d. done-refused d refl;
         turned = λ w q d s fs k.
             let i : TableFull ≡ w = cc in
             let j : at ≡ q = cc in

@@ -14,7 +14,8 @@ use Rattle.tree.specs.Tree.{Field, field, Fields, fixedOf, partsOf, encode}
 use Rattle.tree.specs.Access.{fixedAt}
 use Rattle.tree.specs.Grammar.{ruleOf}
 use Rattle.tree.specs.Standing.{treeAt, rowAt, Row}
-use Rattle.tree.specs.Within.{Exact}
+use Rattle.tree.proofs.WidthLaws.{plain-width}
+use Rattle.tree.specs.declared.grammar.Value.the-variants.{Literal}
 use Rattle.extraction_rules.specs.State.{State, Setting, Act}
 use Rattle.extraction_rules.specs.First.{external}
 use Rattle.lent.specs.Lists.{among}
@@ -23,9 +24,9 @@ use Rattle.kept.specs.Kept.{At, Good, Shows, idOf}
 use Rattle.steps.specs.Step.{ReadAt, Steps}
 use Rattle.steps.specs.declared.Step.the-variants.{Done}
 use Rattle.steps.proofs.SoundLaws.{read-bytes, read-parts}
+use Rattle.steps.proofs.StepsLaws.{steps-done}
 use Rattle.imports.specs.Parts.{Framed}
-use Rattle.imports.proofs.WidthLaws.{framing-as, framed-in, framed-exact, framed-tree, framed-length, width-10}
-use Rattle.imports.proofs.MadeLaws.{step-done}
+use Rattle.imports.proofs.WidthLaws.{framing-as, framed-in, framed-exact, framed-tree, framed-length}
 
 -- the name of an id, the value of a literal
 pub source-of-id : (id : ℕ) → two (id / 4294967296) ≡ valueOf (idOf id)
@@ -43,7 +44,7 @@ module _ (s : List ℕ) (at stop from : ℕ) (room : at + 3 ≤ stop) (fits : st
   pub head-in : (from ≡ at + 9) × (from ≤ stop) × (from ≤ length s)
   head-in =
       let i = framed-in framed in
-      let n = width-10 (slice (at + 3) from s) (subst (λ (k : ℕ). Exact k (slice (at + 3) from s)) tag (framed-exact framed)) in
+      let n = plain-width 0x10 Literal refl (slice (at + 3) from s) tag (framed-exact framed) in
       let l = framed-length framed in
       let a = i .0 in
       (omega arith, i .1, i .2)
@@ -78,7 +79,7 @@ module _ (s : List ℕ) (at stop from : ℕ) (room : at + 3 ≤ stop) (fits : st
 
   pub head-stays : {P : At → State → Type 0} {act : Act Field} {t out out' : List ℕ} {o p : ℕ} → Bytes s → Good t → Wrote out o (slice at stop s) out' p → ((x : At) (u : State) → P x u → ReadAt s at stop) →
       ((x : At) (u : State) → Shows x t u → P x u → act u ≡ done (field 0x10 (fixedOf F) (partsOf F), u)) → Steps encode P act t out o t out' (Done p)
-  head-stays b g w h k = step-done g (w .size) (λ x u v c. record { value = field 0x10 (fixedOf F) (partsOf F); state = u; is = k x u v c; wrote = head-copied b (h x u c) w; shows = v })
+  head-stays b g w h k = steps-done g (w .size) (λ x u v c. record { value = field 0x10 (fixedOf F) (partsOf F); state = u; is = k x u v c; wrote = head-copied b (h x u c) w; shows = v })
 
   -- whether it is external, as the code asks
   pub head-external : (E : Setting) (n : ℕ) {a b : Bool} → two n ≡ valueOf (fixedOf F) → a ≡ among (two n) (E .externals) → a ≡ b → external E (fixedOf F) ≡ b

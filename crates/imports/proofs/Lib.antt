@@ -1,4 +1,4 @@
--- Laws of imports: fixed bytes (WidthLaws), how steps are made (MadeLaws), export specifiers (ExportLaws), what is noted of a specifier (NoteLaws),
+-- Laws of imports: fixed bytes (WidthLaws), rules that ask for room (MadeLaws), export specifiers (ExportLaws), what is noted of a specifier (NoteLaws),
 -- an import's parts as they stand in the tree (PartsLaws), all its specifiers noted
 -- (NoteAllLaws), its attributes written (AttributesLaws), its sole namespace (SoleLaws), its
 -- head (HeadLaws), usages that become specifiers (TakenLaws), the second pass (AgainLaws), what a record gets (GatherLaws),

@@ -4,7 +4,7 @@ use native.Mathlib.Omega.{arith}
 use mathlib.Core.Path.{_≡_, refl, ap, _∙_}
 use mathlib.Core.List.{List}
 use lib.ListN.{length, getD}
-use Rattle.writer.proofs.Wrote.{wrote-none, wrote-then}
+use Rattle.writer.proofs.Wrote.{wrote-none}
 use Rattle.tree.specs.declared.layout.Reach.the-variants.{Upto, Short}
 use Rattle.tree.specs.Layout.{Bytes}
 use Rattle.tree.specs.Tree.{Field, Fields, none, more, encode, encodes, size}
@@ -13,53 +13,19 @@ use Rattle.tree.specs.Grammar.{ruleOf}
 use Rattle.tree.specs.Standing.{treeAt, rowAt, Row}
 use Rattle.tree.proofs.AccessLaws.{extent-upto}
 use Rattle.tree.proofs.StandingLaws.{row-none}
-use Rattle.lent.specs.Outcome.{Outcome, done, onto}
-use Rattle.extraction_rules.specs.State.{State, Act, _>>=_, give}
+use Rattle.tree.proofs.TreeLaws.{encodes-more}
+use Rattle.extraction_rules.specs.State.{State, _>>=_, give}
 use Rattle.extraction_rules.specs.First.{noteSpecifier, noteAll, specifiersIn}
+use Rattle.extraction_rules.proofs.KeepLaws.{keep-none}
 use Rattle.kept.specs.Kept.{Good}
 use Rattle.steps.specs.Step.{Steps}
 use Rattle.steps.specs.declared.Step.{Step}
 use Rattle.steps.specs.declared.Step.the-variants.{Done, Refused}
 use Rattle.steps.specs.declared.Why.{Why}
 use Rattle.steps.proofs.SoundLaws.{read-size}
+use Rattle.steps.proofs.StepsLaws.{steps-as, steps-done, steps-is, steps-pair, steps-turned}
 use Rattle.imports.specs.Parts.{Specified}
-use Rattle.imports.proofs.MadeLaws.{step-refused, step-done, step-as}
-use Rattle.imports.proofs.PartsLaws.{part-first, part-last, first-specifiers, last-specifiers, keep-none}
-
--- ---- A field, and those behind it
-
-abbrev pub both : Act Field → Act Fields → Act Fields
-both act next = act >>= (λ g. next >>= (λ gs. give (more g gs)))
-
-module _ {P Q : Type 0} {act : Act Field} (next : Act Fields) {t out t' out' : List ℕ} {o : ℕ} {k : Step} (w : Steps encode (λ x u. Q) act t out o t' out' k) (h : P → Q) where
-  pub both-done : {R : Type 0} {p : ℕ} {r : Step} {t'' out'' : List ℕ} → k ≡ Done p → (P → R) → Steps encodes (λ x u. R) next t' out' p t'' out'' r → Steps encodes (λ x u. P) (both act next) t out o t'' out'' r
-  unfolding encode
-  both-done {p = p} e l v =
-      record {
-        good = v .good;
-        size = v .size ∙ w .size;
-        made = λ q d s b a.
-            let m = w .made p e s b (h a) in
-            let n = v .made q d (m .state) (m .shows) (l a) in
-            record {
-              value = more (m .value) (n .value);
-              state = n .state;
-              is =
-                  ap (λ (z : Outcome (Field × State)). onto z (λ y. onto (next (y .1)) (λ x. done (more (y .0) (x .0), x .1)))) (m .is)
-                  ∙ ap (λ (z : Outcome (Fields × State)). onto z (λ x. done (more (m .value) (x .0), x .1))) (n .is);
-              wrote = wrote-then (m .wrote) (n .wrote);
-              shows = n .shows;
-            };
-        turned = λ y q d s b a.
-            let m = w .made p e s b (h a) in
-            ap (λ (z : Outcome (Field × State)). onto z (λ y. onto (next (y .1)) (λ x. done (more (y .0) (x .0), x .1)))) (m .is)
-            ∙ ap (λ (z : Outcome (Fields × State)). onto z (λ x. done (more (m .value) (x .0), x .1))) (v .turned y q d (m .state) (m .shows) (l a));
-      }
-
-  pub both-refused : {y : Why} {q : ℕ} → k ≡ Refused y q → Steps encodes (λ x u. P) (both act next) t out o t' out' (Refused y q)
-  both-refused {y} {q} e =
-      step-refused (w .good) (w .size) (λ x s b a.
-      ap (λ (z : Outcome (Field × State)). onto z (λ y. onto (next (y .1)) (λ x. done (more (y .0) (x .0), x .1)))) (w .turned y q e s b (h a)))
+use Rattle.imports.proofs.PartsLaws.{part-first, part-last, first-specifiers, last-specifiers}
 
 -- ---- All specifiers
 
@@ -69,7 +35,7 @@ NotedAll n s at end t out to r t' out' =
 
 noted-none : (n : ℕ) {P : Type 0} (fs : Fields) (at : ℕ) {t out : List ℕ} {to : ℕ} → Good t → (P → fs ≡ none) → Steps encodes (λ x u. P) (noteAll n fs at) t out to t out (Done to)
 unfolding noteAll encode
-noted-none n fs at g e = step-done g refl (λ x s k a. record { value = none; state = s; is = ap (λ (z : Fields). noteAll n z at s) (e a); wrote = wrote-none; shows = k })
+noted-none n fs at g e = steps-done g refl (λ x s k a. record { value = none; state = s; is = ap (λ (z : Fields). noteAll n z at s) (e a); wrote = wrote-none; shows = k })
 
 noted-more : (n : ℕ) (f : Field) (fs : Fields) (at p : ℕ) (s : State) → at + size f ≡ p →
     noteAll n (more f fs) at s ≡ (noteSpecifier n f at >>= (λ g. noteAll n fs p >>= (λ gs. give (more g gs)))) s
@@ -96,10 +62,14 @@ module _ (n : ℕ) (s : List ℕ) (at end : ℕ) {t out : List ℕ} {to : ℕ} (
 
       pub notes-more : {p : ℕ} {r : Step} {t'' out'' : List ℕ} → k ≡ Done p → NotedAll n s stop end t' out' p r t'' out'' → NotedAll n s at end t out to r t'' out''
       notes-more d w =
-          step-as (both-done (noteAll n (specifiersIn (rowAt s stop end)) stop) v (λ a. part-first bytes le fits e a no .specified) d (λ a. part-first bytes le fits e a no .rest) w) (λ x u a. a) (λ x u a. step-is u a)
+          steps-as _ (steps-pair encode encodes encodes more encodes-more (λ x u. Row s at end (ruleOf 0x10)) (λ _. noteAll n (specifiersIn (rowAt s stop end)) stop) (steps-is v d) (λ _. w) (treeAt s at stop)
+          (λ x u a. part-first bytes le fits e a no .specified) (λ x u a _ _ _. part-first bytes le fits e a no .rest))
+          (λ x u a. (a, step-is u a))
 
       pub notes-refused : {y : Why} {q : ℕ} → k ≡ Refused y q → NotedAll n s at end t out to (Refused y q) t' out'
-      notes-refused d = step-as (both-refused (noteAll n (specifiersIn (rowAt s stop end)) stop) v (λ a. part-first bytes le fits e a no .specified) d) (λ x u a. a) (λ x u a. step-is u a)
+      notes-refused d =
+          steps-as _ (steps-turned encode encodes encodes more encodes-more (λ x u. Row s at end (ruleOf 0x10)) (λ _. noteAll n (specifiersIn (rowAt s stop end)) stop) (steps-is v d)
+          (λ x u a. part-first bytes le fits e a no .specified)) (λ x u a. (a, step-is u a))
 
 -- what is left of the specifiers makes the whole
 pub record Going (n : ℕ) (s : List ℕ) (from end : ℕ) (t₀ out₀ : List ℕ) (o : ℕ) (t out : List ℕ) (at to : ℕ) : Type 0 where

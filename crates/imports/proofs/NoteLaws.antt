@@ -17,9 +17,11 @@ use Rattle.tree.specs.declared.layout.Reach.the-variants.{Short}
 use Rattle.tree.specs.Access.{fixedAt}
 use Rattle.tree.specs.Standing.{treeAt}
 use Rattle.tree.specs.Within.{Exact}
+use Rattle.tree.proofs.WidthLaws.{plain-width}
+use Rattle.tree.specs.declared.grammar.Value.the-variants.{Id}
 use Rattle.extraction_rules.specs.State.{State, Act}
 use Rattle.extraction_rules.specs.First.{idFrom, outsideName, noteId, noteNamed, notedContext, noteSpecifier}
-use Rattle.extraction_rules.proofs.ExactLaws.{width-20, width-21}
+use Rattle.extraction_rules.proofs.ExactLaws.{width-20}
 use Rattle.extraction_rules.proofs.ShapeLaws.{one-of, specifier-is}
 use Rattle.kept.specs.Kept.{At, id-limit, Good, idOf}
 use Rattle.kept.specs.Does.{Acts}
@@ -30,13 +32,14 @@ use Rattle.steps.specs.declared.Step.{Step}
 use Rattle.steps.specs.declared.Step.the-variants.{Done, Refused}
 use Rattle.steps.specs.declared.Why.the-variants.{StringName, TableFull}
 use Rattle.steps.proofs.SoundLaws.{read-bytes, read-short}
+use Rattle.steps.proofs.StepsLaws.{steps-as, steps-never, steps-refused}
 use Rattle.imports.specs.declared.note.Outside.{Outside}
 use Rattle.imports.specs.declared.note.Outside.the-variants.{Nothing, Name, Text}
 use Rattle.imports.specs.declared.note.Specifier.the-variants.{Named, Default, Namespace}
 use Rattle.imports.specs.Parts.{Framed, OutsideAt, OutsideIs, SpecifierIs, Specified, noting}
-use Rattle.imports.proofs.WidthLaws.{byte-of, slice-of, framed-in, framed-exact, framed-tree, framed-length, width-22, width-text}
+use Rattle.imports.proofs.WidthLaws.{byte-of, slice-of, framed-in, framed-exact, framed-tree, framed-length, width-text}
 use Rattle.imports.proofs.HeadLaws.{source-of-id}
-use Rattle.imports.proofs.MadeLaws.{step-refused, step-dead, step-as, acts-made, acts-full}
+use Rattle.imports.proofs.MadeLaws.{acts-made, acts-full}
 
 -- ---- Which specifier stands there
 
@@ -50,8 +53,8 @@ module _ {s : List ℕ} {at stop from : ℕ} (w : Framed s at stop from) where
       let l = framed-length w in
       let i = framed-in w .0 in
       let h =
-      one-of (getD s at 0) a b (λ (k : ℕ). Exact k X → 6 ≤ length X) (λ e. let z = width-20 X e .0 in omega arith) (λ e. let z = width-21 X e in omega arith)
-      (λ e. let z = width-22 X e in omega arith) (framed-exact w)
+      one-of (getD s at 0) a b (λ (k : ℕ). Exact k X → 6 ≤ length X) (λ e. let z = width-20 X e .0 in omega arith) (λ e. let z = plain-width 0x21 Id refl X refl e in omega arith)
+      (λ e. let z = plain-width 0x22 Id refl X refl e in omega arith) (framed-exact w)
       in
       omega arith
 
@@ -114,12 +117,12 @@ module _ {s : List ℕ} {at stop from : ℕ} (w : Framed s at stop from) where
   pub specifier-default : {id : ℕ} → getD s at 0 ≡ 0x21 → idOf id ≡ idAt s (at + 3) → id < id-limit → SpecifierIs (treeAt s at stop) (Default id)
   specifier-default {id} e i l =
       subst (λ (f : Field). SpecifierIs f (Default id)) (sym (framed-tree w))
-      (e, l, id-whole id i (width-21 X (subst (λ (k : ℕ). Exact k X) e (framed-exact w))))
+      (e, l, id-whole id i (plain-width 0x21 Id refl X e (framed-exact w)))
 
   pub specifier-namespace : {id : ℕ} → getD s at 0 ≡ 0x22 → idOf id ≡ idAt s (at + 3) → id < id-limit → SpecifierIs (treeAt s at stop) (Namespace id)
   specifier-namespace {id} e i l =
       subst (λ (f : Field). SpecifierIs f (Namespace id)) (sym (framed-tree w))
-      (e, l, id-whole id i (width-22 X (subst (λ (k : ℕ). Exact k X) e (framed-exact w))))
+      (e, l, id-whole id i (plain-width 0x22 Id refl X e (framed-exact w)))
 
 -- ---- A 20
 
@@ -148,7 +151,7 @@ module _ (id n at : ℕ) (x : List ℕ) (i : idOf id ≡ idAt x 0) {t t' out out
       Steps encode (λ x u. Unit {0}) (noting (record { id = idOf id; context = four (export n) }) (field 0x20 (idOf id ++ 1 ∷ idFrom (two name) (export n)) none) at) t out o t' out' r →
       Steps encode (λ x u. Unit {0}) (noteNamed n x at) t out o t' out' r
   unfolding noteNamed
-  named-as name f g w = step-as w (λ y s u. u) (λ y s u. rw (f, g, i) refl)
+  named-as name f g w = steps-as _ w (λ y s u. (u, rw (f, g, i) refl))
 
   pub named-name : {y : Outside} (name : ℕ) {a : _} → y ≡ Name a → a .0 ≡ name → OutsideIs x y →
       Steps encode (λ x u. Unit {0}) (noting (record { id = idOf id; context = four (export n) }) (field 0x20 (idOf id ++ 1 ∷ idFrom (two name) (export n)) none) at) t out o t' out' r →
@@ -165,7 +168,7 @@ module _ (id n at : ℕ) (x : List ℕ) (i : idOf id ≡ idAt x 0) {t t' out out
 pub named-text : (x : List ℕ) {y : Outside} {a : _} (n at : ℕ) {t out : List ℕ} {o : ℕ} → Good t → y ≡ Text a → OutsideIs x y →
     Steps encode (λ x u. Unit {0}) (noteNamed n x at) t out o t out (Refused StringName at)
 unfolding noteNamed
-named-text x n at g e h = let k = subst (OutsideIs x) e h in step-refused g refl (λ y s u v. rw k refl)
+named-text x n at g e h = let k = subst (OutsideIs x) e h in steps-refused g refl (λ y s u v. rw k refl)
 
 -- ---- The specifier that was told
 
@@ -173,16 +176,18 @@ module _ (n at : ℕ) (f : Field) {t t' out out' : List ℕ} {o : ℕ} {r : Step
   pub given-named : {P : At → State → Type 0} → tagOf f ≡ 0x20 → Steps encode (λ x u. Unit {0}) (noteNamed n (fixedOf f) at) t out o t' out' r →
       Steps encode P (noteSpecifier n f at) t out o t' out' r
   unfolding noteSpecifier
-  given-named e w = step-as w (λ x s u. tt) (λ x s u. rw (eq-eqb (tagOf f) 0x20 e) refl)
+  given-named e w = steps-as _ w (λ x s u. (tt, rw (eq-eqb (tagOf f) 0x20 e) refl))
 
   module _ {P : At → State → Type 0} (id : ℕ) (i : idOf id ≡ fixedOf f) (no : tagOf f ≡ 0x20 → ⊥) where
     given-other : (c : List ℕ) → c ≡ notedContext n f →
         Steps encode P (noting (record { id = idOf id; context = c }) f at) t out o t' out' r → Steps encode P (noteSpecifier n f at) t out o t' out' r
     unfolding noteSpecifier
     given-other c e w =
-        step-as w (λ x s u. u) (λ x s u.
-        ap (λ (b : Bool). cond b (noteNamed n (fixedOf f) at) (noting (record { id = fixedOf f; context = notedContext n f }) f at) s) (ne-eqb (tagOf f) 0x20 no)
-        ∙ ap₂ (λ (a b : List ℕ). noting (record { id = a; context = b }) f at s) (sym i) (sym e))
+        steps-as _ w (λ x s u. (
+          u,
+          ap (λ (b : Bool). cond b (noteNamed n (fixedOf f) at) (noting (record { id = fixedOf f; context = notedContext n f }) f at) s) (ne-eqb (tagOf f) 0x20 no)
+              ∙ ap₂ (λ (a b : List ℕ). noting (record { id = a; context = b }) f at s) (sym i) (sym e),
+        ))
 
     pub given-default : tagOf f ≡ 0x21 → {c : ℕ} → c ≡ id % 4294967296 →
         Steps encode P (noting (record { id = idOf id; context = four c }) f at) t out o t' out' r → Steps encode P (noteSpecifier n f at) t out o t' out' r
@@ -204,11 +209,11 @@ other-copied b w x u r = wrote-as w (sym (read-bytes r b))
 
 module _ {s : List ℕ} {at stop : ℕ} {act : Act Field} {t out : List ℕ} {o p : ℕ} (g : Good t) where
   pub specified-short : fixedAt s (getD s at 0) (at + 3) stop ≡ Short → Steps encode (λ x u. Specified s at stop) act t out o t out (Done p)
-  specified-short e = step-dead g refl (λ x u k. read-short (k .read) e)
+  specified-short e = steps-never _ _ _ _ g (λ x u k. read-short (k .read) e)
 
   pub specified-else : (0x20 ≤ getD s at 0 → getD s at 0 ≤ 0x22 → ⊥) → Steps encode (λ x u. Specified s at stop) act t out o t out (Done p)
-  specified-else e = step-dead g refl (λ x u k. let i = specifier-is (getD s at 0) (k .specifier) in e (i .0) (i .1))
+  specified-else e = steps-never _ _ _ _ g (λ x u k. let i = specifier-is (getD s at 0) (k .specifier) in e (i .0) (i .1))
 
 pub specified-noted : {s : List ℕ} {at stop : ℕ} {act : Act Field} {t out t' out' : List ℕ} {o : ℕ} {r : Step} →
     Steps encode (λ x u. ReadAt s at stop) act t out o t' out' r → Steps encode (λ x u. Specified s at stop) act t out o t' out' r
-specified-noted w = step-as w (λ x u k. k .read) (λ x u k. refl)
+specified-noted w = steps-as _ w (λ x u k. (k .read, refl))

@@ -1,27 +1,27 @@
 -- An import's parts as they stand in the tree: a specifier and those behind it, or the attributes, behind which there is nothing.
 use Prim.Native.Nat.{ℕ, _≤_}
 use native.Mathlib.Omega.{arith}
-use mathlib.Core.Path.{_≡_, refl, sym, ap, subst, _∙_}
+use mathlib.Core.Path.{_≡_, sym, ap, subst, _∙_}
 use mathlib.Core.Logic.{_⊎_, inl, inr, ⊎-elim}
-use mathlib.Core.Bool.{Bool, true, false, not}
+use mathlib.Core.Bool.{false, not}
 use mathlib.Core.List.{List}
-use mathlib.Core.Option.{none as nothing}
 use lib.ListN.{length, getD}
 use borrow.Author.Tests.{eq-eqb, ne-eqb}
 use Rattle.tree.specs.declared.layout.Reach.the-variants.{Upto, Short}
 use Rattle.tree.specs.declared.grammar.Rule.{Rule}
 use Rattle.tree.specs.declared.grammar.Step.the-variants.{Go}
 use Rattle.tree.specs.Layout.{Bytes}
-use Rattle.tree.specs.Tree.{Field, Fields, none, more, tagOf}
+use Rattle.tree.specs.Tree.{none, more, tagOf}
 use Rattle.tree.specs.Access.{extentAt}
 use Rattle.tree.specs.Grammar.{ruleOf, stepAt, parts0}
 use Rattle.tree.specs.Standing.{treeAt, rowAt, Row}
 use Rattle.tree.proofs.AccessLaws.{extent-upto}
 use Rattle.tree.proofs.StandingLaws.{row-more, row-none, tree-upto, whole-step}
 use Rattle.tree.proofs.SoundLaws.{row-sound}
-use Rattle.lent.specs.Fields.{has, keep}
+use Rattle.lent.specs.Fields.{has}
 use Rattle.extraction_rules.specs.First.{specifiersIn, attributesIn}
 use Rattle.extraction_rules.proofs.ShapeLaws.{formed-shaped-all, shaped-none, ImportStep, import-step, specifier-is}
+use Rattle.extraction_rules.proofs.KeepLaws.{keep-yes, keep-no, keep-none}
 use Rattle.steps.specs.Step.{ReadAt}
 use Rattle.steps.proofs.SoundLaws.{row-read}
 use Rattle.imports.specs.Parts.{Specified, Ends}
@@ -73,18 +73,6 @@ module _ {s : List ℕ} {at end stop : ℕ} (bytes : Bytes s) (le : at ≤ end) 
   part-last k = ⊎-elim (λ f. absurd (let i = specifier-is (getD s at 0) (f .specified .specifier) in omega arith)) (λ l. l) part-cases
 
 -- ---- Specifiers and attributes
-
-pub keep-yes : (p : Field → Bool) (f : Field) (fs : Fields) → p f ≡ true → keep p (more f fs) ≡ more f (keep p fs)
-unfolding keep
-keep-yes p f fs e = rw e refl
-
-pub keep-no : (p : Field → Bool) (f : Field) (fs : Fields) → p f ≡ false → keep p (more f fs) ≡ keep p fs
-unfolding keep
-keep-no p f fs e = rw e refl
-
-pub keep-none : (p : Field → Bool) → keep p none ≡ none
-unfolding keep
-keep-none p = refl
 
 module _ {s : List ℕ} {at end stop : ℕ} (w : FirstPart s at end stop) where
   no-attributes : has 0x2F (treeAt s at stop) ≡ false

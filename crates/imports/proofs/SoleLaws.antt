@@ -1,5 +1,5 @@
 -- The namespace that an import's only specifier is.
-use Prim.Native.Nat.{ℕ, _+_, _≤_, _<_}
+use Prim.Native.Nat.{ℕ, _+_, _≤_}
 use native.Mathlib.Omega.{arith}
 use mathlib.Core.Path.{_≡_, refl, sym, ap, _∙_}
 use mathlib.Core.Logic.{⊎-elim}
@@ -17,20 +17,15 @@ use Rattle.tree.specs.Standing.{treeAt, rowAt, Row}
 use Rattle.tree.proofs.StandingLaws.{row-none, tree-short}
 use Rattle.lent.specs.Fields.{sole}
 use Rattle.extraction_rules.specs.First.{specifiersIn}
-use Rattle.kept.specs.Kept.{id-limit}
+use Rattle.extraction_rules.proofs.KeepLaws.{keep-none}
 use Rattle.steps.specs.Step.{identBy, Small}
 use Rattle.steps.specs.declared.Ident.{Ident}
 use Rattle.steps.specs.declared.Ident.the-variants.{Is, Other}
+use Rattle.steps.proofs.StepsLaws.{no-id, an-id}
 use Rattle.imports.specs.declared.note.Specifier.the-variants.{Namespace}
 use Rattle.imports.specs.Parts.{Framed, SpecifierIs, Ends, namespaceIn, namespaceBy}
 use Rattle.imports.proofs.WidthLaws.{framed-tree}
-use Rattle.imports.proofs.PartsLaws.{LastPart, part-cases, first-specifiers, last-specifiers, keep-none}
-
-pub small-is : {n : ℕ} → n < id-limit → Small (Is n)
-small-is {n} h = λ m e. let z : n ≡ m = cc in omega arith
-
-pub small-other : Small Other
-small-other = λ m e. absurd (let z : _≡_ {A = ℕ} 0 1 = cc in omega arith)
+use Rattle.imports.proofs.PartsLaws.{LastPart, part-cases, first-specifiers, last-specifiers}
 
 -- ---- The id of a 22
 
@@ -42,13 +37,13 @@ namespace-no f e = ap (λ (b : Bool). cond b (some (fixedOf f)) nothing) (ne-eqb
 
 module _ (s : List ℕ) (at stop : ℕ) where
   pub namespace-is : {id : ℕ} → SpecifierIs (treeAt s at stop) (Namespace id) → (identBy (Is id) ≡ namespaceIn (treeAt s at stop)) × Small (Is id)
-  namespace-is w = (ap some (w .2) ∙ sym (namespace-yes (treeAt s at stop) (w .0)), small-is (w .1))
+  namespace-is w = (ap some (w .2) ∙ sym (namespace-yes (treeAt s at stop) (w .0)), an-id (w .1))
 
   pub namespace-other : {from : ℕ} → Framed s at stop from → (getD s at 0 ≡ 0x22 → ⊥) → (identBy Other ≡ namespaceIn (treeAt s at stop)) × Small Other
-  namespace-other w n = (sym (namespace-no (treeAt s at stop) (λ e. n (sym (ap tagOf (framed-tree w)) ∙ e))), small-other)
+  namespace-other w n = (sym (namespace-no (treeAt s at stop) (λ e. n (sym (ap tagOf (framed-tree w)) ∙ e))), no-id)
 
   pub namespace-short : fixedAt s (getD s at 0) (at + 3) stop ≡ Short → (identBy Other ≡ namespaceIn (treeAt s at stop)) × Small Other
-  namespace-short e = (sym (ap namespaceIn (tree-short s at stop e)), small-other)
+  namespace-short e = (sym (ap namespaceIn (tree-short s at stop e)), no-id)
 
 -- ---- The only specifier
 
@@ -70,7 +65,7 @@ sole-two f g gs = refl
 module _ (s : List ℕ) (from end : ℕ) (bytes : Bytes s) (le : from ≤ end) (fits : end ≤ length s) where
   pub sole-short : extentAt s from end ≡ Short → Sole s from end Other
   sole-short e =
-      (λ w. sym (ap (λ (fs : Fields). namespaceBy (sole fs)) (ap specifiersIn (row-none s from end le e) ∙ keep-none _) ∙ sole-none), small-other)
+      (λ w. sym (ap (λ (fs : Fields). namespaceBy (sole fs)) (ap specifiersIn (row-none s from end le e) ∙ keep-none _) ∙ sole-none), no-id)
 
   module _ {stop : ℕ} (e : extentAt s from end ≡ Upto stop) where
     last-sole : LastPart s from end stop → namespaceBy (sole (specifiersIn (rowAt s from end))) ≡ nothing
@@ -95,5 +90,5 @@ module _ (s : List ℕ) (from end : ℕ) (bytes : Bytes s) (le : from ≤ end) (
           sym (ap (λ (fs : Fields). namespaceBy (sole fs)) (first-specifiers f ∙ ap (more (treeAt s from stop)) (g .2)) ∙ sole-two (treeAt s from stop) (g .0) (g .1)))
           (λ l. sym (last-sole l))
           (part-cases bytes le fits e a),
-      small-other,
+      no-id,
     )

@@ -17,7 +17,7 @@ use Rattle.tree.specs.Grammar.{ruleOf}
 use Rattle.tree.specs.Standing.{treeAt}
 use Rattle.tree.proofs.SoundLaws.{row-sound}
 use Rattle.metadata.specs.Metadata.{append}
-use Rattle.metadata.proofs.EncodeLaws.{encodes-append}
+use Rattle.metadata.proofs.EncodeLaws.{encodes-append, framed-field}
 use Rattle.lent.specs.Lists.{filter, among}
 use Rattle.lent.specs.Outcome.{done}
 use Rattle.extraction_rules.specs.State.{Usage, State, setCollected}
@@ -30,10 +30,9 @@ use Rattle.kept.specs.declared.Property.the-variants.{Is, Other}
 use Rattle.kept.proofs.SecondLaws.{specifiers-plain, shows-extended}
 use Rattle.steps.specs.Step.{ReadAt, Steps}
 use Rattle.steps.specs.declared.Step.the-variants.{Done}
+use Rattle.steps.proofs.StepsLaws.{steps-done}
 use Rattle.imports.specs.Parts.{Ends, Writes, usagesFrom, Usage as Written}
-use Rattle.imports.proofs.MadeLaws.{step-done}
 use Rattle.imports.proofs.HeadLaws.{head-fixed, head-parts, head-row, head-copied}
-use Rattle.imports.proofs.AttributesLaws.{parts-written}
 
 -- ---- One usage
 
@@ -108,7 +107,7 @@ module _ (s : List ℕ) (at stop from : ℕ) (bytes : Bytes s) (room : at + 3 �
       ∙ row-sound s r stop (ruleOf 0x10) bytes (v .before) fits (v .row w) .0)
 
   taken-bytes : (fs : Fields) → framed 0x10 (X ++ (encodes fs ++ encodes (attributesIn CS))) ≡ encode (field 0x10 X (append fs (attributesIn CS)))
-  taken-bytes fs = ap (λ (b : List ℕ). framed 0x10 (X ++ b)) (sym (encodes-append fs (attributesIn CS))) ∙ parts-written 0x10 X (append fs (attributesIn CS))
+  taken-bytes fs = ap (λ (b : List ℕ). framed 0x10 (X ++ b)) (sym (encodes-append fs (attributesIn CS))) ∙ framed-field 0x10 X (append fs (attributesIn CS))
 
   pub taken-written : (id : ℕ) {t l m k j h out' : List ℕ} {o c d q p r : ℕ} → Opened l o 0x10 m c → Wrote m c (slice (at + 3) from s) k d → Writes (usagesFrom (idOf id) 0) t k d j q →
       Ends s from stop r → Wrote j q (slice r stop s) h p → out' ≡ closed h o p → ReadAt s at stop →
@@ -138,7 +137,7 @@ module _ (s : List ℕ) (at stop from : ℕ) (bytes : Bytes s) (room : at + 3 �
   pub apart-some : (id : ℕ) {t out out' : List ℕ} {o p : ℕ} {b : Bool} → Good t → length out' ≡ length out → Tells (λ u. any (usagesOf (idOf id) (u .usages))) t b → b ≡ true →
       (ReadAt s at stop → Writes (λ u. encode (field 0x10 X (append (specifiersFrom (usagesOf (idOf id) (u .usages))) (attributesIn CS)))) t out o out' p) → Apart id t out o t out' p
   apart-some id g z w q v =
-      step-done g z (λ x u k h.
+      steps-done g z (λ x u k h.
       let l = usagesOf (idOf id) (u .usages) in
       record {
         value = field 0x10 X (append (specifiersFrom l) (attributesIn CS));
@@ -151,7 +150,7 @@ module _ (s : List ℕ) (at stop from : ℕ) (bytes : Bytes s) (room : at + 3 �
   pub apart-none : (id n : ℕ) {t t' out out' : List ℕ} {o p : ℕ} {b : Bool} → Tells (λ u. any (usagesOf (idOf id) (u .usages))) t b → b ≡ false → two n ≡ valueOf X → Forces (two n) t t' →
       Wrote out o (slice at stop s) out' p → Apart id t out o t' out' p
   apart-none id n {t' = t'} w q c f v =
-      step-done (f .good) (v .size) (λ x u k h.
+      steps-done (f .good) (v .size) (λ x u k h.
       record {
         value = field 0x10 X CS;
         state = forceSource (valueOf X) u;

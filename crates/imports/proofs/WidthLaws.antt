@@ -4,7 +4,7 @@ use native.Mathlib.Omega.{arith}
 use mathlib.Core.Path.{_≡_, refl, sym, ap, subst, _∙_}
 use mathlib.Core.Bool.{Bool, true, false, cond}
 use mathlib.Core.List.{List}
-use lib.Dec.{ltb, leb, eqb}
+use lib.Dec.{ltb, eqb}
 use lib.ListN.{length, getD, drop}
 use lib.Seq.{slice, length-slice}
 use borrow.Author.Tests.{eqb-true, ne-eqb}
@@ -13,17 +13,17 @@ use Rattle.tree.specs.declared.layout.Reach.the-variants.{Upto, Short}
 use Rattle.tree.specs.declared.grammar.Value.the-variants.{Atom}
 use Rattle.tree.specs.declared.grammar.Piece.the-variants.{Outside}
 use Rattle.tree.specs.declared.access.Choice.the-variants.{Take, Bad}
-use Rattle.tree.specs.Layout.{skipAt, literalEnd}
+use Rattle.tree.specs.Layout.{skipAt}
 use Rattle.tree.specs.Tree.{field}
 use Rattle.tree.specs.Grammar.{piecesOf}
 use Rattle.tree.specs.Access.{valueAt, kinds, choiceOf, onChoice, kindAt, pieceAt, thenPiece, fixedAt}
 use Rattle.tree.specs.Standing.{treeAt, rowAt}
 use Rattle.tree.specs.Within.{Exact}
 use Rattle.tree.proofs.AccessLaws.{upto-in}
-use Rattle.tree.proofs.FixedLaws.{no-upto, upto-inj, fixed-same}
+use Rattle.tree.proofs.FixedLaws.{no-upto, fixed-same}
 use Rattle.tree.proofs.SliceLaws.{getD-slice, take-slice, drop-slice}
 use Rattle.tree.proofs.StandingLaws.{tree-upto}
-use Rattle.extraction_rules.proofs.ExactLaws.{plain-is}
+use Rattle.tree.proofs.WidthLaws.{skip-ends}
 use Rattle.imports.specs.Parts.{Framed}
 
 -- ---- Bytes of a part
@@ -71,33 +71,13 @@ module _ {s : List ℕ} {at stop from : ℕ} (w : Framed s at stop from) where
 
 -- ---- How long they are
 
-pub width-10 : (x : List ℕ) → Exact 0x10 x → length x ≡ 6
-unfolding fixedAt pieceAt valueAt piecesOf literalEnd
-width-10 x h = plain-is 6 x (skipAt 0 6 (length x)) refl h
-
-pub width-22 : (x : List ℕ) → Exact 0x22 x → length x ≡ 6
-unfolding fixedAt pieceAt valueAt piecesOf
-width-22 x h = plain-is 6 x (skipAt 0 6 (length x)) refl h
-
-pub width-2F : (x : List ℕ) → Exact 0x2F x → length x ≡ 0
-unfolding fixedAt pieceAt valueAt piecesOf
-width-2F x h = plain-is 0 x (skipAt 0 0 (length x)) refl h
-
-skip-to : (at n stop b : ℕ) → skipAt at n stop ≡ Upto b → b ≡ at + n
-unfolding skipAt
-skip-to at n stop b e = go (leb n (stop - at)) e
-  where
-    go : (c : Bool) → cond c (Upto (at + n)) Short ≡ Upto b → b ≡ at + n
-    go true e = sym (upto-inj e)
-    go false e = absurd (no-upto e)
-
 -- the third kind of an outside name
 text-is : (x : List ℕ) (b stop : ℕ) → kindAt x Outside b stop ≡ Upto stop → (getD x b 0 ≡ 0 → ⊥) → (getD x b 0 ≡ 1 → ⊥) → (getD x b 0 ≡ 2) × (stop ≡ b + 3)
 unfolding kindAt choiceOf kinds onChoice valueAt
 text-is x b stop e n m = go (ltb b stop) e
   where
     kind : (c : Bool) → eqb (getD x b 0) 2 ≡ c → onChoice (cond c (Take Atom) Bad) (b + 1) stop ≡ Upto stop → (getD x b 0 ≡ 2) × (stop ≡ b + 3)
-    kind true w e = (eqb-true (getD x b 0) 2 w, let z = skip-to (b + 1) 2 stop stop e in omega arith)
+    kind true w e = (eqb-true (getD x b 0) 2 w, let z = skip-ends (b + 1) 2 stop stop e in omega arith)
     kind false w e = absurd (no-upto e)
 
     go : (c : Bool) → cond c (onChoice (choiceOf Outside (getD x b 0)) (b + 1) stop) Short ≡ Upto stop → (getD x b 0 ≡ 2) × (stop ≡ b + 3)
@@ -109,7 +89,7 @@ then-text : (x : List ℕ) (r : Reach) → skipAt 0 6 (length x) ≡ r → thenP
 unfolding thenPiece pieceAt
 then-text x Short w e n m = absurd (no-upto e)
 then-text x (Upto b) w e n m =
-    let q : b ≡ 6 = skip-to 0 6 (length x) b w in
+    let q : b ≡ 6 = skip-ends 0 6 (length x) b w in
     text-is x 6 (length x) (subst (λ (k : ℕ). kindAt x Outside k (length x) ≡ Upto (length x)) q e) n m
 
 pub width-text : (x : List ℕ) → Exact 0x20 x → (getD x 6 0 ≡ 0 → ⊥) → (getD x 6 0 ≡ 1 → ⊥) → (getD x 6 0 ≡ 2) × (length x ≡ 9)

@@ -12,6 +12,7 @@ use Rattle.tables.specs.Rows.{Row, rows, next, between, firstIn}
 use Rattle.tables.specs.Only.{Only}
 use Rattle.tree.specs.Layout.{two, same, valueOf}
 use Rattle.tree.proofs.LayoutLaws.{same-refl, same-equal, same-two}
+use Rattle.tree.proofs.FixedLaws.{or-right}
 use Rattle.lent.specs.Lists.{find, isSome, among}
 use Rattle.extraction_rules.specs.State.{Record, State, setForced}
 use Rattle.extraction_rules.specs.First.{holdsNamespace, forceSource, forceHolder, forget, forceId}
@@ -21,7 +22,7 @@ use Rattle.kept.proofs.IdLaws.{between-one}
 use Rattle.kept.proofs.ListLaws.{below-append, length-more}
 use Rattle.kept.proofs.FrameLaws.{others-kept, good-kept, room-for, shows-forced}
 use Rattle.kept.proofs.RecordLaws.{held-shown}
-use Rattle.kept.proofs.SourcedLaws.{or-right, find-among, sourced-force}
+use Rattle.kept.proofs.SourcedLaws.{find-among, sourced-force}
 
 -- ---- The search
 

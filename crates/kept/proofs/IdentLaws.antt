@@ -1,15 +1,14 @@
 -- Ids as numbers and as the bytes that are read and written.
 use Prim.Native.Nat.{ℕ, _+_, _*_, _/_, _%_, _≤_, _<_}
 use native.Mathlib.Omega.{arith}
-use mathlib.Core.Path.{_≡_, refl, sym, ap, ap₂, _∙_}
-use mathlib.Core.List.{List, [], _∷_, _++_, append-nil}
+use mathlib.Core.Path.{_≡_, refl, ap, ap₂, _∙_}
+use mathlib.Core.List.{List, _++_}
 use lib.ListN.{length}
 use lib.Seq.{slice}
 use Rattle.tree.specs.Layout.{Bytes, two, four, twoAt, fourAt, idAt}
-use Rattle.tree.specs.Tree.{field, none, framed as framedIn, encode, encodes}
 use Rattle.tree.proofs.LayoutLaws.{two-at, four-at}
 use Rattle.tree.proofs.SliceLaws.{slice-join}
-use Rattle.writer.specs.Bytes.{twoBytes, fourBytes, framed}
+use Rattle.writer.specs.Bytes.{twoBytes, fourBytes}
 use Rattle.kept.specs.Kept.{id-limit, idOf}
 
 pub id-made : (a c : ℕ) → c < 4294967296 → idOf (a * 4294967296 + c) ≡ two a ++ four c
@@ -38,8 +37,3 @@ id-written n h =
     let b₂ : c % 65536 / 256 ≡ c / 256 % 256 = omega arith in
     let b₃ : c % 65536 % 256 ≡ c % 256 = omega arith in
     cc
-
--- a field without parts, as it is written
-pub leaf-written : (t : ℕ) (x : List ℕ) → framed t x ≡ encode (field t x none)
-unfolding framed framedIn encode
-leaf-written t x = ap (framedIn t) (sym (append-nil x))

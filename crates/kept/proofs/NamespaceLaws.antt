@@ -3,7 +3,7 @@ use Prim.Native.Nat.{ℕ, zero, suc, _+_, _≤_, _<_}
 use native.Mathlib.Omega.{arith}
 use native.Mathlib.Numerals.{add-one}
 use mathlib.Core.Path.{_≡_, refl, sym, ap, ap₂, _∙_}
-use mathlib.Core.Bool.{Bool, true, false, cond, _&&_, _||_}
+use mathlib.Core.Bool.{Bool, true, false, cond, _&&_, _||_, or-true, or-false}
 use mathlib.Core.List.{List, [], _∷_, _++_, map}
 use mathlib.Core.Option.{Option, none as nothing, some}
 use lib.Dec.{ltb, eqb}
@@ -13,6 +13,7 @@ use Rattle.tables.specs.Rows.{Row, next, lesser, leastOf, withValue}
 use Rattle.tree.specs.Layout.{same}
 use Rattle.tree.specs.Tree.{Field, Fields, none, more, fixedOf}
 use Rattle.metadata.specs.Metadata.{append}
+use Rattle.metadata.proofs.EncodeLaws.{append-none, append-rows}
 use Rattle.lent.specs.Lists.{isSome, mapped}
 use Rattle.lent.specs.Fields.{has, findField}
 use Rattle.extraction_rules.specs.State.{Record}
@@ -152,14 +153,6 @@ least-more n k v (r ∷ l) = ap (λ (o : Option ℕ). cond (eqb (r .0) n) (lesse
     by true false = refl
     by false b = refl
 
-or-true : (a : Bool) → (a || true) ≡ true
-or-true true = refl
-or-true false = refl
-
-or-false : (a : Bool) → (a || false) ≡ a
-or-false true = refl
-or-false false = refl
-
 -- which record is the first to hold a namespace, once record i holds the id k too
 pub holders-extended : (n k i : ℕ) (f : Field) (N : List Row) (l : List Record) → n < id-limit → k < id-limit → i < length l →
     has 0x22 f ≡ true → fixedOf f ≡ idOf k → leastOf n N ≡ indexOf (holdsNamespace (idOf n)) l →
@@ -259,21 +252,11 @@ pub holders-other : (x : List ℕ) (i : ℕ) (f : Field) (l : List Record) → h
 holders-other x i f l e = index-kept (holdsNamespace x) i f l (λ r. holds-with x f r ∙ ap (λ (b : Bool). holdsNamespace x r || (b && same (fixedOf f) x)) e ∙ or-false (holdsNamespace x r))
 
 -- specifiers one by one
-append-assoc : (a b c : Fields) → append (append a b) c ≡ append a (append b c)
-unfolding append
-append-assoc none b c = refl
-append-assoc (more f a) b c = ap (more f) (append-assoc a b c)
-
 pub extend-more : (i : ℕ) (f : Field) (fs : Fields) (l : List Record) → extendAt i (more f fs) l ≡ extendAt i fs (extendAt i (more f none) l)
 unfolding extendAt append
 extend-more i f fs [] = refl
-extend-more zero f fs (r ∷ l) = ap (λ (x : Fields). record { literal = r .literal; specifiers = x } ∷ l) (sym (append-assoc (r .specifiers) (more f none) fs))
+extend-more zero f fs (r ∷ l) = ap (λ (x : Fields). record { literal = r .literal; specifiers = x } ∷ l) (sym (append-rows (r .specifiers) (more f none) fs))
 extend-more (suc i) f fs (r ∷ l) = ap (λ (m : List Record). r ∷ m) (extend-more i f fs l)
-
-append-none : (a : Fields) → append a none ≡ a
-unfolding append
-append-none none = refl
-append-none (more f a) = ap (more f) (append-none a)
 
 pub extend-none : (i : ℕ) (l : List Record) → extendAt i none l ≡ l
 unfolding extendAt

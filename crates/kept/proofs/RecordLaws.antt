@@ -2,7 +2,7 @@
 use Prim.Native.Nat.{ℕ, zero, suc, _+_, _-_, _/_, _%_, _≤_, _<_}
 use native.Mathlib.Omega.{arith}
 use mathlib.Core.Path.{_≡_, refl, sym, ap, ap₂, _∙_}
-use mathlib.Core.Bool.{Bool, true, false, _&&_, _||_}
+use mathlib.Core.Bool.{Bool, true, false, _&&_, _||_, and-true}
 use mathlib.Core.List.{List, map, map-map}
 use mathlib.Core.Option.{Option, none as nothing, some}
 use lib.Dec.{eqb}
@@ -115,10 +115,6 @@ between-suc lo hi m =
     let p = leb-true (lo + 1) (suc m) (h .0) in
     let q = leb-true (suc m) (hi + 1) (h .1) in
     ap₂ _&&_ (le-leb lo m (omega arith)) (le-leb m hi (omega arith)))
-
-and-true : (a : Bool) → (a && true) ≡ a
-and-true true = refl
-and-true false = refl
 
 -- in the own local context: the name alone
 suits-name : (own id n : ℕ) → id < id-limit → n < 281474976710657 → id % 4294967296 ≡ local own →

@@ -4,26 +4,25 @@ use native.Mathlib.Omega.{arith}
 use mathlib.Core.Path.{_≡_, refl, sym, ap, _∙_}
 use mathlib.Core.Bool.{Bool, true, false, cond, _||_}
 use mathlib.Core.List.{List, [], _∷_, _++_, map}
-use mathlib.Core.Option.{Option, none as nothing, some}
+use mathlib.Core.Option.{some}
 use Rattle.scope.specs.Modules.{Modules}
 use Rattle.tree.specs.Layout.{same, valueOf, sameLiteral}
 use Rattle.tree.specs.Tree.{Fields}
 use Rattle.tree.proofs.LayoutLaws.{same-refl, same-equal}
+use Rattle.tree.proofs.FixedLaws.{or-right}
 use Rattle.metadata.specs.Metadata.{append}
 use Rattle.lent.specs.Lists.{find, among}
 use Rattle.extraction_rules.specs.State.{Record, State, start, setForced, setCollected}
-use Rattle.extraction_rules.specs.First.{holdsNamespace, forceSource, forceHolder, forget, forceId, collectIn}
+use Rattle.extraction_rules.specs.First.{forceSource, collectIn}
 use Rattle.extraction_rules.specs.Second.{extend}
+use Rattle.extraction_rules.proofs.TestLaws.{or-neither}
+use Rattle.extraction_rules.proofs.ListLaws.{among-last, same-swap}
 use Rattle.kept.specs.Kept.{sourcesIn, Once, Sourced}
 use Rattle.kept.specs.Does.{sourceOf, extendAt}
 
 pub sourced-start : (ms : Modules) → Sourced (start ms)
 unfolding Once among
 sourced-start ms = record { once = tt; from = λ a e. absurd (let z : _≡_ {A = ℕ} 0 1 = cc in omega arith) }
-
-pub or-right : (x y : Bool) → y ≡ true → (x || y) ≡ true
-or-right true y e = refl
-or-right false y e = e
 
 -- the source of a record that is found is one of theirs
 pub find-among : (p : Record → Bool) (l : List Record) (x : List ℕ) → some x ≡ sourceOf (find p l) → among x (sourcesIn l) ≡ true
@@ -38,36 +37,12 @@ find-among p (r ∷ l) x e = by (p r) (find-among p l x) e
 
 -- ---- A source is forced
 
-among-more : (b a : List ℕ) (l : List (List ℕ)) → among b (l ++ (a ∷ [])) ≡ (among b l || same b a)
-unfolding among
-among-more b a [] = by (same b a)
-  where
-    by : (x : Bool) → (x || false) ≡ x
-    by true = refl
-    by false = refl
-among-more b a (c ∷ l) = by (same b c) (among-more b a l)
-  where
-    by : (x : Bool) → among b (l ++ (a ∷ [])) ≡ (among b l || same b a) → (x || among b (l ++ (a ∷ []))) ≡ ((x || among b l) || same b a)
-    by true e = refl
-    by false e = e
-
-or-false : (x y : Bool) → (x || y) ≡ false → (x ≡ false) × (y ≡ false)
-or-false true y e = absurd (let z : _≡_ {A = ℕ} 0 1 = cc in omega arith)
-or-false false y e = (refl, e)
-
-same-swap : (a b : List ℕ) → same a b ≡ false → same b a ≡ false
-same-swap a b e = by (same b a) refl
-  where
-    by : (x : Bool) → same b a ≡ x → x ≡ false
-    by true p = sym (same-refl a) ∙ ap (same a) (sym (same-equal b a p)) ∙ e
-    by false p = refl
-
 once-more : (a : List ℕ) (l : List (List ℕ)) → Once l → among a l ≡ false → Once (l ++ (a ∷ []))
 unfolding Once among
 once-more a [] o e = (refl, tt)
 once-more a (b ∷ l) o e =
-    let h = or-false (same a b) (among a l) e in
-    (among-more b a l ∙ ap (λ (x : Bool). x || same b a) (o .0) ∙ same-swap a b (h .0), once-more a l (o .1) (h .1))
+    let h = or-neither (same a b) (among a l) e in
+    (among-last b a l ∙ ap (λ (x : Bool). x || same b a) (o .0) ∙ same-swap b a ∙ h .0, once-more a l (o .1) (h .1))
 
 pub sourced-force : (a : List ℕ) {s : State} → Sourced s → among a (sourcesIn (s .collected)) ≡ true → Sourced (forceSource a s)
 unfolding forceSource
@@ -83,19 +58,8 @@ sourced-force a {s} k h = by (among a (s .forced)) refl
     by false e =
         record {
           once = once-more a (s .forced) (k .once) e;
-          from = λ c f. from c (same c a) refl (among c (s .forced)) refl (sym (among-more c a (s .forced)) ∙ f);
+          from = λ c f. from c (same c a) refl (among c (s .forced)) refl (sym (among-last c a (s .forced)) ∙ f);
         }
-
-pub sourced-force-id : (i : List ℕ) {s : State} → Sourced s → Sourced (forceId i s)
-unfolding forceId forget
-sourced-force-id i {s} k = by (find (holdsNamespace i) (s .collected)) refl
-  where
-    kept : Sourced (forget i s)
-    kept = record { once = k .once; from = k .from }
-
-    by : (o : Option Record) → find (holdsNamespace i) (s .collected) ≡ o → Sourced (forceHolder o (forget i s))
-    by nothing e = kept
-    by (some r) e = sourced-force (valueOf (r .literal)) kept (find-among (holdsNamespace i) (s .collected) (valueOf (r .literal)) (ap sourceOf (sym e)))
 
 -- ---- Records that change keep their sources
 

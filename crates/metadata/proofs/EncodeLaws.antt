@@ -1,4 +1,4 @@
--- The bytes of attributes: of each that is written, and of one row behind another.
+-- One row behind another, and the bytes of attributes: of each that is written, and of rows.
 use Prim.Native.Nat.{ℕ, _+_}
 use mathlib.Core.Path.{_≡_, refl, sym, ap, _∙_}
 use mathlib.Core.Bool.{Bool, true, false}
@@ -7,7 +7,8 @@ use mathlib.Core.Option.{Option, none as nothing, some}
 use native.Mathlib.Omega.{arith}
 use lib.ListN.{length}
 use Rattle.writer.specs.Bytes.{framed}
-use Rattle.tree.specs.Tree.{Field, field, Fields, none, more, framed as framedField, encode, encodes, size, fixedOf}
+use Rattle.tree.specs.Tree.{field, Fields, none, more, framed as framedField, encode, encodes, size, fixedOf}
+use Rattle.tree.proofs.TreeLaws.{encodes-one}
 use Rattle.metadata.specs.Decimal.{decimal}
 use Rattle.metadata.specs.Metadata.{contextKey, header, injectedAttribute, contextAttribute, injectedAttributes, contextAttributes, append, attributesFor}
 
@@ -16,13 +17,20 @@ pub framed-field : (t : ℕ) (x : List ℕ) (cs : Fields) → framed t (x ++ enc
 unfolding framed framedField encode
 framed-field t x cs = refl
 
-framed-leaf : (t : ℕ) (x : List ℕ) → framed t x ≡ encode (field t x none)
+pub framed-leaf : (t : ℕ) (x : List ℕ) → framed t x ≡ encode (field t x none)
 unfolding framed framedField encode
 framed-leaf t x = ap (framed t) (sym (append-nil x))
 
-encodes-one : (f : Field) → encodes (more f none) ≡ encode f
-unfolding encode
-encodes-one f = append-nil (encode f)
+-- one row behind another
+pub append-none : (fs : Fields) → append fs none ≡ fs
+unfolding append
+append-none none = refl
+append-none (more f fs) = ap (more f) (append-none fs)
+
+pub append-rows : (fs gs hs : Fields) → append (append fs gs) hs ≡ append fs (append gs hs)
+unfolding append
+append-rows none gs hs = refl
+append-rows (more f fs) gs hs = ap (more f) (append-rows fs gs hs)
 
 pub encodes-append : (fs gs : Fields) → encodes (append fs gs) ≡ encodes fs ++ encodes gs
 unfolding encode append

@@ -1,7 +1,7 @@
 -- What is written is read back: metadata onto attributes, on trees and on the bytes that the calls lend and hand back.
 use Prim.Native.Nat.{ℕ, _-_, _≤_}
 use mathlib.Core.Path.{_≡_, refl, sym, ap, _∙_}
-use mathlib.Core.Bool.{Bool, true, false, cond, _||_}
+use mathlib.Core.Bool.{Bool, true, false, cond, _||_, or-false}
 use mathlib.Core.List.{List, [], _++_}
 use mathlib.Core.Option.{Option, none as nothing, some}
 use native.Mathlib.Omega.{arith}
@@ -43,10 +43,6 @@ decode-append : (fs gs : Fields) (m : Metadata) → decodeFrom m (append fs gs) 
 unfolding decodeFrom append
 decode-append none gs m = refl
 decode-append (more f fs) gs m = decode-append fs gs (merged m (told (fixedOf f)))
-
-or-false : (b : Bool) → b || false ≡ b
-or-false true = refl
-or-false false = refl
 
 module _ (m : Metadata) where
   decode-injected : (b : Bool) → decodeFrom m (injectedAttributes b) ≡ merged m (metadata b nothing)

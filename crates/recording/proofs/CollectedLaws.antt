@@ -1,13 +1,12 @@
 -- Collected records as they are written: the imports of their source, what was made of those with their literal, one after another.
-use Prim.Native.Nat.{ℕ, zero, suc, _+_, _-_, _/_, _≤_, _<_}
+use Prim.Native.Nat.{ℕ, _+_, _-_, _/_, _≤_, _<_}
 use native.Mathlib.Omega.{arith}
-use mathlib.Core.Path.{_≡_, refl, sym, ap, ap₂, subst, _∙_}
+use mathlib.Core.Path.{_≡_, refl, sym, ap, ap₂, _∙_}
 use mathlib.Core.Bool.{Bool, true, false, not, cond, _&&_}
-use mathlib.Core.List.{List, [], _∷_, _++_, map}
-use lib.Dec.{leb, eqb}
+use mathlib.Core.List.{List, [], _++_, map}
+use lib.Dec.{eqb}
 use lib.ListN.{length, getD, drop}
 use borrow.Author.Tests.{eq-eqb, ne-eqb, lt-leb}
-use Rattle.tree.specs.declared.layout.Reach.{Reach}
 use Rattle.tree.specs.declared.layout.Reach.the-variants.{Upto, Short}
 use Rattle.tree.specs.Layout.{same, two, valueOf, sameLiteral}
 use Rattle.tree.specs.Tree.{Field, field, Fields, none, more, tagOf, fixedOf, partsOf, encode, encodes}
@@ -15,13 +14,14 @@ use Rattle.tree.specs.Access.{fixedAt, extentAt}
 use Rattle.tree.specs.Standing.{rowOn, row, treeAt, rowAt}
 use Rattle.tree.proofs.LayoutLaws.{same-two}
 use Rattle.tree.proofs.StandingLaws.{row-more, row-none, tree-upto, tree-short}
+use Rattle.tree.proofs.TreeLaws.{encodes-none}
 use Rattle.metadata.specs.Metadata.{append}
 use Rattle.metadata.proofs.EncodeLaws.{framed-field, encodes-append}
 use Rattle.lent.specs.Lists.{among}
 use Rattle.lent.specs.Fields.{has, keep, sole}
 use Rattle.writer.specs.Bytes.{framed}
 use Rattle.writer.specs.Wrote.{Wrote, Opened, closed}
-use Rattle.writer.proofs.Wrote.{wrote-none, wrote-then, wrote-as, wrote-field}
+use Rattle.writer.proofs.Wrote.{wrote-then, wrote-as, wrote-field}
 use Rattle.extraction_rules.specs.State.{Record, State}
 use Rattle.extraction_rules.specs.First.{specifiersIn}
 use Rattle.extraction_rules.specs.Second.{loseNamespaces}
@@ -45,12 +45,8 @@ if-as w e = record { size = w .size; is = λ h. wrote-as (w .is h) e }
 pub if-from : {P Q : Type 0} {bs l l' : List ℕ} {o p : ℕ} → (Q → P) → WroteIf P bs l o l' p → WroteIf Q bs l o l' p
 if-from k w = record { size = w .size; is = λ h. w .is (k h) }
 
-nothing-bytes : encodes none ≡ []
-unfolding encodes
-nothing-bytes = refl
-
 sieve-nothing : (b : Bool) (fs : Fields) → fs ≡ none → encodes (sieve b fs) ≡ []
-sieve-nothing b fs e = ap (λ (gs : Fields). encodes (sieve b gs)) e ∙ ap encodes (sieve-none b) ∙ nothing-bytes
+sieve-nothing b fs e = ap (λ (gs : Fields). encodes (sieve b gs)) e ∙ ap encodes (sieve-none b) ∙ encodes-none
 
 sieve-bytes : (b : Bool) (fs gs : Fields) → encodes (sieve b (append fs gs)) ≡ encodes (sieve b fs) ++ encodes (sieve b gs)
 sieve-bytes b fs gs = ap encodes (sieve-append b fs gs) ∙ encodes-append (sieve b fs) (sieve b gs)

@@ -14,6 +14,7 @@ use Rattle.tree.specs.Tree.{Field, field, Fields, none, more, tagOf, fixedOf, p
 use Rattle.tree.specs.Grammar.{ruleOf}
 use Rattle.tree.proofs.LayoutLaws.{same-refl, same-equal}
 use Rattle.metadata.specs.Metadata.{append}
+use Rattle.metadata.proofs.EncodeLaws.{append-none, append-rows}
 use Rattle.lent.specs.Outcome.{Outcome, done, refused}
 use Rattle.lent.specs.Lists.{among}
 use Rattle.lent.specs.Fields.{has, keep, inside}
@@ -24,7 +25,7 @@ use Rattle.extraction_rules.proofs.OutcomeLaws.{After, after-bind, after-weaken
 use Rattle.extraction_rules.proofs.TestLaws.{or-neither, cond-same}
 use Rattle.extraction_rules.proofs.ListLaws.{All, same-not, not-same, Distinct}
 use Rattle.extraction_rules.proofs.FirstLaws.{force-cases, sourcesOf}
-use Rattle.extraction_rules.proofs.StepLaws.{Keeps, moduleFor-stays, noteSpecifiers-keeps, collect-keeps}
+use Rattle.extraction_rules.proofs.StepLaws.{moduleFor-stays, noteSpecifiers-keeps, collect-keeps}
 use Rattle.extraction_rules.proofs.ValueLaws.{after-any, walk-first}
 use Rattle.extraction_rules.proofs.SanityLaws.{OwnRecords}
 use Rattle.extraction_rules.proofs.ShapeLaws.{ShapedAll}
@@ -32,8 +33,10 @@ use Rattle.extraction_rules.proofs.AlikeLaws.{Regular, walk-alike, alike-tag}
 use Rattle.extraction_rules.proofs.RegularLaws.{regular, item-outer}
 use Rattle.extraction_rules.proofs.ReadableLaws.{item-step}
 use Rattle.extraction_rules.proofs.ItemsLaws.{ItemSteps, item-keeps}
+use Rattle.extraction_rules.proofs.StayLaws.{import-stays}
+use Rattle.extraction_rules.proofs.KeepLaws.{Meets, keep-meets, notAttributes}
 use Rattle.recording.specs.Model.{gatheredOf, gathered}
-use Rattle.recording.proofs.PartLaws.{append-none, append-rows, Meets, keep-meets, notAttributes, specifiers-context}
+use Rattle.recording.proofs.PartLaws.{specifiers-context}
 
 -- ---- The record of a source
 
@@ -112,12 +115,6 @@ gathered-other : (v : List ℕ) (g : Field) → (tagOf g ≡ 0x10 → ⊥) → g
 unfolding gatheredOf
 gathered-other v g h = ap (λ (b : Bool). cond (b && same (valueOf (fixedOf g)) v) (specifiersIn (partsOf g)) none) (ne-eqb (tagOf g) 0x10 h)
 
--- no import is dropped
-pub import-stays : (f : Field) → tagOf f ≡ 0x10 → stays f ≡ true
-unfolding stays
-import-stays (field t x none) q = ap (λ (k : ℕ). stays (field k x none)) q
-import-stays (field t x (more f fs)) q = ap (λ (k : ℕ). stays (field k x (more f fs))) q
-
 keep-gathered : (v : List ℕ) (fs : Fields) → gathered v (keep stays fs) ≡ gathered v fs
 unfolding gathered keep append
 keep-gathered v none = refl
@@ -141,7 +138,7 @@ module _ (e : Setting) where
       (after-any (noteId (record { id = fixedOf f; context = notedContext n f }) p s)) λ _ s _. h)
 
   all-meet : (n : ℕ) (fs : Fields) (p : ℕ) (s : State) → Meets notAttributes fs → After (noteAll n fs p s) (λ gs s'. Meets notAttributes gs)
-  unfolding noteAll Meets
+  unfolding noteAll
   all-meet n none p s h = tt
   all-meet n (more f fs) p s h =
       after-bind (noteSpecifier n f p s) _ (λ g s'. notAttributes g ≡ true) (λ gs s'. Meets notAttributes gs) (specifier-meets n f p s (h .0)) λ g s k.

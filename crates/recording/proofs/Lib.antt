@@ -1,4 +1,4 @@
--- Laws of the records that are written at the end. Of the rules alone: rows of parts (PartLaws), what the first pass gathers in records
+-- Laws of the records that are written at the end. Of the rules alone: specifiers in front of attributes (PartLaws), what the first pass gathers in records
 -- (GatheredLaws), what the second adds (TakenLaws), and so the records of a run as both trees tell them (RebuiltLaws). Of the code: fixed
 -- bytes (WidthLaws), binding ids (PatternLaws), entries one by one (OnwardLaws), lazy records and forced sources (LazyLaws), the parts of an
 -- import (SpecifierLaws), collected records (CollectedLaws). For callers: ToldLaws.
@@ -6,7 +6,6 @@ pub mod PartLaws
 pub mod GatheredLaws
 pub mod TakenLaws
 pub mod RebuiltLaws
-pub mod WidthLaws
 pub mod PatternLaws
 pub mod OnwardLaws
 pub mod LazyLaws

@@ -1,12 +1,10 @@
 -- The binding ids of the pattern that stands in bytes, and their bytes: way by way through the code that writes them.
 use Prim.Native.Nat.{ℕ, _+_, _≤_}
-use mathlib.Core.Path.{_≡_, refl, sym, ap, subst, _∙_}
+use mathlib.Core.Path.{_≡_, refl, sym, ap, _∙_}
 use mathlib.Core.Logic.{_⊎_, inl, inr}
-use mathlib.Core.Bool.{Bool, true, false, cond, _||_}
-use mathlib.Core.List.{List, [], _∷_, _++_, append-nil}
+use mathlib.Core.List.{List, [], _∷_, _++_}
 use native.Mathlib.Omega.{arith}
-use lib.Dec.{eqb}
-use lib.ListN.{length, getD, take}
+use lib.ListN.{length, getD}
 use lib.Seq.{slice}
 use borrow.Author.Tests.{ne-eqb}
 use Rattle.tree.specs.declared.layout.Reach.the-variants.{Upto, Short}
@@ -16,32 +14,16 @@ use Rattle.tree.specs.Access.{fixedAt, extentAt}
 use Rattle.tree.specs.Standing.{treeAt, rowAt}
 use Rattle.tree.proofs.SliceLaws.{take-slice}
 use Rattle.tree.proofs.StandingLaws.{row-more, row-none, tree-upto, tree-short}
-use Rattle.metadata.specs.Metadata.{append}
+use Rattle.tree.proofs.TreeLaws.{encodes-one}
 use Rattle.metadata.proofs.EncodeLaws.{encodes-append}
 use Rattle.writer.specs.Wrote.{Wrote}
 use Rattle.writer.proofs.Wrote.{wrote-none, wrote-then, wrote-as}
 use Rattle.extraction_rules.specs.First.{Binding, bound, left, below, bindingOf, bindings, bindingsAll, bindingsFirst}
-
--- the same by the way of a pattern
-abbrev bindingsBy : Binding → List ℕ → Fields → Fields
-bindingsBy b x cs =
-    elim b as (λ _. Fields) [
-      | bound ↦ more (field 0x20 (idAt x 0 ++ 0 ∷ []) none) none
-      | left ↦ bindingsFirst cs
-      | below ↦ bindingsAll cs
-    ]
+use Rattle.extraction_rules.proofs.WholeLaws.{bindingsBy}
 
 bindings-by : (t : ℕ) (x : List ℕ) (cs : Fields) (b : Binding) → bindingOf t ≡ b → bindings (field t x cs) ≡ bindingsBy b x cs
 unfolding bindings
 bindings-by t x cs b e = ap (λ (k : Binding). bindingsBy k x cs) e
-
-none-bytes : encodes none ≡ []
-unfolding encodes
-none-bytes = refl
-
-one-bytes : (f : Field) → encode f ≡ encodes (more f none)
-unfolding encodes
-one-bytes f = sym (append-nil (encode f))
 
 bound-50 : bindingOf 0x50 ≡ bound
 unfolding bindingOf
@@ -73,7 +55,7 @@ module _ (s : List ℕ) (at stop : ℕ) where
     pub bindings-bound : {l l' x : List ℕ} {o p : ℕ} → (getD s at 0 ≡ 0x50) ⊎ (getD s at 0 ≡ 0x54) → b ≡ at + 3 + 6 → b ≤ length s → x ≡ idAt s (at + 3) →
         Wrote l o (encode (field 0x20 (x ++ 0 ∷ []) none)) l' p → Wrote l o (encodes (bindings (treeAt s at stop))) l' p
     bindings-bound {x = x} h w i q v =
-        wrote-as v (one-bytes (field 0x20 (x ++ 0 ∷ []) none) ∙ ap (λ (y : List ℕ). encodes (more (field 0x20 (y ++ 0 ∷ []) none) none)) (q ∙ sym (take-slice 6 (at + 3) b s (omega arith) i)) ∙ ap encodes (sym (by-tag bound (is h))))
+        wrote-as v (sym (encodes-one (field 0x20 (x ++ 0 ∷ []) none)) ∙ ap (λ (y : List ℕ). encodes (more (field 0x20 (y ++ 0 ∷ []) none) none)) (q ∙ sym (take-slice 6 (at + 3) b s (omega arith) i)) ∙ ap encodes (sym (by-tag bound (is h))))
       where
         is : (getD s at 0 ≡ 0x50) ⊎ (getD s at 0 ≡ 0x54) → bindingOf (getD s at 0) ≡ bound
         is (inl k) = ap bindingOf k ∙ bound-50

@@ -1,6 +1,6 @@
 -- The collected records of a run are those that the trees after both passes tell.
 use Prim.Native.Nat.{ℕ}
-use mathlib.Core.Path.{_≡_, refl, sym, ap, ap₂, subst, _∙_}
+use mathlib.Core.Path.{_≡_, refl, sym, ap, ap₂, _∙_}
 use mathlib.Core.List.{List, [], _∷_, map}
 use mathlib.Core.Option.{Option, none as nothing, some}
 use Rattle.scope.specs.Modules.{Modules}
@@ -20,8 +20,8 @@ use Rattle.extraction_rules.proofs.StepLaws.{moduleFor-stays}
 use Rattle.extraction_rules.proofs.ShapeLaws.{ShapedAll}
 use Rattle.extraction_rules.proofs.ReadableLaws.{Items, run-within}
 use Rattle.extraction_rules.proofs.RunLaws.{Sane, start-sane, first-sane}
+use Rattle.extraction_rules.proofs.KeepLaws.{Meets}
 use Rattle.recording.specs.Model.{gathered, taken, specifiersOf, rebuilt}
-use Rattle.recording.proofs.PartLaws.{Meets}
 use Rattle.recording.proofs.GatheredLaws.{Written, first-written, first-stays}
 use Rattle.recording.proofs.TakenLaws.{second-written}
 

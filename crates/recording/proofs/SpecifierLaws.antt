@@ -2,36 +2,34 @@
 use Prim.Native.Nat.{ℕ, _+_, _-_, _≤_, _<_}
 use native.Mathlib.Omega.{arith}
 use mathlib.Core.Path.{_≡_, refl, sym, ap, ap₂, subst, _∙_}
-use mathlib.Core.Bool.{Bool, true, false, not, cond, true≢false}
-use mathlib.Core.List.{List, [], _∷_, _++_, append-nil}
-use lib.Dec.{leb, eqb}
+use mathlib.Core.Bool.{Bool, true, false, not, cond}
+use mathlib.Core.List.{List, [], _++_}
 use lib.ListN.{length, getD}
 use lib.Seq.{slice}
 use borrow.Author.Tests.{eq-eqb, ne-eqb, eqb-true, eqb-false}
-use Rattle.tree.specs.declared.layout.Reach.{Reach}
 use Rattle.tree.specs.declared.layout.Reach.the-variants.{Upto, Short}
 use Rattle.tree.specs.Layout.{Bytes, idAt}
 use Rattle.tree.specs.Tree.{Field, field, Fields, none, more, tagOf, encode, encodes}
 use Rattle.tree.specs.Access.{fixedAt, extentAt}
 use Rattle.tree.specs.Standing.{treeAt, rowAt}
-use Rattle.tree.proofs.FixedLaws.{upto-inj}
 use Rattle.tree.proofs.AccessLaws.{upto-in}
 use Rattle.tree.proofs.StandingLaws.{row-more, row-none, tree-upto, tree-short}
+use Rattle.tree.proofs.WidthLaws.{plain-ends}
+use Rattle.tree.proofs.TreeLaws.{encodes-none, encodes-one}
+use Rattle.tree.specs.declared.grammar.Value.the-variants.{Literal}
 use Rattle.metadata.specs.Metadata.{append}
 use Rattle.metadata.proofs.EncodeLaws.{encodes-append}
 use Rattle.lent.specs.Fields.{has, keep, sole}
 use Rattle.writer.specs.Wrote.{Wrote}
 use Rattle.writer.proofs.Wrote.{wrote-none, wrote-then, wrote-as}
 use Rattle.extraction_rules.specs.First.{specifiersIn}
+use Rattle.extraction_rules.proofs.KeepLaws.{keep-append}
 use Rattle.kept.specs.Kept.{id-limit, idOf}
 use Rattle.steps.specs.Step.{ReadAt}
 use Rattle.steps.proofs.SoundLaws.{read-bytes, row-read}
-use Rattle.steps.specs.declared.Ident.{Ident}
 use Rattle.steps.specs.declared.Ident.the-variants.{Is, Other}
-use Rattle.recording.specs.Model.{isNamespace, startsNamed}
+use Rattle.recording.specs.Model.{isNamespace}
 use Rattle.recording.specs.Writes.{WroteIf, RowRead, RowOnward, sieve, specifierOf, isNone, ImportIs, ImportAt}
-use Rattle.recording.proofs.PartLaws.{append-none, keep-append}
-use Rattle.recording.proofs.WidthLaws.{ends-10}
 
 -- ---- Tags
 
@@ -98,7 +96,7 @@ import-other s at stop b e h =
 pub import-ends : (s : List ℕ) (at stop b : ℕ) → at + 3 ≤ stop → fixedAt s (getD s at 0) (at + 3) stop ≡ Upto b → getD s at 0 ≡ 0x10 → (b ≡ at + 9) × (at + 9 ≤ stop)
 import-ends s at stop b le e h =
     let i = upto-in s (getD s at 0) (at + 3) stop le e in
-    let j = ends-10 s (getD s at 0) (at + 3) stop b h e in
+    let j = plain-ends 0x10 Literal refl s (getD s at 0) (at + 3) stop b h e in
     (omega arith, omega arith)
 
 pub import-is : (s : List ℕ) (at stop b n : ℕ) → at + 3 ≤ stop → fixedAt s (getD s at 0) (at + 3) stop ≡ Upto b → getD s at 0 ≡ 0x10 → idOf n ≡ idAt s (at + 3) → n < id-limit →
@@ -154,14 +152,6 @@ module _ (s : List ℕ) (at end : ℕ) (le : at ≤ end) (b : Bool) where
 
 -- ---- One part
 
-nothing-bytes : encodes none ≡ []
-unfolding encodes
-nothing-bytes = refl
-
-one-bytes : (f : Field) → encode f ≡ encodes (more f none)
-unfolding encodes
-one-bytes f = sym (append-nil (encode f))
-
 -- nothing is written
 pub if-none : {P : Type 0} {bs l : List ℕ} {o : ℕ} → bs ≡ [] → WroteIf P bs l o l o
 if-none e = record { size = refl; is = λ _. wrote-as wrote-none (sym e) }
@@ -169,7 +159,7 @@ if-none e = record { size = refl; is = λ _. wrote-as wrote-none (sym e) }
 module _ (b : Bool) (f : Field) where
   pub part-attributes : tagOf f ≡ 0x2F → encodes (specifierOf b f) ≡ []
   unfolding specifierOf
-  part-attributes h = ap (λ (c : Bool). encodes (cond c none (sieve b (more f none)))) (eq-eqb (tagOf f) 0x2F h) ∙ nothing-bytes
+  part-attributes h = ap (λ (c : Bool). encodes (cond c none (sieve b (more f none)))) (eq-eqb (tagOf f) 0x2F h) ∙ encodes-none
 
   part-other : (tagOf f ≡ 0x2F → ⊥) → specifierOf b f ≡ sieve b (more f none)
   unfolding specifierOf
@@ -178,16 +168,16 @@ module _ (b : Bool) (f : Field) where
   pub part-namespace : (tagOf f ≡ 0x2F → ⊥) → b ≡ false → tagOf f ≡ 0x22 → encodes (specifierOf b f) ≡ []
   unfolding sieve keep
   part-namespace h q k =
-      ap encodes (part-other h ∙ ap (λ (c : Bool). sieve c (more f none)) q ∙ ap (λ (c : Bool). cond (not c) (more f none) none) (eq-eqb (tagOf f) 0x22 k)) ∙ nothing-bytes
+      ap encodes (part-other h ∙ ap (λ (c : Bool). sieve c (more f none)) q ∙ ap (λ (c : Bool). cond (not c) (more f none) none) (eq-eqb (tagOf f) 0x22 k)) ∙ encodes-none
 
   pub part-any : (tagOf f ≡ 0x2F → ⊥) → b ≡ true → encode f ≡ encodes (specifierOf b f)
   unfolding sieve
-  part-any h q = one-bytes f ∙ ap encodes (sym (part-other h ∙ ap (λ (c : Bool). sieve c (more f none)) q))
+  part-any h q = sym (encodes-one f) ∙ ap encodes (sym (part-other h ∙ ap (λ (c : Bool). sieve c (more f none)) q))
 
   pub part-named : (tagOf f ≡ 0x2F → ⊥) → b ≡ false → (tagOf f ≡ 0x22 → ⊥) → encode f ≡ encodes (specifierOf b f)
   unfolding sieve keep
   part-named h q k =
-      one-bytes f ∙ ap encodes (sym (part-other h ∙ ap (λ (c : Bool). sieve c (more f none)) q ∙ ap (λ (c : Bool). cond (not c) (more f none) none) (ne-eqb (tagOf f) 0x22 k)))
+      sym (encodes-one f) ∙ ap encodes (sym (part-other h ∙ ap (λ (c : Bool). sieve c (more f none)) q ∙ ap (λ (c : Bool). cond (not c) (more f none) none) (ne-eqb (tagOf f) 0x22 k)))
 
 -- a part that was read is copied
 pub if-copied : {s : List ℕ} {at stop : ℕ} {bs l l' : List ℕ} {o p : ℕ} → Bytes s → encode (treeAt s at stop) ≡ bs → Wrote l o (slice at stop s) l' p → WroteIf (ReadAt s at stop) bs l o l' p

@@ -1,25 +1,24 @@
 -- For callers: items that were read, lazy records' places, and the records of a run as they are written.
 use Prim.Native.Nat.{ℕ, _+_, _-_, _≤_, _<_}
 use native.Mathlib.Omega.{arith}
-use mathlib.Core.Path.{_≡_, refl, sym, ap, ap₂, subst, _∙_}
+use mathlib.Core.Path.{_≡_, refl, sym, ap, ap₂, _∙_}
 use mathlib.Core.Bool.{Bool, true, false, cond}
 use mathlib.Core.List.{List, [], map}
-use lib.Dec.{leb, ltb, eqb}
-use lib.ListN.{length, getD}
-use lib.Seq.{slice}
-use borrow.Author.Tests.{leb-true, le-leb, eqb-true, ne-eqb, lt-ltb, le-ltb}
+use lib.Dec.{leb, ltb}
+use lib.ListN.{length}
+use borrow.Author.Tests.{leb-true, le-leb, ne-eqb, lt-ltb, le-ltb}
 use Rattle.scope.specs.Modules.{Modules}
 use Rattle.tree.specs.declared.layout.Reach.{Reach}
 use Rattle.tree.specs.declared.layout.Reach.the-variants.{Upto, Short}
 use Rattle.tree.specs.declared.grammar.Set.the-variants.{Module}
 use Rattle.tree.specs.Layout.{skipAt}
-use Rattle.tree.specs.Tree.{Field, field, Fields, none, more}
-use Rattle.tree.specs.Grammar.{holdsAt, ruleOf}
-use Rattle.tree.specs.Access.{fixedAt, lengthAt, extentAt}
+use Rattle.tree.specs.Tree.{field, Fields, none, more}
+use Rattle.tree.specs.Grammar.{ruleOf}
+use Rattle.tree.specs.Access.{lengthAt, extentAt}
 use Rattle.tree.specs.Read.{fine, read}
-use Rattle.tree.specs.Standing.{treeAt, rowAt}
-use Rattle.tree.proofs.FixedLaws.{no-upto, upto-inj}
-use Rattle.tree.proofs.StandingLaws.{tree-upto, whole-step, Rooted, read-field}
+use Rattle.tree.specs.Standing.{treeAt}
+use Rattle.tree.proofs.FixedLaws.{no-upto}
+use Rattle.tree.proofs.WidthLaws.{read-module}
 use Rattle.lent.specs.Table.{Row as TableRow}
 use Rattle.extraction_rules.specs.State.{Record, State, first, second, start}
 use Rattle.extraction_rules.specs.First.{bindings}
@@ -31,26 +30,16 @@ use Rattle.extraction_rules.proofs.ReadableLaws.{Items}
 use Rattle.metadata.specs.Metadata.{append}
 use Rattle.recording.specs.Model.{rebuilt}
 use Rattle.recording.specs.Writes.{patternOn, patternAt, placed, RowRead, itemsIn, recordsIn}
-use Rattle.recording.proofs.WidthLaws.{ends-01}
 use Rattle.recording.proofs.RebuiltLaws.{run-rebuilt}
 
 -- ---- Items
-
-module-tag : (t : ℕ) → holdsAt Module t ≡ true → t ≡ 0x01
-unfolding holdsAt
-module-tag t h = eqb-true t 0x01 h
 
 parts-inj : {t u : ℕ} {x y : List ℕ} {cs ds : Fields} → more (field t x cs) none ≡ more (field u y ds) none → cs ≡ ds
 parts-inj e = cc
 
 -- a module that was read: its items, and that they are read
 pub items-read : (s : List ℕ) (fs : Fields) → read Module s ≡ fine (more (moduleWith fs) none) → (itemsIn s ≡ fs) × RowRead s 3 (length s)
-items-read s fs e =
-    let r = read-field Module s (more (moduleWith fs) none) e in
-    let w = whole-step s 0 (length s) (r .whole) in
-    let b : w .0 ≡ 3 = ends-01 s (getD s 0 0) 3 (length s) (w .0) (module-tag (getD s 0 0) (r .tag)) (w .1) in
-    let q : fs ≡ rowAt s (w .0) (length s) = parts-inj (r .tree ∙ ap (λ (f : Field). more f none) (tree-upto s 0 (length s) (w .0) (w .1))) in
-    (ap (λ (k : ℕ). rowAt s k (length s)) (sym b) ∙ sym q, subst (λ (k : ℕ). RowRead s k (length s)) b (ruleOf (getD s 0 0), w .2))
+items-read s fs e = let m = read-module s (more (moduleWith fs) none) e in (sym (parts-inj (m .tree)), (ruleOf 0x01, m .row))
 
 -- ---- Places
 

@@ -17,7 +17,7 @@ use Rattle.scope.specs.declared.id.Id.{Id}
 use Rattle.scope.specs.declared.Mark.{Mark}
 use Rattle.scope.specs.declared.Mark.the-variants.{Loaded, Stored, Cjs, Wrapping}
 use Rattle.scope.specs.Id.{local, export}
-use Rattle.scope.specs.Modules.{Module, Modules, next, placeOf, numberOf, unmarked, requestBy, request, Generated, generatedBy, gen, Left, goOn, requestAll, marked, withMark, isMarked, setMark, given, marking, Outcome, done, refused, readMark, esmId, wrappedEsmId}
+use Rattle.scope.specs.Modules.{Module, Modules, next, placeOf, numberOf, unmarked, requestBy, request, generatedBy, gen, Left, goOn, requestAll, marked, withMark, isMarked, setMark, given, marking, done, refused, readMark, esmId, wrappedEsmId}
 use Rattle.scope.specs.Kept.{moduleBy, modulesIn, Rewrites}
 
 -- ---- Contexts: distinct modules have distinct contexts, and local and export contexts never meet each other or 0
@@ -39,36 +39,36 @@ export-not-empty n e = omega arith
 
 -- ---- Places of files
 
-none-some : {n : ℕ} → none ≡ some n → ⊥
-none-some e = let z : _≡_ {A = ℕ} 0 1 = cc in omega arith
+pub none-some : {A B : Type 0} {b : B} → none ≡ some b → A
+none-some {b = b} e = absurd (let z : _≡_ {A = ℕ} 0 1 = cc in omega arith)
 
 -- the first place, or one behind a place further on
 here-or-on : (P : ℕ → Type 0) (b : Bool) (o : Option ℕ) → P zero → ((m : ℕ) → o ≡ some m → P (suc m)) → {n : ℕ} → cond b (some zero) (next o) ≡ some n → P n
 here-or-on P true o z s {n} e = subst P (let q : zero ≡ n = cc in q) z
-here-or-on P false none z s e = absurd (none-some e)
+here-or-on P false none z s e = none-some e
 here-or-on P false (some m) z s {n} e = subst P (let q : suc m ≡ n = cc in q) (s m refl)
 
 -- a file's place is below the number of files
 pub place-below : (f : ℕ) (l : List ℕ) {n : ℕ} → placeOf f l ≡ some n → n < length l
 unfolding placeOf
-place-below f [] e = absurd (none-some e)
+place-below f [] e = none-some e
 place-below f (g ∷ l) e = here-or-on (λ n. n < suc (length l)) (eqb f g) (placeOf f l) (omega arith) (λ m q. let h = place-below f l q in omega arith) e
 
 placed-on : (b : Bool) (o o' : Option ℕ) → ((n : ℕ) → o ≡ some n → o' ≡ some n) → {n : ℕ} → cond b (some zero) (next o) ≡ some n → cond b (some zero) (next o') ≡ some n
 placed-on true o o' h e = e
-placed-on false none o' h e = absurd (none-some e)
+placed-on false none o' h e = none-some e
 placed-on false (some m) o' h e = ap next (h m refl) ∙ e
 
 -- a place stays where files are appended
 pub place-stays : (f : ℕ) (l r : List ℕ) {n : ℕ} → placeOf f l ≡ some n → placeOf f (l ++ r) ≡ some n
 unfolding placeOf
-place-stays f [] r e = absurd (none-some e)
+place-stays f [] r e = none-some e
 place-stays f (g ∷ l) r e = placed-on (eqb f g) (placeOf f l) (placeOf f (l ++ r)) (λ n q. place-stays f l r q) e
 
 placed-last : (b : Bool) (o o' : Option ℕ) (n : ℕ) → (o ≡ none → o' ≡ some n) → cond b (some zero) (next o) ≡ none → cond b (some zero) (next o') ≡ some (suc n)
-placed-last true o o' n h e = absurd (none-some (sym e))
+placed-last true o o' n h e = none-some (sym e)
 placed-last false none o' n h e = ap next (h refl)
-placed-last false (some m) o' n h e = absurd (none-some (sym e))
+placed-last false (some m) o' n h e = none-some (sym e)
 
 -- a file that stands nowhere stands where it is appended
 pub place-last : (f : ℕ) (l : List ℕ) → placeOf f l ≡ none → placeOf f (l ++ (f ∷ [])) ≡ some (length l)
@@ -299,11 +299,6 @@ unfolding readMark wrappedEsmId
 esm-refused k m ms e = esm-none (given m ms) (isMarked k (m .0) ms) (esmId (isMarked Wrapping (m .0) ms) (isMarked Stored (m .0) ms) m) e
 
 -- ---- Modules in cells
-
-pub cells-length : (k at : ℕ) (t : List ℕ) → length (modulesIn k at t) ≡ k
-unfolding modulesIn
-cells-length zero at t = refl
-cells-length (suc k) at t = ap suc (cells-length k (at + 2) t)
 
 -- cells that agree on the modules stand for the same
 pub cells-agree : (k at : ℕ) (t t' : List ℕ) → ((i : ℕ) → at ≤ i → i < at + 2 * k → getD t' i 0 ≡ getD t i 0) → modulesIn k at t' ≡ modulesIn k at t

@@ -1,23 +1,24 @@
 -- Steps one after the other: what two steps do, or the first one's refusal, is what the rule of both does.
-use Prim.Native.Nat.{ℕ}
+use Prim.Native.Nat.{ℕ, _<_}
 use native.Mathlib.Omega.{arith}
-use mathlib.Core.Path.{_≡_, refl, sym, ap, subst, _∙_}
+use mathlib.Core.Path.{_≡_, refl, sym, ap, subst, _∙_, ap₂}
 use mathlib.Core.List.{List, [], _++_, append-nil}
 use lib.ListN.{length, length-set}
 use Rattle.writer.specs.Wrote.{Wrote, Opened, closed}
 use Rattle.writer.proofs.Wrote.{wrote-none, wrote-then, wrote-as, wrote-field, length-closed}
-use Rattle.tree.specs.Tree.{Field, field, Fields, encode, encodes}
+use Rattle.tree.specs.Tree.{field, Fields, encode, encodes}
 use Rattle.metadata.proofs.EncodeLaws.{framed-field}
 use Rattle.lent.specs.Outcome.{Outcome, done, refused, onto}
-use Rattle.extraction_rules.specs.State.{State, Act, give}
-use Rattle.kept.specs.Kept.{At, Good, Shows}
-use Rattle.kept.specs.Does.{Did, Turns}
+use Rattle.extraction_rules.specs.State.{State, Act}
+use Rattle.kept.specs.Kept.{At, Good, Shows, id-limit}
+use Rattle.kept.specs.Does.{Turns, Did}
 use Rattle.steps.specs.declared.Why.{Why}
 use Rattle.steps.specs.declared.Step.{Step}
 use Rattle.steps.specs.declared.Step.the-variants.{Done, Refused}
 use Rattle.steps.specs.declared.Effect.{Effect}
 use Rattle.steps.specs.declared.Effect.the-variants.{Fine, Refused as Turned}
-use Rattle.steps.specs.Step.{refusalOf, Made, Steps, Effects, Begun, Ended, withParts}
+use Rattle.steps.specs.Step.{refusalOf, Steps, Effects, Begun, Ended, withParts, Small, Made}
+use Rattle.steps.specs.declared.Ident.the-variants.{Is, Other}
 
 -- ---- Answers
 
@@ -27,13 +28,43 @@ done-refused {p = p} {q} {w} e f = absurd (let z : _≡_ {A = ℕ} 0 1 = cc in o
 pub done-same : {p q : ℕ} → Done p ≡ Done q → p ≡ q
 done-same e = cc
 
-refused-place : {w v : Why} {p q : ℕ} → Refused w p ≡ Refused v q → p ≡ q
-refused-place e = cc
+pub refused-as : {A : Type 0} {m : Outcome A} {w v : Why} {p q : ℕ} → m ≡ refused (refusalOf w) p → Refused w p ≡ Refused v q → m ≡ refused (refusalOf v) q
+refused-as {w = w} {v} {p} {q} e f =
+    let a : w ≡ v = cc in
+    let b : p ≡ q = cc in
+    e ∙ ap₂ (λ (i : Why) (j : ℕ). refused (refusalOf i) j) a b
 
-refused-why : {w v : Why} {p q : ℕ} → Refused w p ≡ Refused v q → w ≡ v
-refused-why e = cc
+pub fine-turned : {A : Type 0} {w : Why} {q : ℕ} → Fine ≡ Turned w q → A
+fine-turned {w = w} {q} e = absurd (let z : _≡_ {A = ℕ} 0 1 = cc in omega arith)
+
+pub turned-as : {A : Type 0} {m : Outcome A} {w v : Why} {p q : ℕ} → m ≡ refused (refusalOf w) p → Turned w p ≡ Turned v q → m ≡ refused (refusalOf v) q
+turned-as {w = w} {v} {p} {q} e f =
+    let a : w ≡ v = cc in
+    let b : p ≡ q = cc in
+    e ∙ ap₂ (λ (i : Why) (j : ℕ). refused (refusalOf i) j) a b
+
+pub no-id : Small Other
+no-id n e = absurd (let z : _≡_ {A = ℕ} 0 1 = cc in omega arith)
+
+pub an-id : {n : ℕ} → n < id-limit → Small (Is n)
+an-id {n} h m e = let z : n ≡ m = cc in omega arith
 
 -- ---- One step
+
+-- it is done, or refused
+module _ {A : Type 0} {bytes : A → List ℕ} {P : At → State → Type 0} {act : Act A} {t out : List ℕ} {o : ℕ} {t' out' : List ℕ} (g : Good t') (z : length out' ≡ length out) where
+  pub steps-done : {p : ℕ} → ((x : At) (s : State) → Shows x t s → P x s → Made bytes x (act s) out o t' out' p) → Steps bytes P act t out o t' out' (Done p)
+  steps-done h =
+      record {
+        good = g;
+        size = z;
+        made = λ q e {x = x} s w c. subst (λ (j : ℕ). Made bytes x (act s) out o t' out' j) (done-same e) (h x s w c);
+        turned = λ v q e s w c. done-refused refl e;
+      }
+
+  pub steps-refused : {v : Why} {q : ℕ} → ((x : At) (s : State) → Shows x t s → P x s → act s ≡ refused (refusalOf v) q) → Steps bytes P act t out o t' out' (Refused v q)
+  steps-refused h =
+      record { good = g; size = z; made = λ p e s w c. done-refused e refl; turned = λ u r e {x = x} s w c. refused-as (h x s w c) e }
 
 -- by what its answer is
 pub steps-is : {A : Type 0} {bytes : A → List ℕ} {P : At → State → Type 0} {act : Act A} {t out t' out' : List ℕ} {o : ℕ} {j k : Step} →
@@ -43,20 +74,8 @@ steps-is {bytes = bytes} {P} {act} {t} {out} {t'} {out'} {o} m e = subst (Steps 
 -- nothing is written, and nothing changes
 pub steps-give : {A : Type 0} (bytes : A → List ℕ) (P : At → State → Type 0) (act : Act A) (a : A) {t out : List ℕ} {o : ℕ} → Good t → bytes a ≡ [] →
     ((x : At) (s : State) → P x s → act s ≡ done (a, s)) → Steps bytes P act t out o t out (Done o)
-steps-give bytes P act a {t} {out} {o} g e h =
-    record {
-      good = g;
-      size = refl;
-      made = λ p q {x = x} s w c.
-          record {
-            value = a;
-            state = s;
-            is = h x s c;
-            wrote = subst (λ (n : ℕ). Wrote out o (bytes a) out n) (done-same q) (wrote-as wrote-none (sym e));
-            shows = w;
-          };
-      turned = λ v q k s w c. done-refused refl k;
-    }
+steps-give bytes P act a g e h =
+    steps-done g refl (λ x s w c. record { value = a; state = s; is = h x s c; wrote = wrote-as wrote-none (sym e); shows = w })
 
 -- another rule that does the same in every state that is shown
 pub steps-by : {A : Type 0} {bytes : A → List ℕ} {P Q : At → State → Type 0} {act : Act A} (rule : Act A) {t out t' out' : List ℕ} {o : ℕ} {k : Step} →
@@ -113,14 +132,8 @@ steps-changed f g m h =
 -- a change, and bytes that are written at once
 pub steps-write : {A : Type 0} (bytes : A → List ℕ) (P : At → State → Type 0) (rule : Act A) (a : A) (f : State → State) {t t' out out' : List ℕ} {o p : ℕ} →
     Turns f t t' → Wrote out o (bytes a) out' p → ((x : At) (s : State) → Shows x t s → P x s → rule s ≡ done (a, f s)) → Steps bytes P rule t out o t' out' (Done p)
-steps-write bytes P rule a f {out = out} {out'} {o} g v h =
-    record {
-      good = g .good;
-      size = v .size;
-      made = λ q e {x = x} s w c.
-          record { value = a; state = f s; is = h x s w c; wrote = subst (λ (n : ℕ). Wrote out o (bytes a) out' n) (done-same e) v; shows = g .shows s w };
-      turned = λ u q e s w c. done-refused refl e;
-    }
+steps-write bytes P rule a f g v h =
+    steps-done (g .good) (v .size) (λ x s w c. record { value = a; state = f s; is = h x s w c; wrote = v; shows = g .shows s w })
 
 -- where nothing can stand
 pub steps-never : {A : Type 0} (bytes : A → List ℕ) (P : At → State → Type 0) (act : Act A) {t out : List ℕ} {o : ℕ} (k : Step) → Good t →
@@ -167,14 +180,8 @@ module _ {A B C : Type 0} (bA : A → List ℕ) (bB : B → List ℕ) (bC : C �
   pub steps-turned : {t1 out1 : List ℕ} {v : Why} {q : ℕ} → Steps bA P m t out o t1 out1 (Refused v q) → ((x : At) (s : State) → R x s → P x s) →
       Steps bC R (pairOf h m n) t out o t1 out1 (Refused v q)
   steps-turned {v = v} {q} first before =
-      record {
-        good = first .good;
-        size = first .size;
-        made = λ r e {x = x} s w c. done-refused e refl;
-        turned = λ u r e {x = x} s w c.
-            ap (λ (z : Outcome (A × State)). onto z (λ a. onto (n (a .0) (a .1)) (λ b. done (h (a .0) (b .0), b .1))))
-            (first .turned v q refl s w (before x s c) ∙ ap (λ (j : Why). refused (refusalOf j) q) (refused-why e) ∙ ap (refused (refusalOf u)) (refused-place e));
-      }
+      steps-refused (first .good) (first .size) (λ x s w c.
+      ap (λ (z : Outcome (A × State)). onto z (λ a. onto (n (a .0) (a .1)) (λ b. done (h (a .0) (b .0), b .1)))) (first .turned v q refl s w (before x s c)))
 
 -- ---- A field and its parts
 
@@ -222,34 +229,22 @@ steps-field {x = x} {n = n} (Refused v p) b m e =
       size = e .size ∙ m .size ∙ b .fixed .size ∙ opened-size (b .opened);
       made = λ q f s w c. done-refused f (e .refused v p refl);
       turned = λ u q f s w c.
-          let z = sym (e .refused v p refl) ∙ f in
-          ap (λ (i : Outcome (Fields × State)). onto i (λ r. done (field n x (r .0), r .1))) (m .turned v p refl s w c)
-          ∙ ap (λ (j : Why). refused (refusalOf j) p) (refused-why z) ∙ ap (refused (refusalOf u)) (refused-place z);
+          refused-as (ap (λ (i : Outcome (Fields × State)). onto i (λ r. done (field n x (r .0), r .1))) (m .turned v p refl s w c)) (sym (e .refused v p refl) ∙ f);
     }
 
 -- ---- Steps that write nothing
 
+pub steps-did : {P : At → State → Type 0} {act : Act (Unit {0})} {t t' out : List ℕ} {o : ℕ} → Good t' → ((x : At) (s : State) → Shows x t s → P x s → Did x (act s) t') →
+    Steps (λ _. []) P act t out o t' out (Done o)
+steps-did g h = steps-done g refl (λ x s w c. let d = h x s w c in record { value = tt; state = d .state; is = d .is; wrote = wrote-none; shows = d .shows })
+
 pub effects-fine : {P : At → State → Type 0} {act : Act (Unit {0})} {t t' out : List ℕ} {o : ℕ} {k : Effect} → Effects P act t t' k → k ≡ Fine →
     Steps (λ _. []) P act t out o t' out (Done o)
-effects-fine {out = out} {o} m e =
-    record {
-      good = m .good;
-      size = refl;
-      made = λ p q s w c.
-          let d = m .fine e s w c in
-          record { value = tt; state = d .state; is = d .is; wrote = subst (λ (n : ℕ). Wrote out o [] out n) (done-same q) wrote-none; shows = d .shows };
-      turned = λ v q f s w c. done-refused refl f;
-    }
+effects-fine m e = steps-did (m .good) (λ x s w c. m .fine e s w c)
 
 pub effects-turned : {P : At → State → Type 0} {act : Act (Unit {0})} {t t' out : List ℕ} {o q : ℕ} {v : Why} {k : Effect} → Effects P act t t' k → k ≡ Turned v q →
     Steps (λ _. []) P act t out o t' out (Refused v q)
-effects-turned {q = q} {v} m e =
-    record {
-      good = m .good;
-      size = refl;
-      made = λ p f s w c. done-refused f refl;
-      turned = λ u r f s w c. m .turned v q e s w c ∙ ap (λ (j : Why). refused (refusalOf j) q) (refused-why f) ∙ ap (refused (refusalOf u)) (refused-place f);
-    }
+effects-turned {q = q} {v} m e = steps-refused (m .good) refl (λ x s w c. m .turned v q e s w c)
 
 -- a step, and then one that writes nothing
 abbrev pub thenOf : {A : Type 0} → Act A → Act (Unit {0}) → Act A

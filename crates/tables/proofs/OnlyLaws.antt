@@ -2,7 +2,7 @@
 use Prim.Native.Nat.{ℕ, zero, suc, _+_, _-_, _*_, _≤_, _<_}
 use native.Mathlib.Numerals.{add-one}
 use native.Mathlib.Omega.{arith}
-use mathlib.Core.Path.{_≡_, refl, sym, ap, subst, _∙_}
+use mathlib.Core.Path.{_≡_, refl, ap, subst, _∙_}
 use mathlib.Core.List.{List, [], _∷_, _++_}
 use lib.ListN.{length, getD, set, length-set}
 use lib.Seq.{getD-set-same, getD-set-other}
@@ -10,9 +10,6 @@ use Rattle.tables.specs.declared.Table.{Table}
 use Rattle.tables.specs.Rows.{rowsFrom, rows, Lies, without, withValue}
 use Rattle.tables.specs.Only.{Outside, Only, Apart}
 use Rattle.tables.proofs.RowLaws.{from-agree, from-more, rows-length, Dropping}
-
-pub only-none : (b : Table) (t : List ℕ) → Only b t t
-only-none b t = record { size = refl; same = λ i o. refl }
 
 pub only-then : {b : Table} {t m k : List ℕ} → Only b t m → Only b m k → Only b t k
 only-then p q = record { size = q .size ∙ p .size; same = λ i o. q .same i o ∙ p .same i o }

@@ -2,7 +2,7 @@
 use Prim.Native.Nat.{ℕ, _+_, _-_, _/_, _%_, _≤_, _<_}
 use mathlib.Core.Path.{_≡_, refl, sym, ap, ap₂, _∙_}
 use mathlib.Core.Bool.{true}
-use mathlib.Core.List.{List, [], _∷_, _++_, append-nil}
+use mathlib.Core.List.{List, [], _∷_, _++_}
 use native.Mathlib.Omega.{arith}
 use lib.ListN.{length, getD, length-append}
 use lib.Seq.{slice, length-slice, take-length}
@@ -23,7 +23,7 @@ use Rattle.tree.specs.Read.{fine, mapped, both, onExtent, onStep, headAt
 use Rattle.tree.specs.Within.{Exact, Formed, FormedAll, Within}
 use Rattle.tree.proofs.SliceLaws.{slice-split, getD-slice}
 use Rattle.tree.proofs.GrammarLaws.{open-rule, formed-none, one-step}
-use Rattle.tree.proofs.TreeLaws.{size-encode, content-size, depth-parts, depth-positive, depth-first, depth-rest, depth-one}
+use Rattle.tree.proofs.TreeLaws.{size-encode, content-size, depth-parts, depth-positive, depth-first, depth-rest, depth-one, encodes-one}
 use Rattle.tree.proofs.FixedLaws.{fixed-same}
 use Rattle.tree.proofs.ReadLaws.{children-step}
 
@@ -164,10 +164,6 @@ mutual
       (λ stop a b u. field-complete f s at stop (d + 1) a (omega arith) (w .2) (let z = depth-first f fs in omega arith) u)
       (λ stop q′ a v u. row-complete fs s stop end d q′ p a k v (let z = depth-rest f fs in omega arith) u)
 
-encode-one : (f : Field) → encodes (more f none) ≡ encode f
-unfolding encode
-encode-one f = append-nil (encode f)
-
 encode-some : (f : Field) → length (encode f) ≡ 0 → ⊥
 encode-some (field t x cs) e = let n = size-encode (field t x cs) in let m = content-size t x cs in omega arith
 
@@ -181,4 +177,4 @@ read-complete root f w =
     let none-zero : length s ≡ 0 → ⊥ = encode-some f in
     rw (ne-eqb (length s) 0 none-zero)
     (row-complete (more f none) s 0 (length s) 0 (top root) 0 (omega arith) (omega arith)
-    (parts0, one-step root Nothing Nothing Nothing (tagOf f) (w .0), w .1, refl) (omega arith) (take-length s ∙ sym (encode-one f)))
+    (parts0, one-step root Nothing Nothing Nothing (tagOf f) (w .0), w .1, refl) (omega arith) (take-length s ∙ sym (encodes-one f)))

@@ -165,11 +165,11 @@ open-ends Spread s at stop b e o = false-true o
 abbrev pub opens : Pieces → Bool
 opens ps = openPiece (ps .first) || openPiece (ps .second)
 
-or-left : (a b : Bool) → a ≡ true → a || b ≡ true
+pub or-left : (a b : Bool) → a ≡ true → a || b ≡ true
 or-left true b e = refl
 or-left false b e = false-true e
 
-or-right : (a b : Bool) → b ≡ true → a || b ≡ true
+pub or-right : (a b : Bool) → b ≡ true → a || b ≡ true
 or-right true b e = refl
 or-right false b e = e
 

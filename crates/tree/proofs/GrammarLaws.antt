@@ -7,8 +7,9 @@ use lib.Dec.{leb, eqb}
 use borrow.Author.Tests.{le-leb, lt-leb, leb-true, leb-false, eqb-true}
 use Rattle.tree.specs.declared.grammar.Rule.{Rule}
 use Rattle.tree.specs.declared.grammar.Set.{Set}
+use Rattle.tree.specs.declared.grammar.Set.the-variants.{Module}
 use Rattle.tree.specs.declared.grammar.Slot.{Slot}
-use Rattle.tree.specs.declared.grammar.Slot.the-variants.{Nothing, One, Maybe, Many}
+use Rattle.tree.specs.declared.grammar.Slot.the-variants.{One, Maybe, Many}
 use Rattle.tree.specs.declared.grammar.Step.the-variants.{Go, No}
 use Rattle.tree.specs.declared.grammar.Value.the-variants.{Empty}
 use Rattle.tree.specs.declared.grammar.Piece.the-variants.{Plain}
@@ -85,7 +86,7 @@ rule-30 = refl
 pub open-rule : (t : ℕ) → opens (piecesOf t) ≡ true → ruleOf t ≡ parts0
 open-rule t o = ap ruleOf (closing-tag t (piecesOf t) (closing-all t) o) ∙ rule-30
 
-go-inj : {a b : Rule} → Go a ≡ Go b → a ≡ b
+pub go-inj : {a b : Rule} → Go a ≡ Go b → a ≡ b
 go-inj e = cc
 
 -- a rule without parts takes no tag
@@ -116,11 +117,7 @@ module _ (x : Set) (a b c : Slot) (t : ℕ) where
   many-by true e = rw e
   many-by false e = rw e
 
--- what each kind of slot in front says to a tag
-pub one-slot : (x : Set) (a b c : Slot) (t : ℕ) →
-    stepAt (parts4 (One x) a b c) t ≡ cond (holdsAt x t) (Go (parts3 a b c)) No
-one-slot x a b c t = one-by x a b c t (holdsAt x t) refl
-
+-- what a slot in front that may stay empty says to a tag
 pub maybe-slot : (x : Set) (a b c : Slot) (t : ℕ) →
     stepAt (parts4 (Maybe x) a b c) t ≡ cond (holdsAt x t) (Go (parts3 a b c)) (stepAt (parts3 a b c) t)
 maybe-slot x a b c t = maybe-by x a b c t (holdsAt x t) refl
@@ -129,9 +126,10 @@ pub many-slot : (x : Set) (a b c : Slot) (t : ℕ) →
     stepAt (parts4 (Many x) a b c) t ≡ cond (holdsAt x t) (Go (parts4 (Many x) a b c)) (stepAt (parts3 a b c) t)
 many-slot x a b c t = many-by x a b c t (holdsAt x t) refl
 
-pub no-slot : (a b c : Slot) (t : ℕ) → stepAt (parts4 Nothing a b c) t ≡ stepAt (parts3 a b c) t
-unfolding stepAt stepBy slotAt
-no-slot a b c t = refl
+-- the set of modules has one tag
+pub module-tag : (t : ℕ) → holdsAt Module t ≡ true → t ≡ 0x01
+unfolding holdsAt
+module-tag t e = eqb-true t 0x01 e
 
 -- so a slot for one part takes a tag of its set, and nothing else
 pub one-step : (x : Set) (a b c : Slot) (t : ℕ) → holdsAt x t ≡ true →

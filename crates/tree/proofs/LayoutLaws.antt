@@ -8,7 +8,7 @@ use lib.Dec.{eqb}
 use lib.ListN.{length, getD}
 use lib.Seq.{slice, slice-empty, slice-cons}
 use borrow.Author.Tests.{eq-eqb, ne-eqb, eqb-true, eqb-false}
-use Rattle.tree.specs.Layout.{Bytes, same, two, four, twoAt, fourAt, atomAt, contextAt, idAt, nameOf, contextOf, literalWidth, literalAt, literalValue, valueOf}
+use Rattle.tree.specs.Layout.{Bytes, same, two, four, twoAt, fourAt, atomAt, contextAt, idAt, nameOf, contextOf}
 use Rattle.tree.proofs.Table.{both-true}
 use Rattle.tree.proofs.SliceLaws.{slice-join, take-slice, drop-slice}
 
@@ -90,7 +90,7 @@ four-at s at bs h =
     ∙ ap₂ _++_ (sym (two-bytes s at (omega arith))) (sym (two-bytes s (at + 2) (omega arith)))
     ∙ ap (λ (e : ℕ). slice at (at + 2) s ++ slice (at + 2) e s) z ∙ slice-join at (at + 2) (at + 4) s (omega arith) (omega arith) h
 
--- an id's name and context, and a literal's value, from the numbers at its place
+-- an id's name and context, from the numbers at its place
 pub id-name : (s : List ℕ) (at : ℕ) → Bytes s → at + 6 ≤ length s → two (twoAt s at) ≡ nameOf (idAt s at)
 id-name s at bs h = two-at s at bs (omega arith) ∙ sym (take-slice 2 at (at + 6) s (omega arith) h)
 
@@ -98,10 +98,6 @@ pub id-context : (s : List ℕ) (at : ℕ) → Bytes s → at + 6 ≤ length s �
 id-context s at bs h =
     let e : at + 2 + 4 ≡ at + 6 = omega arith in
     four-at s (at + 2) bs (omega arith) ∙ ap (λ (n : ℕ). slice (at + 2) n s) e ∙ sym (drop-slice 2 at (at + 6) s)
-
-pub literal-value : (s : List ℕ) (at : ℕ) → Bytes s → at + literalWidth ≤ length s →
-    two (literalValue s at) ≡ valueOf (literalAt s at)
-literal-value s at bs h = two-at s at bs (omega arith) ∙ sym (take-slice 2 at (at + literalWidth) s (omega arith) h)
 
 -- where numbers have one code each, codes are the same just where the numbers are equal
 module _ (code : ℕ → List ℕ) (m n : ℕ) (one : code m ≡ code n → m ≡ n) where

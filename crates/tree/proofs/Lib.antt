@@ -11,4 +11,4 @@ pub mod ReadLaws
 pub mod StandingLaws
 pub mod SoundLaws
 pub mod CompleteLaws
-pub mod ExactLaws
+pub mod WidthLaws

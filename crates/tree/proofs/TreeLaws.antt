@@ -1,7 +1,7 @@
 -- Trees: how many bytes they take, and how deep their parts are.
 use Prim.Native.Nat.{ℕ, _+_, _≤_}
 use mathlib.Core.Path.{_≡_, refl}
-use mathlib.Core.List.{List, _++_}
+use mathlib.Core.List.{List, [], _++_, append-nil}
 use native.Mathlib.Omega.{arith}
 use native.Mathlib.Nat.{le-max-left, le-max-right, max-le}
 use lib.ListN.{length, length-append}
@@ -16,10 +16,10 @@ field-size : (t : ℕ) (x : List ℕ) (cs : Fields) → sizes cs ≡ length (enc
 unfolding size encode
 field-size t x cs e = let l = length-append x (encodes cs) in let f = framed-length t (x ++ encodes cs) in omega arith
 
-row-size : (f : Field) (fs : Fields) → size f ≡ length (encode f) → sizes fs ≡ length (encodes fs) →
+row-length : (f : Field) (fs : Fields) → size f ≡ length (encode f) → sizes fs ≡ length (encodes fs) →
     sizes (more f fs) ≡ length (encodes (more f fs))
 unfolding size encode
-row-size f fs a b = let l = length-append (encode f) (encodes fs) in omega arith
+row-length f fs a b = let l = length-append (encode f) (encodes fs) in omega arith
 
 none-size : sizes none ≡ length (encodes none)
 unfolding size encode
@@ -31,7 +31,25 @@ mutual
 
   pub sizes-encodes : (fs : Fields) → sizes fs ≡ length (encodes fs)
   sizes-encodes none = none-size
-  sizes-encodes (more f fs) = row-size f fs (size-encode f) (sizes-encodes fs)
+  sizes-encodes (more f fs) = row-length f fs (size-encode f) (sizes-encodes fs)
+
+-- ---- The bytes and the size of a row
+
+pub encodes-none : encodes none ≡ []
+unfolding encode
+encodes-none = refl
+
+pub encodes-more : (f : Field) (fs : Fields) → encodes (more f fs) ≡ encode f ++ encodes fs
+unfolding encode
+encodes-more f fs = refl
+
+pub encodes-one : (f : Field) → encodes (more f none) ≡ encode f
+unfolding encode
+encodes-one f = append-nil (encode f)
+
+pub row-size : (f : Field) (fs : Fields) → sizes (more f fs) ≡ size f + sizes fs
+unfolding size
+row-size f fs = refl
 
 pub content-size : (t : ℕ) (x : List ℕ) (cs : Fields) → size (field t x cs) ≡ 3 + (length x + sizes cs)
 unfolding size

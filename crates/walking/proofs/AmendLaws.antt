@@ -1,34 +1,33 @@
 -- A call that stands written is amended as the rules for calls of require do it: the module is marked, the callee set, the record made.
-use Prim.Native.Nat.{ℕ, zero, suc, _+_, _%_, _<_}
+use Prim.Native.Nat.{ℕ, _+_, _%_, _<_}
 use native.Mathlib.Omega.{arith}
 use mathlib.Core.Path.{_≡_, refl, sym, ap, subst, _∙_}
-use mathlib.Core.Bool.{Bool, true, false, not, cond}
-use mathlib.Core.List.{List, [], _∷_, _++_, append-nil}
+use mathlib.Core.Bool.{Bool, true, false, not, cond, Bool·not-not}
+use mathlib.Core.List.{List, [], _++_, append-nil}
 use mathlib.Core.Option.{some}
 use lib.ListN.{length}
 use Rattle.scope.specs.declared.id.ModuleId.{ModuleId}
 use Rattle.writer.specs.Wrote.{Wrote}
-use Rattle.writer.proofs.Wrote.{wrote-none, wrote-then, wrote-as}
+use Rattle.writer.proofs.Wrote.{wrote-then, wrote-as}
 use Rattle.tree.specs.Tree.{Field, Fields, none, encode}
-use Rattle.lent.specs.Outcome.{Outcome, done, refused, onto}
+use Rattle.lent.specs.Outcome.{Outcome, done, onto}
 use Rattle.extraction_rules.specs.State.{Record, State, Setting, Act, setCollected}
 use Rattle.extraction_rules.specs.First.{bindings, withCallee, markRequired, collect, addLazy, require, requireLazily}
-use Rattle.extraction_rules.proofs.TableLaws.{append-none}
-use Rattle.kept.specs.Kept.{At, place-limit, Good, Shows}
-use Rattle.kept.specs.Does.{Tells, Did, ActsAt, extendAt, Collects, Gave}
+use Rattle.kept.specs.Kept.{At, place-limit, Shows}
+use Rattle.kept.specs.Does.{Tells, ActsAt, Collects, Gave}
 use Rattle.kept.specs.declared.Place.{Place}
 use Rattle.kept.specs.declared.Place.the-variants.{Index, NoRoom}
 use Rattle.kept.specs.declared.Room.{Room}
 use Rattle.kept.specs.declared.Room.the-variants.{Made as Fits, Full}
+use Rattle.kept.proofs.NamespaceLaws.{extend-none}
 use Rattle.expressions.specs.Require.{Requires, CalleeSet}
 use Rattle.expressions.specs.declared.require.Required.{Required}
 use Rattle.expressions.specs.declared.require.Required.the-variants.{Marked, Unresolved, TooMany}
-use Rattle.steps.specs.declared.Why.{Why}
 use Rattle.steps.specs.declared.Why.the-variants.{TooManyFiles, TableFull}
 use Rattle.steps.specs.declared.Step.{Step}
 use Rattle.steps.specs.declared.Step.the-variants.{Done, Refused}
-use Rattle.steps.specs.Step.{refusalOf, Steps}
-use Rattle.steps.proofs.StepsLaws.{done-refused, done-same, steps-by, thenOf}
+use Rattle.steps.specs.Step.{Steps}
+use Rattle.steps.proofs.StepsLaws.{done-refused, steps-by, thenOf, steps-did, steps-refused, refused-as}
 use Rattle.walking.specs.Walking.{placeIn, recorded, Called, Amends}
 
 -- ---- The place of a pattern
@@ -41,29 +40,6 @@ place-first b at e = (sym (ap (λ (z : Bool). placeIn z at) e), omega arith)
 
 -- ---- Records
 
-same-refusal : {A : Type 0} {w v : Why} {p q : ℕ} → Refused w p ≡ Refused v q → _≡_ {A = Outcome A} (refused (refusalOf w) p) (refused (refusalOf v) q)
-same-refusal {w = w} {v} {p} {q} e =
-    let a : w ≡ v = cc in
-    let b : p ≡ q = cc in
-    ap (λ (j : Why). refused (refusalOf j) p) a ∙ ap (refused (refusalOf v)) b
-
--- a rule that writes nothing is followed, or refused
-module _ {P : At → State → Type 0} {act : Act (Unit {0})} {t t' out : List ℕ} where
-  steps-did : {o : ℕ} → Good t' → ((x : At) (s : State) → Shows x t s → P x s → Did x (act s) t') → Steps (λ _. []) P act t out o t' out (Done o)
-  steps-did {o} g h =
-      record {
-        good = g;
-        size = refl;
-        made = λ p e {x = x} s w c.
-            let d = h x s w c in
-            record { value = tt; state = d .state; is = d .is; wrote = subst (λ (n : ℕ). Wrote out o [] out n) (done-same e) wrote-none; shows = d .shows };
-        turned = λ v q e s w c. done-refused refl e;
-      }
-
-  steps-refused : {o q : ℕ} {v : Why} → Good t' → ((x : At) (s : State) → Shows x t s → P x s → act s ≡ refused (refusalOf v) q) → Steps (λ _. []) P act t out o t' out (Refused v q)
-  steps-refused g h =
-      record { good = g; size = refl; made = λ p e s w c. done-refused e refl; turned = λ u r e {x = x} s w c. h x s w c ∙ same-refusal e }
-
 -- a lazy record, by what stands at its place
 module _ (l : List ℕ) (at : ℕ) (fs : Fields) (out : List ℕ) {place : ℕ} {t t' : List ℕ} {r : Room} (m : ActsAt place (λ fs. addLazy (record { literal = l; specifiers = fs })) t t' r) where
   lazy-as : (x : At) (s : State) → fs ≡ x place → addLazy (record { literal = l; specifiers = fs }) at s ≡ addLazy (record { literal = l; specifiers = x place }) at s
@@ -74,24 +50,14 @@ module _ (l : List ℕ) (at : ℕ) (fs : Fields) (out : List ℕ) {place : ℕ} 
       steps-did (m .good) (λ x s w c. let d = m .made e s at w in record { state = d .state; is = lazy-as x s c ∙ d .is; shows = d .shows })
 
   pub lazy-full : {p : ℕ} → r ≡ Full → Steps (λ _. []) (λ x u. fs ≡ x place) (addLazy (record { literal = l; specifiers = fs }) at) t out p t' out (Refused TableFull at)
-  lazy-full e = steps-refused (m .good) (λ x s w c. lazy-as x s c ∙ m .full e s at w)
-
-extend-none : (i : ℕ) (l : List Record) → extendAt i none l ≡ l
-unfolding extendAt
-extend-none i [] = refl
-extend-none zero (r ∷ l) = ap (λ (fs : Fields). record { literal = r .literal; specifiers = fs } ∷ l) (append-none (r .specifiers))
-extend-none (suc i) (r ∷ l) = ap (λ (m : List Record). r ∷ m) (extend-none i l)
-
-not-not : (b : Bool) → not (not b) ≡ b
-not-not true = refl
-not-not false = refl
+  lazy-full e = steps-refused (m .good) refl (λ x s w c. lazy-as x s c ∙ m .full e s at w)
 
 -- 'collected if *top*, else lazy'; the code asks whether *top* is clear
 module _ (l : List ℕ) (at : ℕ) (out : List ℕ) {t : List ℕ} {b : Bool} (d : Tells (λ s. s .top) t b) where
   recorded-as : {x : At} (c : Bool) → not b ≡ not c → (s : State) → Shows x t s →
       recorded l at s ≡ cond c (collect (record { literal = l; specifiers = none }) at) (addLazy (record { literal = l; specifiers = none }) at) s
   recorded-as c e s w =
-      ap (λ (z : Bool). cond z (collect (record { literal = l; specifiers = none }) at) (addLazy (record { literal = l; specifiers = none }) at) s) (sym (d .is s w) ∙ sym (not-not b) ∙ ap not e ∙ not-not c)
+      ap (λ (z : Bool). cond z (collect (record { literal = l; specifiers = none }) at) (addLazy (record { literal = l; specifiers = none }) at) s) (sym (d .is s w) ∙ sym (Bool·not-not b) ∙ ap not e ∙ Bool·not-not c)
 
   pub record-lazy : {t' : List ℕ} {p : ℕ} {k : Step} → not b ≡ true →
       Steps (λ _. []) (λ x u. none ≡ x 0) (addLazy (record { literal = l; specifiers = none }) at) t out p t' out k →
@@ -111,7 +77,7 @@ module _ (l : List ℕ) (at : ℕ) (out : List ℕ) {t : List ℕ} {b : Bool} (d
 
   pub record-full : {t' : List ℕ} {p : ℕ} {r : Place} → not b ≡ false → Collects l t t' r → r ≡ NoRoom →
       Steps (λ _. []) (λ x u. x 0 ≡ none) (recorded l at) t out p t' out (Refused TableFull at)
-  record-full e m h = steps-refused (m .good) (λ x s w c. recorded-as true e s w ∙ m .full h s w none at)
+  record-full e m h = steps-refused (m .good) refl (λ x s w c. recorded-as true e s w ∙ m .full h s w none at)
 
 -- ---- A module is marked, and then a rule that writes nothing follows
 
@@ -164,7 +130,7 @@ module _ (l : List ℕ) (e : Setting) (at : ℕ) (rule : Field → Act Field) (a
           size = refl;
           made = λ q k s w h i f bs called wrote. done-refused k refl;
           turned = λ v q k s w h f.
-              is f s ∙ ap (λ (z : Outcome (Field × State)). onto z (λ a. onto (act (a .1)) (λ b. done (a .0, b .1)))) (m .full c e f at s refl w) ∙ same-refusal k;
+              refused-as (is f s ∙ ap (λ (z : Outcome (Field × State)). onto z (λ a. onto (act (a .1)) (λ b. done (a .0, b .1)))) (m .full c e f at s refl w)) k;
         }
 
 -- ---- 'Record without specifiers'

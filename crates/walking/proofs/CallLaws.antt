@@ -2,17 +2,16 @@
 use Prim.Native.Nat.{ℕ, _+_, _≤_}
 use native.Mathlib.Omega.{arith}
 use mathlib.Core.Path.{_≡_, refl, sym, ap, subst, _∙_}
-use mathlib.Core.Bool.{Bool, true, false, cond}
-use mathlib.Core.List.{List, [], _++_, append-nil}
+use mathlib.Core.Bool.{Bool}
+use mathlib.Core.List.{List, [], append-nil}
 use mathlib.Core.Option.{Option, none as nothing, some}
-use lib.ListN.{length, getD}
+use lib.ListN.{getD}
 use lib.Seq.{slice}
 use Rattle.tree.specs.Layout.{Bytes}
-use Rattle.tree.specs.Tree.{Field, field, Fields, none, more, encode, encodes}
-use Rattle.tree.specs.Access.{fixedAt}
+use Rattle.tree.specs.Tree.{Field, field, Fields, encode}
 use Rattle.tree.specs.Standing.{treeAt, rowAt}
 use Rattle.tree.proofs.SoundLaws.{row-sound}
-use Rattle.writer.specs.Wrote.{Wrote}
+use Rattle.tree.proofs.WidthLaws.{tree-bare, bare-upto}
 use Rattle.writer.proofs.Wrote.{wrote-as, slice-none}
 use Rattle.lent.specs.Outcome.{Outcome, done, refused, onto}
 use Rattle.lent.specs.Fields.{inside}
@@ -22,16 +21,15 @@ use Rattle.extraction_rules.specs.Walk.{afterExpression, walk, walkAll}
 use Rattle.extraction_rules.proofs.OutcomeLaws.{After, after-done, after-both, after-weaken}
 use Rattle.extraction_rules.proofs.AlikeLaws.{Regular}
 use Rattle.extraction_rules.proofs.ShapeLaws.{ShapedAll, formed-shaped-all}
-use Rattle.kept.specs.Kept.{At, Good, idOf, Shows}
+use Rattle.kept.specs.Kept.{At, idOf}
 use Rattle.kept.specs.Does.{Tells}
 use Rattle.expressions.specs.After.{requiredAfter}
-use Rattle.expressions.proofs.WidthLaws.{tree-65, none-65}
 use Rattle.expressions.proofs.RequiredLaws.{parts-required}
 use Rattle.steps.specs.declared.Setting.{Setting as CodeSetting}
 use Rattle.steps.specs.declared.Why.{Why}
 use Rattle.steps.specs.declared.Step.{Step}
 use Rattle.steps.specs.declared.Step.the-variants.{Done, Refused}
-use Rattle.steps.specs.Step.{Made, Sound, SoundAll, Steps, refusalOf, withParts}
+use Rattle.steps.specs.Step.{Sound, SoundAll, withParts}
 use Rattle.steps.proofs.SoundLaws.{read-inside, read-parts}
 use Rattle.steps.proofs.StepsLaws.{done-refused, steps-by}
 use Rattle.walking.specs.Walking.{Reads, FieldSteps, NodeSteps, Called, Amends}
@@ -59,11 +57,11 @@ module _ (c : CodeSetting) (e : Setting) (object : Bool) (s : List ℕ) (bytes :
 
   row-of : Sound s at stop → SoundAll s (at + 3) stop
   row-of w =
-      let z = tree-65 s at stop h q in
+      let z = tree-bare 0x65 refl s at stop h q in
       record {
         rule = _;
         fits = read-inside (w .read) .1;
-        row = read-parts (w .read) (ap (λ (n : ℕ). fixedAt s n (at + 3) stop) q ∙ none-65 s (at + 3) stop h);
+        row = read-parts (w .read) (bare-upto 0x65 refl s (getD s at 0) (at + 3) stop q h);
         regular = subst Regular z (w .regular) .1;
       }
 
@@ -74,7 +72,7 @@ module _ (c : CodeSetting) (e : Setting) (object : Bool) (s : List ℕ) (bytes :
   call-second two m =
       steps-by _ m (λ y u w k. (
         (row-of (k .0), k .1),
-        ap (λ (f : Field). walk f e object at u) (tree-65 s at stop h q) ∙ walk-65 e [] Row65 object at u
+        ap (λ (f : Field). walk f e object at u) (tree-bare 0x65 refl s at stop h q) ∙ walk-65 e [] Row65 object at u
             ∙ go (walkAll Row65 e object (inside at []) u) ∙ sym (parts-65 u),
       ))
     where
@@ -90,7 +88,7 @@ module _ (c : CodeSetting) (e : Setting) (object : Bool) (s : List ℕ) (bytes :
   module _ (one : e .pass ≡ first) where
     walk-call : (u : State) → walk (treeAt s at stop) e object at u ≡ onto (callParts u) requiring
     walk-call u =
-        ap (λ (f : Field). walk f e object at u) (tree-65 s at stop h q) ∙ walk-65 e [] Row65 object at u
+        ap (λ (f : Field). walk f e object at u) (tree-bare 0x65 refl s at stop h q) ∙ walk-65 e [] Row65 object at u
         ∙ go (walkAll Row65 e object (inside at []) u) ∙ sym (ap (λ (m : Outcome (Field × State)). onto m requiring) (parts-65 u))
       where
         go : (m : Outcome (Fields × State)) → onto m (λ r. afterExpression (e .pass) e (field 0x65 [] (r .0)) object at (r .1)) ≡ onto (onto m (λ r. done (field 0x65 [] (r .0), r .1))) requiring
@@ -110,7 +108,7 @@ module _ (c : CodeSetting) (e : Setting) (object : Bool) (s : List ℕ) (bytes :
         go : (m : Outcome (Fields × State)) →
             After m (λ ds v. (required e (field 0x65 [] ds) ≡ requiredAfter e (field 0x65 [] Row65) u) × ((l : List ℕ) → required e (field 0x65 [] ds) ≡ some l → Called (field 0x65 [] ds))) →
             After (onto m (λ r. done (field 0x65 [] (r .0), r .1))) (λ g v. (required e g ≡ requiredAfter e (treeAt s at stop) u) × ((l : List ℕ) → required e g ≡ some l → Called g))
-        go (done r) k = (k .0 ∙ ap (λ (f : Field). requiredAfter e f u) (sym (tree-65 s at stop h q)), k .1)
+        go (done r) k = (k .0 ∙ ap (λ (f : Field). requiredAfter e f u) (sym (tree-bare 0x65 refl s at stop h q)), k .1)
         go (refused n p) k = tt
 
     unrequired : (m : Outcome (Field × State)) → After m (λ f v. required e f ≡ nothing) → onto m requiring ≡ m

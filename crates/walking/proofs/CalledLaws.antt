@@ -1,19 +1,19 @@
 -- A walked call that meets the require conditions has a 60 for its callee, with an id of six bytes.
 use Prim.Native.Nat.{ℕ, _+_}
 use native.Mathlib.Omega.{arith}
-use mathlib.Core.Path.{_≡_, refl, sym, ap, subst, _∙_}
-use mathlib.Core.Bool.{Bool, true, false, cond, _&&_}
+use mathlib.Core.Path.{_≡_, refl, sym, ap, _∙_}
+use mathlib.Core.Bool.{Bool, true, false, cond}
 use mathlib.Core.List.{List, [], _∷_, _++_, map}
 use mathlib.Core.Option.{Option, none as nothing, some}
 use lib.Dec.{eqb}
 use lib.ListN.{length, length-append}
-use borrow.Author.Tests.{eqb-true, eqb-false, eq-eqb, ne-eqb}
+use borrow.Author.Tests.{eqb-true, eq-eqb}
 use Rattle.tables.specs.Rows.{Row, rows}
 use Rattle.tree.specs.declared.grammar.Rule.{Rule}
 use Rattle.tree.specs.Layout.{same}
 use Rattle.tree.specs.Tree.{Field, field, Fields, none, more, tagOf, fixedOf, size}
-use Rattle.tree.specs.Within.{Exact}
-use Rattle.lent.specs.Outcome.{Outcome, done, refused, onto}
+use Rattle.tree.proofs.WidthLaws.{plain-width}
+use Rattle.tree.specs.declared.grammar.Value.the-variants.{Id}
 use Rattle.lent.specs.Lists.{find, mapped}
 use Rattle.lent.specs.Fields.{has}
 use Rattle.extraction_rules.specs.State.{Imported, Usage, State, Pass, first, second, Setting}
@@ -23,15 +23,12 @@ use Rattle.extraction_rules.specs.Walk.{walk, walkAll}
 use Rattle.extraction_rules.proofs.OutcomeLaws.{After, after-bind}
 use Rattle.extraction_rules.proofs.ValueLaws.{after-any, required-call}
 use Rattle.extraction_rules.proofs.AlikeLaws.{RegularAll}
-use Rattle.extraction_rules.proofs.ExactLaws.{width-60}
 use Rattle.extraction_rules.proofs.ShapeLaws.{Shaped, ShapedAll, name-width}
 use Rattle.kept.specs.Kept.{At, imports, tableOf, importedOf, Shows}
 use Rattle.expressions.specs.After.{identOf, asIdent, becomes, identAfter, memberAfter}
 use Rattle.expressions.proofs.IdentLaws.{walk-ident}
 use Rattle.walking.specs.Walking.{Called}
-
-none-some : {A : Type 0} {i : List ℕ} → nothing ≡ some i → A
-none-some {i = i} q = absurd (let z : _≡_ {A = ℕ} 0 1 = cc in omega arith)
+use Rattle.scope.proofs.Laws.{none-some}
 
 -- ---- Contexts
 
@@ -88,7 +85,7 @@ ident-width (field t x cs) k u y f w h = go (eqb t 0x63) refl (eqb t 0x60) refl 
   where
     go : (a : Bool) → eqb t 0x63 ≡ a → (b : Bool) → eqb t 0x60 ≡ b → cond a (memberAfter cs k u) (cond b (some x) nothing) ≡ some y → length y ≡ 6
     go true p b q h = member-width cs _ k u y f (w .1) h
-    go false p true q h = let z : x ≡ y = cc in sym (ap length z) ∙ width-60 x (subst (λ (n : ℕ). Exact n x) (eqb-true t 0x60 q) (w .0))
+    go false p true q h = let z : x ≡ y = cc in sym (ap length z) ∙ plain-width 0x60 Id refl x (eqb-true t 0x60 q) (w .0)
     go false p false q h = none-some h
 
 -- ---- A walked call

@@ -1,29 +1,25 @@
 -- In the second pass an expression that is to become an id does so at once and leaves the state alone; any other 63 stays one.
 use Prim.Native.Nat.{ℕ, _+_}
-use native.Mathlib.Omega.{arith}
 use mathlib.Core.Path.{_≡_, refl, sym, ap, subst, _∙_}
-use mathlib.Core.Logic.{_⊎_, inl, inr}
-use mathlib.Core.Bool.{Bool, true, false, cond, _&&_}
+use mathlib.Core.Bool.{Bool, true, false, cond}
 use mathlib.Core.List.{List, [], _∷_, _++_}
 use mathlib.Core.Option.{Option, none as nothing, some}
 use lib.Dec.{eqb}
-use borrow.Author.Tests.{eqb-true, eqb-false, eq-eqb, ne-eqb}
+use borrow.Author.Tests.{eqb-true}
 use Rattle.tree.specs.Tree.{Field, field, Fields, none, more, tagOf, fixedOf, size}
 use Rattle.lent.specs.Outcome.{Outcome, done, refused, onto}
 use Rattle.lent.specs.Fields.{has, inside}
-use Rattle.extraction_rules.specs.State.{Usage, State, Pass, first, second, Setting}
+use Rattle.extraction_rules.specs.State.{Usage, State, Pass, second, Setting}
 use Rattle.extraction_rules.specs.First.{importedAs, onIdent}
 use Rattle.extraction_rules.specs.Second.{usagesOf, asProperty, rewritten}
-use Rattle.extraction_rules.specs.Walk.{afterExpression, walk, walkAll, walkMember}
-use Rattle.extraction_rules.proofs.OutcomeLaws.{After, after-done}
-use Rattle.extraction_rules.proofs.AlikeLaws.{Two, RegularAt, Regular, RegularAll}
+use Rattle.extraction_rules.specs.Walk.{afterExpression, walk, walkMember}
+use Rattle.extraction_rules.proofs.OutcomeLaws.{after-done}
+use Rattle.extraction_rules.proofs.AlikeLaws.{Two, Regular, RegularAll}
 use Rattle.expressions.specs.After.{identOf, asIdent, becomes, identAfter, memberAfter}
 use Rattle.expressions.proofs.IdentLaws.{walk-70, as-ident, Became, walk-ident}
 use Rattle.steps.specs.Step.{withParts}
 use Rattle.walking.proofs.TagLaws.{walk-60, walk-63, second-60}
-
-none-some : {A : Type 0} {i : List ℕ} → nothing ≡ some i → A
-none-some {i = i} q = absurd (let z : _≡_ {A = ℕ} 0 1 = cc in omega arith)
+use Rattle.scope.proofs.Laws.{none-some}
 
 -- ---- A 63 that is no usage
 

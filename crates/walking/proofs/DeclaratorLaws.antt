@@ -2,26 +2,28 @@
 use Prim.Native.Nat.{ℕ, _+_, _≤_, _<_}
 use native.Mathlib.Omega.{arith}
 use mathlib.Core.Path.{_≡_, refl, sym, ap, subst, _∙_}
-use mathlib.Core.Bool.{Bool, true, false, cond}
-use mathlib.Core.List.{List, [], _++_}
+use mathlib.Core.Bool.{Bool, true, false}
+use mathlib.Core.List.{List, []}
 use mathlib.Core.Option.{Option, none as nothing, some}
 use lib.Dec.{eqb}
-use lib.ListN.{length, getD}
+use lib.ListN.{getD}
 use lib.Seq.{length-take-le}
 use borrow.Author.Tests.{eqb-true, eqb-false}
 use Rattle.scope.specs.Id.{export}
+use Rattle.scope.proofs.Laws.{none-some}
 use Rattle.tree.specs.declared.layout.Reach.{Reach}
 use Rattle.tree.specs.declared.layout.Reach.the-variants.{Upto, Short}
-use Rattle.tree.specs.declared.grammar.Rule.{Rule}
-use Rattle.tree.specs.Layout.{Bytes, four, nameOf}
+use Rattle.tree.specs.Layout.{Bytes, nameOf}
 use Rattle.tree.specs.Tree.{Field, field, Fields, none, more, tagOf, fixedOf, encode, encodes, size}
 use Rattle.tree.specs.Access.{fixedAt, extentAt}
 use Rattle.tree.specs.Standing.{treeAt, rowAt}
 use Rattle.tree.proofs.StandingLaws.{row-more, row-none, tree-upto, tree-short}
+use Rattle.tree.proofs.WidthLaws.{tree-bare}
+use Rattle.tree.proofs.TreeLaws.{encodes-more}
 use Rattle.writer.proofs.Wrote.{wrote-as}
 use Rattle.lent.specs.Outcome.{Outcome, done, refused, onto}
 use Rattle.lent.specs.Fields.{inside}
-use Rattle.extraction_rules.specs.State.{State, Pass, first, second, Setting, Act}
+use Rattle.extraction_rules.specs.State.{State, Pass, first, second, Setting}
 use Rattle.extraction_rules.specs.First.{idFrom, required, withCallee, bindings, requireLazily, declarator}
 use Rattle.extraction_rules.specs.Walk.{afterExpression, walk, walkAll}
 use Rattle.extraction_rules.proofs.OutcomeLaws.{After, after-bind, after-done, after-both, after-weaken}
@@ -29,27 +31,23 @@ use Rattle.extraction_rules.proofs.ValueLaws.{after-any, first-expression}
 use Rattle.extraction_rules.proofs.ExactLaws.{id-width}
 use Rattle.extraction_rules.proofs.AlikeLaws.{Regular}
 use Rattle.extraction_rules.proofs.ShapeLaws.{Shaped, ShapedAll}
-use Rattle.kept.specs.Kept.{At, Good, idOf, Shows}
+use Rattle.kept.specs.Kept.{Good, idOf}
 use Rattle.kept.specs.Does.{Tells}
 use Rattle.expressions.specs.After.{requiredAfter}
-use Rattle.expressions.proofs.WidthLaws.{tree-65}
 use Rattle.expressions.proofs.RequiredLaws.{none-after, walk-required}
 use Rattle.expressions.proofs.BindingLaws.{walk-binds}
 use Rattle.steps.specs.declared.Setting.{Setting as CodeSetting}
 use Rattle.steps.specs.declared.Why.{Why}
 use Rattle.steps.specs.declared.Step.{Step}
 use Rattle.steps.specs.declared.Step.the-variants.{Done, Refused}
-use Rattle.steps.specs.Step.{Made, Sound, SoundAll, Steps, refusalOf}
+use Rattle.steps.specs.Step.{SoundAll, Steps}
 use Rattle.steps.proofs.SoundLaws.{read-size, read-inside, soundAll-first, soundAll-rest}
 use Rattle.steps.proofs.StepsLaws.{done-refused, steps-by, steps-as, steps-give, pairOf, steps-pair, steps-turned}
 use Rattle.walking.specs.Walking.{placeIn, Reads, FieldSteps, RowSteps, initialised, behind, declared, Behind, Called, Amends}
 use Rattle.walking.proofs.TagLaws.{walk-65, second-65}
-use Rattle.walking.proofs.RowLaws.{all-more, all-none, more-bytes}
+use Rattle.walking.proofs.RowLaws.{all-more, all-none}
 use Rattle.walking.proofs.CalledLaws.{FourBytes, four-shown, walked-called}
 use Rattle.walking.proofs.CallLaws.{sound-shaped}
-
-none-some : {A : Type 0} {i : List ℕ} → nothing ≡ some i → A
-none-some {i = i} q = absurd (let z : _≡_ {A = ℕ} 0 1 = cc in omega arith)
 
 -- ---- A walked initialiser that meets the require conditions is a call with a callee of six bytes
 
@@ -98,7 +96,7 @@ call-bare s at stop h k = go (fixedAt s (getD s at 0) (at + 3) stop) refl
   where
     go : (r : Reach) → fixedAt s (getD s at 0) (at + 3) stop ≡ r → fixedOf (treeAt s at stop) ≡ []
     go Short z = ap fixedOf (tree-short s at stop z)
-    go (Upto b) z = ap fixedOf (tree-65 s at stop h (ap tagOf (sym (tree-upto s at stop b z)) ∙ k))
+    go (Upto b) z = ap fixedOf (tree-bare 0x65 refl s at stop h (ap tagOf (sym (tree-upto s at stop b z)) ∙ k))
 
 module _ (c : CodeSetting) (e : Setting) (object : Bool) (s : List ℕ) (bytes : Bytes s) (at end p place : ℕ) (le : at ≤ end) (q : Field) where
   pub behind-over : {t out : List ℕ} {o : ℕ} → extentAt s at end ≡ Short → Good t → Steps encodes (Behind c s at end place q) (behind e object s at end p q) t out o t out (Done o)
@@ -171,12 +169,12 @@ module _ (c : CodeSetting) (e : Setting) (object : Bool) (s : List ℕ) (bytes :
               let d = m .made r refl u w (k .0, k .1) in
               let f = after-done (walkAll (rowAt s at end) e object at u) (λ ds v. Known u ds) (d .value, d .state) (d .is) (known u (four-shown w) (k .0)) in
               let l : required e (f .0) ≡ some (idOf n) = f .3 ∙ sym (told .is u w) in
-              let g = a .made i z (d .state) (d .shows) (k .2) out (f .0) (encodes (f .1)) (f .4 (idOf n) l) (wrote-as (d .wrote) (ap encodes (f .2) ∙ more-bytes (f .0) (f .1))) in
+              let g = a .made i z (d .state) (d .shows) (k .2) out (f .0) (encodes (f .1)) (f .4 (idOf n) l) (wrote-as (d .wrote) (ap encodes (f .2) ∙ encodes-more (f .0) (f .1))) in
               record {
                 value = more (g .value) (f .1);
                 state = g .state;
                 is = joined u (d .value) (d .state) (f .0) (f .1) (d .is) (f .2) l ∙ ap (λ (b : Outcome (Field × State)). onto b (λ j. done (more (j .0) (f .1), j .1))) (g .is);
-                wrote = wrote-as (g .wrote) (sym (more-bytes (g .value) (f .1)));
+                wrote = wrote-as (g .wrote) (sym (encodes-more (g .value) (f .1)));
                 shows = g .shows;
               };
           turned = λ j i z {x = y} u w k.
@@ -239,7 +237,7 @@ module _ (c : CodeSetting) (e : Setting) (object : Bool) (s : List ℕ) (bytes :
         RowSteps c s at end (declared e object s at end p) t out o t2 out2 k
     declared-then pos one rest =
         steps-as (declared e object s at end p)
-        (steps-pair encode encodes encodes more more-bytes (λ y u. SoundAll s at end × Reads y (c .second) s) (λ q. behind e object s stop end p q) one rest (field 0 [] none)
+        (steps-pair encode encodes encodes more encodes-more (λ y u. SoundAll s at end × Reads y (c .second) s) (λ q. behind e object s stop end p q) one rest (field 0 [] none)
         (λ y u w. (soundAll-first le (w .0) x, w .1))
         (λ y u w q v z.
         let g = soundAll-first le (w .0) x in
@@ -251,5 +249,5 @@ module _ (c : CodeSetting) (e : Setting) (object : Bool) (s : List ℕ) (bytes :
         RowSteps c s at end (declared e object s at end p) t out o t1 out1 (Refused v r)
     declared-turned one =
         steps-as (declared e object s at end p)
-        (steps-turned encode encodes encodes more more-bytes (λ y u. SoundAll s at end × Reads y (c .second) s) (λ q. behind e object s stop end p q) one (λ y u w. (soundAll-first le (w .0) x, w .1)))
+        (steps-turned encode encodes encodes more encodes-more (λ y u. SoundAll s at end × Reads y (c .second) s) (λ q. behind e object s stop end p q) one (λ y u w. (soundAll-first le (w .0) x, w .1)))
         (λ y u w. (w, split-here (w .0) u))

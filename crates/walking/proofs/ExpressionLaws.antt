@@ -1,40 +1,37 @@
 -- Idents, members and calls: what is written for each, and what follows its parts, is what the walk makes of it.
-use Prim.Native.Nat.{ℕ, _+_, _≤_, _<_}
-use native.Mathlib.Omega.{arith}
+use Prim.Native.Nat.{ℕ, _+_, _≤_}
 use mathlib.Core.Path.{_≡_, refl, sym, ap, subst, _∙_}
-use mathlib.Core.Bool.{Bool, true, false, cond}
-use mathlib.Core.List.{List, [], _++_}
-use mathlib.Core.Option.{Option, none as nothing, some}
-use lib.ListN.{length, getD}
+use mathlib.Core.Bool.{Bool, cond}
+use mathlib.Core.List.{List, []}
+use mathlib.Core.Option.{none as nothing, some}
+use lib.ListN.{getD}
 use lib.Seq.{slice}
-use Rattle.tree.specs.declared.layout.Reach.the-variants.{Upto, Short}
+use Rattle.tree.specs.declared.layout.Reach.the-variants.{Upto}
 use Rattle.tree.specs.Layout.{idAt}
-use Rattle.tree.specs.Tree.{Field, field, Fields, none, more, encode, encodes, fixedOf}
+use Rattle.tree.specs.Tree.{Field, field, Fields, none, encode}
 use Rattle.tree.specs.Access.{fixedAt}
 use Rattle.tree.specs.Standing.{treeAt, rowAt}
 use Rattle.tree.proofs.StandingLaws.{tree-upto}
+use Rattle.tree.proofs.WidthLaws.{plain-ends, tree-bare}
+use Rattle.tree.specs.declared.grammar.Value.the-variants.{Id}
 use Rattle.writer.specs.Wrote.{Wrote}
 use Rattle.lent.specs.Outcome.{Outcome, done, refused, onto}
 use Rattle.lent.specs.Fields.{inside}
-use Rattle.extraction_rules.specs.State.{State, Pass, first, second, Setting, Act}
+use Rattle.extraction_rules.specs.State.{State, Pass, first, second, Setting}
 use Rattle.extraction_rules.specs.First.{forceId, onIdent, usage}
-use Rattle.extraction_rules.specs.Walk.{afterExpression, walk, walkAll, walkMember, walkTarget}
-use Rattle.extraction_rules.proofs.OutcomeLaws.{After, after-done}
-use Rattle.extraction_rules.proofs.AlikeLaws.{Regular, RegularAll, Two}
-use Rattle.kept.specs.Kept.{At, Good, idOf, Shows}
-use Rattle.kept.specs.Does.{Turns, Tells, Did}
+use Rattle.extraction_rules.specs.Walk.{afterExpression, walk, walkMember, walkTarget}
+use Rattle.extraction_rules.proofs.OutcomeLaws.{After}
+use Rattle.extraction_rules.proofs.AlikeLaws.{Regular}
+use Rattle.kept.specs.Kept.{Good, idOf}
+use Rattle.kept.specs.Does.{Turns, Tells}
 use Rattle.expressions.specs.After.{identAfter}
-use Rattle.expressions.proofs.WidthLaws.{ends-60, tree-63, tree-65}
 use Rattle.steps.specs.declared.Setting.{Setting as CodeSetting}
 use Rattle.steps.specs.declared.Step.{Step}
 use Rattle.steps.specs.declared.Step.the-variants.{Done, Refused}
 use Rattle.steps.specs.declared.Why.{Why}
-use Rattle.steps.specs.declared.Effect.{Effect}
-use Rattle.steps.specs.declared.Effect.the-variants.{Fine, Refused as Turned}
-use Rattle.steps.specs.Step.{Made, Sound, SoundAll, Steps, Effects, refusalOf, withParts}
-use Rattle.steps.proofs.SoundLaws.{sound-parts}
+use Rattle.steps.specs.Step.{Sound, Steps, withParts}
 use Rattle.steps.proofs.StepsLaws.{steps-by, steps-as, steps-write, thenOf, steps-then, steps-then-turned}
-use Rattle.walking.specs.Walking.{Reads, FieldSteps, NodeSteps}
+use Rattle.walking.specs.Walking.{Reads, FieldSteps}
 use Rattle.walking.proofs.TagLaws.{walk-60, walk-63, first-60, second-60, first-63}
 use Rattle.walking.proofs.ChainLaws.{ident-walks, member-stays}
 use Rattle.walking.proofs.UsedLaws.{usage-walked}
@@ -50,7 +47,7 @@ module _ (c : CodeSetting) (e : Setting) (s : List ℕ) (at from stop : ℕ) (x 
   ident-tree w =
       let z = tree-upto s at stop from x in
       let r = subst Regular z (w .regular) in
-      let b : from ≡ at + 3 + 6 = ends-60 s (getD s at 0) (at + 3) stop from q x in
+      let b : from ≡ at + 3 + 6 = plain-ends 0x60 Id refl s (getD s at 0) (at + 3) stop from q x in
       z ∙ ap (λ (n : ℕ). field n (slice (at + 3) from s) (rowAt s from stop)) q
       ∙ ap (λ (fs : Fields). field 0x60 (slice (at + 3) from s) fs) (r .0 .ident-bare q) ∙ ap (λ (n : ℕ). field 0x60 (slice (at + 3) n s) none) b
 
@@ -86,13 +83,13 @@ member-ident c e s at stop object id g two n v =
 module _ (c : CodeSetting) (e : Setting) (object : Bool) (s : List ℕ) (at stop : ℕ) (h : at + 3 ≤ stop) (q : getD s at 0 ≡ 0x63) where
   target-63 : (u : State) → walkTarget (treeAt s at stop) e at u ≡ withParts 0x63 [] (walkMember (rowAt s (at + 3) stop) e (inside at [])) u
   unfolding walk
-  target-63 u = ap (λ (f : Field). walkTarget f e at u) (tree-63 s at stop h q)
+  target-63 u = ap (λ (f : Field). walkTarget f e at u) (tree-bare 0x63 refl s at stop h q)
 
   pub member-other : {t out t' out' : List ℕ} {o : ℕ} {k : Step} → e .pass ≡ second → Tells (identAfter (treeAt s at stop) second) t nothing →
       FieldSteps c s at stop (walkTarget (treeAt s at stop) e at) t out o t' out' k → FieldSteps c s at stop (walk (treeAt s at stop) e object at) t out o t' out' k
   member-other two n m =
       steps-by _ m (λ y u w k.
-      let z = tree-63 s at stop h q in (
+      let z = tree-bare 0x63 refl s at stop h q in (
         k,
         ap (λ (f : Field). walk f e object at u) z
             ∙ member-stays e two [] (rowAt s (at + 3) stop) object at u (subst Regular z (k .0 .regular)) (ap (λ (f : Field). identAfter f second u) (sym z) ∙ sym (n .is u w))
@@ -102,7 +99,7 @@ module _ (c : CodeSetting) (e : Setting) (object : Bool) (s : List ℕ) (at stop
   -- in the first pass usage follows
   walk-used : e .pass ≡ first → Sound s at stop → (u : State) → walk (treeAt s at stop) e object at u ≡ thenOf (walkTarget (treeAt s at stop) e at) (usage (onIdent (treeAt s at stop)) e at) u
   walk-used one w u =
-      let z = tree-63 s at stop h q in
+      let z = tree-bare 0x63 refl s at stop h q in
       let r = subst Regular z (w .regular) in
       ap (λ (f : Field). walk f e object at u) z ∙ walk-63 e [] (rowAt s (at + 3) stop) object at u
       ∙ go (walkMember (rowAt s (at + 3) stop) e (inside at []) u) (usage-walked e one [] (rowAt s (at + 3) stop) at (inside at []) u (r .0 .member-two refl) (r .1))

@@ -1,27 +1,27 @@
 -- Rows of fields: the first field and then the rest are the row; and a field is its row with its tag and fixed bytes.
-use Prim.Native.Nat.{ℕ, _+_, _-_, _≤_, _<_}
+use Prim.Native.Nat.{ℕ, _+_, _-_, _≤_}
 use native.Mathlib.Omega.{arith}
-use mathlib.Core.Path.{_≡_, refl, sym, ap, subst, _∙_}
+use mathlib.Core.Path.{_≡_, refl, ap, _∙_}
 use mathlib.Core.Bool.{Bool, true, false}
-use mathlib.Core.List.{List, [], _++_}
-use lib.ListN.{length, getD}
-use lib.Seq.{slice}
+use mathlib.Core.List.{List, []}
+use lib.ListN.{length}
 use Rattle.tree.specs.declared.layout.Reach.the-variants.{Upto, Short}
 use Rattle.tree.specs.Layout.{Bytes}
 use Rattle.tree.specs.Tree.{Field, field, Fields, none, more, encode, encodes, size}
-use Rattle.tree.specs.Access.{fixedAt, extentAt}
+use Rattle.tree.specs.Access.{extentAt}
 use Rattle.tree.specs.Standing.{treeAt, rowAt}
 use Rattle.tree.proofs.AccessLaws.{extent-upto}
-use Rattle.tree.proofs.StandingLaws.{row-more, row-none, tree-upto}
-use Rattle.lent.specs.Outcome.{Outcome, done, refused, onto}
-use Rattle.extraction_rules.specs.State.{State, Setting, Act, give}
+use Rattle.tree.proofs.StandingLaws.{row-more, row-none}
+use Rattle.tree.proofs.TreeLaws.{encodes-none, encodes-more}
+use Rattle.lent.specs.Outcome.{done}
+use Rattle.extraction_rules.specs.State.{State, Setting, Act}
 use Rattle.extraction_rules.specs.Walk.{walk, walkAll, walkMember, walkAssignment, walkTarget}
-use Rattle.kept.specs.Kept.{At, Good}
+use Rattle.kept.specs.Kept.{Good}
 use Rattle.steps.specs.declared.Setting.{Setting as CodeSetting}
 use Rattle.steps.specs.declared.Why.{Why}
 use Rattle.steps.specs.declared.Step.{Step}
 use Rattle.steps.specs.declared.Step.the-variants.{Done, Refused}
-use Rattle.steps.specs.Step.{Sound, SoundAll, Steps}
+use Rattle.steps.specs.Step.{SoundAll}
 use Rattle.steps.proofs.SoundLaws.{read-size, read-inside, soundAll-first, soundAll-rest}
 use Rattle.steps.proofs.StepsLaws.{steps-is, steps-give, steps-as, pairOf, steps-pair, steps-turned}
 use Rattle.walking.specs.Walking.{Reads, FieldSteps, RowSteps}
@@ -53,14 +53,6 @@ pub assignment-none : (e : Setting) (b : Bool) (p : ℕ) (s : State) → walkAss
 unfolding walk
 assignment-none e b p s = refl
 
-no-bytes : encodes none ≡ []
-unfolding encode
-no-bytes = refl
-
-pub more-bytes : (f : Field) (fs : Fields) → encodes (more f fs) ≡ encode f ++ encodes fs
-unfolding encode
-more-bytes f fs = refl
-
 -- ---- A row, a field at a time
 
 module _ (c : CodeSetting) (e : Setting) {s : List ℕ} (bytes : Bytes s) {at end : ℕ} (le : at ≤ end) where
@@ -68,7 +60,7 @@ module _ (c : CodeSetting) (e : Setting) {s : List ℕ} (bytes : Bytes s) {at en
   pub row-over : (W : Fields → ℕ → Act Fields) → ((p : ℕ) (u : State) → W none p u ≡ done (none, u)) → extentAt s at end ≡ Short →
       {t out : List ℕ} {o : ℕ} → Good t → RowSteps c s at end (W (rowAt s at end) at) t out o t out (Done o)
   row-over W h x g =
-      steps-give encodes (λ y u. SoundAll s at end × Reads y (c .second) s) (W (rowAt s at end) at) none g no-bytes
+      steps-give encodes (λ y u. SoundAll s at end × Reads y (c .second) s) (W (rowAt s at end) at) none g encodes-none
       (λ y u w. ap (λ (fs : Fields). W fs at u) (row-none s at end le x) ∙ h at u)
 
   module _ {stop : ℕ} (x : extentAt s at end ≡ Upto stop) (W : Fields → ℕ → Act Fields) (F : Field → ℕ → Act Field) (b : Bool)
@@ -86,7 +78,7 @@ module _ (c : CodeSetting) (e : Setting) {s : List ℕ} (bytes : Bytes s) {at en
         RowSteps c s stop end (walkAll (rowAt s stop end) e b stop) t1 out1 p t2 out2 k → RowSteps c s at end (W (rowAt s at end) at) t out o t2 out2 k
     row-then first rest =
         steps-as (W (rowAt s at end) at)
-        (steps-pair encode encodes encodes more more-bytes (λ y u. SoundAll s at end × Reads y (c .second) s) (λ _. walkAll (rowAt s stop end) e b stop) first (λ _. rest) (field 0 [] none)
+        (steps-pair encode encodes encodes more encodes-more (λ y u. SoundAll s at end × Reads y (c .second) s) (λ _. walkAll (rowAt s stop end) e b stop) first (λ _. rest) (field 0 [] none)
         (λ y u w. (soundAll-first le (w .0) x, w .1)) (λ y u w f v q. (soundAll-rest le (w .0) x, w .1)))
         (λ y u w. (w, split-here (w .0) u))
 
@@ -94,7 +86,7 @@ module _ (c : CodeSetting) (e : Setting) {s : List ℕ} (bytes : Bytes s) {at en
         RowSteps c s at end (W (rowAt s at end) at) t out o t1 out1 (Refused v q)
     row-turned first =
         steps-as (W (rowAt s at end) at)
-        (steps-turned encode encodes encodes more more-bytes (λ y u. SoundAll s at end × Reads y (c .second) s) (λ _. walkAll (rowAt s stop end) e b stop) first
+        (steps-turned encode encodes encodes more encodes-more (λ y u. SoundAll s at end × Reads y (c .second) s) (λ _. walkAll (rowAt s stop end) e b stop) first
         (λ y u w. (soundAll-first le (w .0) x, w .1)))
         (λ y u w. (w, split-here (w .0) u))
 

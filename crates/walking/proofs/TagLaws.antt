@@ -1,22 +1,20 @@
 -- What the walk does to a field of each tag.
 use Prim.Native.Nat.{ℕ}
 use native.Mathlib.Omega.{arith}
-use mathlib.Core.Path.{_≡_, refl, sym, ap, subst, _∙_}
-use mathlib.Core.Bool.{Bool, true, false, not, cond, _&&_, _||_}
-use mathlib.Core.List.{List, [], _∷_}
-use mathlib.Core.Option.{Option, none as nothing, some}
-use lib.Dec.{eqb}
+use mathlib.Core.Path.{_≡_, refl, ap, _∙_}
+use mathlib.Core.Bool.{Bool, true, false, cond}
+use mathlib.Core.List.{List}
 use borrow.Author.Tests.{ne-eqb}
-use Rattle.tree.specs.Tree.{Field, field, Fields, none, more, fixedOf}
-use Rattle.tree.specs.Grammar.{within, expressionTag, find}
+use Rattle.tree.specs.Tree.{field, Fields, none}
+use Rattle.tree.specs.Grammar.{within, expressionTag}
 use Rattle.lent.specs.Outcome.{Outcome, done, refused, onto}
-use Rattle.lent.specs.Fields.{has, inside}
-use Rattle.extraction_rules.specs.State.{State, Pass, first, second, Setting, Act, setTop}
+use Rattle.lent.specs.Fields.{inside}
+use Rattle.extraction_rules.specs.State.{State, Pass, first, second, Setting, setTop}
 use Rattle.extraction_rules.specs.First.{forceId, onIdent, usage, required, require, exportSpecifier, declarator}
 use Rattle.extraction_rules.specs.Second.{rewritten}
-use Rattle.extraction_rules.specs.Walk.{Rule, import, export, declare, express, nothing as plain, afterExpression, ruleFor, after, Parts, unwalked, member, super, assignment, children, partsFor, enter, walk, walkAll, walkMember, walkAssignment}
-use Rattle.extraction_rules.proofs.WalkLaws.{walkParts}
-use Rattle.expressions.proofs.IdentLaws.{no-member}
+use Rattle.extraction_rules.specs.Walk.{express, nothing as plain, afterExpression, ruleFor, after, Parts, super, assignment, children, partsFor, enter, walk, walkAll, walkMember, walkAssignment}
+use Rattle.extraction_rules.proofs.WalkLaws.{walkParts, parts-children}
+use Rattle.extraction_rules.proofs.StayLaws.{no-member}
 use Rattle.expressions.proofs.RequiredLaws.{no-required}
 use Rattle.steps.specs.Step.{withParts}
 
@@ -38,10 +36,6 @@ plain-after e t x ds object p s i j k a b c = rw (ne-eqb t 0x10 i, ne-eqb t 0x23
     go true = express-plain (e .pass) e t x ds object p s a b c
     go false = refl
 
-plain-way : (t : ℕ) → (t ≡ 0x10 → ⊥) → (t ≡ 0x23 → ⊥) → (t ≡ 0x63 → ⊥) → (t ≡ 0x64 → ⊥) → (t ≡ 0x66 → ⊥) → partsFor t ≡ children
-unfolding partsFor
-plain-way t a b c d e = rw (ne-eqb t 0x10 a, ne-eqb t 0x23 b, ne-eqb t 0x63 c, ne-eqb t 0x64 d, ne-eqb t 0x66 e) refl
-
 -- a walk by its parts and its rule
 by-parts : (e : Setting) (t : ℕ) (x : List ℕ) (cs : Fields) (object : Bool) (p : ℕ) (s : State) (v : Parts) → partsFor t ≡ v →
     ((ds : Fields) (u : State) → after (ruleFor t) e t x ds object p u ≡ done (field t x ds, u)) →
@@ -61,7 +55,7 @@ module _ (e : Setting) (x : List ℕ) (cs : Fields) (object : Bool) (p : ℕ) (s
   pub walk-plain : (t : ℕ) → (t ≡ 0x10 → ⊥) → (t ≡ 0x23 → ⊥) → (t ≡ 0x42 → ⊥) → (t ≡ 0x45 → ⊥) → (t ≡ 0x60 → ⊥) → (t ≡ 0x63 → ⊥) → (t ≡ 0x64 → ⊥) → (t ≡ 0x65 → ⊥) → (t ≡ 0x66 → ⊥) →
       walk (field t x cs) e object p s ≡ withParts t x (walkAll cs e object (inside p x)) s
   walk-plain t i j k b a m u c g =
-      by-parts e t x cs object p s children (plain-way t i j m u g) (λ ds u. plain-after e t x ds object p u i j k a m c)
+      by-parts e t x cs object p s children (parts-children t i j m u g) (λ ds u. plain-after e t x ds object p u i j k a m c)
       ∙ ap (withParts t x (walkAll cs e object (inside p x))) (ap (λ (b : Bool). cond b (setTop false s) s) (ne-eqb t 0x45 b))
 
   -- 'A block clears *top* for good.'

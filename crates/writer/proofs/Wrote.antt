@@ -15,13 +15,13 @@ use Rattle.writer.specs.Bytes.{twoBytes, framed}
 use Rattle.writer.specs.Wrote.{capped, Wrote, Opened, closed}
 
 -- a run of stores is one part of it after the other
-sets-append : (xs ys l : List ℕ) (i : ℕ) → sets l i (xs ++ ys) ≡ sets (sets l i xs) (i + length xs) ys
+pub sets-append : (xs ys l : List ℕ) (i : ℕ) → sets l i (xs ++ ys) ≡ sets (sets l i xs) (i + length xs) ys
 sets-append [] ys l i = rw add-zero
 sets-append (x ∷ xs) ys l i =
     sets-append xs ys (set l i x) (suc i) ∙ ap (λ (n : ℕ). sets (sets (set l i x) (suc i) xs) n ys) (omega arith)
 
 -- a store before a run may come first
-set-sets : (vs l : List ℕ) (i j b : ℕ) → j < i → set (sets l i vs) j b ≡ sets (set l j b) i vs
+pub set-sets : (vs l : List ℕ) (i j b : ℕ) → j < i → set (sets l i vs) j b ≡ sets (set l j b) i vs
 set-sets [] l i j b h = refl
 set-sets (a ∷ vs) l i j b h =
     set-sets vs (set l i a) (suc i) j b (omega arith)
@@ -64,10 +64,6 @@ wrote-as w e = rw e at w
 -- the position is exact where the output is not too long
 pub wrote-end : {l m bs : List ℕ} {o p : ℕ} → Wrote l o bs m p → p ≤ 65538 → p ≡ o + length bs
 wrote-end w h = let a = w .at in omega arith
-
-pub length-framed : (t : ℕ) (c : List ℕ) → length (framed t c) ≡ 3 + length c
-unfolding framed
-length-framed t c = omega arith
 
 length-cond : (b : Bool) (x y : List ℕ) {n : ℕ} → length x ≡ n → length y ≡ n → length (cond b x y) ≡ n
 length-cond true x y e f = e

@@ -1,9 +1,11 @@
 -- `detection::first_ident` meets its contract.
-use Rattle.detection.proofs.DetectionLaws.{first-none, first-short, first-named, first-other, ident-ends}
+use Rattle.detection.proofs.DetectionLaws.{first-none, first-short, first-named, first-other}
 use Prim.Native.Nat.{_+_}
-use mathlib.Core.Path.{sym, ap, _∙_}
+use mathlib.Core.Path.{sym, ap, _∙_, refl}
 use native.Mathlib.Omega.{arith}
 use Rattle.tree.proofs.AccessLaws.{extent-upto, upto-in}
+use Rattle.tree.proofs.WidthLaws.{plain-ends}
+use Rattle.tree.specs.declared.grammar.Value.the-variants.{Id}
 use Rattle.scope.specs.Id.{atom}
 use Rattle.detection.specs.declared.Ident.the-variants.{Name}
 use borrow.Author.Needs.{needs}
@@ -69,7 +71,7 @@ atom-at-requires c κs =
     let f = sym (c .before .before .before .fixed .ensures) ∙ c .before .enum-told2 .given .1 in
     let i = extent-upto (a .s .now) (a .from) (a .end) le x in
     let j = upto-in (a .s .now) _ (a .from + 3) _ (i .0) f in
-    let k = ident-ends (a .s .now) _ (a .from + 3) _ _ (c .if1 .taken) f in
+    let k = plain-ends 0x60 Id refl (a .s .now) _ (a .from + 3) _ _ (c .if1 .taken) f in
     omega arith
 
 returns-3 : tie.Need-returns-3

@@ -1,5 +1,5 @@
 -- `host::tychodrel_extract` meets its contract.
-use Rattle.host.proofs.CallLaws.{call-given, call-refused}
+use Rattle.host.proofs.CallLaws.{call-answered}
 use borrow.Author.Needs.{needs}
 use Rattle.host.proofs.tychodrel_extract.Statement.{statement}
 use Rattle.host.proofs.tychodrel_extract.Tie as tie
@@ -32,7 +32,7 @@ same-length-3 : tie.Need-same-length-3
 same-length-3 c = search needs
 
 returns : tie.Need-returns
-returns c = call-given (c .before .before .before .before .before .before .before .before .before .before .before .before .before .before .gen-ids .result) (c .before .before .before .before .before .before .before .before .before .before .before .before .before .before .before .new .result) (c .before .before .before .before .before .before .before .before .before .before .before .before .before .before .before .before .before .before .before .before .before .before .before .args .files .now) _ _ (c .before .before .before .before .before .before .before .before .before .before .before .before .before .before .before .new .ensures) (c .before .before .before .before .before .before .before .before .before .before .before .before .before .before .gen-ids .ensures) (c .before .before .before .before .before .before .before .before .before .before .before .enum-told .given .1) (c .before .before .before .before .before .before .extract-in .ensures)
+returns c = call-answered (c .before .before .before .before .before .before .before .before .before .before .before .before .before .before .gen-ids .result) (c .before .before .before .before .before .before .before .before .before .before .before .before .before .before .before .new .result) (c .before .before .before .before .before .before .before .before .before .before .before .before .before .before .before .before .before .before .before .before .before .before .before .args .files .now) _ _ (c .before .before .before .before .before .before .before .before .before .before .before .before .before .before .before .new .ensures) (c .before .before .before .before .before .before .before .before .before .before .before .before .before .before .gen-ids .ensures) (c .before .before .before .before .before .before .before .before .before .before .before .enum-told .given .1) (c .before .before .before .before .before .before .extract-in .ensures)
 
 same-length-4 : tie.Need-same-length-4
 same-length-4 c = search needs
@@ -44,7 +44,7 @@ same-length-6 : tie.Need-same-length-6
 same-length-6 c = search needs
 
 returns-2 : tie.Need-returns-2
-returns-2 c = call-refused (c .before .before .before .before .before .before .before .before .before .before .before .before .before .before .gen-ids .result) (c .before .before .before .before .before .before .before .before .before .before .before .before .before .before .before .new .result) (c .before .before .before .before .before .before .before .before .before .before .before .before .before .before .before .before .before .before .before .before .before .before .before .args .files .now) _ _ (c .before .before .before .before .before .before .before .before .before .before .before .before .before .before .before .new .ensures) (c .before .before .before .before .before .before .before .before .before .before .before .before .before .before .gen-ids .ensures) (c .before .before .before .before .before .before .before .before .before .before .before .enum-told2 .given .1) (c .before .before .before .before .before .before .refuse-files .ensures)
+returns-2 c = call-answered (c .before .before .before .before .before .before .before .before .before .before .before .before .before .before .gen-ids .result) (c .before .before .before .before .before .before .before .before .before .before .before .before .before .before .before .new .result) (c .before .before .before .before .before .before .before .before .before .before .before .before .before .before .before .before .before .before .before .before .before .before .before .args .files .now) _ _ (c .before .before .before .before .before .before .before .before .before .before .before .before .before .before .before .new .ensures) (c .before .before .before .before .before .before .before .before .before .before .before .before .before .before .gen-ids .ensures) (c .before .before .before .before .before .before .before .before .before .before .before .enum-told2 .given .1) (c .before .before .before .before .before .before .refuse-files .ensures)
 
 pub tychodrel-extract-spec : {M : Type 1} → statement M
 tychodrel-extract-spec =

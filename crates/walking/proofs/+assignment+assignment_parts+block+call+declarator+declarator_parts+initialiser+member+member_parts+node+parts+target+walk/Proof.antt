@@ -1,4 +1,4 @@
-use mathlib.Core.Path.{sym, ap, subst, _∙_}
+use mathlib.Core.Path.{sym, ap, subst, _∙_, refl}
 use mathlib.Core.Bool.{false, true}
 use mathlib.Core.Option.{none as nothing}
 use native.Mathlib.Omega.{arith}
@@ -7,13 +7,11 @@ use lib.ListN.{getD}
 use Prim.Native.Nat.{_+_, _-_, _*_}
 use mathlib.Core.Path.{_≡_}
 use Rattle.tree.specs.declared.layout.Reach.the-variants.{Upto}
-use Rattle.tree.specs.Tree.{Field, Fields}
 use Rattle.tree.specs.Access.{fixedAt}
 use Rattle.tree.proofs.AccessLaws.{extent-upto, upto-in}
 use Rattle.lent.specs.Table.{atomsIn, rowsIn}
-use Rattle.extraction_rules.specs.Walk.{walk as walk-rule, walkAll, walkMember, walkAssignment, walkTarget}
+use Rattle.extraction_rules.specs.Walk.{walk as walk-rule, walkMember, walkAssignment, walkTarget}
 use Rattle.expressions.specs.Require.{literalBy}
-use Rattle.expressions.proofs.WidthLaws.{ends-60}
 use Rattle.steps.specs.Step.{passOf, identBy}
 use Rattle.steps.proofs.StepsLaws.{steps-is, steps-field, effects-fine, effects-turned}
 use Rattle.walking.specs.Walking.{set, placeIn}
@@ -74,6 +72,8 @@ use Rattle.steps.proofs.begin_field.Reads as begin-field-reads
 use Rattle.steps.proofs.end_field.Reads as end-field-reads
 use Rattle.tree.proofs.access.extent.Reads as extent-reads
 use Rattle.tree.proofs.access.fixed.Reads as fixed-reads
+use Rattle.tree.proofs.WidthLaws.{plain-ends}
+use Rattle.tree.specs.declared.grammar.Value.the-variants.{Id}
 use Rattle.walking.proofs.ident.Reads as ident-reads
 use Rattle.walking.proofs.require.Reads as require-reads
 use Rattle.walking.proofs.require_lazily.Reads as require-lazily-reads
@@ -795,7 +795,7 @@ walk-block-requires : (t : ℕ) → walk-lts.Need-block-requires (walk-knows t) 
 walk-block-requires t c κs = let i = upto-in (c .before .before .before .before .before .before .before .before .before .before .before .before .before .args .s .now) (getD (c .before .before .before .before .before .before .before .before .before .before .before .before .before .args .s .now) (c .before .before .before .before .before .before .before .before .before .before .before .before .before .args .at) 0) (c .before .before .before .before .before .before .before .before .before .before .before .before .before .args .at + 3) (c .before .before .before .before .before .before .before .before .before .before .before .before .before .args .stop) (c .before .before .before .before .before .before .before .before .before .before .before .before .before .pre .1 .0) (sym (c .before .before .before .before .before .before .fixed .ensures) ∙ c .before .before .before .before .from .given .1) in (omega arith, (c .before .before .match2 .keys3, omega arith, omega arith, omega arith, (sym (c .before .before .before .before .before .before .fixed .ensures) ∙ c .before .before .before .before .from .given .1), c .before .before .before .before .before .before .before .before .before .before .before .before .before .pre .1 .2))
 
 walk-ident-requires : (t : ℕ) → walk-lts.Need-ident-requires (walk-knows t) (walk-at t) walk.Post
-walk-ident-requires t c κs = let i = upto-in (c .before .before .before .before .before .before .before .before .before .before .before .before .before .args .s .now) (getD (c .before .before .before .before .before .before .before .before .before .before .before .before .before .args .s .now) (c .before .before .before .before .before .before .before .before .before .before .before .before .before .args .at) 0) (c .before .before .before .before .before .before .before .before .before .before .before .before .before .args .at + 3) (c .before .before .before .before .before .before .before .before .before .before .before .before .before .args .stop) (c .before .before .before .before .before .before .before .before .before .before .before .before .before .pre .1 .0) (sym (c .before .before .before .before .before .before .fixed .ensures) ∙ c .before .before .before .before .from .given .1) in let n = ends-60 (c .before .before .before .before .before .before .before .before .before .before .before .before .before .args .s .now) (getD (c .before .before .before .before .before .before .before .before .before .before .before .before .before .args .s .now) (c .before .before .before .before .before .before .before .before .before .before .before .before .before .args .at) 0) (c .before .before .before .before .before .before .before .before .before .before .before .before .before .args .at + 3) (c .before .before .before .before .before .before .before .before .before .before .before .before .before .args .stop) (c .before .before .before .before .from .given .0 .0) (c .before .before .match2 .keys4) (sym (c .before .before .before .before .before .before .fixed .ensures) ∙ c .before .before .before .before .from .given .1) in (c .before .before .match2 .keys4, omega arith, omega arith, c .before .before .before .before .before .before .before .before .before .before .before .before .before .pre .1 .2)
+walk-ident-requires t c κs = let i = upto-in (c .before .before .before .before .before .before .before .before .before .before .before .before .before .args .s .now) (getD (c .before .before .before .before .before .before .before .before .before .before .before .before .before .args .s .now) (c .before .before .before .before .before .before .before .before .before .before .before .before .before .args .at) 0) (c .before .before .before .before .before .before .before .before .before .before .before .before .before .args .at + 3) (c .before .before .before .before .before .before .before .before .before .before .before .before .before .args .stop) (c .before .before .before .before .before .before .before .before .before .before .before .before .before .pre .1 .0) (sym (c .before .before .before .before .before .before .fixed .ensures) ∙ c .before .before .before .before .from .given .1) in let n = plain-ends 0x60 Id refl (c .before .before .before .before .before .before .before .before .before .before .before .before .before .args .s .now) (getD (c .before .before .before .before .before .before .before .before .before .before .before .before .before .args .s .now) (c .before .before .before .before .before .before .before .before .before .before .before .before .before .args .at) 0) (c .before .before .before .before .before .before .before .before .before .before .before .before .before .args .at + 3) (c .before .before .before .before .before .before .before .before .before .before .before .before .before .args .stop) (c .before .before .before .before .from .given .0 .0) (c .before .before .match2 .keys4) (sym (c .before .before .before .before .before .before .fixed .ensures) ∙ c .before .before .before .before .from .given .1) in (c .before .before .match2 .keys4, omega arith, omega arith, c .before .before .before .before .before .before .before .before .before .before .before .before .before .pre .1 .2)
 
 walk-member-requires : (t : ℕ) → walk-lts.Need-member-requires (walk-knows t) (walk-at t) walk.Post
 walk-member-requires t c κs = (omega arith, (c .before .before .match2 .keys5, omega arith, omega arith, c .before .before .before .before .before .before .before .before .before .before .before .before .before .pre .1 .2))

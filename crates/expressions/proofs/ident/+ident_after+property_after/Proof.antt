@@ -1,9 +1,8 @@
 -- `expressions::ident::ident_after` and `expressions::ident::property_after` meet their contracts.
-use mathlib.Core.Path.{sym, _∙_}
+use mathlib.Core.Path.{sym, _∙_, refl}
 use native.Mathlib.Omega.{arith}
 use borrow.Author.Needs.{needs}
 use Rattle.tree.proofs.AccessLaws.{upto-in}
-use Rattle.expressions.proofs.WidthLaws.{ends-60}
 use Rattle.expressions.proofs.AfterLaws.{after-short, after-60, after-63, after-first, after-rest}
 use mathlib.Core.Path.{sym, _∙_}
 use native.Mathlib.Omega.{arith}
@@ -25,6 +24,8 @@ use Rattle.kept.proofs.imported.has_usages.Reads as has-usages-reads
 use Rattle.kept.proofs.imported.imported_as.Reads as imported-as-reads
 use Rattle.tree.proofs.access.extent.Reads as extent-reads
 use Rattle.tree.proofs.access.fixed.Reads as fixed-reads
+use Rattle.tree.proofs.WidthLaws.{plain-ends}
+use Rattle.tree.specs.declared.grammar.Value.the-variants.{Id}
 use Rattle.expressions.proofs.ident.+ident_after+property_after.{statement}
 use Rattle.expressions.proofs.ident.+ident_after+property_after.Tie.{close}
 
@@ -86,7 +87,7 @@ ident-after-add-id-at : (t : ℕ) → ident-after-lts.Need-add-id-at (ident-afte
 ident-after-add-id-at t c = omega arith
 
 ident-after-id-at-requires : (t : ℕ) → ident-after-lts.Need-id-at-requires (ident-after-knows t) (ident-after-at t) ident-after.Post
-ident-after-id-at-requires t c κs = let j = upto-in (c .before .before .before .before .before .before .before .before .args .s .now) _ (c .before .before .before .before .before .before .before .before .args .at + 3) _ (c .before .before .before .before .before .before .before .before .pre .1 .0) (sym (c .before .before .before .before .fixed .ensures) ∙ c .before .before .from .given .1) in let k = ends-60 (c .before .before .before .before .before .before .before .before .args .s .now) _ (c .before .before .before .before .before .before .before .before .args .at + 3) _ _ (c .match2 .keys1) (sym (c .before .before .before .before .fixed .ensures) ∙ c .before .before .from .given .1) in omega arith
+ident-after-id-at-requires t c κs = let j = upto-in (c .before .before .before .before .before .before .before .before .args .s .now) _ (c .before .before .before .before .before .before .before .before .args .at + 3) _ (c .before .before .before .before .before .before .before .before .pre .1 .0) (sym (c .before .before .before .before .fixed .ensures) ∙ c .before .before .from .given .1) in let k = plain-ends 0x60 Id refl (c .before .before .before .before .before .before .before .before .args .s .now) _ (c .before .before .before .before .before .before .before .before .args .at + 3) _ _ (c .match2 .keys1) (sym (c .before .before .before .before .fixed .ensures) ∙ c .before .before .from .given .1) in omega arith
 
 ident-after-property-after-requires : (t : ℕ) → ident-after-lts.Need-property-after-requires (ident-after-knows t) (ident-after-at t) ident-after.Post
 ident-after-property-after-requires t c κs = let j = upto-in (c .before .before .before .before .before .before .before .before .before .args .s .now) _ (c .before .before .before .before .before .before .before .before .before .args .at + 3) _ (c .before .before .before .before .before .before .before .before .before .pre .1 .0) (sym (c .before .before .before .before .before .fixed .ensures) ∙ c .before .before .before .from .given .1) in (omega arith, (omega arith, omega arith, c .before .before .before .before .before .before .before .before .before .pre .1 .2))

@@ -1,10 +1,9 @@
 -- `expressions::ident::named_at` meets its contract.
 use Prim.Native.Nat.{_+_}
-use mathlib.Core.Path.{sym, _∙_}
+use mathlib.Core.Path.{sym, _∙_, refl}
 use native.Mathlib.Omega.{arith}
 use Rattle.tree.specs.Layout.{four}
 use Rattle.tree.proofs.AccessLaws.{extent-upto, upto-in}
-use Rattle.expressions.proofs.WidthLaws.{ends-70}
 use Rattle.expressions.proofs.AfterLaws.{named-none, named-short, named-70, named-rest}
 use borrow.Author.Needs.{needs}
 use Rattle.expressions.proofs.ident.named_at.Statement.{statement}
@@ -15,6 +14,8 @@ use Rattle.kept.proofs.ident.id_from.Reads as id-from-reads
 use Rattle.tree.proofs.access.extent.Reads as extent-reads
 use Rattle.tree.proofs.access.fixed.Reads as fixed-reads
 use Rattle.tree.proofs.layout.atom_at.Reads as atom-at-reads
+use Rattle.tree.proofs.WidthLaws.{plain-ends}
+use Rattle.tree.specs.declared.grammar.Value.the-variants.{Atom}
 
 extent-requires : tie.Need-extent-requires
 extent-requires c κs = search needs
@@ -50,13 +51,13 @@ add-atom-at : tie.Need-add-atom-at
 add-atom-at c = search needs
 
 atom-at-requires : tie.Need-atom-at-requires
-atom-at-requires c κs = let i = extent-upto (c .before .before .before .before .before .before .before .before .before .before .args .s .now) (c .before .before .before .before .before .before .before .before .before .before .args .at) (c .before .before .before .before .before .before .before .before .before .before .args .end) (c .before .before .before .before .before .before .before .before .before .before .pre .0) (sym (c .before .before .before .before .before .before .before .before .extent .ensures) ∙ c .before .before .before .before .before .before .stop .given .1) in let j = upto-in (c .before .before .before .before .before .before .before .before .before .before .args .s .now) _ (c .before .before .before .before .before .before .before .before .before .before .args .at + 3) _ (i .0) (sym (c .before .before .before .fixed .ensures) ∙ c .before .enum-told2 .given .1) in let k = ends-70 (c .before .before .before .before .before .before .before .before .before .before .args .s .now) _ (c .before .before .before .before .before .before .before .before .before .before .args .at + 3) _ _ (c .if1 .taken) (sym (c .before .before .before .fixed .ensures) ∙ c .before .enum-told2 .given .1) in omega arith
+atom-at-requires c κs = let i = extent-upto (c .before .before .before .before .before .before .before .before .before .before .args .s .now) (c .before .before .before .before .before .before .before .before .before .before .args .at) (c .before .before .before .before .before .before .before .before .before .before .args .end) (c .before .before .before .before .before .before .before .before .before .before .pre .0) (sym (c .before .before .before .before .before .before .before .before .extent .ensures) ∙ c .before .before .before .before .before .before .stop .given .1) in let j = upto-in (c .before .before .before .before .before .before .before .before .before .before .args .s .now) _ (c .before .before .before .before .before .before .before .before .before .before .args .at + 3) _ (i .0) (sym (c .before .before .before .fixed .ensures) ∙ c .before .enum-told2 .given .1) in let k = plain-ends 0x70 Atom refl (c .before .before .before .before .before .before .before .before .before .before .args .s .now) _ (c .before .before .before .before .before .before .before .before .before .before .args .at + 3) _ _ (c .if1 .taken) (sym (c .before .before .before .fixed .ensures) ∙ c .before .enum-told2 .given .1) in omega arith
 
 id-from-requires : tie.Need-id-from-requires
 id-from-requires c κs = search needs
 
 returns-3 : tie.Need-returns-3
-returns-3 c = let i = extent-upto (c .before .before .before .before .before .before .before .before .before .before .before .before .args .s .now) (c .before .before .before .before .before .before .before .before .before .before .before .before .args .at) (c .before .before .before .before .before .before .before .before .before .before .before .before .args .end) (c .before .before .before .before .before .before .before .before .before .before .before .before .pre .0) (sym (c .before .before .before .before .before .before .before .before .before .before .extent .ensures) ∙ c .before .before .before .before .before .before .before .before .stop .given .1) in let j = upto-in (c .before .before .before .before .before .before .before .before .before .before .before .before .args .s .now) _ (c .before .before .before .before .before .before .before .before .before .before .before .before .args .at + 3) _ (i .0) (sym (c .before .before .before .before .before .fixed .ensures) ∙ c .before .before .before .enum-told2 .given .1) in let k = ends-70 (c .before .before .before .before .before .before .before .before .before .before .before .before .args .s .now) _ (c .before .before .before .before .before .before .before .before .before .before .before .before .args .at + 3) _ _ (c .before .before .if1 .taken) (sym (c .before .before .before .before .before .fixed .ensures) ∙ c .before .before .before .enum-told2 .given .1) in named-70 (c .before .before .before .before .before .before .before .before .before .before .before .before .args .s .now) (c .before .before .before .before .before .before .before .before .before .before .before .before .args .at) (c .before .before .before .before .before .before .before .before .before .before .before .before .args .end) (four (c .before .before .before .before .before .before .before .before .before .before .before .before .args .c .0)) (c .before .before .before .before .before .before .before .before .before .before .before .before .pre .0) (sym (c .before .before .before .before .before .before .before .before .before .before .extent .ensures) ∙ c .before .before .before .before .before .before .before .before .stop .given .1) (λ i. c .before .before .before .before .before .before .before .before .before .before .before .shared-slice-known .given i .fits) (omega arith) (sym (c .before .before .before .before .before .fixed .ensures) ∙ c .before .before .before .enum-told2 .given .1) (c .before .before .if1 .taken) (c .before .atom-at .ensures) (c .id-from .ensures)
+returns-3 c = let i = extent-upto (c .before .before .before .before .before .before .before .before .before .before .before .before .args .s .now) (c .before .before .before .before .before .before .before .before .before .before .before .before .args .at) (c .before .before .before .before .before .before .before .before .before .before .before .before .args .end) (c .before .before .before .before .before .before .before .before .before .before .before .before .pre .0) (sym (c .before .before .before .before .before .before .before .before .before .before .extent .ensures) ∙ c .before .before .before .before .before .before .before .before .stop .given .1) in let j = upto-in (c .before .before .before .before .before .before .before .before .before .before .before .before .args .s .now) _ (c .before .before .before .before .before .before .before .before .before .before .before .before .args .at + 3) _ (i .0) (sym (c .before .before .before .before .before .fixed .ensures) ∙ c .before .before .before .enum-told2 .given .1) in let k = plain-ends 0x70 Atom refl (c .before .before .before .before .before .before .before .before .before .before .before .before .args .s .now) _ (c .before .before .before .before .before .before .before .before .before .before .before .before .args .at + 3) _ _ (c .before .before .if1 .taken) (sym (c .before .before .before .before .before .fixed .ensures) ∙ c .before .before .before .enum-told2 .given .1) in named-70 (c .before .before .before .before .before .before .before .before .before .before .before .before .args .s .now) (c .before .before .before .before .before .before .before .before .before .before .before .before .args .at) (c .before .before .before .before .before .before .before .before .before .before .before .before .args .end) (four (c .before .before .before .before .before .before .before .before .before .before .before .before .args .c .0)) (c .before .before .before .before .before .before .before .before .before .before .before .before .pre .0) (sym (c .before .before .before .before .before .before .before .before .before .before .extent .ensures) ∙ c .before .before .before .before .before .before .before .before .stop .given .1) (λ i. c .before .before .before .before .before .before .before .before .before .before .before .shared-slice-known .given i .fits) (omega arith) (sym (c .before .before .before .before .before .fixed .ensures) ∙ c .before .before .before .enum-told2 .given .1) (c .before .before .if1 .taken) (c .before .atom-at .ensures) (c .id-from .ensures)
 
 returns-4 : tie.Need-returns-4
 returns-4 c = named-rest (c .before .before .before .before .before .before .before .before .before .before .args .s .now) (c .before .before .before .before .before .before .before .before .before .before .args .at) (c .before .before .before .before .before .before .before .before .before .before .args .end) (four (c .before .before .before .before .before .before .before .before .before .before .args .c .0)) (c .before .before .before .before .before .before .before .before .before .before .pre .0) (sym (c .before .before .before .before .before .before .before .before .extent .ensures) ∙ c .before .before .before .before .before .before .stop .given .1) (sym (c .before .before .before .fixed .ensures) ∙ c .before .enum-told2 .given .1) (c .if1 .left)

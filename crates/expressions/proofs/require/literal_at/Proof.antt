@@ -1,9 +1,8 @@
 -- `expressions::require::literal_at` meets its contract.
 use Prim.Native.Nat.{_+_}
-use mathlib.Core.Path.{sym, _∙_}
+use mathlib.Core.Path.{sym, _∙_, refl}
 use native.Mathlib.Omega.{arith}
 use Rattle.tree.proofs.AccessLaws.{extent-upto, upto-in}
-use Rattle.expressions.proofs.WidthLaws.{ends-61}
 use Rattle.expressions.proofs.LiteralLaws.{first-none, first-short, first-61, first-rest}
 use borrow.Author.Needs.{needs}
 use Rattle.expressions.proofs.require.literal_at.Statement.{statement}
@@ -13,6 +12,8 @@ use Rattle.expressions.proofs.require.literal_at.Lts as lts
 use Rattle.kept.proofs.ident.id_at.Reads as id-at-reads
 use Rattle.tree.proofs.access.extent.Reads as extent-reads
 use Rattle.tree.proofs.access.fixed.Reads as fixed-reads
+use Rattle.tree.proofs.WidthLaws.{plain-ends}
+use Rattle.tree.specs.declared.grammar.Value.the-variants.{Literal}
 
 extent-requires : tie.Need-extent-requires
 extent-requires c κs = search needs
@@ -48,7 +49,7 @@ add-id-at : tie.Need-add-id-at
 add-id-at c = search needs
 
 id-at-requires : tie.Need-id-at-requires
-id-at-requires c κs = let i = extent-upto (c .before .before .before .before .before .before .before .before .before .before .args .s .now) (c .before .before .before .before .before .before .before .before .before .before .args .at) (c .before .before .before .before .before .before .before .before .before .before .args .end) (c .before .before .before .before .before .before .before .before .before .before .pre .0) (sym (c .before .before .before .before .before .before .before .before .extent .ensures) ∙ c .before .before .before .before .before .before .stop .given .1) in let j = upto-in (c .before .before .before .before .before .before .before .before .before .before .args .s .now) _ (c .before .before .before .before .before .before .before .before .before .before .args .at + 3) _ (i .0) (sym (c .before .before .before .fixed .ensures) ∙ c .before .enum-told2 .given .1) in let k = ends-61 (c .before .before .before .before .before .before .before .before .before .before .args .s .now) _ (c .before .before .before .before .before .before .before .before .before .before .args .at + 3) _ _ (c .if1 .taken) (sym (c .before .before .before .fixed .ensures) ∙ c .before .enum-told2 .given .1) in omega arith
+id-at-requires c κs = let i = extent-upto (c .before .before .before .before .before .before .before .before .before .before .args .s .now) (c .before .before .before .before .before .before .before .before .before .before .args .at) (c .before .before .before .before .before .before .before .before .before .before .args .end) (c .before .before .before .before .before .before .before .before .before .before .pre .0) (sym (c .before .before .before .before .before .before .before .before .extent .ensures) ∙ c .before .before .before .before .before .before .stop .given .1) in let j = upto-in (c .before .before .before .before .before .before .before .before .before .before .args .s .now) _ (c .before .before .before .before .before .before .before .before .before .before .args .at + 3) _ (i .0) (sym (c .before .before .before .fixed .ensures) ∙ c .before .enum-told2 .given .1) in let k = plain-ends 0x61 Literal refl (c .before .before .before .before .before .before .before .before .before .before .args .s .now) _ (c .before .before .before .before .before .before .before .before .before .before .args .at + 3) _ _ (c .if1 .taken) (sym (c .before .before .before .fixed .ensures) ∙ c .before .enum-told2 .given .1) in omega arith
 
 returns-3 : tie.Need-returns-3
 returns-3 c = first-61 (c .before .before .before .before .before .before .before .before .before .before .before .args .s .now) (c .before .before .before .before .before .before .before .before .before .before .before .args .at) (c .before .before .before .before .before .before .before .before .before .before .before .args .end) (c .before .before .before .before .before .before .before .before .before .before .before .pre .0) (sym (c .before .before .before .before .before .before .before .before .before .extent .ensures) ∙ c .before .before .before .before .before .before .before .stop .given .1) (sym (c .before .before .before .before .fixed .ensures) ∙ c .before .before .enum-told2 .given .1) (c .before .if1 .taken) (c .id-at .ensures)

@@ -1,9 +1,8 @@
 -- `expressions::usages::use_property` meets its contract.
 use Prim.Native.Nat.{_+_}
-use mathlib.Core.Path.{sym, _∙_}
+use mathlib.Core.Path.{sym, _∙_, refl}
 use native.Mathlib.Omega.{arith}
 use Rattle.tree.proofs.AccessLaws.{upto-in}
-use Rattle.expressions.proofs.WidthLaws.{ends-70}
 use Rattle.expressions.proofs.PropertyLaws.{property-short, property-private, property-other, property-made, property-full}
 use borrow.Author.Needs.{needs}
 use Rattle.expressions.proofs.usages.use_property.Statement.{statement}
@@ -15,6 +14,8 @@ use Rattle.kept.proofs.imported.add_usage.Reads as add-usage-reads
 use Rattle.scope.proofs.id.ModuleId.export_ctxt.Reads as export-ctxt-reads
 use Rattle.tree.proofs.access.fixed.Reads as fixed-reads
 use Rattle.tree.proofs.layout.atom_at.Reads as atom-at-reads
+use Rattle.tree.proofs.WidthLaws.{plain-ends}
+use Rattle.tree.specs.declared.grammar.Value.the-variants.{Atom}
 
 shared-slice-read-tag : tie.Need-shared-slice-read-tag
 shared-slice-read-tag c = search needs
@@ -44,7 +45,7 @@ add-atom-at : tie.Need-add-atom-at
 add-atom-at c = search needs
 
 atom-at-requires : tie.Need-atom-at-requires
-atom-at-requires c κs = let j = upto-in (c .before .before .before .before .before .before .before .before .args .s .now) _ (c .before .before .before .before .before .before .before .before .args .member + 3) _ (c .before .before .before .before .before .before .before .before .pre .0) (sym (c .before .before .before .before .fixed .ensures) ∙ c .before .before .enum-told .given .1) in let k = ends-70 (c .before .before .before .before .before .before .before .before .args .s .now) _ (c .before .before .before .before .before .before .before .before .args .member + 3) _ _ (c .if2 .left) (sym (c .before .before .before .before .fixed .ensures) ∙ c .before .before .enum-told .given .1) in omega arith
+atom-at-requires c κs = let j = upto-in (c .before .before .before .before .before .before .before .before .args .s .now) _ (c .before .before .before .before .before .before .before .before .args .member + 3) _ (c .before .before .before .before .before .before .before .before .pre .0) (sym (c .before .before .before .before .fixed .ensures) ∙ c .before .before .enum-told .given .1) in let k = plain-ends 0x70 Atom refl (c .before .before .before .before .before .before .before .before .args .s .now) _ (c .before .before .before .before .before .before .before .before .args .member + 3) _ _ (c .if2 .left) (sym (c .before .before .before .before .fixed .ensures) ∙ c .before .before .enum-told .given .1) in omega arith
 
 export-ctxt-requires : tie.Need-export-ctxt-requires
 export-ctxt-requires c κs = search needs
@@ -65,13 +66,13 @@ same-length : tie.Need-same-length
 same-length c = search needs
 
 returns-4 : tie.Need-returns-4
-returns-4 c = let j = upto-in (c .before .before .before .before .before .before .before .before .before .before .before .before .before .before .before .before .before .args .s .now) _ (c .before .before .before .before .before .before .before .before .before .before .before .before .before .before .before .before .before .args .member + 3) _ (c .before .before .before .before .before .before .before .before .before .before .before .before .before .before .before .before .before .pre .0) (sym (c .before .before .before .before .before .before .before .before .before .before .before .before .before .fixed .ensures) ∙ c .before .before .before .before .before .before .before .before .before .before .before .enum-told .given .1) in let k = ends-70 (c .before .before .before .before .before .before .before .before .before .before .before .before .before .before .before .before .before .args .s .now) _ (c .before .before .before .before .before .before .before .before .before .before .before .before .before .before .before .before .before .args .member + 3) _ _ (c .before .before .before .before .before .before .before .before .before .if2 .left) (sym (c .before .before .before .before .before .before .before .before .before .before .before .before .before .fixed .ensures) ∙ c .before .before .before .before .before .before .before .before .before .before .before .enum-told .given .1) in property-made (c .before .before .before .before .before .before .before .before .before .before .before .before .before .before .before .before .before .args .s .now) (c .before .before .before .before .before .before .before .before .before .before .before .before .before .before .before .before .before .args .at) (c .before .before .before .before .before .before .before .before .before .before .before .before .before .before .before .before .before .args .member) (c .before .before .before .before .before .before .before .before .before .before .before .before .before .before .before .before .before .args .end) (c .before .before .before .before .before .before .before .before .before .before .before .before .before .before .before .before .before .args .id) (c .before .before .before .before .before .before .before .before .before .before .before .before .before .before .before .before .before .args .n) (sym (c .before .before .before .before .before .before .before .before .before .before .before .before .before .fixed .ensures) ∙ c .before .before .before .before .before .before .before .before .before .before .before .enum-told .given .1) (λ i. c .before .before .before .before .before .before .before .before .before .before .before .before .before .before .before .before .shared-slice-known .given i .fits) (omega arith) (c .before .before .before .before .before .before .before .before .before .if2 .left) (c .before .before .before .before .before .before .before .before .atom-at .ensures) (c .before .before .before .before .before .before .before .export-ctxt .ensures) (c .before .before .before .before .before .before .id-from .ensures) (c .before .before .before .before .add-usage .ensures) (c .enum-told3 .given .1)
+returns-4 c = let j = upto-in (c .before .before .before .before .before .before .before .before .before .before .before .before .before .before .before .before .before .args .s .now) _ (c .before .before .before .before .before .before .before .before .before .before .before .before .before .before .before .before .before .args .member + 3) _ (c .before .before .before .before .before .before .before .before .before .before .before .before .before .before .before .before .before .pre .0) (sym (c .before .before .before .before .before .before .before .before .before .before .before .before .before .fixed .ensures) ∙ c .before .before .before .before .before .before .before .before .before .before .before .enum-told .given .1) in let k = plain-ends 0x70 Atom refl (c .before .before .before .before .before .before .before .before .before .before .before .before .before .before .before .before .before .args .s .now) _ (c .before .before .before .before .before .before .before .before .before .before .before .before .before .before .before .before .before .args .member + 3) _ _ (c .before .before .before .before .before .before .before .before .before .if2 .left) (sym (c .before .before .before .before .before .before .before .before .before .before .before .before .before .fixed .ensures) ∙ c .before .before .before .before .before .before .before .before .before .before .before .enum-told .given .1) in property-made (c .before .before .before .before .before .before .before .before .before .before .before .before .before .before .before .before .before .args .s .now) (c .before .before .before .before .before .before .before .before .before .before .before .before .before .before .before .before .before .args .at) (c .before .before .before .before .before .before .before .before .before .before .before .before .before .before .before .before .before .args .member) (c .before .before .before .before .before .before .before .before .before .before .before .before .before .before .before .before .before .args .end) (c .before .before .before .before .before .before .before .before .before .before .before .before .before .before .before .before .before .args .id) (c .before .before .before .before .before .before .before .before .before .before .before .before .before .before .before .before .before .args .n) (sym (c .before .before .before .before .before .before .before .before .before .before .before .before .before .fixed .ensures) ∙ c .before .before .before .before .before .before .before .before .before .before .before .enum-told .given .1) (λ i. c .before .before .before .before .before .before .before .before .before .before .before .before .before .before .before .before .shared-slice-known .given i .fits) (omega arith) (c .before .before .before .before .before .before .before .before .before .if2 .left) (c .before .before .before .before .before .before .before .before .atom-at .ensures) (c .before .before .before .before .before .before .before .export-ctxt .ensures) (c .before .before .before .before .before .before .id-from .ensures) (c .before .before .before .before .add-usage .ensures) (c .enum-told3 .given .1)
 
 same-length-2 : tie.Need-same-length-2
 same-length-2 c = search needs
 
 returns-5 : tie.Need-returns-5
-returns-5 c = let j = upto-in (c .before .before .before .before .before .before .before .before .before .before .before .before .before .before .before .before .before .args .s .now) _ (c .before .before .before .before .before .before .before .before .before .before .before .before .before .before .before .before .before .args .member + 3) _ (c .before .before .before .before .before .before .before .before .before .before .before .before .before .before .before .before .before .pre .0) (sym (c .before .before .before .before .before .before .before .before .before .before .before .before .before .fixed .ensures) ∙ c .before .before .before .before .before .before .before .before .before .before .before .enum-told .given .1) in let k = ends-70 (c .before .before .before .before .before .before .before .before .before .before .before .before .before .before .before .before .before .args .s .now) _ (c .before .before .before .before .before .before .before .before .before .before .before .before .before .before .before .before .before .args .member + 3) _ _ (c .before .before .before .before .before .before .before .before .before .if2 .left) (sym (c .before .before .before .before .before .before .before .before .before .before .before .before .before .fixed .ensures) ∙ c .before .before .before .before .before .before .before .before .before .before .before .enum-told .given .1) in property-full (c .before .before .before .before .before .before .before .before .before .before .before .before .before .before .before .before .before .args .s .now) (c .before .before .before .before .before .before .before .before .before .before .before .before .before .before .before .before .before .args .at) (c .before .before .before .before .before .before .before .before .before .before .before .before .before .before .before .before .before .args .member) (c .before .before .before .before .before .before .before .before .before .before .before .before .before .before .before .before .before .args .end) (c .before .before .before .before .before .before .before .before .before .before .before .before .before .before .before .before .before .args .id) (c .before .before .before .before .before .before .before .before .before .before .before .before .before .before .before .before .before .args .n) (sym (c .before .before .before .before .before .before .before .before .before .before .before .before .before .fixed .ensures) ∙ c .before .before .before .before .before .before .before .before .before .before .before .enum-told .given .1) (λ i. c .before .before .before .before .before .before .before .before .before .before .before .before .before .before .before .before .shared-slice-known .given i .fits) (omega arith) (c .before .before .before .before .before .before .before .before .before .if2 .left) (c .before .before .before .before .before .before .before .before .atom-at .ensures) (c .before .before .before .before .before .before .before .export-ctxt .ensures) (c .before .before .before .before .before .before .id-from .ensures) (c .before .before .before .before .add-usage .ensures) (c .enum-told4 .given .1)
+returns-5 c = let j = upto-in (c .before .before .before .before .before .before .before .before .before .before .before .before .before .before .before .before .before .args .s .now) _ (c .before .before .before .before .before .before .before .before .before .before .before .before .before .before .before .before .before .args .member + 3) _ (c .before .before .before .before .before .before .before .before .before .before .before .before .before .before .before .before .before .pre .0) (sym (c .before .before .before .before .before .before .before .before .before .before .before .before .before .fixed .ensures) ∙ c .before .before .before .before .before .before .before .before .before .before .before .enum-told .given .1) in let k = plain-ends 0x70 Atom refl (c .before .before .before .before .before .before .before .before .before .before .before .before .before .before .before .before .before .args .s .now) _ (c .before .before .before .before .before .before .before .before .before .before .before .before .before .before .before .before .before .args .member + 3) _ _ (c .before .before .before .before .before .before .before .before .before .if2 .left) (sym (c .before .before .before .before .before .before .before .before .before .before .before .before .before .fixed .ensures) ∙ c .before .before .before .before .before .before .before .before .before .before .before .enum-told .given .1) in property-full (c .before .before .before .before .before .before .before .before .before .before .before .before .before .before .before .before .before .args .s .now) (c .before .before .before .before .before .before .before .before .before .before .before .before .before .before .before .before .before .args .at) (c .before .before .before .before .before .before .before .before .before .before .before .before .before .before .before .before .before .args .member) (c .before .before .before .before .before .before .before .before .before .before .before .before .before .before .before .before .before .args .end) (c .before .before .before .before .before .before .before .before .before .before .before .before .before .before .before .before .before .args .id) (c .before .before .before .before .before .before .before .before .before .before .before .before .before .before .before .before .before .args .n) (sym (c .before .before .before .before .before .before .before .before .before .before .before .before .before .fixed .ensures) ∙ c .before .before .before .before .before .before .before .before .before .before .before .enum-told .given .1) (λ i. c .before .before .before .before .before .before .before .before .before .before .before .before .before .before .before .before .shared-slice-known .given i .fits) (omega arith) (c .before .before .before .before .before .before .before .before .before .if2 .left) (c .before .before .before .before .before .before .before .before .atom-at .ensures) (c .before .before .before .before .before .before .before .export-ctxt .ensures) (c .before .before .before .before .before .before .id-from .ensures) (c .before .before .before .before .add-usage .ensures) (c .enum-told4 .given .1)
 
 pub use-property-spec : {M : Type 1} → statement M
 use-property-spec =

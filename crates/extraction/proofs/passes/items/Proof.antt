@@ -1,10 +1,10 @@
-use mathlib.Core.Path.{sym, ap, subst, _∙_, _≡_, refl}
+use mathlib.Core.Path.{sym, _∙_, refl}
 use native.Mathlib.Omega.{arith}
 use Prim.Native.Nat.{_-_}
 use borrow.Author.Needs.{needs}
 use Rattle.tree.proofs.AccessLaws.{extent-upto}
 use Rattle.walking.specs.Walking.{set}
-use Rattle.extraction.proofs.ItemLaws.{Passing, passing-start, passing-over, passing-more, passing-turned}
+use Rattle.extraction.proofs.PassLaws.{Passing, passing-start, passing-over, passing-more, passing-turned}
 use Rattle.extraction.proofs.passes.items.Statement.{statement}
 use Rattle.extraction.proofs.passes.items.Tie as tie
 use Rattle.extraction.proofs.passes.items.Reads as reads

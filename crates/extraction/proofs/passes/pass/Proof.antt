@@ -1,6 +1,6 @@
 use native.Mathlib.Omega.{arith}
 use Rattle.walking.specs.Walking.{set}
-use Rattle.extraction.proofs.ItemLaws.{pass-short, pass-made}
+use Rattle.extraction.proofs.PassLaws.{pass-short, pass-made}
 use borrow.Author.Needs.{needs}
 use Rattle.extraction.proofs.passes.pass.Statement.{statement}
 use Rattle.extraction.proofs.passes.pass.Tie as tie

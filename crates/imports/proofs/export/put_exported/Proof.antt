@@ -6,10 +6,10 @@ use lib.Seq.{slice}
 use Rattle.tree.specs.Layout.{four}
 use Rattle.tree.specs.Tree.{encode, field, none}
 use Rattle.writer.proofs.Wrote.{wrote-then, wrote-as, wrote-field}
-use Rattle.kept.proofs.IdentLaws.{leaf-written}
 use borrow.Author.Needs.{needs}
 use Rattle.imports.proofs.export.put_exported.Statement.{statement}
 use Rattle.imports.proofs.export.put_exported.Tie as tie
+use Rattle.metadata.proofs.EncodeLaws.{framed-leaf}
 
 open-field-requires : tie.Need-open-field-requires
 open-field-requires c κs = search needs
@@ -42,7 +42,7 @@ same-length : tie.Need-same-length
 same-length c = search needs
 
 returns : tie.Need-returns
-returns c = wrote-as (wrote-field (c .before .before .before .before .before .before .before .before .before .before .before .before .before .before .before .before .before .before .before .before .open-field .ensures) (wrote-then (c .before .before .before .before .before .before .before .before .before .before .before .before .before .before .before .before .copy .ensures) (wrote-then (c .before .before .before .before .before .before .before .before .before .before .before .before .put .ensures) (c .before .before .before .before .before .before .put-id .ensures))) (c .before .before .close-field .ensures)) (leaf-written 0x23 _ ∙ ap (λ (b : List ℕ). encode (field 0x23 (slice (c .before .before .before .before .before .before .before .before .before .before .before .before .before .before .before .before .before .before .before .before .before .before .before .before .args .at + 3) (c .before .before .before .before .before .before .before .before .before .before .before .before .before .before .before .before .before .before .before .before .before .before .before .before .args .at + 10) (c .before .before .before .before .before .before .before .before .before .before .before .before .before .before .before .before .before .before .before .before .before .before .before .before .args .s .now) ++ 1 ∷ b) none)) (c .before .before .before .before .before .before .before .id-from .ensures .0 ∙ ap (λ (a : List ℕ). a ++ four (c .before .before .before .before .before .before .before .before .before .before .before .before .before .before .before .before .before .before .before .before .before .before .before .before .args .c .0)) (c .before .before .before .before .before .before .before .before .exported-name .ensures)))
+returns c = wrote-as (wrote-field (c .before .before .before .before .before .before .before .before .before .before .before .before .before .before .before .before .before .before .before .before .open-field .ensures) (wrote-then (c .before .before .before .before .before .before .before .before .before .before .before .before .before .before .before .before .copy .ensures) (wrote-then (c .before .before .before .before .before .before .before .before .before .before .before .before .put .ensures) (c .before .before .before .before .before .before .put-id .ensures))) (c .before .before .close-field .ensures)) (framed-leaf 0x23 _ ∙ ap (λ (b : List ℕ). encode (field 0x23 (slice (c .before .before .before .before .before .before .before .before .before .before .before .before .before .before .before .before .before .before .before .before .before .before .before .before .args .at + 3) (c .before .before .before .before .before .before .before .before .before .before .before .before .before .before .before .before .before .before .before .before .before .before .before .before .args .at + 10) (c .before .before .before .before .before .before .before .before .before .before .before .before .before .before .before .before .before .before .before .before .before .before .before .before .args .s .now) ++ 1 ∷ b) none)) (c .before .before .before .before .before .before .before .id-from .ensures .0 ∙ ap (λ (a : List ℕ). a ++ four (c .before .before .before .before .before .before .before .before .before .before .before .before .before .before .before .before .before .before .before .before .before .before .before .before .args .c .0)) (c .before .before .before .before .before .before .before .before .exported-name .ensures)))
 
 pub put-exported-spec : {M : Type 1} → statement M
 put-exported-spec =

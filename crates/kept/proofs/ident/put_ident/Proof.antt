@@ -1,9 +1,9 @@
 -- `kept::ident::put_ident` meets its contract.
 use Rattle.writer.proofs.Wrote.{wrote-as, wrote-field}
-use Rattle.kept.proofs.IdentLaws.{leaf-written}
 use borrow.Author.Needs.{needs}
 use Rattle.kept.proofs.ident.put_ident.Statement.{statement}
 use Rattle.kept.proofs.ident.put_ident.Tie as tie
+use Rattle.metadata.proofs.EncodeLaws.{framed-leaf}
 
 open-field-requires : tie.Need-open-field-requires
 open-field-requires c κs = search needs
@@ -18,7 +18,7 @@ same-length : tie.Need-same-length
 same-length c = search needs
 
 returns : tie.Need-returns
-returns c = wrote-as (wrote-field (c .before .before .before .before .before .before .before .before .before .before .open-field .ensures) (c .before .before .before .before .before .before .put-id .ensures) (c .before .before .close-field .ensures)) (leaf-written 0x60 _)
+returns c = wrote-as (wrote-field (c .before .before .before .before .before .before .before .before .before .before .open-field .ensures) (c .before .before .before .before .before .before .put-id .ensures) (c .before .before .close-field .ensures)) (framed-leaf 0x60 _)
 
 pub put-ident-spec : {M : Type 1} → statement M
 put-ident-spec =

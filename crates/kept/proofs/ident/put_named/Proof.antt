@@ -1,9 +1,9 @@
 -- `kept::ident::put_named` meets its contract.
 use Rattle.writer.proofs.Wrote.{wrote-then, wrote-as, wrote-field}
-use Rattle.kept.proofs.IdentLaws.{leaf-written}
 use borrow.Author.Needs.{needs}
 use Rattle.kept.proofs.ident.put_named.Statement.{statement}
 use Rattle.kept.proofs.ident.put_named.Tie as tie
+use Rattle.metadata.proofs.EncodeLaws.{framed-leaf}
 
 open-field-requires : tie.Need-open-field-requires
 open-field-requires c κs = search needs
@@ -21,7 +21,7 @@ same-length : tie.Need-same-length
 same-length c = search needs
 
 returns : tie.Need-returns
-returns c = wrote-as (wrote-field (c .before .before .before .before .before .before .before .before .before .before .before .before .before .before .open-field .ensures) (wrote-then (c .before .before .before .before .before .before .before .before .before .before .put-id .ensures) (c .before .before .before .before .before .before .put .ensures)) (c .before .before .close-field .ensures)) (leaf-written 0x20 _)
+returns c = wrote-as (wrote-field (c .before .before .before .before .before .before .before .before .before .before .before .before .before .before .open-field .ensures) (wrote-then (c .before .before .before .before .before .before .before .before .before .before .put-id .ensures) (c .before .before .before .before .before .before .put .ensures)) (c .before .before .close-field .ensures)) (framed-leaf 0x20 _)
 
 pub put-named-spec : {M : Type 1} → statement M
 put-named-spec =

@@ -1,4 +1,4 @@
-use mathlib.Core.Path.{_≡_, refl, sym, ap, _∙_}
+use mathlib.Core.Path.{_≡_, refl, sym, _∙_}
 use mathlib.Core.Logic.{inl, inr}
 use mathlib.Core.List.{List}
 use Prim.Native.Nat.{ℕ, _+_, _-_, _≤_}
@@ -6,11 +6,10 @@ use lib.ListN.{length}
 use native.Mathlib.Omega.{arith}
 use borrow.Author.Needs.{needs}
 use Rattle.tree.specs.Tree.{encodes}
-use Rattle.tree.specs.Standing.{treeAt, rowAt}
+use Rattle.tree.specs.Standing.{rowAt}
 use Rattle.tree.proofs.AccessLaws.{upto-in, extent-upto}
 use Rattle.writer.specs.Wrote.{Wrote}
-use Rattle.extraction_rules.specs.First.{bindings, bindingsAll, bindingsFirst}
-use Rattle.recording.proofs.WidthLaws.{ends-50, ends-54}
+use Rattle.extraction_rules.specs.First.{bindingsAll}
 use Rattle.recording.proofs.PatternLaws.{bindings-short, bindings-bound, bindings-left, bindings-below, first-none, first-more, all-none, all-more}
 use Prim.Native.Nat.{ℕ, _<_}
 use borrow.Fn.Kinds.{In}
@@ -28,6 +27,8 @@ use Rattle.kept.proofs.ident.id_at.Reads as id-at-reads
 use Rattle.kept.proofs.ident.put_named.Reads as put-named-reads
 use Rattle.tree.proofs.access.extent.Reads as extent-reads
 use Rattle.tree.proofs.access.fixed.Reads as fixed-reads
+use Rattle.tree.proofs.WidthLaws.{plain-ends}
+use Rattle.tree.specs.declared.grammar.Value.the-variants.{Id}
 use Rattle.recording.proofs.bindings.+put_below+put_bindings+put_left.{statement}
 use Rattle.recording.proofs.bindings.+put_below+put_bindings+put_left.Tie.{close}
 
@@ -130,7 +131,7 @@ put-bindings-add-id-at : (t : ℕ) → put-bindings-lts.Need-add-id-at (put-bind
 put-bindings-add-id-at t c = omega arith
 
 put-bindings-id-at-requires : (t : ℕ) → put-bindings-lts.Need-id-at-requires (put-bindings-knows t) (put-bindings-at t) put-bindings.Post
-put-bindings-id-at-requires t c κs = let j = upto-in (c .before .before .before .before .before .before .before .before .before .args .s .now) _ (c .before .before .before .before .before .before .before .before .before .args .at + 3) (c .before .before .before .before .before .before .before .before .before .args .stop) (c .before .before .before .before .before .before .before .before .before .pre .1 .0) (sym (c .before .before .before .before .before .fixed .ensures) ∙ c .before .before .before .from .given .1) in let k = ends-50 (c .before .before .before .before .before .before .before .before .before .args .s .now) _ (c .before .before .before .before .before .before .before .before .before .args .at + 3) _ _ (c .before .match2 .keys1) (sym (c .before .before .before .before .before .fixed .ensures) ∙ c .before .before .before .from .given .1) in omega arith
+put-bindings-id-at-requires t c κs = let j = upto-in (c .before .before .before .before .before .before .before .before .before .args .s .now) _ (c .before .before .before .before .before .before .before .before .before .args .at + 3) (c .before .before .before .before .before .before .before .before .before .args .stop) (c .before .before .before .before .before .before .before .before .before .pre .1 .0) (sym (c .before .before .before .before .before .fixed .ensures) ∙ c .before .before .before .from .given .1) in let k = plain-ends 0x50 Id refl (c .before .before .before .before .before .before .before .before .before .args .s .now) _ (c .before .before .before .before .before .before .before .before .before .args .at + 3) _ _ (c .before .match2 .keys1) (sym (c .before .before .before .before .before .fixed .ensures) ∙ c .before .before .before .from .given .1) in omega arith
 
 put-bindings-put-named-requires : (t : ℕ) → put-bindings-lts.Need-put-named-requires (put-bindings-knows t) (put-bindings-at t) put-bindings.Post
 put-bindings-put-named-requires t c κs = c .id-at .ensures .1
@@ -139,7 +140,7 @@ put-bindings-add-id-at-2 : (t : ℕ) → put-bindings-lts.Need-add-id-at-2 (put-
 put-bindings-add-id-at-2 t c = omega arith
 
 put-bindings-id-at-requires-2 : (t : ℕ) → put-bindings-lts.Need-id-at-requires-2 (put-bindings-knows t) (put-bindings-at t) put-bindings.Post
-put-bindings-id-at-requires-2 t c κs = let j = upto-in (c .before .before .before .before .before .before .before .before .before .args .s .now) _ (c .before .before .before .before .before .before .before .before .before .args .at + 3) (c .before .before .before .before .before .before .before .before .before .args .stop) (c .before .before .before .before .before .before .before .before .before .pre .1 .0) (sym (c .before .before .before .before .before .fixed .ensures) ∙ c .before .before .before .from .given .1) in let k = ends-54 (c .before .before .before .before .before .before .before .before .before .args .s .now) _ (c .before .before .before .before .before .before .before .before .before .args .at + 3) _ _ (c .before .match2 .keys2) (sym (c .before .before .before .before .before .fixed .ensures) ∙ c .before .before .before .from .given .1) in omega arith
+put-bindings-id-at-requires-2 t c κs = let j = upto-in (c .before .before .before .before .before .before .before .before .before .args .s .now) _ (c .before .before .before .before .before .before .before .before .before .args .at + 3) (c .before .before .before .before .before .before .before .before .before .args .stop) (c .before .before .before .before .before .before .before .before .before .pre .1 .0) (sym (c .before .before .before .before .before .fixed .ensures) ∙ c .before .before .before .from .given .1) in let k = plain-ends 0x54 Id refl (c .before .before .before .before .before .before .before .before .before .args .s .now) _ (c .before .before .before .before .before .before .before .before .before .args .at + 3) _ _ (c .before .match2 .keys2) (sym (c .before .before .before .before .before .fixed .ensures) ∙ c .before .before .before .from .given .1) in omega arith
 
 put-bindings-put-named-requires-2 : (t : ℕ) → put-bindings-lts.Need-put-named-requires-2 (put-bindings-knows t) (put-bindings-at t) put-bindings.Post
 put-bindings-put-named-requires-2 t c κs = c .id-at2 .ensures .1
@@ -154,13 +155,13 @@ put-bindings-same-length : (t : ℕ) → put-bindings-lts.Need-same-length (put-
 put-bindings-same-length t c = omega arith
 
 put-bindings-returns-2 : (t : ℕ) → put-bindings-lts.Need-returns-2 (put-bindings-knows t) (put-bindings-at t) put-bindings.Post
-put-bindings-returns-2 t c = let j = upto-in (c .before .before .before .before .before .before .before .before .before .before .before .before .before .args .s .now) _ (c .before .before .before .before .before .before .before .before .before .before .before .before .before .args .at + 3) (c .before .before .before .before .before .before .before .before .before .before .before .before .before .args .stop) (c .before .before .before .before .before .before .before .before .before .before .before .before .before .pre .1 .0) (sym (c .before .before .before .before .before .before .before .before .before .fixed .ensures) ∙ c .before .before .before .before .before .before .before .from .given .1) in bindings-bound (c .before .before .before .before .before .before .before .before .before .before .before .before .before .args .s .now) (c .before .before .before .before .before .before .before .before .before .before .before .before .before .args .at) (c .before .before .before .before .before .before .before .before .before .before .before .before .before .args .stop) _ (sym (c .before .before .before .before .before .before .before .before .before .fixed .ensures) ∙ c .before .before .before .before .before .before .before .from .given .1) (inl (c .before .before .before .before .before .match2 .keys1)) (ends-50 (c .before .before .before .before .before .before .before .before .before .before .before .before .before .args .s .now) _ (c .before .before .before .before .before .before .before .before .before .before .before .before .before .args .at + 3) _ _ (c .before .before .before .before .before .match2 .keys1) (sym (c .before .before .before .before .before .before .before .before .before .fixed .ensures) ∙ c .before .before .before .before .before .before .before .from .given .1)) (omega arith) (c .before .before .before .id-at .ensures .0) (c .before .before .put-named .ensures)
+put-bindings-returns-2 t c = let j = upto-in (c .before .before .before .before .before .before .before .before .before .before .before .before .before .args .s .now) _ (c .before .before .before .before .before .before .before .before .before .before .before .before .before .args .at + 3) (c .before .before .before .before .before .before .before .before .before .before .before .before .before .args .stop) (c .before .before .before .before .before .before .before .before .before .before .before .before .before .pre .1 .0) (sym (c .before .before .before .before .before .before .before .before .before .fixed .ensures) ∙ c .before .before .before .before .before .before .before .from .given .1) in bindings-bound (c .before .before .before .before .before .before .before .before .before .before .before .before .before .args .s .now) (c .before .before .before .before .before .before .before .before .before .before .before .before .before .args .at) (c .before .before .before .before .before .before .before .before .before .before .before .before .before .args .stop) _ (sym (c .before .before .before .before .before .before .before .before .before .fixed .ensures) ∙ c .before .before .before .before .before .before .before .from .given .1) (inl (c .before .before .before .before .before .match2 .keys1)) (plain-ends 0x50 Id refl (c .before .before .before .before .before .before .before .before .before .before .before .before .before .args .s .now) _ (c .before .before .before .before .before .before .before .before .before .before .before .before .before .args .at + 3) _ _ (c .before .before .before .before .before .match2 .keys1) (sym (c .before .before .before .before .before .before .before .before .before .fixed .ensures) ∙ c .before .before .before .before .before .before .before .from .given .1)) (omega arith) (c .before .before .before .id-at .ensures .0) (c .before .before .put-named .ensures)
 
 put-bindings-same-length-2 : (t : ℕ) → put-bindings-lts.Need-same-length-2 (put-bindings-knows t) (put-bindings-at t) put-bindings.Post
 put-bindings-same-length-2 t c = omega arith
 
 put-bindings-returns-3 : (t : ℕ) → put-bindings-lts.Need-returns-3 (put-bindings-knows t) (put-bindings-at t) put-bindings.Post
-put-bindings-returns-3 t c = let j = upto-in (c .before .before .before .before .before .before .before .before .before .before .before .before .before .args .s .now) _ (c .before .before .before .before .before .before .before .before .before .before .before .before .before .args .at + 3) (c .before .before .before .before .before .before .before .before .before .before .before .before .before .args .stop) (c .before .before .before .before .before .before .before .before .before .before .before .before .before .pre .1 .0) (sym (c .before .before .before .before .before .before .before .before .before .fixed .ensures) ∙ c .before .before .before .before .before .before .before .from .given .1) in bindings-bound (c .before .before .before .before .before .before .before .before .before .before .before .before .before .args .s .now) (c .before .before .before .before .before .before .before .before .before .before .before .before .before .args .at) (c .before .before .before .before .before .before .before .before .before .before .before .before .before .args .stop) _ (sym (c .before .before .before .before .before .before .before .before .before .fixed .ensures) ∙ c .before .before .before .before .before .before .before .from .given .1) (inr (c .before .before .before .before .before .match2 .keys2)) (ends-54 (c .before .before .before .before .before .before .before .before .before .before .before .before .before .args .s .now) _ (c .before .before .before .before .before .before .before .before .before .before .before .before .before .args .at + 3) _ _ (c .before .before .before .before .before .match2 .keys2) (sym (c .before .before .before .before .before .before .before .before .before .fixed .ensures) ∙ c .before .before .before .before .before .before .before .from .given .1)) (omega arith) (c .before .before .before .id-at2 .ensures .0) (c .before .before .put-named2 .ensures)
+put-bindings-returns-3 t c = let j = upto-in (c .before .before .before .before .before .before .before .before .before .before .before .before .before .args .s .now) _ (c .before .before .before .before .before .before .before .before .before .before .before .before .before .args .at + 3) (c .before .before .before .before .before .before .before .before .before .before .before .before .before .args .stop) (c .before .before .before .before .before .before .before .before .before .before .before .before .before .pre .1 .0) (sym (c .before .before .before .before .before .before .before .before .before .fixed .ensures) ∙ c .before .before .before .before .before .before .before .from .given .1) in bindings-bound (c .before .before .before .before .before .before .before .before .before .before .before .before .before .args .s .now) (c .before .before .before .before .before .before .before .before .before .before .before .before .before .args .at) (c .before .before .before .before .before .before .before .before .before .before .before .before .before .args .stop) _ (sym (c .before .before .before .before .before .before .before .before .before .fixed .ensures) ∙ c .before .before .before .before .before .before .before .from .given .1) (inr (c .before .before .before .before .before .match2 .keys2)) (plain-ends 0x54 Id refl (c .before .before .before .before .before .before .before .before .before .before .before .before .before .args .s .now) _ (c .before .before .before .before .before .before .before .before .before .before .before .before .before .args .at + 3) _ _ (c .before .before .before .before .before .match2 .keys2) (sym (c .before .before .before .before .before .before .before .before .before .fixed .ensures) ∙ c .before .before .before .before .before .before .before .from .given .1)) (omega arith) (c .before .before .before .id-at2 .ensures .0) (c .before .before .put-named2 .ensures)
 
 put-bindings-same-length-3 : (t : ℕ) → put-bindings-lts.Need-same-length-3 (put-bindings-knows t) (put-bindings-at t) put-bindings.Post
 put-bindings-same-length-3 t c = omega arith
