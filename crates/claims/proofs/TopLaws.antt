@@ -2,11 +2,9 @@
 use Prim.Native.Nat.{ℕ, zero, suc}
 use mathlib.Core.Path.{_≡_, refl, sym, ap, subst, _∙_}
 use mathlib.Core.Logic.{inl, inr}
-use mathlib.Core.Bool.{Bool, true, false, not, cond, _&&_, true≢false}
+use mathlib.Core.Bool.{Bool, true, false, _&&_, true≢false}
 use mathlib.Core.List.{List}
 use mathlib.Core.Option.{Option, none as nothing, some}
-use native.Mathlib.Omega.{arith}
-use borrow.Author.Tests.{eqb-true}
 use Rattle.tree.proofs.Table.{both-true}
 use Rattle.scope.specs.Id.{require-atom, local}
 use Rattle.scope.specs.Modules.{Modules, request}
@@ -30,6 +28,7 @@ use Rattle.extraction_rules.proofs.AlikeLaws.{RegularAll}
 use Rattle.extraction_rules.proofs.ShapeLaws.{Shaped, ShapedAll, Specifiers, import-parts, shaped-parts, shaped-each}
 use Rattle.extraction_rules.proofs.ReadableLaws.{Items}
 use Rattle.extraction_rules.proofs.CallLaws.{Run, call-run}
+use Rattle.extraction_rules.proofs.KeepLaws.{keep-specifiers}
 use Rattle.resolving_rules.specs.Resolve.{sourcesIn, forcedIn, resolvedAll}
 use Rattle.resolving_rules.specs.Call.{Resolved, recordsRead, resolved}
 use Rattle.resolving_rules.proofs.CallLaws.{Listed, call-listed}
@@ -69,17 +68,7 @@ well-of own items h =
 -- the namespace of the declaration
 namespaces-own : (cs : Fields) (i : List ℕ) → specifiersIn cs ≡ more (field 0x22 i none) none → keep (has 0x22) cs ≡ more (field 0x22 i none) none
 unfolding keep
-namespaces-own cs i q = sym (both cs) ∙ ap (keep (has 0x22)) q
-  where
-    both : (fs : Fields) → keep (has 0x22) (specifiersIn fs) ≡ keep (has 0x22) fs
-    both none = refl
-    both (more f fs) = go (has 0x2F f) (has 0x22 f) refl refl (both fs)
-      where
-        go : (a b : Bool) → has 0x2F f ≡ a → has 0x22 f ≡ b → keep (has 0x22) (specifiersIn fs) ≡ keep (has 0x22) fs → keep (has 0x22) (cond (not a) (more f (specifiersIn fs)) (specifiersIn fs)) ≡ cond b (more f (keep (has 0x22) fs)) (keep (has 0x22) fs)
-        go true true p q h = absurd (let v : _≡_ {A = ℕ} 0x2F 0x22 = sym (eqb-true (tagOf f) 0x2F p) ∙ eqb-true (tagOf f) 0x22 q in omega arith)
-        go true false p q h = h
-        go false true p q h = rw q (ap (more f) h)
-        go false false p q h = rw q h
+namespaces-own cs i q = sym (keep-specifiers cs) ∙ ap (keep (has 0x22)) q
 
 -- ---- The other sources
 

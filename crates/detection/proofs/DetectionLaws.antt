@@ -15,7 +15,7 @@ use Rattle.tree.specs.declared.grammar.Value.the-variants.{Id}
 use Rattle.tree.specs.declared.read.Why.{Why}
 use Rattle.tree.specs.declared.read.Verdict.the-variants.{Good, Refused}
 use Rattle.tree.specs.Layout.{twoAt}
-use Rattle.tree.specs.Tree.{Field, Fields, more, tagOf}
+use Rattle.tree.specs.Tree.{Field, Fields, more}
 use Rattle.tree.specs.Grammar.{within, ruleOf}
 use Rattle.tree.specs.Access.{fixedAt, extentAt}
 use Rattle.tree.specs.Read.{Reading, fine, verdict, refusalOf, read}
@@ -24,7 +24,7 @@ use Rattle.tree.proofs.SliceLaws.{getD-slice}
 use Rattle.tree.proofs.AccessLaws.{extent-upto}
 use Rattle.tree.proofs.FixedLaws.{upto-inj}
 use Rattle.tree.proofs.ReadLaws.{good-fine, verdict-refused}
-use Rattle.tree.proofs.StandingLaws.{row-more, row-none, tree-upto, tree-short, whole-step, row-next}
+use Rattle.tree.proofs.StandingLaws.{row-more, row-none, tree-upto, tree-short, row-next, whole-tag}
 use Rattle.tree.proofs.WidthLaws.{plain-ends, read-module}
 use Rattle.detection.specs.declared.Ident.{Ident}
 use Rattle.detection.specs.declared.Ident.the-variants.{Name, Other}
@@ -109,10 +109,6 @@ accepted-next s at end stop le (q, w) x =
     let f = row-next s at end q le w (λ z. omega arith) in
     let same : f .1 ≡ stop = upto-inj (sym (f .3) ∙ x) in
     subst (λ (k : ℕ). Whole s at k × Accepted s k end) same (f .4, (f .0, f .5))
-
--- an accepted field has the tag that stands at its place
-pub whole-tag : (s : List ℕ) (at stop : ℕ) → Whole s at stop → tagOf (treeAt s at stop) ≡ getD s at 0
-whole-tag s at stop w = let m = whole-step s at stop w in ap tagOf (tree-upto s at stop (m .0) (m .1))
 
 -- ---- the items
 

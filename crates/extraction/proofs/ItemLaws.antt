@@ -39,7 +39,7 @@ use Rattle.steps.specs.declared.Setting.{Setting as CodeSetting}
 use Rattle.steps.specs.declared.Step.{Step}
 use Rattle.steps.specs.declared.Step.the-variants.{Done}
 use Rattle.steps.specs.Step.{ReadAt, Steps}
-use Rattle.steps.proofs.SoundLaws.{read-formed, read-short}
+use Rattle.steps.proofs.SoundLaws.{read-formed, read-short, read-tag}
 use Rattle.steps.proofs.StepsLaws.{steps-give, steps-as, steps-map, steps-never}
 use Rattle.walking.specs.Walking.{FieldSteps}
 use Rattle.extraction.specs.Passes.{Ready, ItemRead, itemAct}
@@ -102,16 +102,12 @@ ready-second at end u K d r = subst (λ (b : Bool). Ready b at end u K) d r
 -- ---- An item that was read
 
 module _ (c : CodeSetting) (e : Setting) (s : List ℕ) (bytes : Bytes s) (at stop : ℕ) where
-  -- its tag is the byte at `at`
-  pub item-tag : ReadAt s at stop → tagOf (treeAt s at stop) ≡ getD s at 0
-  item-tag r = let b = whole-step s at stop (r .whole) in ap tagOf (tree-upto s at stop (b .0) (b .1))
-
   pub item-shaped : ReadAt s at stop → Shaped (treeAt s at stop)
   item-shaped r = formed-shaped (treeAt s at stop) (read-formed r bytes)
 
   pub item-regular : {x : At} {u : State} → ItemRead c e s at stop x u → (getD s at 0 ≡ 0x10 → ⊥) → Regular (treeAt s at stop)
   item-regular w h =
-      let t = item-tag (w .read) in
+      let t = read-tag (w .read) in
       regular (treeAt s at stop)
       (item-outer (tagOf (treeAt s at stop)) (subst (λ (n : ℕ). holdsAt Item n ≡ true) (sym t) (item-step (getD s at 0) (ruleOf 0x01) (w .tag) .0)) (ne-eqb (tagOf (treeAt s at stop)) 0x10 (λ z. h (sym t ∙ z))))
       (item-shaped (w .read))
@@ -122,7 +118,7 @@ module _ (c : CodeSetting) (e : Setting) (s : List ℕ) (bytes : Bytes s) (at st
   item-walked h l m =
       steps-map encode encodes one-item (ItemRead c e s at stop) m (λ x u w. (record { read = w .read; regular = item-regular w h }, w .reads))
       (λ x u w g v z.
-      let q = item-tag (w .read) in
+      let q = read-tag (w .read) in
       item-bytes g (after-done (walk (treeAt s at stop) e false at u) (λ g y. stays g ≡ true) (g, v) z
       (walk-stays e (treeAt s at stop) at u (λ y. h (sym q ∙ y)) (λ y. item-no-member (getD s at 0) (item-step (getD s at 0) (ruleOf 0x01) (w .tag) .0) (sym q ∙ y)) (l q))))
 
@@ -169,7 +165,7 @@ module _ (c : CodeSetting) (e : Setting) (s : List ℕ) (bytes : Bytes s) (at st
   walk-10 x cs p u = refl
 
   pub import-walk : ReadAt s at stop → getD s at 0 ≡ 0x10 → (u : State) → walk (treeAt s at stop) e false at u ≡ afterImport (e .pass) e (fixedOf (treeAt s at stop)) (partsOf (treeAt s at stop)) at u
-  import-walk r q u = go (treeAt s at stop) (item-tag r ∙ q)
+  import-walk r q u = go (treeAt s at stop) (read-tag r ∙ q)
     where
       go : (f : Field) → tagOf f ≡ 0x10 → walk f e false at u ≡ afterImport (e .pass) e (fixedOf f) (partsOf f) at u
       go (field t x cs) z = ap (λ (n : ℕ). walk (field n x cs) e false at u) z ∙ walk-10 x cs at u
@@ -192,6 +188,6 @@ module _ (c : CodeSetting) (e : Setting) (s : List ℕ) (bytes : Bytes s) (at st
       Steps encodes (ItemRead c e s at stop) (itemAct e s at stop) t out o t' out' k
   import-two d two q m =
       steps-as (itemAct e s at stop)
-      (steps-map encode encodes one-item (ItemRead c e s at stop) m (λ x u w. (w .read, known-here e (treeAt s at stop) u (item-tag (w .read) ∙ q) (ready-second at stop u (Imports (treeAt s at stop) (Known (e .externals) (sourcesIn (u .collected)))) d (w .ready))))
+      (steps-map encode encodes one-item (ItemRead c e s at stop) m (λ x u w. (w .read, known-here e (treeAt s at stop) u (read-tag (w .read) ∙ q) (ready-second at stop u (Imports (treeAt s at stop) (Known (e .externals) (sourcesIn (u .collected)))) d (w .ready))))
       (λ x u w g v z. item-bytes g (import-stays g (after-done (importSecond e (fixedOf (treeAt s at stop)) (partsOf (treeAt s at stop)) u) (λ g y. tagOf g ≡ 0x10) (g, v) z (second-tag e (fixedOf (treeAt s at stop)) (partsOf (treeAt s at stop)) u)))))
       (λ x u w. (w, ap (λ (m : Outcome (Field × State)). onto m (λ r. done (one-item (r .0), r .1))) (import-walk (w .read) q u ∙ ap (λ (b : Pass). afterImport b e (fixedOf (treeAt s at stop)) (partsOf (treeAt s at stop)) at u) two ∙ import-second e _ _ at u)))

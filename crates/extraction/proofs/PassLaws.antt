@@ -40,12 +40,12 @@ use Rattle.steps.specs.declared.Why.{Why}
 use Rattle.steps.specs.declared.Step.{Step}
 use Rattle.steps.specs.declared.Step.the-variants.{Done, Refused}
 use Rattle.steps.specs.Step.{passOf, Steps, Ended}
-use Rattle.steps.proofs.SoundLaws.{read-size, row-read}
+use Rattle.steps.proofs.SoundLaws.{read-size, row-read, read-tag}
 use Rattle.steps.proofs.StepsLaws.{steps-is, steps-give, steps-as, steps-never, steps-changed, steps-field, begun, pairOf, steps-pair, steps-turned}
 use Rattle.walking.proofs.RowLaws.{all-more, all-none}
 use Rattle.extraction.specs.Passes.{Ready, ItemRead, ItemsRead, itemAct, itemsAct, passAct}
 use Rattle.extraction.proofs.KeptLaws.{item-few, item-sources}
-use Rattle.extraction.proofs.ItemLaws.{one-item, import-first, ready-first, ready-second, item-tag, item-shaped, item-regular, import-walk}
+use Rattle.extraction.proofs.ItemLaws.{one-item, import-first, ready-first, ready-second, item-shaped, item-regular, import-walk}
 
 -- ---- The items one after the other
 
@@ -107,7 +107,7 @@ module _ (c : CodeSetting) (e : Setting) (s : List ℕ) (bytes : Bytes s) (at en
             let f = treeAt s at stop in
             let m = field-size f in
             after-weaken (importFirst e (fixedOf f) (partsOf f) at u) _ (λ g v. 9 * namespacesIn (v .collected) ≤ stop) (λ g v b. let z : 9 * namespacesIn (v .collected) ≤ stop = omega arith in z)
-            (import-brings e (fixedOf f) (partsOf f) at u (import-shaped f (item-tag c e s bytes at stop (w .read) ∙ q) (item-shaped c e s bytes at stop (w .read))))
+            (import-brings e (fixedOf f) (partsOf f) at u (import-shaped f (read-tag (w .read) ∙ q) (item-shaped c e s bytes at stop (w .read))))
 
         go : (b : Bool) → eqb (getD s at 0) 0x10 ≡ b → After (walk (treeAt s at stop) e false at u) (λ g v. 9 * namespacesIn (v .collected) ≤ stop)
         go true q =

@@ -1,13 +1,15 @@
 -- Fields that are kept by a test: those that meet it. So the specifiers of an import and its attributes are told apart.
 use Prim.Native.Nat.{ℕ}
-use mathlib.Core.Path.{_≡_, refl, ap, ap₂, _∙_}
+use mathlib.Core.Path.{_≡_, refl, ap, ap₂, _∙_, sym}
 use mathlib.Core.Bool.{Bool, true, false, not, cond}
 use mathlib.Core.Option.{Option, none as nothing, some}
-use Rattle.tree.specs.Tree.{Field, Fields, none, more}
+use Rattle.tree.specs.Tree.{Field, Fields, none, more, tagOf}
 use Rattle.metadata.specs.Metadata.{append, withMetadata}
 use Rattle.metadata.proofs.EncodeLaws.{append-none}
 use Rattle.lent.specs.Fields.{has, keep}
 use Rattle.extraction_rules.specs.First.{specifiersIn, attributesIn, withContext}
+use borrow.Author.Tests.{eqb-true}
+use native.Mathlib.Omega.{arith}
 
 -- P holds of each field
 abbrev pub Each : (Field → Type 0) → Fields → Type 0
@@ -89,3 +91,15 @@ pub no-context : (m : Option ℕ) (ds : Fields) → specifiersIn (withContext m 
 unfolding keep withContext withMetadata
 no-context nothing ds = no-specifiers ds
 no-context (some n) ds = refl
+
+-- the attributes are no namespace
+pub keep-specifiers : (fs : Fields) → keep (has 0x22) (specifiersIn fs) ≡ keep (has 0x22) fs
+unfolding keep
+keep-specifiers none = refl
+keep-specifiers (more f fs) = go (has 0x2F f) (has 0x22 f) refl refl (keep-specifiers fs)
+  where
+    go : (a b : Bool) → has 0x2F f ≡ a → has 0x22 f ≡ b → keep (has 0x22) (specifiersIn fs) ≡ keep (has 0x22) fs → keep (has 0x22) (cond (not a) (more f (specifiersIn fs)) (specifiersIn fs)) ≡ cond b (more f (keep (has 0x22) fs)) (keep (has 0x22) fs)
+    go true true p q h = absurd (let v : _≡_ {A = ℕ} 0x2F 0x22 = sym (eqb-true (tagOf f) 0x2F p) ∙ eqb-true (tagOf f) 0x22 q in omega arith)
+    go true false p q h = h
+    go false true p q h = rw q (ap (more f) h)
+    go false false p q h = rw q h

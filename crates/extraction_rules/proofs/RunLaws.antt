@@ -1,7 +1,7 @@
 -- The sanity laws of a whole run: of both passes, from the fresh state on, and of the call.
 use Prim.Native.Nat.{ℕ}
 use mathlib.Core.Path.{_≡_, refl, subst}
-use mathlib.Core.Bool.{Bool, true}
+use mathlib.Core.Bool.{true}
 use mathlib.Core.List.{List, _∷_, _++_}
 use mathlib.Core.Option.{some}
 use Rattle.scope.specs.Modules.{Modules, numberOf}
@@ -9,20 +9,19 @@ use Rattle.scope.proofs.Laws.{request-keeps-numbers}
 use Rattle.tree.specs.Layout.{same}
 use Rattle.tree.specs.Tree.{Field, field, Fields, none, fixedOf}
 use Rattle.tree.proofs.LayoutLaws.{same-equal}
-use Rattle.lent.specs.Lists.{among}
 use Rattle.lent.specs.Outcome.{done}
 use Rattle.lent.specs.Table.{Row, rowsIn}
 use Rattle.extraction_rules.specs.State.{Usage, State, first, second, Setting, start}
 use Rattle.extraction_rules.specs.Second.{usagesOf, asProperty, rewritten}
 use Rattle.extraction_rules.specs.First.{importedAs}
 use Rattle.lent.specs.Fields.{has}
-use Rattle.extraction_rules.specs.Walk.{walk, walkModule, walkAgain}
+use Rattle.extraction_rules.specs.Walk.{walkModule, walkAgain}
 use Rattle.extraction_rules.specs.Call.{Lent, Lengths, Extracted, setting, extracted}
 use Rattle.extraction_rules.proofs.OutcomeLaws.{After, after-weaken, after-both}
-use Rattle.extraction_rules.proofs.ListLaws.{All, all-first}
+use Rattle.extraction_rules.proofs.ListLaws.{all-first}
 use Rattle.extraction_rules.proofs.FirstLaws.{sourcesOf, IsImported}
 use Rattle.extraction_rules.proofs.StepLaws.{EndSteps}
-use Rattle.extraction_rules.proofs.WalkLaws.{Steps, both-steps, both-end, walk-keeps, Imports, imports-any, ImportsAll, imports-any-all, walkModule-keeps, walkAgain-keeps}
+use Rattle.extraction_rules.proofs.WalkLaws.{Steps, both-steps, both-end, ImportsAll, imports-any-all, walkModule-keeps, walkAgain-keeps}
 use Rattle.extraction_rules.proofs.SanityLaws.{Numbered, numbered-steps, numbered-end, DistinctSources, distinct-steps, distinct-end, OwnSources, own-steps, own-end, UsagesImported, imported-steps, imported-end, ForcedCollected, forced-steps-first, Known, ForcedAmong, forced-steps-second, forced-end}
 use Rattle.extraction_rules.proofs.ImportsLaws.{walkModule-known}
 use Rattle.extraction_rules.proofs.CallLaws.{call-made, run-both}
@@ -65,13 +64,7 @@ module _ (e : Setting) where
       (both-steps e AnyLiteral DistinctSources (OwnSources (e .externals)) (distinct-steps e AnyLiteral) (own-steps e AnyLiteral))
       (both-steps e AnyLiteral UsagesImported ForcedCollected (imported-steps e AnyLiteral) (forced-steps-first e AnyLiteral k))
 
-  -- in the first pass every walk from a sane state leads to one
-  pub first-sane-walk : e .pass ≡ first → (f : Field) (object : Bool) (p : ℕ) (s : State) → Sane (e .externals) s →
-      After (walk f e object p s) (λ g s′. Sane (e .externals) s′)
-  first-sane-walk k f object p s h =
-      after-weaken (walk f e object p s) (λ g s′. SaneFirst (e .externals) s′) (λ g s′. Sane (e .externals) s′) (λ g s′. sane-first (e .externals) s′)
-      (walk-keeps e AnyLiteral (SaneFirst (e .externals)) (first-steps k) f object p s (imports-any f AnyLiteral (λ x. tt)) (first-of (e .externals) s h))
-
+  -- the first pass leads from a sane state to one
   pub first-sane : e .pass ≡ first → (items : Fields) (s : State) → Sane (e .externals) s →
       After (walkModule e items s) (λ gs s′. Sane (e .externals) s′)
   first-sane k items s h =
@@ -92,17 +85,7 @@ module _ (e : Setting) where
       (both-end DistinctSources (OwnSources (e .externals)) distinct-end (own-end (e .externals)))
       (both-end UsagesImported (ForcedAmong l) imported-end (forced-end l))
 
-  -- and in the second, over a tree whose imports are known
-  pub second-sane-walk : e .pass ≡ second → (sources : List (List ℕ)) (f : Field) (object : Bool) (p : ℕ) (s : State) →
-      Imports f (Known (e .externals) sources) →
-      sourcesOf (s .collected) ≡ sources → Sane (e .externals) s → After (walk f e object p s)
-      (λ g s′. Sane (e .externals) s′ × (sourcesOf (s′ .collected) ≡ sources))
-  second-sane-walk k l f object p s i q h =
-      after-weaken (walk f e object p s) (λ g s′. SaneAmong (e .externals) l s′) (λ g s′. Sane (e .externals) s′ × (sourcesOf (s′ .collected) ≡ l))
-      (λ g s′ w. (sane-among (e .externals) l s′ w, w .1 .1 .0))
-      (walk-keeps e (Known (e .externals) l) (SaneAmong (e .externals) l) (second-steps l k) f object p s i
-      ((h .distinct, h .own), (h .imported, (q, subst (λ (x : List (List ℕ)). All (λ a. among a x ≡ true) (s .forced)) q (h .forced)))))
-
+  -- and the second, over a tree whose imports are known
   pub second-sane : e .pass ≡ second → (items : Fields) (s : State) → ImportsAll items (Known (e .externals) (sourcesOf (s .collected))) →
       Sane (e .externals) s →
       After (walkAgain e items s) (λ gs s′. Sane (e .externals) s′)

@@ -30,10 +30,10 @@ use Rattle.lent.specs.Fields.{has, keep, findField}
 use Rattle.extraction_rules.specs.First.{attributesOf}
 use Rattle.extraction_rules.proofs.ShapeLaws.{specifier-is}
 use Rattle.steps.specs.Step.{ReadAt}
-use Rattle.steps.proofs.SoundLaws.{read-inside}
+use Rattle.steps.proofs.SoundLaws.{read-inside, read-tag}
 use Rattle.imports.specs.Parts.{Behind, Attributes, Framed}
 use Rattle.imports.proofs.WidthLaws.{framing, framed-in, framed-exact, framed-tree, framed-length}
-use Rattle.imports.proofs.PartsLaws.{read-tag, LastPart, part-cases}
+use Rattle.imports.proofs.PartsLaws.{LastPart, part-cases}
 
 -- what is kept meets the test
 kept-meets : (p : Field → Bool) (fs gs : Fields) (f : Field) → keep p fs ≡ more f gs → p f ≡ true

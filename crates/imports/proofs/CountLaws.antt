@@ -25,7 +25,7 @@ use Rattle.extraction_rules.specs.State.{Record, Imported, State, Setting, give
 use Rattle.extraction_rules.specs.First.{external, requested, moduleOf, moduleFor, noteIn, noteId, noteNamed, notedContext, noteSpecifier, noteAll, noteSpecifiers, specifiersIn, attributesIn, collectIn, collect, importFirst}
 use Rattle.extraction_rules.proofs.OutcomeLaws.{After, after-bind, after-if}
 use Rattle.extraction_rules.proofs.ShapeLaws.{Shaped, ShapedAll, ImportStep, import-step, specifier-is, shaped-none}
-use Rattle.extraction_rules.proofs.KeepLaws.{keep-none, keep-yes, keep-no}
+use Rattle.extraction_rules.proofs.KeepLaws.{keep-none, keep-yes, keep-no, keep-specifiers}
 use Rattle.kept.specs.Kept.{flag, countNamespaces, namespacesIn}
 use Rattle.imports.proofs.GatherLaws.{count-more, collect-count}
 
@@ -57,21 +57,6 @@ count-keep (more f fs) = by (has 0x22 f) refl (count-keep fs)
     by : (b : Bool) → has 0x22 f ≡ b → countNamespaces fs ≡ countNamespaces (keep (has 0x22) fs) → flag (has 0x22 f) + countNamespaces fs ≡ countNamespaces (keep (has 0x22) (more f fs))
     by true e h = ap (λ (n : ℕ). flag (has 0x22 f) + n) h ∙ sym (count-more f (keep (has 0x22) fs)) ∙ ap countNamespaces (sym (keep-yes (has 0x22) f fs e))
     by false e h = let z : flag (has 0x22 f) ≡ 0 = ap flag e in let k = ap countNamespaces (keep-no (has 0x22) f fs e) in omega arith
-
--- the attributes are no namespace
-pub keep-specifiers : (cs : Fields) → keep (has 0x22) (specifiersIn cs) ≡ keep (has 0x22) cs
-keep-specifiers none = ap (keep (has 0x22)) (keep-none _)
-keep-specifiers (more f fs) = by (has 0x2F f) refl (keep-specifiers fs)
-  where
-    by : (b : Bool) → has 0x2F f ≡ b → keep (has 0x22) (specifiersIn fs) ≡ keep (has 0x22) fs → keep (has 0x22) (specifiersIn (more f fs)) ≡ keep (has 0x22) (more f fs)
-    by true e h =
-        let t = eqb-true (tagOf f) 0x2F e in
-        ap (keep (has 0x22)) (keep-no (λ g. not (has 0x2F g)) f fs (ap not e)) ∙ h ∙ sym (keep-no (has 0x22) f fs (ne-eqb (tagOf f) 0x22 (λ z. omega arith)))
-    by false e h = ap (keep (has 0x22)) (keep-yes (λ g. not (has 0x2F g)) f fs (ap not e)) ∙ again (has 0x22 f) refl
-      where
-        again : (c : Bool) → has 0x22 f ≡ c → keep (has 0x22) (more f (specifiersIn fs)) ≡ keep (has 0x22) (more f fs)
-        again true q = keep-yes (has 0x22) f (specifiersIn fs) q ∙ ap (more f) h ∙ sym (keep-yes (has 0x22) f fs q)
-        again false q = keep-no (has 0x22) f (specifiersIn fs) q ∙ h ∙ sym (keep-no (has 0x22) f fs q)
 
 -- specifiers, then attributes: the parts as they are
 pub parts-again : (cs : Fields) → ShapedAll cs (ruleOf 0x10) → append (specifiersIn cs) (attributesIn cs) ≡ cs

@@ -30,7 +30,7 @@ use Rattle.extraction_rules.specs.State.{State, Setting, Act}
 use Rattle.extraction_rules.specs.First.{external, moduleOf, moduleFor, noteAll, specifiersIn, attributesIn, attributesOf, withContext, collect, importFirst}
 use Rattle.extraction_rules.proofs.OutcomeLaws.{after-done}
 use Rattle.extraction_rules.proofs.ShapeLaws.{ShapedAll, formed-shaped-all}
-use Rattle.extraction_rules.proofs.KeepLaws.{keep-all, keep-meets}
+use Rattle.extraction_rules.proofs.KeepLaws.{keep-all, keep-meets, keep-specifiers}
 use Rattle.kept.specs.Kept.{At, Good, Shows, countNamespaces, namespacesIn}
 use Rattle.kept.specs.Does.{Gave, Resolves}
 use Rattle.kept.specs.declared.Module.{Module}
@@ -45,7 +45,7 @@ use Rattle.steps.proofs.StepsLaws.{steps-refused}
 use Rattle.imports.specs.Parts.{Ends, Behind, Attributes, Collected, importOn}
 use Rattle.imports.proofs.HeadLaws.{head-external, head-in, head-fixed, head-parts, head-tree, head-row, head-copied, head-stays}
 use Rattle.imports.proofs.NoteAllLaws.{NotedAll}
-use Rattle.imports.proofs.CountLaws.{namespaces-size, keep-specifiers, parts-again, SameAll, noteAll-same, module-collects}
+use Rattle.imports.proofs.CountLaws.{namespaces-size, parts-again, SameAll, noteAll-same, module-collects}
 
 -- ---- What is kept
 

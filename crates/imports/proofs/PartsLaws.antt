@@ -16,18 +16,15 @@ use Rattle.tree.specs.Access.{extentAt}
 use Rattle.tree.specs.Grammar.{ruleOf, stepAt, parts0}
 use Rattle.tree.specs.Standing.{treeAt, rowAt, Row}
 use Rattle.tree.proofs.AccessLaws.{extent-upto}
-use Rattle.tree.proofs.StandingLaws.{row-more, row-none, tree-upto, whole-step}
+use Rattle.tree.proofs.StandingLaws.{row-more, row-none}
 use Rattle.tree.proofs.SoundLaws.{row-sound}
 use Rattle.lent.specs.Fields.{has}
 use Rattle.extraction_rules.specs.First.{specifiersIn, attributesIn}
 use Rattle.extraction_rules.proofs.ShapeLaws.{formed-shaped-all, shaped-none, ImportStep, import-step, specifier-is}
 use Rattle.extraction_rules.proofs.KeepLaws.{keep-yes, keep-no, keep-none}
 use Rattle.steps.specs.Step.{ReadAt}
-use Rattle.steps.proofs.SoundLaws.{row-read}
+use Rattle.steps.proofs.SoundLaws.{row-read, read-tag}
 use Rattle.imports.specs.Parts.{Specified, Ends}
-
-pub read-tag : {s : List ℕ} {at stop : ℕ} → ReadAt s at stop → tagOf (treeAt s at stop) ≡ getD s at 0
-read-tag {s} {at} {stop} r = let b = whole-step s at stop (r .whole) in ap tagOf (tree-upto s at stop (b .0) (b .1))
 
 -- the first of the parts is a specifier
 pub record FirstPart (s : List ℕ) (at end stop : ℕ) : Type 0 where

@@ -9,7 +9,8 @@ use lib.ListN.{length, getD, length-map}
 use Rattle.tables.specs.Rows.{Row, next, between, flip, firstIn}
 use Rattle.lent.specs.Lists.{find, mapped}
 use Rattle.kept.specs.Kept.{Below, indexOf}
-use Rattle.kept.proofs.ListLaws.{first-below}
+use Rattle.kept.proofs.ListLaws.{first-below, here-below}
+use Rattle.scope.proofs.Laws.{none-some}
 
 pub index-map : {A B : Type 0} (q : B → Bool) (g : A → B) (l : List A) → indexOf (λ a. q (g a)) l ≡ indexOf q (map g l)
 unfolding indexOf
@@ -60,13 +61,8 @@ find-index {A = A} {B = B} p g d (a ∷ l) = by (p a) (find-index p g d l)
 
 pub index-below : {A : Type 0} (p : A → Bool) (l : List A) (i : ℕ) → indexOf p l ≡ some i → i < length l
 unfolding indexOf
-index-below p [] i e = absurd (let z : _≡_ {A = ℕ} 0 1 = cc in omega arith)
-index-below p (a ∷ l) i e = by (p a) (indexOf p l) (index-below p l) e
-  where
-    by : (x : Bool) (o : Option ℕ) → ((j : ℕ) → o ≡ some j → j < length l) → cond x (some zero) (next o) ≡ some i → i < suc (length l)
-    by true o h f = let z : zero ≡ i = cc in omega arith
-    by false none h f = absurd (let z : _≡_ {A = ℕ} 0 1 = cc in omega arith)
-    by false (some j) h f = let z : suc j ≡ i = cc in let w = h j refl in omega arith
+index-below p [] i e = none-some e
+index-below p (a ∷ l) i e = here-below (p a) (indexOf p l) (index-below p l) e
 
 pub getD-map : {A B : Type 0} (h : A → B) (l : List A) (i : ℕ) (d : A) → getD (map h l) i (h d) ≡ h (getD l i d)
 getD-map h [] i d = refl

@@ -11,6 +11,7 @@ use Rattle.tables.specs.Rows.{Row, next, between, firstIn, without, withValue}
 use Rattle.lent.specs.Lists.{find, filter, isSome, mapped}
 use Rattle.kept.specs.Kept.{Below}
 use Rattle.kept.specs.Does.{any}
+use Rattle.scope.proofs.Laws.{none-some}
 
 -- ---- Limits
 
@@ -70,16 +71,17 @@ next-row : {A : Type 0} (f : Row → A) (r : Row) (l : List Row) (o : Option ℕ
 next-row f r l none = refl
 next-row f r l (some i) = refl
 
+-- what is found stands among the rest, or first
+pub here-below : {n i : ℕ} (x : Bool) (o : Option ℕ) → ((j : ℕ) → o ≡ some j → j < n) → cond x (some zero) (next o) ≡ some i → i < suc n
+here-below {i = i} true o h p = let z : zero ≡ i = cc in omega arith
+here-below false none h p = none-some p
+here-below {i = i} false (some j) h p = let z : suc j ≡ i = cc in let w = h j refl in omega arith
+
 -- a row that is found stands among the rows
 pub first-below : (lo hi : ℕ) (l : List Row) (i : ℕ) → firstIn lo hi l ≡ some i → i < length l
 unfolding firstIn
-first-below lo hi [] i e = absurd (let z : _≡_ {A = ℕ} 0 1 = cc in omega arith)
-first-below lo hi (r ∷ l) i e = by (between lo hi (r .0)) (firstIn lo hi l) (first-below lo hi l) e
-  where
-    by : (x : Bool) (o : Option ℕ) → ((j : ℕ) → o ≡ some j → j < length l) → cond x (some zero) (next o) ≡ some i → i < suc (length l)
-    by true o h p = let z : zero ≡ i = cc in omega arith
-    by false none h p = absurd (let z : _≡_ {A = ℕ} 0 1 = cc in omega arith)
-    by false (some j) h p = let z : suc j ≡ i = cc in let w = h j refl in omega arith
+first-below lo hi [] i e = none-some e
+first-below lo hi (r ∷ l) i e = here-below (between lo hi (r .0)) (firstIn lo hi l) (first-below lo hi l) e
 
 module _ {A : Type 0} (p : A → Bool) (f : Row → A) (lo hi k v : ℕ) (h : (r : Row) → r .0 < k → p (f r) ≡ between lo hi (r .0)) where
   -- the first of a list that meets a test is the row that the search gives

@@ -6,17 +6,17 @@ use mathlib.Core.Bool.{Bool, true, false, cond, _||_}
 use mathlib.Core.List.{List, [], _∷_, _++_, map}
 use mathlib.Core.Option.{some}
 use Rattle.scope.specs.Modules.{Modules}
-use Rattle.tree.specs.Layout.{same, valueOf, sameLiteral}
+use Rattle.tree.specs.Layout.{same, valueOf}
 use Rattle.tree.specs.Tree.{Fields}
 use Rattle.tree.proofs.LayoutLaws.{same-refl, same-equal}
 use Rattle.tree.proofs.FixedLaws.{or-right}
-use Rattle.metadata.specs.Metadata.{append}
 use Rattle.lent.specs.Lists.{find, among}
 use Rattle.extraction_rules.specs.State.{Record, State, start, setForced, setCollected}
-use Rattle.extraction_rules.specs.First.{forceSource, collectIn}
+use Rattle.extraction_rules.specs.First.{forceSource}
 use Rattle.extraction_rules.specs.Second.{extend}
 use Rattle.extraction_rules.proofs.TestLaws.{or-neither}
 use Rattle.extraction_rules.proofs.ListLaws.{among-last, same-swap}
+use Rattle.extraction_rules.proofs.FirstLaws.{map-sources, extend-literal}
 use Rattle.kept.specs.Kept.{sourcesIn, Once, Sourced}
 use Rattle.kept.specs.Does.{sourceOf, extendAt}
 
@@ -67,26 +67,8 @@ pub sourced-collected : {s : State} {x : List Record} → Sourced s → ((a : Li
     Sourced (setCollected x s)
 sourced-collected k h = record { once = k .once; from = λ a e. h a (k .from a e) }
 
-pub collect-sources : (r : Record) (l : List Record) (a : List ℕ) → among a (sourcesIn l) ≡ true → among a (sourcesIn (collectIn r l)) ≡ true
-unfolding collectIn among
-collect-sources r [] a e = absurd (let z : _≡_ {A = ℕ} 0 1 = cc in omega arith)
-collect-sources r (q ∷ l) a e = by (same (valueOf (q .literal)) (valueOf (r .literal))) (same a (valueOf (q .literal))) refl (collect-sources r l a) e
-  where
-    by : (x y : Bool) → same a (valueOf (q .literal)) ≡ y → (among a (sourcesIn l) ≡ true → among a (sourcesIn (collectIn r l)) ≡ true) → (y || among a (sourcesIn l)) ≡ true →
-        among a (sourcesIn (cond x (record { literal = q .literal; specifiers = append (q .specifiers) (r .specifiers) } ∷ l) (q ∷ collectIn r l))) ≡ true
-    by true y p h f = ap (λ (b : Bool). b || among a (sourcesIn l)) p ∙ f
-    by false true p h f = ap (λ (b : Bool). b || among a (sourcesIn (collectIn r l))) p
-    by false false p h f = ap (λ (b : Bool). b || among a (sourcesIn (collectIn r l))) p ∙ h f
-
 pub extend-sources : (x : List ℕ) (fs : Fields) (l : List Record) → sourcesIn (map (extend x fs) l) ≡ sourcesIn l
-unfolding extend
-extend-sources x fs [] = refl
-extend-sources x fs (r ∷ l) = by (sameLiteral (r .literal) x) (extend-sources x fs l)
-  where
-    by : (b : Bool) → sourcesIn (map (extend x fs) l) ≡ sourcesIn l →
-        valueOf ((cond b (record { literal = r .literal; specifiers = append (r .specifiers) fs }) r) .literal) ∷ sourcesIn (map (extend x fs) l) ≡ valueOf (r .literal) ∷ sourcesIn l
-    by true e = ap (λ (m : List (List ℕ)). valueOf (r .literal) ∷ m) e
-    by false e = ap (λ (m : List (List ℕ)). valueOf (r .literal) ∷ m) e
+extend-sources x fs l = map-sources (extend x fs) l (extend-literal x fs)
 
 pub extendAt-sources : (i : ℕ) (fs : Fields) (l : List Record) → sourcesIn (extendAt i fs l) ≡ sourcesIn l
 unfolding extendAt

@@ -10,7 +10,7 @@ use Rattle.tree.specs.declared.layout.Reach.the-variants.{Upto, Short}
 use Rattle.tree.specs.Layout.{Bytes}
 use Rattle.tree.specs.declared.grammar.Rule.{Rule}
 use Rattle.tree.specs.declared.grammar.Step.the-variants.{Go}
-use Rattle.tree.specs.Tree.{encode, size}
+use Rattle.tree.specs.Tree.{encode, size, tagOf}
 use Rattle.tree.specs.Within.{Formed}
 use Rattle.tree.specs.Access.{fixedAt, extentAt}
 use Rattle.tree.specs.Grammar.{ruleOf, stepAt}
@@ -18,7 +18,7 @@ use Rattle.tree.specs.Standing.{treeAt, Whole, Row}
 use Rattle.tree.proofs.FixedLaws.{no-upto, upto-inj}
 use Rattle.tree.proofs.AccessLaws.{extent-upto}
 use Rattle.tree.proofs.TreeLaws.{size-encode}
-use Rattle.tree.proofs.StandingLaws.{row-more, tree-upto, whole-step, row-next}
+use Rattle.tree.proofs.StandingLaws.{row-more, tree-upto, whole-step, row-next, whole-tag}
 use Rattle.tree.proofs.SoundLaws.{whole-sound}
 use Rattle.extraction_rules.proofs.AlikeLaws.{Regular, RegularAll}
 use Rattle.steps.specs.Step.{ReadAt, Sound, SoundAll}
@@ -31,6 +31,9 @@ module _ {s : List ℕ} {at stop : ℕ} (r : ReadAt s at stop) where
       let i = extent-upto s at (r .end) (r .inside) (r .extent) in
       let f = r .fits in
       (i .0, omega arith)
+
+  pub read-tag : tagOf (treeAt s at stop) ≡ getD s at 0
+  read-tag = whole-tag s at stop (r .whole)
 
   -- its fixed bytes are whole
   pub read-short : {A : Type 0} → fixedAt s (getD s at 0) (at + 3) stop ≡ Short → A

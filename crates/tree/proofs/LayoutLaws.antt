@@ -8,9 +8,9 @@ use lib.Dec.{eqb}
 use lib.ListN.{length, getD}
 use lib.Seq.{slice, slice-empty, slice-cons}
 use borrow.Author.Tests.{eq-eqb, ne-eqb, eqb-true, eqb-false}
-use Rattle.tree.specs.Layout.{Bytes, same, two, four, twoAt, fourAt, atomAt, contextAt, idAt, nameOf, contextOf}
+use Rattle.tree.specs.Layout.{Bytes, same, two, four, twoAt, fourAt, atomAt, contextAt}
 use Rattle.tree.proofs.Table.{both-true}
-use Rattle.tree.proofs.SliceLaws.{slice-join, take-slice, drop-slice}
+use Rattle.tree.proofs.SliceLaws.{slice-join}
 
 step : (s t : List ℕ) (a b e f : ℕ) → a < e → e ≤ length s → b < f → f ≤ length t →
     same (slice a e s) (slice b f t) ≡ eqb (getD s a 0) (getD t b 0) && same (slice (a + 1) e s) (slice (b + 1) f t)
@@ -89,15 +89,6 @@ four-at s at bs h =
     ap₂ (λ (x y : ℕ). x ∷ y ∷ n / 256 % 256 ∷ n % 256 ∷ []) e₀ e₁ ∙ ap₂ (λ (x y : ℕ). getD s at 0 ∷ getD s (at + 1) 0 ∷ x ∷ y ∷ []) e₂ e₃
     ∙ ap₂ _++_ (sym (two-bytes s at (omega arith))) (sym (two-bytes s (at + 2) (omega arith)))
     ∙ ap (λ (e : ℕ). slice at (at + 2) s ++ slice (at + 2) e s) z ∙ slice-join at (at + 2) (at + 4) s (omega arith) (omega arith) h
-
--- an id's name and context, from the numbers at its place
-pub id-name : (s : List ℕ) (at : ℕ) → Bytes s → at + 6 ≤ length s → two (twoAt s at) ≡ nameOf (idAt s at)
-id-name s at bs h = two-at s at bs (omega arith) ∙ sym (take-slice 2 at (at + 6) s (omega arith) h)
-
-pub id-context : (s : List ℕ) (at : ℕ) → Bytes s → at + 6 ≤ length s → four (fourAt s (at + 2)) ≡ contextOf (idAt s at)
-id-context s at bs h =
-    let e : at + 2 + 4 ≡ at + 6 = omega arith in
-    four-at s (at + 2) bs (omega arith) ∙ ap (λ (n : ℕ). slice (at + 2) n s) e ∙ sym (drop-slice 2 at (at + 6) s)
 
 -- where numbers have one code each, codes are the same just where the numbers are equal
 module _ (code : ℕ → List ℕ) (m n : ℕ) (one : code m ≡ code n → m ≡ n) where

@@ -16,7 +16,7 @@ use Rattle.tree.specs.declared.grammar.Rule.{Rule}
 use Rattle.tree.specs.declared.grammar.Step.the-variants.{Go}
 use Rattle.tree.specs.declared.read.Head.{Head}
 use Rattle.tree.specs.declared.read.Head.the-variants.{Done, Missing, Bad, Child}
-use Rattle.tree.specs.Tree.{Field, field, Fields, none, more}
+use Rattle.tree.specs.Tree.{Field, field, Fields, none, more, tagOf}
 use Rattle.tree.specs.Grammar.{parts0, holdsAt, ruleOf, stepAt, doneAt}
 use Rattle.tree.specs.Access.{fixedAt, extentAt}
 use Rattle.tree.specs.Read.{fine, Kids, headAt, onFixed, contentBy, onHead, children, childrenAt, contentAt, read, top}
@@ -143,6 +143,10 @@ pub whole-step : (s : List ℕ) (at stop : ℕ) → Whole s at stop →
     (b : ℕ) × (fixedAt s (getD s at 0) (at + 3) stop ≡ Upto b) × Row s b stop (ruleOf (getD s at 0))
 unfolding contentAt contentBy
 whole-step s at stop w = whole-on (fixedAt s (getD s at 0) (at + 3) stop) s at stop (w .0) (w .1) (w .2)
+
+-- it has the tag that stands at its place
+pub whole-tag : (s : List ℕ) (at stop : ℕ) → Whole s at stop → tagOf (treeAt s at stop) ≡ getD s at 0
+whole-tag s at stop w = let m = whole-step s at stop w in ap tagOf (tree-upto s at stop (m .0) (m .1))
 
 -- a row that has not ended has a first field, which its rule takes
 abbrev pub First : List ℕ → ℕ → ℕ → Rule → Type 0

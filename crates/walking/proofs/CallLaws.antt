@@ -19,7 +19,6 @@ use Rattle.extraction_rules.specs.State.{State, Pass, first, second, Setting, A
 use Rattle.extraction_rules.specs.First.{required, require}
 use Rattle.extraction_rules.specs.Walk.{afterExpression, walk, walkAll}
 use Rattle.extraction_rules.proofs.OutcomeLaws.{After, after-done, after-both, after-weaken}
-use Rattle.extraction_rules.proofs.AlikeLaws.{Regular}
 use Rattle.extraction_rules.proofs.ShapeLaws.{ShapedAll, formed-shaped-all}
 use Rattle.kept.specs.Kept.{At, idOf}
 use Rattle.kept.specs.Does.{Tells}
@@ -30,7 +29,7 @@ use Rattle.steps.specs.declared.Why.{Why}
 use Rattle.steps.specs.declared.Step.{Step}
 use Rattle.steps.specs.declared.Step.the-variants.{Done, Refused}
 use Rattle.steps.specs.Step.{Sound, SoundAll, withParts}
-use Rattle.steps.proofs.SoundLaws.{read-inside, read-parts}
+use Rattle.steps.proofs.SoundLaws.{sound-parts}
 use Rattle.steps.proofs.StepsLaws.{done-refused, steps-by}
 use Rattle.walking.specs.Walking.{Reads, FieldSteps, NodeSteps, Called, Amends}
 use Rattle.walking.proofs.TagLaws.{walk-65, first-65, second-65}
@@ -56,14 +55,7 @@ module _ (c : CodeSetting) (e : Setting) (object : Bool) (s : List ℕ) (bytes :
       ∙ ap (λ (p : ℕ). withParts 0x65 [] (walkAll Row65 e object p) u) (sym n)
 
   row-of : Sound s at stop → SoundAll s (at + 3) stop
-  row-of w =
-      let z = tree-bare 0x65 refl s at stop h q in
-      record {
-        rule = _;
-        fits = read-inside (w .read) .1;
-        row = read-parts (w .read) (bare-upto 0x65 refl s (getD s at 0) (at + 3) stop q h);
-        regular = subst Regular z (w .regular) .1;
-      }
+  row-of w = sound-parts w (bare-upto 0x65 refl s (getD s at 0) (at + 3) stop q h)
 
   -- ---- In the second pass
 
