@@ -28,7 +28,7 @@ use Rattle.extraction_rules.proofs.SpaceLaws.{Property}
 use Rattle.extraction_rules.proofs.KeepLaws.{specifiers-front, notAttributes, no-context, no-specifiers, Each, each-weaken}
 use Rattle.claims.specs.Stands.{How, imported, otherwise, idsIn}
 use Rattle.claims.proofs.WaysLaws.{met, ways, waysAll}
-use Rattle.claims.proofs.OutLaws.{export-foreign}
+use Rattle.claims.proofs.OutFieldLaws.{export-foreign}
 
 -- an outside name is an atom
 outside-two : (x : List ℕ) → 6 < length x → (getD x 6 0 ≡ 1 → length x ≡ 13) → length (outsideName x) ≡ 2

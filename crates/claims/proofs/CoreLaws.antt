@@ -41,12 +41,12 @@ use Rattle.claims.proofs.TidyLaws.{tidy-parts, properties-absent}
 use Rattle.claims.proofs.FirstPassLaws.{Around, first-pass}
 use Rattle.claims.proofs.WorkedLaws.{CleanAround, Worked, Ready, first-worked, first-spaces}
 use Rattle.claims.proofs.SettledLaws.{takesApart}
-use Rattle.claims.proofs.OutLaws.{Fine}
 use Rattle.claims.proofs.UsesLaws.{Good}
 use Rattle.claims.proofs.OutsLaws.{ownSpecifiers, Outs, OtherBut, second-pass}
 use Rattle.claims.proofs.EndsLaws.{declares-own, uses-end, Tidy, gone-end}
 use Rattle.claims.proofs.SourcesLaws.{sources-of, forced-of}
 use Rattle.claims.proofs.RecordLaws.{endedRecord, Ended, record-found, properties-resolved}
+use Rattle.claims.proofs.OutFieldLaws.{Fine}
 
 module _ (i lit : List ℕ) (own file : ℕ) (context : contextOf i ≡ four (local own)) (named : same (nameOf i) (two require-atom) ≡ false)
     (Space : List ℕ → Type 0) (locals : (j : List ℕ) → Space j → contextOf j ≡ four (local own)) where

@@ -19,11 +19,11 @@ use Rattle.claims.specs.Demand.{Every, itemAt, Declares, usesOf, propert
 use Rattle.claims.proofs.WaysLaws.{ways, waysAll, hows, hows-standings, stands-ways}
 use Rattle.claims.proofs.FirstPassLaws.{Behind, Around, QuietAll, quietAll-neutral, import-ways}
 use Rattle.claims.proofs.SettledLaws.{takesApart}
-use Rattle.claims.proofs.OutLaws.{Fine, fine-append}
 use Rattle.claims.proofs.GoneLaws.{goneAll}
 use Rattle.claims.proofs.UsesLaws.{every-append, every-filter, Good, Uses, usesAll}
 use Rattle.claims.proofs.CleanLaws.{Clean, CleanSpec}
 use Rattle.claims.proofs.OutsLaws.{keep-ways, keep-regular, ownSpecifiers, OwnOut, OutsBehind, Outs}
+use Rattle.claims.proofs.OutFieldLaws.{Fine, fine-append}
 
 -- no use among these standings
 neutral-every : (P : Standing → Type 0) (l : List Standing) → filter isUse (hows l) ≡ [] → Every (λ s. isUse (s .how) ≡ true → P s) l

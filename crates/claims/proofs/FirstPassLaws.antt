@@ -18,9 +18,9 @@ use Rattle.extraction_rules.specs.Second.{usagesOf}
 use Rattle.extraction_rules.specs.Walk.{children, partsFor, walk, walkAll, walkModule}
 use Rattle.extraction_rules.proofs.OutcomeLaws.{After, after-bind, after-weaken}
 use Rattle.extraction_rules.proofs.AlikeLaws.{RegularAll}
-use Rattle.extraction_rules.proofs.TableLaws.{filter-append}
 use Rattle.extraction_rules.proofs.ValueLaws.{walk-first}
 use Rattle.extraction_rules.proofs.KeepLaws.{Each}
+use Rattle.extraction_rules.proofs.SeekLaws.{filter-append}
 use Rattle.claims.specs.Stands.{stands, How, idsIn, isUse, properties}
 use Rattle.claims.specs.Placed.{all}
 use Rattle.claims.proofs.WaysLaws.{stands-ways, met, ways, waysAll}

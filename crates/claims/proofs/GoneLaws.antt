@@ -22,7 +22,7 @@ use Rattle.claims.specs.Stands.{How, bare, original, otherwise, firstId,
 use Rattle.claims.specs.Placed.{all}
 use Rattle.claims.proofs.WaysLaws.{met, ways, waysAll, waysMember, waysAssignment, waysTarget, waysParts, waysObject, ids-alike, met-append}
 use Rattle.claims.proofs.HowLaws.{idTable}
-use Rattle.claims.proofs.OutLaws.{Foreign, Turned, Unturned, Out, OutAll, out-more, out-none, out-lacking, out-tag, Fine, fine-append}
+use Rattle.claims.proofs.OutFieldLaws.{Foreign, Turned, Unturned, Out, OutAll, out-more, out-none, out-lacking, out-tag, Fine, fine-append}
 
 module _ (taken : Bool) (i c : List ℕ) (own : ℕ) (named : same (nameOf i) (two require-atom) ≡ false) where
   abbrev O : Field → Field → Type 0

@@ -30,10 +30,11 @@ use Rattle.extraction_rules.proofs.OutcomeLaws.{After, after-bind, after-weaken
 use Rattle.extraction_rules.proofs.ListLaws.{not-same}
 use Rattle.extraction_rules.proofs.WalkLaws.{walkParts}
 use Rattle.extraction_rules.proofs.TagLaws.{rule-import, other-rule, rule-export, other-parts, parts-member, parts-assignment, parts-unwalked}
-use Rattle.extraction_rules.proofs.TableLaws.{recordOf, record-empty, seek, holdsIn, suitsIn, seek-collect, force-own, force-other, force-tables, forgotten-imported, other-imported, forgotten-usages, other-usages, usages-last, usages-other}
+use Rattle.extraction_rules.proofs.TableLaws.{recordOf, record-empty}
 use Rattle.extraction_rules.proofs.StepLaws.{RequireSteps, enter-keeps, moduleFor-keeps, declarator-keeps, require-keeps, addUsage-keeps}
 use Rattle.extraction_rules.proofs.AlikeLaws.{Two, RegularAt, Regular, RegularAll, AlikeAll, alike-two, walkAll-alike, walkMember-alike, walkAssignment-alike, parts-alike}
 use Rattle.extraction_rules.proofs.StayLaws.{no-member}
+use Rattle.extraction_rules.proofs.SeekLaws.{seek, holdsIn, suitsIn, seek-collect, force-own, force-other, force-tables, forgotten-imported, other-imported, forgotten-usages, other-usages, usages-last, usages-other}
 use Rattle.claims.specs.Stands.{How, plain, computed, bare, original, imported, otherwise, idsIn, byMember, objectIds, isUse, isPlain, properties}
 use Rattle.claims.specs.Placed.{all}
 use Rattle.claims.proofs.WaysLaws.{met, ways, waysAll, waysMember, waysAssignment, waysTarget, waysParts, waysObject, object-alike}

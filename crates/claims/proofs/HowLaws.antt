@@ -11,8 +11,8 @@ use Rattle.extraction_rules.specs.Walk.{partsFor}
 use Rattle.lent.specs.Lists.{filter}
 use Rattle.lent.specs.Fields.{has}
 use Rattle.extraction_rules.proofs.ListLaws.{All}
-use Rattle.extraction_rules.proofs.TableLaws.{filter-append}
 use Rattle.extraction_rules.proofs.TagLaws.{find-any}
+use Rattle.extraction_rules.proofs.SeekLaws.{filter-append}
 use Rattle.claims.specs.Stands.{How, plain, computed, bare, original, imported, otherwise, firstId, namedIds, originalIds, idsIn, isUse, isPlain, properties, objectIds}
 use Rattle.claims.specs.Placed.{all}
 use Rattle.claims.proofs.WaysLaws.{met, ways}

@@ -21,8 +21,9 @@ use Rattle.extraction_rules.specs.State.{Record, Imported, State, Setting, give
 use Rattle.extraction_rules.specs.First.{external, requested, moduleOf, moduleFor, importedAs, suits, collectIn, collect, noteIn, noteId, noteNamed, notedContext, noteSpecifier, noteAll, noteSpecifiers, specifiersIn, withContext, importFirst}
 use Rattle.extraction_rules.specs.Second.{usagesOf}
 use Rattle.extraction_rules.proofs.OutcomeLaws.{After, after-bind, after-if}
-use Rattle.extraction_rules.proofs.TableLaws.{recordOf, record-other, record-absent, record-last, seek, holdsIn, suitsIn, seek-collect, seek-back, seek-last, seek-own, collect-new, noted-own, noted-other, find-append, suits-append, holds-left}
+use Rattle.extraction_rules.proofs.TableLaws.{recordOf, record-other, record-absent, record-last, seek-back, suits-append, holds-left}
 use Rattle.extraction_rules.proofs.KeepLaws.{Each}
+use Rattle.extraction_rules.proofs.SeekLaws.{seek, holdsIn, suitsIn, seek-collect, seek-last, seek-own, collect-new, noted-own, noted-other, find-append}
 use Rattle.claims.specs.Stands.{properties}
 use Rattle.claims.specs.Placed.{all}
 use Rattle.claims.proofs.HeldLaws.{ownRecord, Held, Unfelt, unfelt-modules}

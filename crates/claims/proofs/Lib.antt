@@ -12,6 +12,7 @@ pub mod GoneLaws
 pub mod HeldLaws
 pub mod HowLaws
 pub mod ImportedLaws
+pub mod OutFieldLaws
 pub mod OutLaws
 pub mod OutsLaws
 pub mod RecordLaws

@@ -35,11 +35,12 @@ use Rattle.claims.proofs.HowLaws.{allPlain}
 use Rattle.claims.proofs.HeldLaws.{Held, Unfelt, held-unfelt, held-top}
 use Rattle.claims.proofs.ImportedLaws.{Redeclared}
 use Rattle.claims.proofs.SettledLaws.{Settled, settled-unfelt, takesApart, used-properties, Declared, second-own, second-other}
-use Rattle.claims.proofs.OutLaws.{Out, OutAll, Fine, fine-append, Says, At, walkAll-out}
+use Rattle.claims.proofs.OutLaws.{At, walkAll-out}
 use Rattle.claims.proofs.GoneLaws.{outAll-alike}
 use Rattle.claims.proofs.CleanLaws.{Clean, Spec, second-clean, specs-of}
 use Rattle.claims.proofs.WorkedLaws.{WorkedBehind, Worked}
 use Rattle.claims.proofs.RecordLaws.{Ended, finish-ended}
+use Rattle.claims.proofs.OutFieldLaws.{Out, OutAll, Fine, fine-append, Says}
 
 -- ---- An import changes neither usages nor imported ids
 

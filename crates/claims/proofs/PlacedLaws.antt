@@ -32,7 +32,7 @@ use Rattle.claims.proofs.HowLaws.{allPlain}
 use Rattle.claims.proofs.FirstPassLaws.{OtherImport, OwnImport, Behind, Around}
 use Rattle.claims.proofs.WorkedLaws.{CleanImport, CleanBehind, CleanAround, Ready}
 use Rattle.claims.proofs.SettledLaws.{takesApart}
-use Rattle.claims.proofs.OutLaws.{fits, Fine}
+use Rattle.claims.proofs.OutFieldLaws.{fits, Fine}
 
 -- ---- Items that are no imports
 

@@ -17,7 +17,8 @@ use Rattle.extraction_rules.specs.Second.{usagesOf, specifiersFrom, extend, tak
 use Rattle.extraction_rules.proofs.OutcomeLaws.{After, after-if}
 use Rattle.extraction_rules.proofs.ListLaws.{same-swap, among-last, among-new}
 use Rattle.extraction_rules.proofs.FirstLaws.{source-cases, extend-literal}
-use Rattle.extraction_rules.proofs.TableLaws.{recordOf, record-map, record-extend, seek, holdsIn, suitsIn, seek-extend, extend-own, from-finds, find-append}
+use Rattle.extraction_rules.proofs.TableLaws.{recordOf, record-map, record-extend, seek-extend, extend-own, from-finds}
+use Rattle.extraction_rules.proofs.SeekLaws.{seek, holdsIn, suitsIn, find-append}
 use Rattle.claims.specs.Stands.{How, plain, computed, bare, original, imported, otherwise, isUse, properties}
 use Rattle.claims.specs.Demand.{propertyFields, isUsed}
 use Rattle.claims.specs.Placed.{all}

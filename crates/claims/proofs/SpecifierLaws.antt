@@ -31,9 +31,9 @@ use Rattle.claims.specs.Stands.{How, otherwise, idsIn, isMisplaced}
 use Rattle.claims.specs.Placed.{all, localIds}
 use Rattle.claims.proofs.WaysLaws.{met, ways, waysAll}
 use Rattle.claims.proofs.HowLaws.{all-append}
-use Rattle.claims.proofs.OutLaws.{fits}
 use Rattle.claims.proofs.ImportedLaws.{OtherSpace, OtherLocal}
 use Rattle.claims.proofs.CleanLaws.{CleanSpec, Whole}
+use Rattle.claims.proofs.OutFieldLaws.{fits}
 
 -- ---- Fit ways, part by part
 

@@ -24,10 +24,10 @@ use Rattle.claims.proofs.ImportedLaws.{OtherSpace, OtherLocal}
 use Rattle.claims.proofs.FirstPassLaws.{Around, import-ways}
 use Rattle.claims.proofs.CleanLaws.{CleanSpec, Whole}
 use Rattle.claims.proofs.WorkedLaws.{CleanAround}
-use Rattle.claims.proofs.OutLaws.{fits}
 use Rattle.claims.proofs.TidyLaws.{import-quiet}
 use Rattle.claims.proofs.SpecifierLaws.{fits-each, each-keep, locals-other, locals-all, SpecFacts, specs-facts}
 use Rattle.claims.proofs.PlacedLaws.{EachImport, Apart, Others, shares-apart, around-placed, but-with}
+use Rattle.claims.proofs.OutFieldLaws.{fits}
 
 -- of each import of a list of items
 pub imports-all : (t : Field → Bool) (fs : Fields) → all t (importsIn fs) ≡ true → EachImport (λ f. t f ≡ true) fs

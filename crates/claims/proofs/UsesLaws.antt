@@ -24,7 +24,7 @@ use Rattle.claims.specs.Placed.{all}
 use Rattle.claims.specs.Demand.{counted, Unchanged, Rewritten, Every}
 use Rattle.claims.proofs.WaysLaws.{met, ways, waysAll, waysMember, waysAssignment, waysTarget, waysParts, waysObject, standingsParts}
 use Rattle.claims.proofs.HowLaws.{Unused, unused-append, ids-unused, object-unused}
-use Rattle.claims.proofs.OutLaws.{Turned, Out, OutAll, out-more, out-lacking, Fine, fine-append}
+use Rattle.claims.proofs.OutFieldLaws.{Turned, Out, OutAll, out-more, out-lacking, Fine, fine-append}
 
 -- ---- Every use
 

@@ -21,9 +21,9 @@ use Rattle.extraction_rules.proofs.OutcomeLaws.{After, after-bind, after-if, af
 use Rattle.extraction_rules.proofs.ValueLaws.{required-call, first-expression, declarator-value}
 use Rattle.extraction_rules.proofs.TagLaws.{rule-import, rule-export}
 use Rattle.extraction_rules.proofs.WalkLaws.{walkParts}
-use Rattle.extraction_rules.proofs.WholeLaws.{bindingsBy}
 use Rattle.extraction_rules.proofs.AlikeLaws.{Two, RegularAt, Regular, RegularAll}
 use Rattle.extraction_rules.proofs.StayLaws.{no-member}
+use Rattle.extraction_rules.proofs.RecordedLaws.{bindingsBy}
 use Rattle.expressions.specs.After.{identOf}
 use Rattle.expressions.proofs.IdentLaws.{Became, walk-ident, Membered, parts-63}
 

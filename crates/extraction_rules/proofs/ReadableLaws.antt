@@ -32,8 +32,9 @@ use Rattle.extraction_rules.proofs.OutcomeLaws.{After, after-bind, afte
 use Rattle.extraction_rules.proofs.StepLaws.{finish-keeps}
 use Rattle.extraction_rules.proofs.RuleLaws.{only-step, rule-targets}
 use Rattle.extraction_rules.proofs.ShapeLaws.{ShapedAll, formed-shaped-all, shaped-formed}
-use Rattle.extraction_rules.proofs.WithinLaws.{Results, Widths, widths-common, walkAll-within}
+use Rattle.extraction_rules.proofs.WithinLaws.{walkAll-within}
 use Rattle.extraction_rules.proofs.CallLaws.{Made, call-made, run-both}
+use Rattle.extraction_rules.proofs.ResultLaws.{Results, Widths, widths-common}
 
 -- ---- A module's items
 

@@ -34,10 +34,11 @@ use Rattle.extraction_rules.proofs.ListLaws.{All}
 use Rattle.extraction_rules.proofs.StepLaws.{Keeps}
 use Rattle.extraction_rules.proofs.RuleLaws.{rule-targets}
 use Rattle.extraction_rules.proofs.ShapeLaws.{ShapedAll, Specifiers, shaped-formed, specifier-rule, leaf-depth}
-use Rattle.extraction_rules.proofs.WithinLaws.{Results, Widths}
 use Rattle.extraction_rules.proofs.ReadableLaws.{Items, module-results, start-widths, room-size, made-items}
-use Rattle.extraction_rules.proofs.WholeLaws.{WholeRecord, Whole, walkAll-whole, finish-whole}
+use Rattle.extraction_rules.proofs.WholeLaws.{walkAll-whole, finish-whole}
 use Rattle.extraction_rules.proofs.CallLaws.{call-made, run-both}
+use Rattle.extraction_rules.proofs.RecordedLaws.{WholeRecord, Whole}
+use Rattle.extraction_rules.proofs.ResultLaws.{Results, Widths}
 
 -- ---- Rows
 

@@ -21,10 +21,11 @@ use Rattle.extraction_rules.specs.First.{external, idFrom, moduleFor, fo
 use Rattle.extraction_rules.specs.Second.{usagesOf}
 use Rattle.extraction_rules.proofs.OutcomeLaws.{After, after-bind, after-if}
 use Rattle.extraction_rules.proofs.ListLaws.{All, all-last, all-filter, all-find, all-first}
-use Rattle.extraction_rules.proofs.TableLaws.{find-meets, forgotten-imported, other-imported, noted-own, noted-other, force-tables}
+use Rattle.extraction_rules.proofs.TableLaws.{find-meets}
 use Rattle.extraction_rules.proofs.ItemsLaws.{ItemSteps}
 use Rattle.extraction_rules.proofs.StepLaws.{RequireSteps, moduleFor-keeps}
 use Rattle.extraction_rules.proofs.KeepLaws.{Each, each-weaken, each-append}
+use Rattle.extraction_rules.proofs.SeekLaws.{forgotten-imported, other-imported, noted-own, noted-other, force-tables}
 
 -- an id is its name and its context
 pub same-id : (i j : List ℕ) → nameOf i ≡ nameOf j → contextOf i ≡ contextOf j → i ≡ j

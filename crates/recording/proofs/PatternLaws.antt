@@ -19,7 +19,7 @@ use Rattle.metadata.proofs.EncodeLaws.{encodes-append}
 use Rattle.writer.specs.Wrote.{Wrote}
 use Rattle.writer.proofs.Wrote.{wrote-none, wrote-then, wrote-as}
 use Rattle.extraction_rules.specs.First.{Binding, bound, left, below, bindingOf, bindings, bindingsAll, bindingsFirst}
-use Rattle.extraction_rules.proofs.WholeLaws.{bindingsBy}
+use Rattle.extraction_rules.proofs.RecordedLaws.{bindingsBy}
 
 bindings-by : (t : ℕ) (x : List ℕ) (cs : Fields) (b : Binding) → bindingOf t ≡ b → bindings (field t x cs) ≡ bindingsBy b x cs
 unfolding bindings
