@@ -49,8 +49,7 @@ unfolding listed
 listed-made q room r e =
     let a = onto-done (resolvedAll (q .rows) (forcedIn (q .records)) (q .modules) (sourcesIn (q .records)) 3) _ r e in
     let b = onto-done (fits (field 0x03 [] (a .0)) room) _ r (a .2) in
-    let m = done-inj (b .2) in
-    (
+    let m = done-inj (b .2) in (
       sym (ap (λ (n : Resolved). n .modules) m),
       a .1 ∙ ap (λ (n : Resolved). done (partsOf (n .list))) m,
       subst (λ (n : Resolved). hasRoom (size (n .list)) room ≡ true) m (fits-room (field 0x03 [] (a .0)) room (b .0) (b .1)),
