@@ -1,49 +1,92 @@
--- What the exported call of extraction leaves, from what its parts leave.
+-- What the exported calls that start a scope leave, from what their parts leave.
 use Prim.Native.Nat.{ℕ}
 use mathlib.Core.Path.{_≡_, sym, ap, subst, _∙_}
 use mathlib.Core.List.{List, []}
+use mathlib.Core.Option.{Option, some}
+use lib.ListN.{length}
 use Rattle.scope.specs.Modules.{Modules, Left as Requesting, filesIn, requestAll}
 use Rattle.scope.specs.Kept.{modulesOf, requested, fileRefusal}
-use Rattle.scope.specs.declared.Scope.{Scope}
 use Rattle.scope.specs.declared.Requested.{Requested}
 use Rattle.scope.specs.declared.FileAnswer.{FileAnswer}
+use Rattle.scope.specs.declared.FileAnswer.the-variants.{Given, TooManyFiles}
 use Rattle.writer.specs.Finished.{zeroed}
-use Rattle.extraction_rules.specs.Call.{Lent, Lengths, Left}
+use Rattle.extraction_rules.specs.Call.{Lent as Extracting, Lengths, Left as Extracted, extraction}
 use Rattle.extraction.specs.declared.Extraction.{Extraction}
-use Rattle.extraction.specs.Answer.{answerRefusal, left, roomIn}
-use Rattle.host.specs.Answer.{packed, packedIn, scopeBytes, noFiles, extractWith, extractCall, Leaves}
-
--- extraction in a scope
-pub leaves-extracted : {e : Left} (r : Extraction) {a : ℕ} {s w o k : List ℕ} → left r w o k ≡ e → s ≡ scopeBytes (modulesOf (r .scope)) →
-    a ≡ packedIn (answerRefusal (r .answer)) → Leaves e a s w o k
-leaves-extracted r h s a =
-    record {
-      answer = a ∙ ap (λ (l : Left). packedIn (l .refusal)) h;
-      scope = s ∙ ap (λ (l : Left). scopeBytes (l .modules)) h;
-      work = ap (λ (l : Left). l .work) h;
-      out = ap (λ (l : Left). l .out) h;
-      records = ap (λ (l : Left). l .records) h;
-    }
-
--- files that are refused
-pub leaves-refused : (w o k : List ℕ) {ms : Modules} {a : ℕ} {s w' o' k' : List ℕ} → a ≡ packed 5 0 → s ≡ scopeBytes ms → w' ≡ zeroed w → o' ≡ zeroed o → k' ≡ zeroed k →
-    Leaves (noFiles 5 ms (roomIn w o k)) a s w' o' k'
-unfolding zeroed
-leaves-refused w o k a s x y z = record { answer = a; scope = s; work = x; out = y; records = z }
+use Rattle.extraction.specs.Answer.{answerRefusal as extractRefusal, left as leftExtracting, roomIn}
+use Rattle.resolving_rules.specs.Call.{Lent as Resolving, Left as Listed, resolving}
+use Rattle.resolving.specs.declared.Resolved.{Resolved}
+use Rattle.resolving.specs.Answer.{answerRefusal as resolveRefusal, left as leftResolving}
+use Rattle.host.specs.Answer.{packedIn, scopeBytes}
+use Rattle.host.specs.Calls.{onFiles, withFiles, extractNone, extractCall, resolveNone, resolveCall, Tells, Leaves, LeavesList}
 
 -- ---- The files are requested in a fresh scope
 
-call-is : (q : Requested) (n : Scope) (files : List ℕ) (l : Lent) (room : Lengths) → modulesOf n ≡ [] → requested q ≡ requestAll (filesIn files) (modulesOf n) →
-    extractCall files l room ≡ extractWith (fileRefusal (q .answer)) (modulesOf (q .scope)) l room
-unfolding extractCall
-call-is q n files l room e h =
-    ap (λ (r : Requesting). extractWith (r .refusal) (r .modules) l room) (ap (λ (ms : Modules). requestAll (filesIn files) ms) (sym e) ∙ sym h)
+module _ {A : Type 0} (q : Requested) (files : List ℕ) (go : Modules → A) (stop : ℕ → Modules → A) (asked : requested q ≡ requestAll (filesIn files) []) where
+  files-answered : (a : FileAnswer) → q .answer ≡ a → withFiles files go stop ≡ onFiles (fileRefusal a) (modulesOf (q .scope)) go stop
+  unfolding withFiles
+  files-answered a h =
+      ap (λ (r : Requesting). onFiles (r .refusal) (r .modules) go stop) (sym asked)
+      ∙ ap (λ (x : FileAnswer). onFiles (fileRefusal x) (modulesOf (q .scope)) go stop) h
 
--- once they are, or are too many
-pub call-answered : (q : Requested) (n : Scope) (files : List ℕ) (l : Lent) (room : Lengths) {y : FileAnswer} {a : ℕ} {s w o k : List ℕ} →
-    modulesOf n ≡ [] → requested q ≡ requestAll (filesIn files) (modulesOf n) → q .answer ≡ y →
-    Leaves (extractWith (fileRefusal y) (modulesOf (q .scope)) l room) a s w o k → Leaves (extractCall files l room) a s w o k
-call-answered q n files l room {a = a} {s} {w} {o} {k} e h g x =
-    subst (λ (z : Left). Leaves z a s w o k)
-    (sym (call-is q n files l room e h ∙ ap (λ (y : FileAnswer). extractWith (fileRefusal y) (modulesOf (q .scope)) l room) g))
-    x
+  files-given : q .answer ≡ Given → withFiles files go stop ≡ go (modulesOf (q .scope))
+  files-given h = files-answered Given h
+
+  files-refused : q .answer ≡ TooManyFiles → withFiles files go stop ≡ stop 5 (modulesOf (q .scope))
+  files-refused h = files-answered TooManyFiles h
+
+-- what is told of a refusal and of modules, by what these are
+tells-as : {x y : Option (ℕ × ℕ)} {ms new : Modules} {a : ℕ} {s : List ℕ} → a ≡ packedIn x → s ≡ scopeBytes ms → x ≡ y → ms ≡ new → Tells y new a s
+tells-as a s x m = record { answer = a ∙ ap packedIn x; scope = s ∙ ap scopeBytes m }
+
+-- ---- Extraction
+
+-- in a scope
+pub leaves-extracted : {e : Extracted} (r : Extraction) {a : ℕ} {s w o k : List ℕ} → leftExtracting r w o k ≡ e → s ≡ scopeBytes (modulesOf (r .scope)) →
+    a ≡ packedIn (extractRefusal (r .answer)) → Leaves e a s w o k
+leaves-extracted r h s a =
+    record {
+      tells = tells-as a s (ap (λ (l : Extracted). l .refusal) h) (ap (λ (l : Extracted). l .modules) h);
+      work = ap (λ (l : Extracted). l .work) h;
+      out = ap (λ (l : Extracted). l .out) h;
+      records = ap (λ (l : Extracted). l .records) h;
+    }
+
+-- with the files
+pub extract-given : (q : Requested) (files : List ℕ) (l : Extracting) (room : Lengths) {a : ℕ} {s w o k : List ℕ} →
+    requested q ≡ requestAll (filesIn files) [] → q .answer ≡ Given →
+    Leaves (extraction l room (modulesOf (q .scope))) a s w o k → Leaves (extractCall files l room) a s w o k
+extract-given q files l room {a} {s} {w} {o} {k} h g x =
+    subst (λ (z : Extracted). Leaves z a s w o k) (sym (files-given q files (extraction l room) (extractNone room) h g)) x
+
+-- the files are refused
+pub extract-refused : (q : Requested) (files : List ℕ) (l : Extracting) (w o k : List ℕ) {a : ℕ} {s w' o' k' : List ℕ} →
+    requested q ≡ requestAll (filesIn files) [] → q .answer ≡ TooManyFiles →
+    Tells (some (5, 0)) (modulesOf (q .scope)) a s → w' ≡ zeroed w → o' ≡ zeroed o → k' ≡ zeroed k → Leaves (extractCall files l (roomIn w o k)) a s w' o' k'
+unfolding zeroed
+extract-refused q files l w o k {a} {s} {w'} {o'} {k'} h g t x y z =
+    subst (λ (e : Extracted). Leaves e a s w' o' k') (sym (files-refused q files (extraction l (roomIn w o k)) (extractNone (roomIn w o k)) h g))
+    (record { tells = t; work = x; out = y; records = z })
+
+-- ---- Resolving, likewise
+
+pub leaves-resolved : {e : Listed} (r : Resolved) {a : ℕ} {s k : List ℕ} → leftResolving r k ≡ e → s ≡ scopeBytes (modulesOf (r .scope)) →
+    a ≡ packedIn (resolveRefusal (r .answer)) → LeavesList e a s k
+leaves-resolved r h s a =
+    record {
+      tells = tells-as a s (ap (λ (l : Listed). l .refusal) h) (ap (λ (l : Listed). l .modules) h);
+      list = ap (λ (l : Listed). l .list) h;
+    }
+
+pub resolve-given : (q : Requested) (files : List ℕ) (l : Resolving) (room : ℕ) {a : ℕ} {s k : List ℕ} →
+    requested q ≡ requestAll (filesIn files) [] → q .answer ≡ Given →
+    LeavesList (resolving l room (modulesOf (q .scope))) a s k → LeavesList (resolveCall files l room) a s k
+resolve-given q files l room {a} {s} {k} h g x =
+    subst (λ (z : Listed). LeavesList z a s k) (sym (files-given q files (resolving l room) (resolveNone room) h g)) x
+
+pub resolve-refused : (q : Requested) (files : List ℕ) (l : Resolving) (k : List ℕ) {a : ℕ} {s k' : List ℕ} →
+    requested q ≡ requestAll (filesIn files) [] → q .answer ≡ TooManyFiles →
+    Tells (some (5, 0)) (modulesOf (q .scope)) a s → k' ≡ zeroed k → LeavesList (resolveCall files l (length k)) a s k'
+unfolding zeroed
+resolve-refused q files l k {a} {s} {k'} h g t x =
+    subst (λ (e : Listed). LeavesList e a s k') (sym (files-refused q files (resolving l (length k)) (resolveNone (length k)) h g))
+    (record { tells = t; list = x })

@@ -1,18 +1,16 @@
 -- Answers as numbers and bytes. Document 01: 'The host passes numbers and byte slices and gets the same back'.
-use Prim.Native.Nat.{ℕ, zero, suc, _+_, _-_, _*_, _%_}
-use mathlib.Core.Path.{_≡_}
+use Prim.Native.Nat.{ℕ, _+_, _-_, _*_, _%_}
 use mathlib.Core.Bool.{Bool, cond}
 use mathlib.Core.List.{List, [], _∷_, _++_}
 use mathlib.Core.Option.{Option, none, some}
 use lib.ListN.{length, replicate}
-use Rattle.scope.specs.Modules.{Module, Modules, filesIn, requestAll}
+use Rattle.scope.specs.Modules.{Module, Modules}
 use Rattle.writer.specs.Bytes.{twoBytes, fourBytes}
 use Rattle.detection.specs.Detection.{Outcome, answers, refuses}
 use Rattle.metadata.specs.declared.Encoded.{Encoded}
 use Rattle.metadata.specs.Calls.{encodedNumber, encodedPlace}
 use Rattle.metadata.specs.Metadata.{Metadata}
 use Rattle.tree.specs.Read.{Reading, fine, refused, refusalOf}
-use Rattle.extraction_rules.specs.Call.{Lent, Lengths, Left, extraction}
 
 -- the refusal's number in the upper half, its place in the lower
 abbrev pub packed : ℕ → ℕ → ℕ
@@ -72,34 +70,3 @@ listed ms = twoBytes (length ms) ++ modulesBytes ms
 -- and zeros behind: 256 modules fill the 770 bytes
 unfoldable pub scopeBytes : Modules → List ℕ
 scopeBytes ms = listed ms ++ replicate (770 - length (listed ms)) 0
-
--- ---- Extraction: 'calls start a fresh scope and first request a lent list of files in it'
-
--- the files are refused: 'buffers all zero', and the scope has those that were given
-abbrev pub noFiles : ℕ → Modules → Lengths → Left
-noFiles n ms room =
-    record {
-      refusal = some (n, 0);
-      modules = ms;
-      work = replicate (room .work) 0;
-      out = replicate (room .out) 0;
-      records = replicate (room .records) 0;
-    }
-
--- after the request for the files, refused with this number or not
-abbrev pub extractWith : ℕ → Modules → Lent → Lengths → Left
-extractWith zero ms l room = extraction l room ms
-extractWith (suc n) ms l room = noFiles (suc n) ms room
-
-unfoldable pub extractCall : List ℕ → Lent → Lengths → Left
-extractCall files l room =
-    let r = requestAll (filesIn files) [] in
-    extractWith (r .refusal) (r .modules) l room
-
--- a call answers a, and leaves s in the array for the scope and w, o, r in the buffers
-pub record Leaves (l : Left) (a : ℕ) (s w o r : List ℕ) : Type 0 where
-  pub answer : a ≡ packedIn (l .refusal)
-  pub scope : s ≡ scopeBytes (l .modules)
-  pub work : w ≡ l .work
-  pub out : o ≡ l .out
-  pub records : r ≡ l .records

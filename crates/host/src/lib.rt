@@ -1,51 +1,41 @@
 // The calls of the library for C and Rust: numbers and byte slices in, numbers and bytes out, nothing asked of the caller.
 // An answer is the refusal's number times 2^32 plus its place; a zero upper half is acceptance.
-mod listing;
+mod answers; // answers as one number
+mod listing; // a scope as bytes
 
+use answers::encoded_answer;
+use answers::extract_answer;
+use answers::number_of;
+use answers::pack;
+use answers::resolve_answer;
 use detection::DetectAnswer;
 use detection::is_es6;
-use extraction::ExtractAnswer;
 use extraction::extract_import_info;
 use listing::scope_bytes;
 use metadata::Decoded;
-use metadata::Encoded;
 use metadata::ExportCtxt;
 use metadata::ExportMetadata;
+use resolving::resolve_imports;
 use scope::FileAnswer;
+use scope::Requested;
 use scope::Scope;
 use scope::id::FileName;
 use scope::id::SyntaxContext;
-use tree::read::Why;
 ghost use mathlib.Core.Path.{_≡_};
-ghost use mathlib.Core.Option.{Option};
-ghost use Prim.Native.Nat.{_<_};
+ghost use mathlib.Core.List.{[]};
+ghost use mathlib.Core.Option.{some};
 ghost use lib.ListN.{length};
-ghost use Rattle.tree.specs.Read.{refusalOf};
 ghost use Rattle.detection.specs.Detection.{detect};
-ghost use Rattle.metadata.specs.Kept.{contextOf, metadataOf};
+ghost use Rattle.metadata.specs.Kept.{metadataOf};
 ghost use Rattle.metadata.specs.Calls.{decodeCall, encodeAnswer, encodeOut};
-ghost use Rattle.scope.specs.Kept.{modulesOf};
-ghost use Rattle.steps.specs.Step.{refusalOf as walkRefusal};
+ghost use Rattle.scope.specs.Modules.{filesIn, requestAll};
+ghost use Rattle.scope.specs.Kept.{modulesOf, requested};
 ghost use Rattle.extraction_rules.specs.Call.{extraction};
-ghost use Rattle.extraction.specs.Answer.{answerRefusal, lentAs, roomIn};
-ghost use Rattle.host.specs.Answer.{packed, packedIn, bit, detectAnswer, encodeAnswerOf, decodeAnswerOf, bytesOf, metadataBytes, metadataGiven, noFiles, extractCall, Leaves};
-
-fn pack(number: u8, place: usize) -> u64
-    ensures { λ r. ⌜ r ≡ packed number place ⌝ }
-{
-    (number as u64) * 0x1_0000_0000 + (place as u64) % 0x1_0000_0000
-}
-
-fn number_of(why: Why) -> u8
-    ensures { λ r. ⌜ r ≡ refusalOf why ⌝ }
-{
-    match why {
-        Why::Misplaced => 3,
-        Why::Cut => 3,
-        Why::Lacking => 3,
-        Why::Deep => 4,
-    }
-}
+ghost use Rattle.extraction.specs.Answer.{lentAs, roomIn};
+ghost use Rattle.resolving_rules.specs.Call.{resolving};
+ghost use Rattle.resolving.specs.Answer.{lentAs as recordsAs};
+ghost use Rattle.host.specs.Answer.{bit, detectAnswer, encodeAnswerOf, decodeAnswerOf, bytesOf, metadataBytes, metadataGiven};
+ghost use Rattle.host.specs.Calls.{extractCall, resolveCall, Tells, Leaves, LeavesList};
 
 fn bit_of(on: bool) -> u8
     ensures { λ r. ⌜ r ≡ bit on ⌝ }
@@ -78,16 +68,6 @@ fn metadata_given(injected: bool, has_context: bool, context: u32) -> ExportMeta
             injected,
             export_ctxt: ExportCtxt::None,
         }
-    }
-}
-
-fn encoded_answer(r: Encoded) -> u64
-    ensures { λ a. ⌜ a ≡ encodeAnswerOf r ⌝ }
-{
-    match r {
-        Encoded::Done(_) => 0,
-        Encoded::Broken(why, place) => pack(number_of(why), place),
-        Encoded::NoRoom => pack(9, 0),
     }
 }
 
@@ -145,29 +125,19 @@ pub extern "C" fn tychodrel_decode_metadata(attributes: &[u8], metadata: &mut [u
     }
 }
 
-// Document 01's number of a refusal by the walk.
-fn walk_number(why: steps::Why) -> u8
-    ensures { λ r. ⌜ r ≡ walkRefusal why ⌝ }
+// The files, requested in a fresh scope.
+fn request_files(files: &[u8]) -> Requested
+    ensures { λ r. ⌜ requested r ≡ requestAll (filesIn (now (files .entry))) [] ⌝ }
 {
-    match why {
-        steps::Why::TooManyFiles => 5,
-        steps::Why::StringName => 6,
-        steps::Why::PrivateName => 7,
-        steps::Why::TableFull => 8,
-    }
+    Scope::new().gen_ids(files)
 }
 
-fn extract_answer(r: ExtractAnswer) -> u64
-    ensures { λ a. ⌜ a ≡ packedIn (answerRefusal r) ⌝ }
+// A 257th file among those that are lent.
+fn refuse_files(entry: Scope, scope: &mut [u8; 770]) -> u64
+    ensures { λ r. ⌜ Tells (some (5, 0)) (modulesOf entry) r (now (scope .exit)) ⌝ }
 {
-    match r {
-        ExtractAnswer::Extracted => 0,
-        ExtractAnswer::BadLists => pack(1, 0),
-        ExtractAnswer::NamedTwice => pack(2, 0),
-        ExtractAnswer::Unread(why, place) => pack(number_of(why), place),
-        ExtractAnswer::Refused(why, place) => pack(walk_number(why), place),
-        ExtractAnswer::NoRoom => pack(9, 0),
-    }
+    *scope = scope_bytes(entry);
+    pack(5, 0)
 }
 
 // Extracts what a module imports, in a fresh scope in which the files are requested first; `scope` then holds the scope as bytes.
@@ -186,7 +156,7 @@ pub extern "C" fn tychodrel_extract(
 ) -> u64
     ensures { λ r. ⌜ Leaves (extractCall (now (files .entry)) (lentAs file config (now (externals .entry)) (now (table .entry)) (now (tree .entry))) (roomIn (now (work .entry)) (now (out .entry)) (now (records .entry)))) r (now (scope .exit)) (now (work .exit)) (now (out .exit)) (now (records .exit)) ⌝ }
 {
-    let requested = Scope::new().gen_ids(files);
+    let requested = request_files(files);
     let entry = requested.scope;
     let given = requested.answer;
     match given {
@@ -202,7 +172,12 @@ pub extern "C" fn tychodrel_extract(
             out,
             records,
         ),
-        FileAnswer::TooManyFiles => refuse_files(entry, scope, work, out, records),
+        FileAnswer::TooManyFiles => {
+            writer::clear(work);
+            writer::clear(out);
+            writer::clear(records);
+            refuse_files(entry, scope)
+        },
     }
 }
 
@@ -238,19 +213,42 @@ fn extract_in(
     extract_answer(answer)
 }
 
-// A 257th file among those that are lent.
-fn refuse_files(
-    entry: Scope,
+// Resolves records, in a fresh scope in which the files are requested first; `scope` then holds the scope as bytes.
+#[no_mangle]
+pub extern "C" fn tychodrel_resolve(
+    files: &[u8],
+    table: &[u8],
+    records: &[u8],
     scope: &mut [u8; 770],
-    work: &mut [u8],
-    out: &mut [u8],
-    records: &mut [u8],
+    list: &mut [u8],
 ) -> u64
-    ensures { λ r. ⌜ Leaves (noFiles 5 (modulesOf entry) (roomIn (now (work .entry)) (now (out .entry)) (now (records .entry)))) r (now (scope .exit)) (now (work .exit)) (now (out .exit)) (now (records .exit)) ⌝ }
+    ensures { λ r. ⌜ LeavesList (resolveCall (now (files .entry)) (recordsAs (now (table .entry)) (now (records .entry))) (length (now (list .entry)))) r (now (scope .exit)) (now (list .exit)) ⌝ }
 {
-    *scope = scope_bytes(entry);
-    writer::clear(work);
-    writer::clear(out);
-    writer::clear(records);
-    pack(5, 0)
+    let requested = request_files(files);
+    let entry = requested.scope;
+    let given = requested.answer;
+    match given {
+        FileAnswer::Given => resolve_in(entry, table, records, scope, list),
+        FileAnswer::TooManyFiles => {
+            writer::clear(list);
+            refuse_files(entry, scope)
+        },
+    }
+}
+
+// The same in a scope with the files.
+fn resolve_in(
+    entry: Scope,
+    table: &[u8],
+    records: &[u8],
+    scope: &mut [u8; 770],
+    list: &mut [u8],
+) -> u64
+    ensures { λ r. ⌜ LeavesList (resolving (recordsAs (now (table .entry)) (now (records .entry))) (length (now (list .entry))) (modulesOf entry)) r (now (scope .exit)) (now (list .exit)) ⌝ }
+{
+    let r = resolve_imports(entry, table, records, list);
+    let after = r.scope;
+    let answer = r.answer;
+    *scope = scope_bytes(after);
+    resolve_answer(answer)
 }

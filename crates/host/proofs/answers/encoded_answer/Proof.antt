@@ -1,7 +1,7 @@
--- `host::encoded_answer` meets its contract.
+-- `host::answers::encoded_answer` meets its contract.
 use borrow.Author.Needs.{needs}
-use Rattle.host.proofs.encoded_answer.Statement.{statement}
-use Rattle.host.proofs.encoded_answer.Tie as tie
+use Rattle.host.proofs.answers.encoded_answer.Statement.{statement}
+use Rattle.host.proofs.answers.encoded_answer.Tie as tie
 
 enum-told : tie.Need-enum-told
 enum-told c = search needs
