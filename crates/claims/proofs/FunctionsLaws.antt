@@ -110,8 +110,7 @@ functions-keep-or-part l room s r w o k n q g e a f b bs items own reading reque
     let modules = extraction-modules l room (modulesOf s) t e (x .1) in
     let given = lentAs (l .table) (fieldIn k) in
     let y = resolving-accepted given n (modulesOf (r .scope)) f (ap listRefusal b) in
-    let u = y .0 in
-    (
+    let u = y .0 in (
       t,
       u,
       record {

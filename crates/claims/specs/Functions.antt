@@ -78,4 +78,4 @@ FunctionsKeepOrPart =
     wellPlaced (own .0) items ≡ true →
     (t : Extracted) × (u : Resolved) × Holds r o k q g t u
     × ((k : ℕ) (x i : List ℕ) → Declares items k x (more (field 0x22 i none) none) → among (valueOf x) (atomsIn (l .externals)) ≡ false →
-      Ends (takes (rowsIn (l .table)) x (stands items i)) i x k (stands items i) items l t u)
+    Ends (takes (rowsIn (l .table)) x (stands items i)) i x k (stands items i) items l t u)

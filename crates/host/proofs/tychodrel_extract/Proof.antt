@@ -1,9 +1,5 @@
 -- `host::tychodrel_extract` meets its contract.
-<<<<<<< HEAD
-use Rattle.host.proofs.CallLaws.{call-answered}
-=======
 use Rattle.host.proofs.CallLaws.{extract-given, extract-refused}
->>>>>>> 20602f8 (tychodrel_resolve: resolving exported, equal to the rules to the last byte)
 use borrow.Author.Needs.{needs}
 use Rattle.host.proofs.tychodrel_extract.Statement.{statement}
 use Rattle.host.proofs.tychodrel_extract.Tie as tie
@@ -42,11 +38,7 @@ same-length-3 : tie.Need-same-length-3
 same-length-3 c = search needs
 
 returns : tie.Need-returns
-<<<<<<< HEAD
-returns c = call-answered (c .before .before .before .before .before .before .before .before .before .before .before .before .before .before .gen-ids .result) (c .before .before .before .before .before .before .before .before .before .before .before .before .before .before .before .new .result) (c .before .before .before .before .before .before .before .before .before .before .before .before .before .before .before .before .before .before .before .before .before .before .before .args .files .now) _ _ (c .before .before .before .before .before .before .before .before .before .before .before .before .before .before .before .new .ensures) (c .before .before .before .before .before .before .before .before .before .before .before .before .before .before .gen-ids .ensures) (c .before .before .before .before .before .before .before .before .before .before .before .enum-told .given .1) (c .before .before .before .before .before .before .extract-in .ensures)
-=======
 returns c = extract-given (c .before .before .before .before .before .before .before .before .before .before .before .before .before .before .request-files .result) (c .before .before .before .before .before .before .before .before .before .before .before .before .before .before .before .before .before .before .before .before .before .before .args .files .now) _ _ (c .before .before .before .before .before .before .before .before .before .before .before .before .before .before .request-files .ensures) (c .before .before .before .before .before .before .before .before .before .before .before .enum-told .given .1) (c .before .before .before .before .before .before .extract-in .ensures)
->>>>>>> 20602f8 (tychodrel_resolve: resolving exported, equal to the rules to the last byte)
 
 same-length-4 : tie.Need-same-length-4
 same-length-4 c = search needs
@@ -58,11 +50,7 @@ same-length-6 : tie.Need-same-length-6
 same-length-6 c = search needs
 
 returns-2 : tie.Need-returns-2
-<<<<<<< HEAD
-returns-2 c = call-answered (c .before .before .before .before .before .before .before .before .before .before .before .before .before .before .gen-ids .result) (c .before .before .before .before .before .before .before .before .before .before .before .before .before .before .before .new .result) (c .before .before .before .before .before .before .before .before .before .before .before .before .before .before .before .before .before .before .before .before .before .before .before .args .files .now) _ _ (c .before .before .before .before .before .before .before .before .before .before .before .before .before .before .before .new .ensures) (c .before .before .before .before .before .before .before .before .before .before .before .before .before .before .gen-ids .ensures) (c .before .before .before .before .before .before .before .before .before .before .before .enum-told2 .given .1) (c .before .before .before .before .before .before .refuse-files .ensures)
-=======
 returns-2 c = extract-refused (c .before .before .before .before .before .before .before .before .before .before .before .before .before .before .before .before .before .request-files .result) (c .before .before .before .before .before .before .before .before .before .before .before .before .before .before .before .before .before .before .before .before .before .before .before .before .before .args .files .now) _ (c .before .before .before .before .before .before .before .before .before .before .before .before .before .before .before .before .before .before .before .before .before .before .before .before .before .args .work .now) (c .before .before .before .before .before .before .before .before .before .before .before .before .before .before .before .before .before .before .before .before .before .before .before .before .before .args .out .now) (c .before .before .before .before .before .before .before .before .before .before .before .before .before .before .before .before .before .before .before .before .before .before .before .before .before .args .records .now) (c .before .before .before .before .before .before .before .before .before .before .before .before .before .before .before .before .before .request-files .ensures) (c .before .before .before .before .before .before .before .before .before .before .before .before .before .before .enum-told2 .given .1) (c .refuse-files .ensures) (c .before .before .before .before .before .before .before .before .before .before .before .before .clear .ensures) (c .before .before .before .before .before .before .before .before .clear2 .ensures) (c .before .before .before .before .clear3 .ensures)
->>>>>>> 20602f8 (tychodrel_resolve: resolving exported, equal to the rules to the last byte)
 
 pub tychodrel-extract-spec : {M : Type 1} → statement M
 tychodrel-extract-spec =
