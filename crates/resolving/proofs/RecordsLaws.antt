@@ -16,6 +16,7 @@ use Rattle.tree.specs.declared.grammar.Slot.{Slot}
 use Rattle.tree.specs.declared.grammar.Slot.the-variants.{Nothing, Many}
 use Rattle.tree.specs.declared.grammar.Rule.{Rule}
 use Rattle.tree.specs.declared.grammar.Step.the-variants.{Go}
+use Rattle.tree.specs.declared.grammar.Value.the-variants.{Empty, Atom, Literal}
 use Rattle.tree.specs.Layout.{Bytes, two, twoAt, same}
 use Rattle.tree.specs.Grammar.{parts3, parts4, within, holdsAt, ruleOf, stepAt}
 use Rattle.tree.specs.Tree.{Field, field, Fields, none, more, tagOf, fixedOf, size}
@@ -24,10 +25,11 @@ use Rattle.tree.specs.Read.{fine, read}
 use Rattle.tree.specs.Standing.{treeAt, rowAt, Whole, Row}
 use Rattle.tree.specs.Within.{FormedAll}
 use Rattle.tree.proofs.FixedLaws.{no-upto, upto-inj}
-use Rattle.tree.proofs.GrammarLaws.{many-slot, no-step}
+use Rattle.tree.proofs.GrammarLaws.{go-inj, many-slot, no-step}
 use Rattle.tree.proofs.AccessLaws.{extent-upto, upto-in}
 use Rattle.tree.proofs.LayoutLaws.{two-at, same-two}
-use Rattle.tree.proofs.StandingLaws.{row-more, row-none, tree-upto, whole-step, row-next, read-field}
+use Rattle.tree.proofs.StandingLaws.{row-more, row-none, tree-upto, whole-step, whole-tag, row-next, read-field}
+use Rattle.tree.proofs.WidthLaws.{Plainly, plain-ends, tree-bare}
 use Rattle.tree.proofs.SoundLaws.{row-sound, whole-sound}
 use Rattle.tree.proofs.TreeLaws.{size-encode}
 use Rattle.lent.specs.Lists.{among}
@@ -36,12 +38,8 @@ use Rattle.lent.specs.Outcome.{done}
 use Rattle.resolving_rules.specs.Resolve.{sourcesIn, forcedIn}
 use Rattle.resolving_rules.specs.Call.{recordsRead}
 use Rattle.resolving.specs.Records.{FieldRead, FieldsRead, recordsIn, leftRule, RecordsFrom, RecordsRead, SourceRead, sourceOn, sourceEnd, forcesAt}
-use Rattle.resolving.proofs.WidthLaws.{ends-source, ends-83, ends-02}
 
 -- ---- The rules that are left
-
-go-inj : {q r : Rule} → Go q ≡ Go r → q ≡ r
-go-inj e = cc
 
 -- a slot for many takes a tag of its set and stays, or is passed over
 many-step : (x : Set) (a b c : Slot) (t : ℕ) (q : Rule) (P : Type 0) → stepAt (parts4 (Many x) a b c) t ≡ Go q →
@@ -59,11 +57,15 @@ pub record Kind (t : ℕ) (q : Rule) : Type 0 where
   pub tag : t ≡ 0x80 + kind
   pub rule : q ≡ leftRule kind
 
-kind-3 : (t : ℕ) (q : Rule) → stepAt (leftRule 3) t ≡ Go q → Kind t q
+-- behind a forced source all are
+only-forced : (t : ℕ) (q : Rule) → stepAt (leftRule 3) t ≡ Go q → (t ≡ 0x83) × (q ≡ leftRule 3)
 unfolding holdsAt
-kind-3 t q e =
-    many-step Forced Nothing Nothing Nothing t q (Kind t q) e
-    (λ h r. record { kind = 3; most = omega arith; tag = eqb-true t 0x83 h; rule = r }) (λ z. absurd (no-step t z))
+only-forced t q e =
+    many-step Forced Nothing Nothing Nothing t q ((t ≡ 0x83) × (q ≡ leftRule 3)) e
+    (λ h r. (eqb-true t 0x83 h, r)) (λ z. absurd (no-step t z))
+
+kind-3 : (t : ℕ) (q : Rule) → stepAt (leftRule 3) t ≡ Go q → Kind t q
+kind-3 t q e = let o = only-forced t q e in record { kind = 3; most = omega arith; tag = o .0; rule = o .1 }
 
 kind-2 : (t : ℕ) (q : Rule) → stepAt (leftRule 2) t ≡ Go q → Kind t q
 unfolding holdsAt
@@ -85,13 +87,6 @@ kind-of zero t q e =
 kind-of (suc zero) t q e = kind-1 t q e
 kind-of (suc (suc zero)) t q e = kind-2 t q e
 kind-of (suc (suc (suc k))) t q e = kind-3 t q e
-
--- behind a forced source all are
-only-forced : (t : ℕ) (q : Rule) → stepAt (leftRule 3) t ≡ Go q → (t ≡ 0x83) × (q ≡ leftRule 3)
-unfolding holdsAt
-only-forced t q e =
-    many-step Forced Nothing Nothing Nothing t q ((t ≡ 0x83) × (q ≡ leftRule 3)) e
-    (λ h r. (eqb-true t 0x83 h, r)) (λ z. absurd (no-step t z))
 
 -- ---- Which have a source
 
@@ -179,7 +174,7 @@ module _ {s : List ℕ} {at stop : ℕ} (r : RecordsFrom s at) (e : extentAt s a
   records-more = row-more s at (length s) stop (r .inside) e
 
   record-tag : tagOf (treeAt s at stop) ≡ getD s at 0
-  record-tag = let n = next-record in ap tagOf (tree-upto s at stop (n .fixed) (n .fixes))
+  record-tag = whole-tag s at stop (next-record .read .whole)
 
   -- ---- those with a source
 
@@ -187,14 +182,12 @@ module _ {s : List ℕ} {at stop : ℕ} (r : RecordsFrom s at) (e : extentAt s a
     source-fixed : next-record .fixed ≡ at + 9
     source-fixed =
         let n = next-record in
-        let m = n .most in
-        let z : n .kind < 3 = by (n .kind) (n .tag) (n .most) in
-        let b = ends-source (n .kind) z s (getD s at 0) (at + 3) stop (n .fixed) (n .tag) (n .fixes) in omega arith
+        let b = plain-ends (0x80 + n .kind) Literal (by (n .kind) (n .tag) (n .most)) s (getD s at 0) (at + 3) stop (n .fixed) (n .tag) (n .fixes) in omega arith
       where
-        by : (k : ℕ) → getD s at 0 ≡ 0x80 + k → k ≤ 3 → k < 3
-        by zero q l = omega arith
-        by (suc zero) q l = omega arith
-        by (suc (suc zero)) q l = omega arith
+        by : (k : ℕ) → getD s at 0 ≡ 0x80 + k → k ≤ 3 → Plainly (0x80 + k) Literal
+        by zero q l = refl
+        by (suc zero) q l = refl
+        by (suc (suc zero)) q l = refl
         by (suc (suc (suc zero))) q l = absurd (h q)
         by (suc (suc (suc (suc k)))) q l = absurd (omega arith)
 
@@ -296,7 +289,7 @@ module _ (a : ℕ) (small : a < 65536) where
       forced-fixed : getD s at 0 ≡ 0x83 → next-record r e .fixed ≡ at + 5
       forced-fixed h =
           let n = next-record r e in
-          let b = ends-83 s (getD s at 0) (at + 3) stop (n .fixed) h (n .fixes) in omega arith
+          let b = plain-ends 0x83 Atom refl s (getD s at 0) (at + 3) stop (n .fixed) h (n .fixes) in omega arith
 
       -- the atom of a forced source
       forced-atom : getD s at 0 ≡ 0x83 → same (two a) (fixedOf (treeAt s at stop)) ≡ eqb a (twoAt s (at + 3))
@@ -356,18 +349,14 @@ records-rule = refl
 pub records-read : (s : List ℕ) (fs : Fields) → read Records s ≡ fine fs → recordsRead (read Records s) ≡ done (recordsIn s)
 records-read s fs e =
     let r = read-field Records s fs e in
-    let w = whole-step s 0 (length s) (r .whole) in
-    let t : getD s 0 0 ≡ 0x02 = records-tag (getD s 0 0) (r .tag) in
-    let b : w .0 ≡ 3 = ends-02 s (getD s 0 0) 3 (length s) (w .0) t (w .1) in
-    ap recordsRead (e ∙ ap fine (r .tree ∙ ap (λ (f : Field). more f none) (tree-upto s 0 (length s) (w .0) (w .1))))
-    ∙ ap (λ (k : ℕ). done (rowAt s k (length s))) b
+    ap recordsRead (e ∙ ap fine (r .tree ∙ ap (λ (f : Field). more f none) (tree-bare 0x02 refl s 0 (length s) (r .room) (records-tag (getD s 0 0) (r .tag)))))
 
 pub records-sound : (s : List ℕ) (fs : Fields) → read Records s ≡ fine fs → Bytes s → RecordsRead s
 records-sound s fs e bs =
     let r = read-field Records s fs e in
     let w = whole-step s 0 (length s) (r .whole) in
     let t : getD s 0 0 ≡ 0x02 = records-tag (getD s 0 0) (r .tag) in
-    let b : w .0 ≡ 3 = ends-02 s (getD s 0 0) 3 (length s) (w .0) t (w .1) in
+    let b : w .0 ≡ 3 = plain-ends 0x02 Empty refl s (getD s 0 0) 3 (length s) (w .0) t (w .1) in
     record {
       bytes = bs;
       inside = r .room;

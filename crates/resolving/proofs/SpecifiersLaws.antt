@@ -1,21 +1,29 @@
 -- Specifiers, one by one as they are written.
-use Prim.Native.Nat.{ℕ, _+_, _-_, _≤_}
+use Prim.Native.Nat.{ℕ, _+_, _≤_}
 use native.Mathlib.Omega.{arith}
-use mathlib.Core.Path.{_≡_, sym, ap, _∙_}
+use mathlib.Core.Path.{_≡_, refl, sym, ap, subst, _∙_}
 use mathlib.Core.Bool.{Bool, cond}
 use mathlib.Core.List.{List, [], _∷_, _++_, append-assoc}
+use lib.Dec.{ltb}
 use lib.ListN.{getD}
 use lib.Seq.{slice}
-use borrow.Author.Tests.{eq-eqb, ne-eqb}
+use borrow.Author.Tests.{eq-eqb, ne-eqb, ltb-true}
+use Rattle.tree.specs.declared.layout.Reach.{Reach}
 use Rattle.tree.specs.declared.layout.Reach.the-variants.{Upto, Short}
-use Rattle.tree.specs.Layout.{two, four}
+use Rattle.tree.specs.declared.grammar.Piece.the-variants.{Outside}
+use Rattle.tree.specs.declared.access.Choice.{Choice}
+use Rattle.tree.specs.declared.access.Choice.the-variants.{Take, Bad}
+use Rattle.tree.specs.Layout.{skipAt, two, four}
+use Rattle.tree.specs.Grammar.{piecesOf}
 use Rattle.tree.specs.Tree.{Field, field, Fields, none, tagOf, fixedOf, encode, size}
-use Rattle.writer.specs.Bytes.{twoBytes, fourBytes, framed}
-use Rattle.tree.specs.Access.{fixedAt, extentAt}
+use Rattle.tree.specs.Access.{valueAt, choiceOf, onChoice, kindAt, pieceAt, thenPiece, fixedAt, extentAt}
 use Rattle.tree.specs.Standing.{treeAt, rowAt}
+use Rattle.tree.proofs.AccessLaws.{ReachIn, cond-ind, value-in}
 use Rattle.tree.proofs.FixedLaws.{no-upto}
 use Rattle.tree.proofs.SliceLaws.{getD-slice}
 use Rattle.tree.proofs.StandingLaws.{row-more, row-none, tree-upto, whole-step}
+use Rattle.tree.proofs.WidthLaws.{skip-ends}
+use Rattle.writer.specs.Bytes.{twoBytes, fourBytes, framed}
 use Rattle.lent.specs.Outcome.{done, refused}
 use Rattle.lent.specs.Fields.{has}
 use Rattle.resolving_rules.specs.Resolve.{resolvedNamed, resolvedDefault, resolvedNamespace, resolvedSpecifier, resolvedSpecifiers}
@@ -23,6 +31,28 @@ use Rattle.resolving.specs.Records.{FieldRead}
 use Rattle.resolving.proofs.WritesLaws.{framed-leaf, consed, Cons}
 
 -- ---- A 20
+
+choice-ends : (c : Choice) (at stop b : ℕ) → at ≤ stop → onChoice c at stop ≡ Upto b → at ≤ b
+unfolding onChoice
+choice-ends Bad at stop b h e = absurd (no-upto e)
+choice-ends (Take v) at stop b h e = subst (ReachIn at stop) e (value-in v at stop h) .0
+
+kind-ends : (s : List ℕ) (at stop b : ℕ) → kindAt s Outside at stop ≡ Upto b → at + 1 ≤ b
+unfolding kindAt
+kind-ends s at stop b =
+    cond-ind (λ (r : Reach). r ≡ Upto b → at + 1 ≤ b) (ltb at stop) (onChoice (choiceOf Outside (getD s at 0)) (at + 1) stop) Short
+    (λ q e. let h = ltb-true at stop q in choice-ends (choiceOf Outside (getD s at 0)) (at + 1) stop b (omega arith) e) (λ _ e. absurd (no-upto e))
+
+outside-ends : (n at stop b : ℕ) (s : List ℕ) (r : Reach) → skipAt at n stop ≡ r → thenPiece r s Outside stop ≡ Upto b → at + n + 1 ≤ b
+unfolding thenPiece pieceAt
+outside-ends n at stop b s Short w e = absurd (no-upto e)
+outside-ends n at stop b s (Upto c) w e = let i = skip-ends at n stop c w in let j = kind-ends s c stop b e in omega arith
+
+-- it has its id and a kind byte
+pub ends-20 : (s : List ℕ) (t at stop b : ℕ) → t ≡ 0x20 → fixedAt s t at stop ≡ Upto b → at + 7 ≤ b
+unfolding fixedAt pieceAt valueAt piecesOf
+ends-20 s t at stop b h e =
+    let z = outside-ends 6 at stop b s (skipAt at 6 stop) refl (subst (λ (k : ℕ). fixedAt s k at stop ≡ Upto b) h e) in omega arith
 
 module _ (s : List ℕ) (at end : ℕ) (h : at + 10 ≤ end) where
   name-kind : getD (slice (at + 3) end s) 6 0 ≡ getD s (at + 9) 0

@@ -2,9 +2,8 @@ use Prim.Native.Nat.{_+_}
 use mathlib.Core.Path.{sym, _∙_}
 use native.Mathlib.Omega.{arith}
 use Rattle.tree.proofs.AccessLaws.{upto-in}
-use Rattle.resolving.proofs.WidthLaws.{ends-20}
 use Rattle.resolving.proofs.WritesLaws.{puts-done, puts-as}
-use Rattle.resolving.proofs.SpecifiersLaws.{read-short, specifier-named, specifier-default, specifier-namespace}
+use Rattle.resolving.proofs.SpecifiersLaws.{ends-20, read-short, specifier-named, specifier-default, specifier-namespace}
 use borrow.Author.Needs.{needs}
 use Rattle.resolving.proofs.specifiers.put_specifier.Statement.{statement}
 use Rattle.resolving.proofs.specifiers.put_specifier.Tie as tie
