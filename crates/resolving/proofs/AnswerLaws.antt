@@ -1,6 +1,5 @@
 -- The whole call: what is tested before it, the numbers, the list in its buffer, and what each leaves.
 use Prim.Native.Nat.{ℕ}
-use native.Mathlib.Omega.{arith}
 use mathlib.Core.Path.{_≡_, refl, sym, ap, ap₂, subst, _∙_}
 use mathlib.Core.Bool.{Bool, true, false, not}
 use mathlib.Core.List.{List, []}
@@ -98,7 +97,7 @@ module _ (table records : List ℕ) (ms : Modules) where
         ap (leftBy (Refused v q) ms) (z ∙ ap (λ (n : ℕ). replicate n 0) (w .size)) ∙ sym (list-as (length l) (back all (w .turned v q e)))
       where
         back : (m : Outcome Fields) → listWith m ≡ refused (whyNumber v) q → m ≡ refused (whyNumber v) q
-        back (done gs) e = absurd (let z : _≡_ {A = ℕ} 0 1 = cc in omega arith)
+        back (done gs) e = done-refused (sym e)
         back (refused n p) e = ap (λ (o : Outcome Field). refused (numberIn (refusalIn o)) (placeIn (refusalIn o))) e
 
     module _ {n : ℕ} {r : Bool} (e : k ≡ Done n) (f : Finished n l1 r l2) where
@@ -108,25 +107,23 @@ module _ (table records : List ℕ) (ms : Modules) where
           let o = onto-done all (λ gs. done (field 0x03 [] gs)) (u .value) (u .is) in
           (o .0, o .1, subst (λ (g : Field). Delivered (encode g) l r l2) (sym (done-inj (o .2))) (delivers (u .wrote) f))
 
-      pub list-fits : r ≡ true → leftBy Listed ms l2 ≡ listedLeft table records (length l) ms
-      list-fits z =
+      -- by what finishing it answers
+      list-by : {c : Bool} → r ≡ c →
+          listedLeft table records (length l) ms ≡ leftAs (onto (refuseIf (not c) 9) (λ _. done (record { modules = ms; list = field 0x03 [] (list-given .0) }))) (length l)
+      list-by z =
           let g = list-given in
-          let d = g .2 in
           let h = field 0x03 [] (g .0) in
-          ap (leftBy Listed ms) (d .buffer)
-          ∙ sym
-          (list-as (length l) (g .1)
-          ∙ ap (λ (o : Outcome (Unit {0})). leftAs (onto o (λ _. done (record { modules = ms; list = h }))) (length l)) (fits-by h (length l) (sym (d .room) ∙ z)))
+          list-as (length l) (g .1)
+          ∙ ap (λ (o : Outcome (Unit {0})). leftAs (onto o (λ _. done (record { modules = ms; list = h }))) (length l)) (fits-by h (length l) (sym (g .2 .room) ∙ z))
+
+      pub list-fits : r ≡ true → leftBy Listed ms l2 ≡ listedLeft table records (length l) ms
+      list-fits z = ap (leftBy Listed ms) (list-given .2 .buffer) ∙ sym (list-by z)
 
       pub list-long : r ≡ false → leftBy NoRoom ms l2 ≡ listedLeft table records (length l) ms
       list-long z =
           let g = list-given in
           let d = g .2 in
-          let h = field 0x03 [] (g .0) in
-          ap (leftBy NoRoom ms) (d .buffer ∙ delivered-none (encode h) (length l) (sym (d .room) ∙ z))
-          ∙ sym
-          (list-as (length l) (g .1)
-          ∙ ap (λ (o : Outcome (Unit {0})). leftAs (onto o (λ _. done (record { modules = ms; list = h }))) (length l)) (fits-by h (length l) (sym (d .room) ∙ z)))
+          ap (leftBy NoRoom ms) (d .buffer ∙ delivered-none (encode (field 0x03 [] (g .0))) (length l) (sym (d .room) ∙ z)) ∙ sym (list-by z)
 
 -- ---- '5'
 

@@ -1,7 +1,7 @@
 -- Numbering, source by source, and that every source that resolves then has its number.
-use Prim.Native.Nat.{ℕ, _+_, _-_}
+use Prim.Native.Nat.{ℕ, _+_}
 use native.Mathlib.Omega.{arith}
-use mathlib.Core.Path.{_≡_, refl, sym, ap, subst, _∙_}
+use mathlib.Core.Path.{_≡_, refl, sym, ap, ap₂, subst, _∙_}
 use mathlib.Core.List.{List}
 use mathlib.Core.Option.{Option, none as nothing, some}
 use lib.ListN.{length}
@@ -68,23 +68,23 @@ module _ (rows : List Row) {s : List ℕ} {at : ℕ} (ms : Modules) (r : Records
   numbers-end e = sym (ap (λ (fs : Fields). numberAll rows fs ms at) (sources-end r e))
 
   module _ {stop v : ℕ} (e : sourceEnd s at ≡ Upto stop) (l : v ≡ literalValue s (at + 3)) where
-    numbers-step : numberAll rows (sourcesIn (rowAt s at (length s))) ms at
-        ≡ onto (numberOne (fileOf (two v) rows) ms at) (λ new. numberAll rows (sourcesIn (rowAt s stop (length s))) new stop)
+    numbers-step : {o : Outcome Modules} → numberOne (fileOf (two v) rows) ms at ≡ o →
+        numberAll rows (sourcesIn (rowAt s at (length s))) ms at ≡ onto o (λ new. numberAll rows (sourcesIn (rowAt s stop (length s))) new stop)
     unfolding numberAll
-    numbers-step =
+    numbers-step q =
         let w = source-stands r e in
         ap (λ (fs : Fields). numberAll rows fs ms at) (w .row)
         ∙ ap (λ (a : List ℕ). onto (numberOne (fileOf a rows) ms at) (λ new. numberAll rows (sourcesIn (rowAt s stop (length s))) new (at + size (treeAt s at stop))))
         (source-value (w .source) ∙ ap two (sym l))
-        ∙ ap (λ (p : ℕ). onto (numberOne (fileOf (two v) rows) ms at) (λ new. numberAll rows (sourcesIn (rowAt s stop (length s))) new p)) (source-after (w .source))
+        ∙ ap₂ (λ (o : Outcome Modules) (p : ℕ). onto o (λ new. numberAll rows (sourcesIn (rowAt s stop (length s))) new p)) q (source-after (w .source))
 
     pub numbers-more : {new : Modules} → numberOne (fileOf (two v) rows) ms at ≡ done new →
         numberAll rows (sourcesIn (rowAt s at (length s))) ms at ≡ numberAll rows (sourcesIn (rowAt s stop (length s))) new stop
-    numbers-more q = numbers-step ∙ ap (λ (o : Outcome Modules). onto o (λ new. numberAll rows (sourcesIn (rowAt s stop (length s))) new stop)) q
+    numbers-more q = numbers-step q
 
     pub numbers-stop : {n p : ℕ} → numberOne (fileOf (two v) rows) ms at ≡ refused n p →
         refused n p ≡ numberAll rows (sourcesIn (rowAt s at (length s))) ms at
-    numbers-stop q = sym (numbers-step ∙ ap (λ (o : Outcome Modules). onto o (λ new. numberAll rows (sourcesIn (rowAt s stop (length s))) new stop)) q)
+    numbers-stop q = sym (numbers-step q)
 
 -- ---- Once numbered, each has its number
 

@@ -5,6 +5,7 @@ use mathlib.Core.List.{List, _++_, append-nil}
 use native.Mathlib.Omega.{arith}
 use lib.ListN.{length, length-set}
 use Rattle.tree.specs.Tree.{Field, field, Fields, none, more, framed as framedField, encode, encodes}
+use Rattle.tree.proofs.TreeLaws.{encodes-none, encodes-more}
 use Rattle.writer.specs.Bytes.{framed}
 use Rattle.writer.specs.Wrote.{Wrote, Opened, closed}
 use Rattle.writer.proofs.Wrote.{wrote-none, wrote-then, wrote-as, wrote-field}
@@ -69,14 +70,6 @@ consed one n = onto one (λ g. onto n (λ gs. done (more g gs)))
 pub record Cons (m : Outcome Fields) (one : Outcome Field) (n : Outcome Fields) : Type 0 where
   pub is : m ≡ consed one n
 
-wrote-more : {l l1 l2 : List ℕ} {o p q : ℕ} (g : Field) (gs : Fields) → Wrote l o (encode g) l1 p → Wrote l1 p (encodes gs) l2 q → Wrote l o (encodes (more g gs)) l2 q
-unfolding encode
-wrote-more g gs v w = wrote-then v w
-
-wrote-nil : {l : List ℕ} {o : ℕ} → Wrote l o (encodes none) l o
-unfolding encode
-wrote-nil = wrote-none
-
 module _ {one : Outcome Field} (n : Outcome Fields) {l l1 : List ℕ} {o : ℕ} {j : Step} (a : Puts encode one l o l1 j) where
   puts-then : {l2 : List ℕ} {k : Step} {p : ℕ} → j ≡ Done p → Puts encodes n l1 p l2 k → Puts encodes (consed one n) l o l2 k
   puts-then {p = p} e b =
@@ -88,7 +81,7 @@ module _ {one : Outcome Field} (n : Outcome Fields) {l l1 : List ℕ} {o : ℕ} 
             record {
               value = more (u .value) (v .value);
               is = ap (λ (i : Outcome Field). consed i n) (u .is) ∙ ap (λ (i : Outcome Fields). onto i (λ gs. done (more (u .value) gs))) (v .is);
-              wrote = wrote-more (u .value) (v .value) (u .wrote) (v .wrote);
+              wrote = wrote-as (wrote-then (u .wrote) (v .wrote)) (sym (encodes-more (u .value) (v .value)));
             };
         turned = λ w q z.
             ap (λ (i : Outcome Field). consed i n) (u .is) ∙ ap (λ (i : Outcome Fields). onto i (λ gs. done (more (u .value) gs))) (b .turned w q z);
@@ -102,7 +95,7 @@ onward-all = record { size = refl; rest = λ w. w }
 
 module _ {m n : Outcome Fields} {l l1 : List ℕ} {o p : ℕ} (w : Onward m n l o l1 p) where
   pub onward-end : n ≡ done none → Puts encodes m l o l1 (Done p)
-  onward-end e = w .rest (puts-done e wrote-nil)
+  onward-end e = w .rest (puts-done e (wrote-as wrote-none (sym encodes-none)))
 
   module _ {one : Outcome Field} {rest : Outcome Fields} (e : Cons n one rest) {l2 : List ℕ} {j : Step} (a : Puts encode one l1 p l2 j) where
     pub onward-more : {q : ℕ} → j ≡ Done q → Onward m rest l o l2 q
