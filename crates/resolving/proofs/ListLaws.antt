@@ -29,15 +29,14 @@ use Rattle.resolving.proofs.WritesLaws.{consed, Cons}
 -- ---- What stands before the specifiers
 
 two-bytes : (n : ℕ) → n < 65536 → twoBytes n ≡ two n
-two-bytes n h = let e : n / 256 ≡ n / 256 % 256 = omega arith in ap (λ (k : ℕ). k ∷ n % 256 ∷ []) e
+two-bytes n h = let a : n / 256 ≡ n / 256 % 256 = omega arith in cc
 
 four-bytes : (n : ℕ) → n < 4294967296 → fourBytes n ≡ four n
 four-bytes n h =
     let a : n / 65536 / 256 ≡ n / 16777216 % 256 = omega arith in
     let b : n % 65536 / 256 ≡ n / 256 % 256 = omega arith in
     let c : n % 65536 % 256 ≡ n % 256 = omega arith in
-    ap (λ (k : ℕ). k ∷ n / 65536 % 256 ∷ n % 65536 / 256 ∷ n % 65536 % 256 ∷ []) a
-    ∙ ap₂ (λ (j k : ℕ). n / 16777216 % 256 ∷ n / 65536 % 256 ∷ j ∷ k ∷ []) b c
+    cc
 
 pub heading-bytes : (kind n file l e : ℕ) (x : List ℕ) → n < 65536 → file < 65536 → l ≡ local n → e ≡ export n →
     ((kind ∷ []) ++ twoBytes n ++ twoBytes file ++ fourBytes l ++ fourBytes e ++ x) ≡ (kind ∷ two n ++ two file ++ four (local n) ++ four (export n) ++ x)

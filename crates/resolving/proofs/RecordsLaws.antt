@@ -118,21 +118,24 @@ field-long s at end stop bs le fits e w =
     size-encode (treeAt s at stop) ∙ ap length (whole-sound s at end stop bs le fits e w .0) ∙ length-slice at stop s (omega arith)
 
 module _ {s : List ℕ} {at end stop : ℕ} (r : FieldsRead s at end) (e : extentAt s at end ≡ Upto stop) where
-  next-field : (whole : Whole s at stop) → FieldRead s at stop
-  next-field whole =
+  next-field : (q : Rule) × (stepAt (r .rule) (getD s at 0) ≡ Go q) × FieldRead s at stop × Row s stop end q
+  next-field =
       let i = extent-upto s at end (r .inside) e in
-      let f = r .fits in
-      record { inside = i .0; fits = omega arith; whole = whole; long = field-long s at end stop (r .bytes) (r .inside) (r .fits) e whole }
+      let f = row-next s at end (r .rule) (r .inside) (r .row) (λ z. omega arith) in
+      let z : f .1 ≡ stop = upto-inj (sym (f .3) ∙ e) in
+      let whole = subst (Whole s at) z (f .4) in
+      let n = r .fits in (
+        f .0,
+        f .2,
+        record { inside = i .0; fits = omega arith; whole = whole; long = field-long s at end stop (r .bytes) (r .inside) (r .fits) e whole },
+        subst (λ (k : ℕ). Row s k end (f .0)) z (f .5),
+      )
 
   -- the first of some fields, and the others
   pub fields-next : FieldRead s at stop × FieldsRead s stop end
   fields-next =
-      let i = extent-upto s at end (r .inside) e in
-      let f = row-next s at end (r .rule) (r .inside) (r .row) (λ z. omega arith) in
-      let z : f .1 ≡ stop = upto-inj (sym (f .3) ∙ e) in (
-        next-field (subst (Whole s at) z (f .4)),
-        record { bytes = r .bytes; inside = i .1; fits = r .fits; rule = f .0; row = subst (λ (k : ℕ). Row s k end (f .0)) z (f .5) },
-      )
+      let n = next-field in
+      (n .2, record { bytes = r .bytes; inside = extent-upto s at end (r .inside) e .1; fits = r .fits; rule = n .0; row = n .3 })
 
 -- ---- Records in bytes
 
@@ -150,18 +153,15 @@ record Next (s : List ℕ) (at stop : ℕ) : Type 0 where
 module _ {s : List ℕ} {at stop : ℕ} (r : RecordsFrom s at) (e : extentAt s at (length s) ≡ Upto stop) where
   next-record : Next s at stop
   next-record =
-      let i = extent-upto s at (length s) (r .inside) e in
-      let f = row-next s at (length s) (leftRule (r .kind)) (r .inside) (r .row) (λ z. omega arith) in
-      let z : f .1 ≡ stop = upto-inj (sym (f .3) ∙ e) in
-      let whole : Whole s at stop = subst (Whole s at) z (f .4) in
-      let k = kind-of (r .kind) (getD s at 0) (f .0) (f .2) in
-      let w = whole-step s at stop whole in
+      let f = next-field (record { bytes = r .bytes; inside = r .inside; fits = omega arith; rule = leftRule (r .kind); row = r .row }) e in
+      let k = kind-of (r .kind) (getD s at 0) (f .0) (f .1) in
+      let w = whole-step s at stop (f .2 .whole) in
       record {
-        read = record { inside = i .0; fits = i .1; whole = whole; long = field-long s at (length s) stop (r .bytes) (r .inside) (omega arith) e whole };
+        read = f .2;
         kind = k .kind;
         most = k .most;
         tag = k .tag;
-        row = subst (Row s stop (length s)) (k .rule) (subst (λ (k : ℕ). Row s k (length s) (f .0)) z (f .5));
+        row = subst (Row s stop (length s)) (k .rule) (f .3);
         fixed = w .0;
         fixes = w .1;
         parts = w .2;
@@ -227,14 +227,6 @@ module _ {s : List ℕ} {at stop : ℕ} (r : RecordsFrom s at) (e : extentAt s a
 
 -- ---- By the code's test
 
-short-on : (t : ℕ) → sourceOn Short t ≡ Short
-unfolding sourceOn
-short-on t = refl
-
-upto-on : (i t : ℕ) → sourceOn (Upto i) t ≡ cond (eqb t 0x83) Short (Upto i)
-unfolding sourceOn
-upto-on i t = refl
-
 -- there is a record with a source at `at`
 pub record Standing (s : List ℕ) (at stop : ℕ) : Type 0 where
   pub source : SourceRead s at stop
@@ -243,7 +235,7 @@ pub record Standing (s : List ℕ) (at stop : ℕ) : Type 0 where
 
 module _ {s : List ℕ} {at : ℕ} (r : RecordsFrom s at) where
   pub source-stands : {stop : ℕ} → sourceEnd s at ≡ Upto stop → Standing s at stop
-  unfolding sourceEnd
+  unfolding sourceEnd sourceOn
   source-stands {stop} e = on (extentAt s at (length s)) refl e
     where
       by : (b : Bool) (i : ℕ) → extentAt s at (length s) ≡ Upto i → eqb (getD s at 0) 0x83 ≡ b → cond b Short (Upto i) ≡ Upto stop → Standing s at stop
@@ -254,11 +246,11 @@ module _ {s : List ℕ} {at : ℕ} (r : RecordsFrom s at) where
           record { source = source-here r y h; rest = records-next r y; row = source-more r y h }
 
       on : (k : Reach) → extentAt s at (length s) ≡ k → sourceOn k (getD s at 0) ≡ Upto stop → Standing s at stop
-      on Short x q = absurd (no-upto (sym (short-on (getD s at 0)) ∙ q))
-      on (Upto i) x q = by (eqb (getD s at 0) 0x83) i x refl (sym (upto-on i (getD s at 0)) ∙ q)
+      on Short x q = absurd (no-upto q)
+      on (Upto i) x q = by (eqb (getD s at 0) 0x83) i x refl q
 
   pub sources-end : sourceEnd s at ≡ Short → sourcesIn (rowAt s at (length s)) ≡ none
-  unfolding sourceEnd
+  unfolding sourceEnd sourceOn
   sources-end e = on (extentAt s at (length s)) refl e
     where
       by : (b : Bool) (i : ℕ) → extentAt s at (length s) ≡ Upto i → eqb (getD s at 0) 0x83 ≡ b → cond b Short (Upto i) ≡ Short → sourcesIn (rowAt s at (length s)) ≡ none
@@ -267,7 +259,7 @@ module _ {s : List ℕ} {at : ℕ} (r : RecordsFrom s at) where
 
       on : (k : Reach) → extentAt s at (length s) ≡ k → sourceOn k (getD s at 0) ≡ Short → sourcesIn (rowAt s at (length s)) ≡ none
       on Short x q = ap sourcesIn (row-none s at (length s) (r .inside) x) ∙ source-end
-      on (Upto i) x q = by (eqb (getD s at 0) 0x83) i x refl (sym (upto-on i (getD s at 0)) ∙ q)
+      on (Upto i) x q = by (eqb (getD s at 0) 0x83) i x refl q
 
 -- ---- Forced sources
 
