@@ -1,8 +1,8 @@
 -- Specifiers, one by one as they are written.
 use Prim.Native.Nat.{ℕ, _+_, _≤_}
 use native.Mathlib.Omega.{arith}
-use mathlib.Core.Path.{_≡_, refl, sym, ap, subst, _∙_}
-use mathlib.Core.Bool.{Bool, cond}
+use mathlib.Core.Path.{_≡_, refl, sym, ap, ap₂, subst, _∙_}
+use mathlib.Core.Bool.{Bool, true, false, cond}
 use mathlib.Core.List.{List, [], _∷_, _++_, append-assoc}
 use lib.Dec.{ltb}
 use lib.ListN.{getD}
@@ -76,40 +76,31 @@ default-bytes x = framed-leaf 0x91 (x ++ ((1 ∷ []) ++ (twoBytes 3 ++ fourBytes
 
 -- ---- By the tag
 
-module _ (all : Bool) (p : ℕ) (f : Field) where
-  by-20 : tagOf f ≡ 0x20 → resolvedSpecifier all f p ≡ resolvedNamed (fixedOf f) p
-  unfolding resolvedSpecifier
-  by-20 h =
-      ap (λ (b : Bool). cond b (resolvedNamed (fixedOf f) p) (cond (has 0x21 f) (done (resolvedDefault (fixedOf f))) (done (resolvedNamespace all (fixedOf f)))))
-      (eq-eqb (tagOf f) 0x20 h)
-
-  past-20 : (tagOf f ≡ 0x20 → ⊥) → resolvedSpecifier all f p ≡ cond (has 0x21 f) (done (resolvedDefault (fixedOf f))) (done (resolvedNamespace all (fixedOf f)))
-  unfolding resolvedSpecifier
-  past-20 h =
-      ap (λ (b : Bool). cond b (resolvedNamed (fixedOf f) p) (cond (has 0x21 f) (done (resolvedDefault (fixedOf f))) (done (resolvedNamespace all (fixedOf f)))))
-      (ne-eqb (tagOf f) 0x20 h)
+by-tag : (all : Bool) (p : ℕ) (f : Field) {b c : Bool} → has 0x20 f ≡ b → has 0x21 f ≡ c →
+    resolvedSpecifier all f p ≡ cond b (resolvedNamed (fixedOf f) p) (cond c (done (resolvedDefault (fixedOf f))) (done (resolvedNamespace all (fixedOf f))))
+unfolding resolvedSpecifier
+by-tag all p f d e = ap₂ (λ (b c : Bool). cond b (resolvedNamed (fixedOf f) p) (cond c (done (resolvedDefault (fixedOf f))) (done (resolvedNamespace all (fixedOf f))))) d e
 
 module _ (all : Bool) (s : List ℕ) (at stop b : ℕ) (e : fixedAt s (getD s at 0) (at + 3) stop ≡ Upto b) where
-  tree-here : treeAt s at stop ≡ field (getD s at 0) (slice (at + 3) b s) (rowAt s b stop)
-  tree-here = tree-upto s at stop b e
+  -- the tag t, or another
+  tag-is : (t : ℕ) → getD s at 0 ≡ t → has t (treeAt s at stop) ≡ true
+  tag-is t h = eq-eqb (tagOf (treeAt s at stop)) t (ap tagOf (tree-upto s at stop b e) ∙ h)
+
+  tag-not : (t : ℕ) → (getD s at 0 ≡ t → ⊥) → has t (treeAt s at stop) ≡ false
+  tag-not t h = ne-eqb (tagOf (treeAt s at stop)) t (λ q. h (sym (ap tagOf (tree-upto s at stop b e)) ∙ q))
 
   pub specifier-named : getD s at 0 ≡ 0x20 → resolvedSpecifier all (treeAt s at stop) at ≡ resolvedNamed (slice (at + 3) b s) at
-  specifier-named h = by-20 all at (treeAt s at stop) (ap tagOf tree-here ∙ h) ∙ ap (λ (f : Field). resolvedNamed (fixedOf f) at) tree-here
+  specifier-named h = by-tag all at (treeAt s at stop) (tag-is 0x20 h) refl ∙ ap (λ (f : Field). resolvedNamed (fixedOf f) at) (tree-upto s at stop b e)
 
   pub specifier-default : getD s at 0 ≡ 0x21 → resolvedSpecifier all (treeAt s at stop) at ≡ done (resolvedDefault (slice (at + 3) b s))
   specifier-default h =
-      let t : tagOf (treeAt s at stop) ≡ 0x21 = ap tagOf tree-here ∙ h in
-      past-20 all at (treeAt s at stop) (λ q. absurd (omega arith))
-      ∙ ap (λ (c : Bool). cond c (done (resolvedDefault (fixedOf (treeAt s at stop)))) (done (resolvedNamespace all (fixedOf (treeAt s at stop))))) (eq-eqb (tagOf (treeAt s at stop)) 0x21 t)
-      ∙ ap (λ (f : Field). done (resolvedDefault (fixedOf f))) tree-here
+      by-tag all at (treeAt s at stop) (tag-not 0x20 (λ q. absurd (omega arith))) (tag-is 0x21 h)
+      ∙ ap (λ (f : Field). done (resolvedDefault (fixedOf f))) (tree-upto s at stop b e)
 
   pub specifier-namespace : (getD s at 0 ≡ 0x20 → ⊥) → (getD s at 0 ≡ 0x21 → ⊥) → resolvedSpecifier all (treeAt s at stop) at ≡ done (resolvedNamespace all (slice (at + 3) b s))
   specifier-namespace m n =
-      let t : tagOf (treeAt s at stop) ≡ getD s at 0 = ap tagOf tree-here in
-      past-20 all at (treeAt s at stop) (λ q. m (sym t ∙ q))
-      ∙ ap (λ (c : Bool). cond c (done (resolvedDefault (fixedOf (treeAt s at stop)))) (done (resolvedNamespace all (fixedOf (treeAt s at stop)))))
-      (ne-eqb (tagOf (treeAt s at stop)) 0x21 (λ q. n (sym t ∙ q)))
-      ∙ ap (λ (f : Field). done (resolvedNamespace all (fixedOf f))) tree-here
+      by-tag all at (treeAt s at stop) (tag-not 0x20 m) (tag-not 0x21 n)
+      ∙ ap (λ (f : Field). done (resolvedNamespace all (fixedOf f))) (tree-upto s at stop b e)
 
 -- the fixed bytes of a field that was read are whole
 pub read-short : {A : Type 0} {s : List ℕ} {at stop : ℕ} → FieldRead s at stop → fixedAt s (getD s at 0) (at + 3) stop ≡ Short → A
