@@ -1,20 +1,20 @@
 -- Demand 3 of the functions, by their contracts: both sentences.
 use Prim.Native.Nat.{ℕ}
 use native.Mathlib.Omega.{arith}
-use mathlib.Core.Path.{_≡_, refl, sym, ap, _∙_}
+use mathlib.Core.Path.{_≡_, sym, ap, _∙_}
 use mathlib.Core.Bool.{Bool, true, false, cond}
 use mathlib.Core.List.{List, [], _∷_}
-use mathlib.Core.Option.{Option, none as nothing}
+use mathlib.Core.Option.{none as nothing}
 use Rattle.scope.specs.declared.Mark.the-variants.{Wrapping}
 use Rattle.scope.specs.declared.Scope.{Scope}
 use Rattle.scope.specs.declared.id.ModuleId.{ModuleId}
-use Rattle.scope.specs.Modules.{Modules, Generated, Left as Requesting, Outcome as Reading, done as tells, refused as untold, given, isMarked, readMark}
+use Rattle.scope.specs.Modules.{Modules, Generated, Left as Requesting, done as tells, refused as untold, given, isMarked, readMark}
 use Rattle.scope.specs.Kept.{modulesOf}
 use Rattle.tree.specs.declared.grammar.Set.the-variants.{Module, Records}
 use Rattle.tree.specs.Tree.{Field, encode, size}
 use Rattle.tree.specs.Read.{read}
-use Rattle.writer.specs.Finished.{hasRoom, delivered}
-use Rattle.lent.specs.Outcome.{Outcome, done, refusalIn}
+use Rattle.writer.specs.Finished.{hasRoom}
+use Rattle.lent.specs.Outcome.{Outcome, done}
 use Rattle.lent.specs.Buffer.{fieldIn, bufferOf}
 use Rattle.lent.proofs.AcceptedLaws.{refusal-none}
 use Rattle.lent.proofs.BufferLaws.{delivered-holds}
@@ -22,13 +22,11 @@ use Rattle.extraction_rules.specs.Call.{Lent, Lengths, Extracted, Left, modules
 use Rattle.extraction_rules.proofs.CallLaws.{call-room}
 use Rattle.extraction_rules.proofs.ReadableLaws.{call-readable}
 use Rattle.extraction_rules.proofs.RecordsLaws.{call-records}
-use Rattle.extraction.specs.declared.ExtractAnswer.{ExtractAnswer}
 use Rattle.extraction.specs.Answer.{answerRefusal}
-use Rattle.resolving_rules.specs.Call.{Lent as LentRecords, Resolved, Left as LeftList, numbered, resolved, resolving}
+use Rattle.resolving_rules.specs.Call.{Lent as LentRecords, Resolved, Left as LeftList, resolved, resolving}
 use Rattle.resolving_rules.proofs.CallLaws.{call-room as list-room, call-modules}
-use Rattle.resolving.specs.declared.ResolveAnswer.{ResolveAnswer}
 use Rattle.resolving.specs.Answer.{lentAs, answerRefusal as listRefusal}
-use Rattle.claims.specs.Lists.{Call, requests, sets, reads, readsEsm, extracts, resolves, after, afterAll, wrapsAny}
+use Rattle.claims.specs.Lists.{Call, requests, sets, reads, readsEsm, extracts, resolves, after, afterAll}
 use Rattle.claims.specs.Functions.{HandsBack, HandOn, AnswersExactly, FunctionsKeepOrPart}
 use Rattle.claims.proofs.ListsLaws.{marked-exactly}
 use Rattle.claims.proofs.DemandLaws.{kept-whole-or-apart}
