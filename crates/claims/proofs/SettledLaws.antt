@@ -1,5 +1,5 @@
 -- The second pass over the imports: the namespace's own import settles what becomes of it; the others do not touch it.
-use Prim.Native.Nat.{ℕ, _+_}
+use Prim.Native.Nat.{ℕ}
 use mathlib.Core.Path.{_≡_, refl, sym, ap, _∙_}
 use mathlib.Core.Bool.{Bool, true, false, _&&_, _||_, true≢false, or-false, and-false, and-true}
 use mathlib.Core.List.{List, [], _∷_, _++_, map}

@@ -51,11 +51,11 @@ many-step x a b c t q P e here past = go (holdsAt x t) refl (sym (many-slot x a 
     go false w z = past z
 
 -- the record's kind
-pub record Kind (t : ℕ) (q : Rule) : Type 0 where
-  pub kind : ℕ
-  pub most : kind ≤ 3
-  pub tag : t ≡ 0x80 + kind
-  pub rule : q ≡ leftRule kind
+record Kind (t : ℕ) (q : Rule) : Type 0 where
+  kind : ℕ
+  most : kind ≤ 3
+  tag : t ≡ 0x80 + kind
+  rule : q ≡ leftRule kind
 
 -- behind a forced source all are
 only-forced : (t : ℕ) (q : Rule) → stepAt (leftRule 3) t ≡ Go q → (t ≡ 0x83) × (q ≡ leftRule 3)
