@@ -6,7 +6,6 @@ use mathlib.Core.Bool.{true}
 use mathlib.Core.List.{List, _++_}
 use lib.ListN.{length, take, replicate}
 use lib.Seq.{take-append-seam}
-use Rattle.tree.specs.Layout.{twoAt}
 use Rattle.tree.specs.Tree.{Field, field, framed, encode, encodes, size}
 use Rattle.tree.proofs.TreeLaws.{size-encode}
 use Rattle.writer.specs.Finished.{hasRoom, delivered}
