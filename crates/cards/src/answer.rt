@@ -49,6 +49,12 @@ pub fn lent(own: u16, config: bool, files: &[u8], externals: &[u8]) {
     say(b"\n");
 }
 
+// The files of a resolving.
+pub fn handed_on(files: &[u8]) {
+    bytes(b"files ", files);
+    say(b"\n");
+}
+
 // The table, a row a line.
 pub fn rows(table: &[u8]) {
     let len = table.len();
@@ -133,6 +139,21 @@ fn left(work: &[u8], out: &[u8], records: &[u8]) {
         }
     }
     say(b"work, out, records: not all zero\n");
+}
+
+// What a resolving answers and leaves in its buffer.
+pub fn resolving(r: u64, list: &[u8]) {
+    if r == 0 {
+        say(b"accepted\nlist:\n");
+        show_front(list);
+        return;
+    }
+    refusal(r);
+    if is_zero(list, 0) {
+        say(b"list: all zero\n");
+    } else {
+        say(b"list: not all zero\n");
+    }
 }
 
 // The modules of a scope, a line each.

@@ -11,6 +11,7 @@ use crate::request::rest_at;
 use show::fields::show;
 use show::print::say;
 use text::hex::Bytes;
+use text::hex::bytes_at;
 
 // Answers an extraction.
 pub fn extract(s: &[u8]) {
@@ -112,19 +113,37 @@ fn decoded(attributes: &[u8]) {
     answer::decoding(r, metadata);
 }
 
-// Shows what goes into a resolving: the call is still to be built.
+// Answers a resolving.
 pub fn resolve(s: &[u8]) {
     let mut lent = [0u8; 4096];
-    resolve_in(s, &mut lent);
+    let mut list = [170u8; 2048];
+    resolve_in(s, &mut lent, &mut list);
 }
 
-fn resolve_in(s: &[u8], lent: &mut [u8]) {
-    let Pair::Upto(table, end) = pair_at(s, 1, lent, 0) else {
+fn resolve_in(s: &[u8], lent: &mut [u8], list: &mut [u8]) {
+    let Bytes::Upto(files) = bytes_at(s, s.len(), 1, lent, 0) else {
         answer::malformed();
         return;
     };
-    answer::rows(&lent[0..table]);
+    let Pair::Upto(table, end) = pair_at(s, 2, lent, files) else {
+        answer::malformed();
+        return;
+    };
+    resolved(
+        &lent[0..files],
+        &lent[files..table],
+        &lent[table..end],
+        list,
+    );
+}
+
+fn resolved(files: &[u8], table: &[u8], records: &[u8], list: &mut [u8]) {
+    answer::handed_on(files);
+    answer::rows(table);
     say(b"records:\n");
-    show(&lent[table..end]);
-    say(b"resolving is not run yet\n");
+    show(records);
+    let mut scope = [170u8; 770];
+    let r = host::tychodrel_resolve(files, table, records, &mut scope, list);
+    answer::resolving(r, list);
+    answer::modules(scope);
 }

@@ -1,6 +1,6 @@
-// The text of the requests: `extract OWN CONFIG FILES EXTERNALS TABLE TREE`, `decode ATTRIBUTES`, `resolve TABLE RECORDS`.
-// OWN is a file in decimal and CONFIG is `on` or `off`. The rest is bytes in hexadecimal, `-` for none; the last field may
-// be written in groups apart by single spaces, and is not `-`.
+// The text of the requests: `extract OWN CONFIG FILES EXTERNALS TABLE TREE`, `decode ATTRIBUTES`, `resolve FILES TABLE
+// RECORDS`. OWN is a file in decimal and CONFIG is `on` or `off`. The rest is bytes in hexadecimal, `-` for none; the last
+// field may be written in groups apart by single spaces, and is not `-`.
 ghost use Prim.Native.Nat.{_≤_};
 ghost use lib.ListN.{length};
 ghost use Rattle.text.specs.Hex.{BytesIn};

@@ -1,11 +1,14 @@
-// The fields of a tree in order, each with its depth: no recursion, since the ends of the open fields are kept.
+// The fields of a tree or a resolved list in order, each with its depth: no recursion, since the ends of the open fields
+// are kept.
 ghost use Prim.Native.Nat.{_+_, _≤_, _<_};
 ghost use lib.ListN.{length};
 ghost use Rattle.show.specs.Places.{SpotIn};
-use crate::line::put_field;
+use crate::line::indent;
+use crate::names::put_name;
 use crate::print::say;
+use crate::resolved::fixed_of;
+use crate::resolved::put_fixed;
 use tree::access::extent;
-use tree::access::fixed;
 use tree::layout::Reach;
 
 // A field: where its parts start, and where it ends.
@@ -21,7 +24,7 @@ fn spot_of(s: &[u8], at: usize, end: usize) -> Spot
     let Reach::Upto(stop) = extent(s, at, end) else {
         return Spot::Broken;
     };
-    let Reach::Upto(from) = fixed(s, s[at], at + 3, stop) else {
+    let Reach::Upto(from) = fixed_of(s, s[at], at + 3, stop) else {
         return Spot::Broken;
     };
     Spot::Whole(from, stop)
@@ -47,13 +50,16 @@ fn show_field(s: &[u8], at: usize, from: usize, depth: usize)
     requires { ⌜ (at + 3 ≤ from) × (from ≤ length (now s)) ⌝ }
 {
     let mut line = [0u8; 4096];
+    let tag = s[at];
     let start = at + 3;
-    let n = put_field(&mut line, depth, s[at], &s[start..from]);
+    let o = indent(&mut line, depth);
+    let named = put_name(&mut line, o, tag);
+    let n = put_fixed(&mut line, named, tag, &s[start..from]);
     say(&line[0..n]);
     say(b"\n");
 }
 
-// Shows all the fields of s, which is a tree.
+// Shows all the fields of s, which is a tree or a resolved list.
 pub fn show(s: &[u8]) {
     let len = s.len();
     let mut ends = [0usize; 66];

@@ -1,6 +1,8 @@
-// Shows trees on standard output, one field a line: what the programs print of a tree, and of a refusal's place in it.
+// Shows trees and resolved lists on standard output, one field a line: what the programs print of them, and of a refusal's
+// place in a tree.
 pub mod buffer;
 pub mod fields;
 pub mod line;
 pub mod names;
 pub mod print;
+pub mod resolved;

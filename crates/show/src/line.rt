@@ -1,8 +1,7 @@
-// A field's line: its tag with its name, and its fixed bytes.
+// What stands in a field's line: its fixed bytes, behind two spaces for each level.
 ghost use Prim.Native.Nat.{_≤_, _<_};
 ghost use lib.ListN.{length};
 ghost use Rattle.show.specs.Places.{Inside};
-use crate::names::put_name;
 use text::hex::put_hex;
 use text::write::put;
 use text::write::put_all;
@@ -25,7 +24,7 @@ fn reach(at: usize, n: usize, len: usize) -> usize
 }
 
 // Writes a word, and n bytes from `at` on in hexadecimal.
-fn put_run(line: &mut [u8], p: Places, word: &[u8], s: &[u8], n: usize) -> Places
+pub fn put_run(line: &mut [u8], p: Places, word: &[u8], s: &[u8], n: usize) -> Places
     requires { ⌜ Inside (length (now line)) (length (now s)) p ⌝ }
     ensures { λ r. ⌜ Inside (length (now (line .entry))) (length (now (s .entry))) r ⌝ }
 {
@@ -83,7 +82,7 @@ fn put_value(line: &mut [u8], p: Places, v: Value, s: &[u8]) -> Places
 }
 
 // An atom, and four bytes under another word.
-fn put_two(line: &mut [u8], p: Places, word: &[u8], s: &[u8]) -> Places
+pub fn put_two(line: &mut [u8], p: Places, word: &[u8], s: &[u8]) -> Places
     requires { ⌜ Inside (length (now line)) (length (now s)) p ⌝ }
     ensures { λ r. ⌜ Inside (length (now (line .entry))) (length (now (s .entry))) r ⌝ }
 {
@@ -178,23 +177,22 @@ fn put_piece(line: &mut [u8], p: Places, piece: Piece, s: &[u8]) -> Places
     }
 }
 
-// Writes the line of a field with this tag and these fixed bytes, at this depth, and answers where it ends.
-pub fn put_field(line: &mut [u8], depth: usize, tag: u8, s: &[u8]) -> usize
+// Writes the fixed bytes of a field with this tag.
+pub fn put_pieces(line: &mut [u8], o: usize, tag: u8, s: &[u8]) -> usize
+    requires { ⌜ o ≤ length (now line) ⌝ }
     ensures { λ r. ⌜ r ≤ length (now (line .entry)) ⌝ }
 {
-    let o = indent(line, depth);
-    let n = put_name(line, o, tag);
     let ps = pieces_of(tag);
     let first = ps.first;
     let second = ps.second;
-    let start = Places { line: n, at: 0 };
+    let start = Places { line: o, at: 0 };
     let p = put_piece(line, start, first, s);
     let q = put_piece(line, p, second, s);
     q.line
 }
 
 // Writes two spaces for each level.
-fn indent(line: &mut [u8], depth: usize) -> usize
+pub fn indent(line: &mut [u8], depth: usize) -> usize
     ensures { λ r. ⌜ r ≤ length (now (line .entry)) ⌝ }
 {
     let mut o = 0;

@@ -1,4 +1,4 @@
-// The names of the tags, as document 01 has them in the section 'Tree'.
+// The names of the tags, as document 01 has them in the sections 'Tree' and 'Records and resolving'.
 ghost use Prim.Native.Nat.{_≤_, _<_};
 ghost use lib.ListN.{length};
 use text::fields::find;
@@ -25,6 +25,16 @@ pub fn put_name(line: &mut [u8], o: usize, tag: u8) -> usize
             b"20 named;21 default;22 namespace;23 export name;24 export namespace;2F attributes;",
         ),
         3 => put_entry(line, o, tag, b"30 attribute;"),
+        _ => put_inner(line, o, tag),
+    }
+}
+
+// The same for the tags that stand inside items and records.
+fn put_inner(line: &mut [u8], o: usize, tag: u8) -> usize
+    requires { ⌜ o ≤ length (now line) ⌝ }
+    ensures { λ r. ⌜ r ≤ length (now (line .entry)) ⌝ }
+{
+    match tag / 16 {
         4 => put_entry(
             line,
             o,
@@ -50,6 +60,7 @@ pub fn put_name(line: &mut [u8], o: usize, tag: u8) -> usize
             b"70 name;71 computed;72 private;73 super;74 import;75 argument;77 shorthand;78 property;",
         ),
         8 => put_entry(line, o, tag, b"80 collected;81 lazy;82 dynamic;83 forced;"),
+        9 => put_entry(line, o, tag, b"90 resolved;91 specifier;92 namespace;"),
         _ => put_entry(line, o, tag, b";"),
     }
 }

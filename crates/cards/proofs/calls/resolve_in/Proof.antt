@@ -2,16 +2,17 @@
 use mathlib.Core.Path.{subst}
 use lib.ListN.{length}
 use native.Mathlib.Omega.{arith}
-use borrow.Author.Needs.{needs}
+use Rattle.text.specs.Hex.{BytesIn}
 use Rattle.cards.specs.Request.{PairIn}
+use borrow.Author.Needs.{needs}
 use Rattle.cards.proofs.calls.resolve_in.Statement.{statement}
 use Rattle.cards.proofs.calls.resolve_in.Tie as tie
 
-pair-at-requires : tie.Need-pair-at-requires
-pair-at-requires c κs = search needs
+bytes-at-requires : tie.Need-bytes-at-requires
+bytes-at-requires c κs = search needs
 
-enum-known-table : tie.Need-enum-known-table
-enum-known-table c = search needs
+enum-known-files : tie.Need-enum-known-files
+enum-known-files c = search needs
 
 enum-told : tie.Need-enum-told
 enum-told c = search needs
@@ -25,41 +26,17 @@ same-length c = search needs
 returns : tie.Need-returns
 returns c = search needs
 
-sub-rows : tie.Need-sub-rows
-sub-rows c = search needs
+pair-at-requires : tie.Need-pair-at-requires
+pair-at-requires c κs = let u = subst (BytesIn 0 (length (c .before .before .before .before .before .before .before .before .before .before .before .args .lent .now))) (c .before .before .files .given .1) (c .before .before .before .before .before .before .bytes-at .ensures .1) in omega arith
 
-part-rows-start : tie.Need-part-rows-start
-part-rows-start c = search needs
+enum-known-table : tie.Need-enum-known-table
+enum-known-table c = search needs
 
-part-rows-end : tie.Need-part-rows-end
-part-rows-end c = let w = subst (PairIn 0 (length (c .before .before .before .before .before .before .before .before .before .before .args .lent .now))) (c .before .before .table .given .1) (c .before .before .before .before .before .before .pair-at .ensures) in omega (arith, c .before .before .before .before .before .before .pair-at .kept .1 .1 .0)
+enum-told-2 : tie.Need-enum-told-2
+enum-told-2 c = search needs
 
-rows-requires : tie.Need-rows-requires
-rows-requires c κs = search needs
-
-slice-aggregate-say : tie.Need-slice-aggregate-say
-slice-aggregate-say c = search needs
-
-say-requires : tie.Need-say-requires
-say-requires c κs = search needs
-
-sub-show : tie.Need-sub-show
-sub-show c = let w = subst (PairIn 0 (length (c .before .before .before .before .before .before .before .before .before .before .before .before .before .before .args .lent .now))) (c .before .before .before .before .before .before .table .given .1) (c .before .before .before .before .before .before .before .before .before .before .pair-at .ensures) in omega (arith, c .before .before .before .before .before .before .before .before .before .before .pair-at .kept .1 .1 .0)
-
-part-show-start : tie.Need-part-show-start
-part-show-start c = let w = subst (PairIn 0 (length (c .before .before .before .before .before .before .before .before .before .before .before .before .before .before .before .args .lent .now))) (c .before .before .before .before .before .before .before .table .given .1) (c .before .before .before .before .before .before .before .before .before .before .before .pair-at .ensures) in omega (arith, c .before .before .before .before .before .before .before .before .before .before .before .pair-at .kept .1 .1 .0)
-
-part-show-end : tie.Need-part-show-end
-part-show-end c = let w = subst (PairIn 0 (length (c .before .before .before .before .before .before .before .before .before .before .before .before .before .before .before .args .lent .now))) (c .before .before .before .before .before .before .before .table .given .1) (c .before .before .before .before .before .before .before .before .before .before .before .pair-at .ensures) in omega (arith, c .before .before .before .before .before .before .before .before .before .before .before .pair-at .kept .1 .1 .0)
-
-show-requires : tie.Need-show-requires
-show-requires c κs = search needs
-
-slice-aggregate-say-2 : tie.Need-slice-aggregate-say-2
-slice-aggregate-say-2 c = search needs
-
-say-requires-2 : tie.Need-say-requires-2
-say-requires-2 c κs = search needs
+malformed-requires-2 : tie.Need-malformed-requires-2
+malformed-requires-2 c κs = search needs
 
 same-length-2 : tie.Need-same-length-2
 same-length-2 c = search needs
@@ -67,27 +44,71 @@ same-length-2 c = search needs
 returns-2 : tie.Need-returns-2
 returns-2 c = search needs
 
+sub-resolved : tie.Need-sub-resolved
+sub-resolved c = search needs
+
+part-resolved-start : tie.Need-part-resolved-start
+part-resolved-start c = search needs
+
+part-resolved-end : tie.Need-part-resolved-end
+part-resolved-end c = let u = subst (BytesIn 0 (length (c .before .before .before .before .before .before .before .before .before .before .before .before .before .before .before .before .before .before .args .lent .now))) (c .before .before .before .before .before .before .before .before .before .files .given .1) (c .before .before .before .before .before .before .before .before .before .before .before .before .before .bytes-at .ensures .1) in let w = subst (PairIn (c .before .before .before .before .before .before .before .before .before .files .given .0 .0) _) (c .before .before .table .given .1) (c .before .before .before .before .before .before .pair-at .ensures) in omega (arith, c .before .before .before .before .before .before .pair-at .kept .1 .1 .0, c .before .before .before .before .before .before .before .before .before .before .before .before .before .bytes-at .kept .1 .1 .1 .0)
+
+sub-resolved-2 : tie.Need-sub-resolved-2
+sub-resolved-2 c = let u = subst (BytesIn 0 (length (c .before .before .before .before .before .before .before .before .before .before .before .before .before .before .before .before .before .before .before .args .lent .now))) (c .before .before .before .before .before .before .before .before .before .before .files .given .1) (c .before .before .before .before .before .before .before .before .before .before .before .before .before .before .bytes-at .ensures .1) in let w = subst (PairIn (c .before .before .before .before .before .before .before .before .before .before .files .given .0 .0) _) (c .before .before .before .table .given .1) (c .before .before .before .before .before .before .before .pair-at .ensures) in omega (arith, c .before .before .before .before .before .before .before .pair-at .kept .1 .1 .0, c .before .before .before .before .before .before .before .before .before .before .before .before .before .before .bytes-at .kept .1 .1 .1 .0)
+
+part-resolved-start-2 : tie.Need-part-resolved-start-2
+part-resolved-start-2 c = let u = subst (BytesIn 0 (length (c .before .before .before .before .before .before .before .before .before .before .before .before .before .before .before .before .before .before .before .args .lent .now))) (c .before .before .before .before .before .before .before .before .before .before .files .given .1) (c .before .before .before .before .before .before .before .before .before .before .before .before .before .before .bytes-at .ensures .1) in let w = subst (PairIn (c .before .before .before .before .before .before .before .before .before .before .files .given .0 .0) _) (c .before .before .before .table .given .1) (c .before .before .before .before .before .before .before .pair-at .ensures) in omega (arith, c .before .before .before .before .before .before .before .pair-at .kept .1 .1 .0, c .before .before .before .before .before .before .before .before .before .before .before .before .before .before .bytes-at .kept .1 .1 .1 .0)
+
+part-resolved-end-2 : tie.Need-part-resolved-end-2
+part-resolved-end-2 c = let u = subst (BytesIn 0 (length (c .before .before .before .before .before .before .before .before .before .before .before .before .before .before .before .before .before .before .before .args .lent .now))) (c .before .before .before .before .before .before .before .before .before .before .files .given .1) (c .before .before .before .before .before .before .before .before .before .before .before .before .before .before .bytes-at .ensures .1) in let w = subst (PairIn (c .before .before .before .before .before .before .before .before .before .before .files .given .0 .0) _) (c .before .before .before .table .given .1) (c .before .before .before .before .before .before .before .pair-at .ensures) in omega (arith, c .before .before .before .before .before .before .before .pair-at .kept .1 .1 .0, c .before .before .before .before .before .before .before .before .before .before .before .before .before .before .bytes-at .kept .1 .1 .1 .0)
+
+sub-resolved-3 : tie.Need-sub-resolved-3
+sub-resolved-3 c = let u = subst (BytesIn 0 (length (c .before .before .before .before .before .before .before .before .before .before .before .before .before .before .before .before .before .before .before .before .args .lent .now))) (c .before .before .before .before .before .before .before .before .before .before .before .files .given .1) (c .before .before .before .before .before .before .before .before .before .before .before .before .before .before .before .bytes-at .ensures .1) in let w = subst (PairIn (c .before .before .before .before .before .before .before .before .before .before .before .files .given .0 .0) _) (c .before .before .before .before .table .given .1) (c .before .before .before .before .before .before .before .before .pair-at .ensures) in omega (arith, c .before .before .before .before .before .before .before .before .pair-at .kept .1 .1 .0, c .before .before .before .before .before .before .before .before .before .before .before .before .before .before .before .bytes-at .kept .1 .1 .1 .0)
+
+part-resolved-start-3 : tie.Need-part-resolved-start-3
+part-resolved-start-3 c = let u = subst (BytesIn 0 (length (c .before .before .before .before .before .before .before .before .before .before .before .before .before .before .before .before .before .before .before .before .args .lent .now))) (c .before .before .before .before .before .before .before .before .before .before .before .files .given .1) (c .before .before .before .before .before .before .before .before .before .before .before .before .before .before .before .bytes-at .ensures .1) in let w = subst (PairIn (c .before .before .before .before .before .before .before .before .before .before .before .files .given .0 .0) _) (c .before .before .before .before .table .given .1) (c .before .before .before .before .before .before .before .before .pair-at .ensures) in omega (arith, c .before .before .before .before .before .before .before .before .pair-at .kept .1 .1 .0, c .before .before .before .before .before .before .before .before .before .before .before .before .before .before .before .bytes-at .kept .1 .1 .1 .0)
+
+part-resolved-end-3 : tie.Need-part-resolved-end-3
+part-resolved-end-3 c = let u = subst (BytesIn 0 (length (c .before .before .before .before .before .before .before .before .before .before .before .before .before .before .before .before .before .before .before .before .args .lent .now))) (c .before .before .before .before .before .before .before .before .before .before .before .files .given .1) (c .before .before .before .before .before .before .before .before .before .before .before .before .before .before .before .bytes-at .ensures .1) in let w = subst (PairIn (c .before .before .before .before .before .before .before .before .before .before .before .files .given .0 .0) _) (c .before .before .before .before .table .given .1) (c .before .before .before .before .before .before .before .before .pair-at .ensures) in omega (arith, c .before .before .before .before .before .before .before .before .pair-at .kept .1 .1 .0, c .before .before .before .before .before .before .before .before .before .before .before .before .before .before .before .bytes-at .kept .1 .1 .1 .0)
+
+resolved-requires : tie.Need-resolved-requires
+resolved-requires c κs = search needs
+
+same-length-3 : tie.Need-same-length-3
+same-length-3 c = search needs
+
+same-length-4 : tie.Need-same-length-4
+same-length-4 c = search needs
+
+returns-3 : tie.Need-returns-3
+returns-3 c = search needs
+
 pub resolve-in-spec : {M : Type 1} → statement M
 resolve-in-spec =
     tie.close
     (tie.spec
-    pair-at-requires
-    enum-known-table
+    bytes-at-requires
+    enum-known-files
     enum-told
     malformed-requires
     same-length
     returns
-    sub-rows
-    part-rows-start
-    part-rows-end
-    rows-requires
-    slice-aggregate-say
-    say-requires
-    sub-show
-    part-show-start
-    part-show-end
-    show-requires
-    slice-aggregate-say-2
-    say-requires-2
+    pair-at-requires
+    enum-known-table
+    enum-told-2
+    malformed-requires-2
     same-length-2
-    returns-2)
+    returns-2
+    sub-resolved
+    part-resolved-start
+    part-resolved-end
+    sub-resolved-2
+    part-resolved-start-2
+    part-resolved-end-2
+    sub-resolved-3
+    part-resolved-start-3
+    part-resolved-end-3
+    resolved-requires
+    same-length-3
+    same-length-4
+    returns-3)

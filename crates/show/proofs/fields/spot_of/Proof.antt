@@ -1,12 +1,11 @@
 -- `show::fields::spot_of` meets its contract.
 use Prim.Native.Nat.{_+_}
 use borrow.Author.Needs.{needs}
-use lib.ListN.{getD}
 use mathlib.Core.Path.{sym, subst, _∙_}
 use native.Mathlib.Omega.{arith}
 use Rattle.show.proofs.fields.spot_of.Statement.{statement}
 use Rattle.show.proofs.fields.spot_of.Tie as tie
-use Rattle.tree.proofs.AccessLaws.{ReachIn, extent-in, fixed-in}
+use Rattle.tree.proofs.AccessLaws.{ReachIn, extent-in}
 
 extent-requires : tie.Need-extent-requires
 extent-requires c κs = search needs
@@ -20,14 +19,14 @@ enum-told c = search needs
 returns : tie.Need-returns
 returns c = search needs
 
-shared-slice-read-fixed : tie.Need-shared-slice-read-fixed
-shared-slice-read-fixed c = search needs
+shared-slice-read-fixed-of : tie.Need-shared-slice-read-fixed-of
+shared-slice-read-fixed-of c = search needs
 
-add-fixed : tie.Need-add-fixed
-add-fixed c = search needs
+add-fixed-of : tie.Need-add-fixed-of
+add-fixed-of c = search needs
 
-fixed-requires : tie.Need-fixed-requires
-fixed-requires c κs = let x = subst (ReachIn (c .before .before .before .before .before .before .args .at + 3) (c .before .before .before .before .before .before .args .end)) (sym (c .before .before .before .before .extent .ensures) ∙ c .before .before .stop .given .1) (extent-in (c .before .before .before .before .before .before .args .s .now) (c .before .before .before .before .before .before .args .at) (c .before .before .before .before .before .before .args .end) (omega arith)) in omega arith
+fixed-of-requires : tie.Need-fixed-of-requires
+fixed-of-requires c κs = let x = subst (ReachIn (c .before .before .before .before .before .before .args .at + 3) (c .before .before .before .before .before .before .args .end)) (sym (c .before .before .before .before .extent .ensures) ∙ c .before .before .stop .given .1) (extent-in (c .before .before .before .before .before .before .args .s .now) (c .before .before .before .before .before .before .args .at) (c .before .before .before .before .before .before .args .end) (omega arith)) in omega arith
 
 enum-known-from : tie.Need-enum-known-from
 enum-known-from c = search needs
@@ -39,7 +38,7 @@ returns-2 : tie.Need-returns-2
 returns-2 c = search needs
 
 returns-3 : tie.Need-returns-3
-returns-3 c = let x = subst (ReachIn (c .before .before .before .before .before .before .before .before .before .before .args .at + 3) (c .before .before .before .before .before .before .before .before .before .before .args .end)) (sym (c .before .before .before .before .before .before .before .before .extent .ensures) ∙ c .before .before .before .before .before .before .stop .given .1) (extent-in (c .before .before .before .before .before .before .before .before .before .before .args .s .now) (c .before .before .before .before .before .before .before .before .before .before .args .at) (c .before .before .before .before .before .before .before .before .before .before .args .end) (omega arith)) in let y = subst (ReachIn (c .before .before .before .before .before .before .before .before .before .before .args .at + 3) (c .before .before .before .before .before .before .stop .given .0 .0)) (sym (c .before .before .before .fixed .ensures) ∙ c .before .from .given .1) (fixed-in (c .before .before .before .before .before .before .before .before .before .before .args .s .now) (getD (c .before .before .before .before .before .before .before .before .before .before .args .s .now) (c .before .before .before .before .before .before .before .before .before .before .args .at) 0) (c .before .before .before .before .before .before .before .before .before .before .args .at + 3) (c .before .before .before .before .before .before .stop .given .0 .0) (omega arith)) in omega arith
+returns-3 c = let x = subst (ReachIn (c .before .before .before .before .before .before .before .before .before .before .args .at + 3) (c .before .before .before .before .before .before .before .before .before .before .args .end)) (sym (c .before .before .before .before .before .before .before .before .extent .ensures) ∙ c .before .before .before .before .before .before .stop .given .1) (extent-in (c .before .before .before .before .before .before .before .before .before .before .args .s .now) (c .before .before .before .before .before .before .before .before .before .before .args .at) (c .before .before .before .before .before .before .before .before .before .before .args .end) (omega arith)) in let y = subst (ReachIn (c .before .before .before .before .before .before .before .before .before .before .args .at + 3) (c .before .before .before .before .before .before .stop .given .0 .0)) (c .before .from .given .1) (c .before .before .before .fixed-of .ensures) in omega arith
 
 pub spot-of-spec : {M : Type 1} → statement M
 spot-of-spec =
@@ -49,9 +48,9 @@ spot-of-spec =
     enum-known-stop
     enum-told
     returns
-    shared-slice-read-fixed
-    add-fixed
-    fixed-requires
+    shared-slice-read-fixed-of
+    add-fixed-of
+    fixed-of-requires
     enum-known-from
     enum-told-2
     returns-2

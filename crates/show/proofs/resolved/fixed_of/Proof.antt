@@ -1,0 +1,36 @@
+-- `show::resolved::fixed_of` meets its contract.
+use mathlib.Core.Path.{sym, subst}
+use native.Mathlib.Omega.{arith}
+use Rattle.tree.proofs.AccessLaws.{ReachIn, fixed-in}
+use borrow.Author.Needs.{needs}
+use Rattle.show.proofs.resolved.fixed_of.Statement.{statement}
+use Rattle.show.proofs.resolved.fixed_of.Tie as tie
+
+sub-if1 : tie.Need-sub-if1
+sub-if1 c = search needs
+
+add-t9 : tie.Need-add-t9
+add-t9 c = search needs
+
+fixed-requires : tie.Need-fixed-requires
+fixed-requires c κs = search needs
+
+returns : tie.Need-returns
+returns c = search needs
+
+returns-2 : tie.Need-returns-2
+returns-2 c = search needs
+
+returns-3 : tie.Need-returns-3
+returns-3 c = search needs
+
+returns-4 : tie.Need-returns-4
+returns-4 c = search needs
+
+returns-5 : tie.Need-returns-5
+returns-5 c = subst (ReachIn (c .before .before .before .args .at) (c .before .before .before .args .stop)) (sym (c .fixed .ensures)) (fixed-in (c .before .before .before .args .s .now) (c .before .before .before .args .tag) (c .before .before .before .args .at) (c .before .before .before .args .stop) (omega arith))
+
+pub fixed-of-spec : {M : Type 1} → statement M
+fixed-of-spec =
+    tie.close
+    (tie.spec sub-if1 add-t9 fixed-requires returns returns-2 returns-3 returns-4 returns-5)
