@@ -1,14 +1,15 @@
 // The specifiers of a record, as the resolved list has them.
 ghost use mathlib.Core.Path.{_≡_};
 ghost use mathlib.Core.Bool.{cond};
-ghost use Prim.Native.Nat.{_+_, _≤_};
-ghost use lib.ListN.{length};
+ghost use Prim.Native.Nat.{_+_, _≤_, _<_};
+ghost use lib.ListN.{length, getD};
 ghost use lib.Seq.{slice};
 ghost use Rattle.tree.specs.Tree.{field, none, encode, encodes};
 ghost use Rattle.tree.specs.Standing.{treeAt, rowAt};
 ghost use Rattle.writer.specs.Wrote.{Wrote};
-ghost use Rattle.resolving_rules.specs.Resolve.{resolvedNamed, resolvedDefault, resolvedNamespace, resolvedSpecifier, resolvedSpecifiers};
+ghost use Rattle.resolving_rules.specs.Resolve.{resolvedDefault, resolvedNamespace, resolvedSpecifier, resolvedSpecifiers};
 ghost use Rattle.resolving.specs.Records.{FieldRead, FieldsRead};
+ghost use Rattle.resolving.specs.Specifiers.{outsideOf, specifierAt, namedBy};
 ghost use Rattle.resolving.specs.Writes.{Puts};
 use scope::id::Atom;
 use tree::access::extent;
@@ -27,6 +28,21 @@ pub enum Why {
 pub enum Step {
     Done(usize),
     Refused(Why, usize),
+}
+
+// A named import's outside name.
+pub enum Outside {
+    Nothing,
+    Name,
+    // a string name
+    Text,
+}
+
+// A specifier; the bytes of ids are copied as they stand.
+pub enum Specifier {
+    Named(Outside),
+    Default,
+    Namespace,
 }
 
 // Writes the bytes from `from` up to `end`, an id and its outside name, as a 91.
@@ -73,15 +89,48 @@ fn put_namespace(s: &[u8], from: usize, end: usize, all: bool, list: &mut [u8], 
     p
 }
 
-// The 20 at `at`, whose fixed bytes end at `end`; a string name, told by the kind byte behind the id, is refused.
-fn put_named(s: &[u8], at: usize, end: usize, list: &mut [u8], o: usize) -> Step
-    requires { ⌜ (at + 10 ≤ end) × (end ≤ length (now s)) ⌝ }
-    ensures { λ k. ⌜ Puts encode (resolvedNamed (slice (at + 3) end (now (s .entry))) at) (now (list .entry)) o (now (list .exit)) k ⌝ }
+// The outside name whose kind byte stands at `at`.
+fn outside_at(s: &[u8], at: usize) -> Outside
+    requires { ⌜ at < length (now s) ⌝ }
+    ensures { λ r. ⌜ r ≡ outsideOf (getD (now (s .entry)) at 0) ⌝ }
 {
-    if s[at + 9] == 2 {
-        return Step::Refused(Why::StringName, at);
+    match s[at] {
+        0 => Outside::Nothing,
+        2 => Outside::Text,
+        _ => Outside::Name,
     }
-    Step::Done(put_plain(s, at + 3, end, list, o))
+}
+
+// The specifier at `at`, whose fixed bytes end at `end`.
+fn specifier_at(s: &[u8], at: usize, end: usize) -> Specifier
+    requires { ⌜ (at < end) × (getD (now s) at 0 ≡ 0x20 → at + 9 < end) × (end ≤ length (now s)) ⌝ }
+    ensures { λ r. ⌜ r ≡ specifierAt (now (s .entry)) at ⌝ }
+{
+    match s[at] {
+        0x20 => Specifier::Named(outside_at(s, at + 9)),
+        0x21 => Specifier::Default,
+        _ => Specifier::Namespace,
+    }
+}
+
+// The bytes from `from` up to `end` as a 91; a string name is refused, at the 20 at place.
+fn put_named(
+    s: &[u8],
+    from: usize,
+    end: usize,
+    outside: Outside,
+    place: usize,
+    list: &mut [u8],
+    o: usize,
+) -> Step
+    requires { ⌜ end ≤ length (now s) ⌝ }
+    ensures { λ k. ⌜ Puts encode (namedBy outside (slice from end (now (s .entry))) place) (now (list .entry)) o (now (list .exit)) k ⌝ }
+{
+    match outside {
+        Outside::Nothing => Step::Done(put_plain(s, from, end, list, o)),
+        Outside::Name => Step::Done(put_plain(s, from, end, list, o)),
+        Outside::Text => Step::Refused(Why::StringName, place),
+    }
 }
 
 // The specifier at `at` up to stop.
@@ -89,14 +138,13 @@ fn put_specifier(s: &[u8], at: usize, stop: usize, all: bool, list: &mut [u8], o
     requires { ⌜ FieldRead (now s) at stop ⌝ }
     ensures { λ k. ⌜ Puts encode (resolvedSpecifier all (treeAt (now (s .entry)) at stop) at) (now (list .entry)) o (now (list .exit)) k ⌝ }
 {
-    let tag = s[at];
-    let Reach::Upto(end) = fixed(s, tag, at + 3, stop) else {
+    let Reach::Upto(end) = fixed(s, s[at], at + 3, stop) else {
         return Step::Done(o);
     };
-    match tag {
-        0x20 => put_named(s, at, end, list, o),
-        0x21 => Step::Done(put_default(s, at + 3, end, list, o)),
-        _ => Step::Done(put_namespace(s, at + 3, end, all, list, o)),
+    match specifier_at(s, at, end) {
+        Specifier::Named(outside) => put_named(s, at + 3, end, outside, at, list, o),
+        Specifier::Default => Step::Done(put_default(s, at + 3, end, list, o)),
+        Specifier::Namespace => Step::Done(put_namespace(s, at + 3, end, all, list, o)),
     }
 }
 

@@ -1,3 +1,4 @@
+-- `resolving::listing` meets its contract.
 use Rattle.scope.specs.Kept.{modulesOf}
 use Rattle.resolving.proofs.AnswerLaws.{list-turned, list-fits, list-long}
 use borrow.Author.Needs.{needs}

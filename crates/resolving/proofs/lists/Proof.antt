@@ -1,3 +1,4 @@
+-- `resolving::lists` meets its contract.
 use Rattle.resolving.proofs.AnswerLaws.{tested-bad, tested-twice, tested-unread, tested-read}
 use borrow.Author.Needs.{needs}
 use Rattle.resolving.proofs.lists.Statement.{statement}

@@ -1,3 +1,4 @@
+-- `resolving::numbered` meets its contract.
 use mathlib.Core.Path.{sym, ap, _∙_}
 use lib.ListN.{length}
 use Rattle.lent.specs.Table.{rowsIn}

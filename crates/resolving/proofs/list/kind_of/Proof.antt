@@ -1,3 +1,4 @@
+-- `resolving::list::kind_of` meets its contract.
 use mathlib.Core.Path.{sym, ap}
 use borrow.Author.Tests.{ne-eqb}
 use Rattle.resolving_rules.specs.Resolve.{kindByte}

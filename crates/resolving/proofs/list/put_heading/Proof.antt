@@ -1,3 +1,4 @@
+-- `resolving::list::put_heading` meets its contract.
 use mathlib.Core.Path.{ap}
 use native.Mathlib.Omega.{arith}
 use lib.Seq.{slice}

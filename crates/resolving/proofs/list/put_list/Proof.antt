@@ -1,3 +1,4 @@
+-- `resolving::list::put_list` meets its contract.
 use Rattle.writer.proofs.Wrote.{wrote-none}
 use Rattle.resolving.proofs.WritesLaws.{puts-field, puts-parts}
 use borrow.Author.Needs.{needs}

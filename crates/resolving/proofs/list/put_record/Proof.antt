@@ -1,3 +1,4 @@
+-- `resolving::list::put_record` meets its contract.
 use mathlib.Core.Path.{refl, sym, ap, _∙_}
 use native.Mathlib.Omega.{arith}
 use Rattle.lent.specs.Table.{rowsIn}

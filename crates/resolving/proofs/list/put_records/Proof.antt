@@ -1,3 +1,5 @@
+-- `resolving::list::put_records` meets its contract. The invariant: with the records from here on, all of them are written; their
+-- sources have numbers.
 use mathlib.Core.Path.{sym, _∙_}
 use native.Mathlib.Omega.{arith}
 use Prim.Native.Nat.{_-_}

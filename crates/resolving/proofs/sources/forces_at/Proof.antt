@@ -1,3 +1,4 @@
+-- `resolving::sources::forces_at` meets its contract.
 use borrow.Author.Tests.{eq-eqb, ne-eqb}
 use Rattle.resolving.specs.Records.{forcesAt}
 use borrow.Author.Needs.{needs}

@@ -1,3 +1,4 @@
+-- `resolving::sources::is_forced` meets its contract. The invariant: whether the source is forced is what the records from here on say.
 use mathlib.Core.Path.{_≡_, refl, sym, ap, _∙_}
 use mathlib.Core.Bool.{Bool, _||_}
 use native.Mathlib.Omega.{arith}

@@ -1,3 +1,4 @@
+-- `resolving::sources::number_source` meets its contract.
 use mathlib.Core.Path.{sym, ap, _∙_}
 use Rattle.lent.specs.Table.{rowsIn}
 use Rattle.lent.specs.Kept.{fileBy}

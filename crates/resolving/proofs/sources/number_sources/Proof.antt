@@ -1,3 +1,5 @@
+-- `resolving::sources::number_sources` meets its contract. The invariant: numbering from here on gives what numbering from the
+-- start gives.
 use mathlib.Core.Path.{_≡_, refl, sym, ap, _∙_}
 use native.Mathlib.Omega.{arith}
 use Prim.Native.Nat.{_-_}

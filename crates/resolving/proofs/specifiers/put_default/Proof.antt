@@ -1,3 +1,4 @@
+-- `resolving::specifiers::put_default` meets its contract.
 use lib.Seq.{slice}
 use Rattle.resolving.proofs.SpecifiersLaws.{default-bytes}
 use Rattle.writer.proofs.Wrote.{wrote-as, wrote-then, wrote-field}

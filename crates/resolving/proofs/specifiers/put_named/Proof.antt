@@ -1,6 +1,9 @@
-use mathlib.Core.Path.{refl}
+-- `resolving::specifiers::put_named` meets its contract.
+use mathlib.Core.Path.{refl, ap}
+use lib.Seq.{slice}
+use Rattle.resolving.specs.declared.specifiers.Outside.{Outside}
+use Rattle.resolving.specs.Specifiers.{namedBy}
 use Rattle.resolving.proofs.WritesLaws.{puts-done, puts-refused}
-use Rattle.resolving.proofs.SpecifiersLaws.{named-string, named-plain}
 use borrow.Author.Needs.{needs}
 use Rattle.resolving.proofs.specifiers.put_named.Statement.{statement}
 use Rattle.resolving.proofs.specifiers.put_named.Tie as tie
@@ -8,35 +11,47 @@ use Rattle.resolving.proofs.specifiers.put_named.Reads as reads
 use Rattle.resolving.proofs.specifiers.put_named.Lts as lts
 use Rattle.resolving.proofs.specifiers.put_plain.Reads as put-plain-reads
 
-add-if1 : tie.Need-add-if1
-add-if1 c = search needs
-
-shared-slice-read-if1 : tie.Need-shared-slice-read-if1
-shared-slice-read-if1 c = search needs
-
-returns : tie.Need-returns
-returns c = puts-refused refl (named-string (c .before .before .before .before .args .s .now) (c .before .before .before .before .args .at) (c .before .before .before .before .args .end) (c .before .before .before .before .pre .0) (c .if1 .taken))
-
-add-put-plain : tie.Need-add-put-plain
-add-put-plain c = search needs
+enum-told : tie.Need-enum-told
+enum-told c = search needs
 
 put-plain-requires : tie.Need-put-plain-requires
 put-plain-requires c κs = search needs
 
+enum-told-2 : tie.Need-enum-told-2
+enum-told-2 c = search needs
+
+put-plain-requires-2 : tie.Need-put-plain-requires-2
+put-plain-requires-2 c κs = search needs
+
+enum-told-3 : tie.Need-enum-told-3
+enum-told-3 c = search needs
+
 same-length : tie.Need-same-length
 same-length c = search needs
 
+returns : tie.Need-returns
+returns c = puts-done (ap (λ (i : Outside). namedBy i (slice (c .before .before .before .before .before .before .before .before .args .from) (c .before .before .before .before .before .before .before .before .args .end) (c .before .before .before .before .before .before .before .before .args .s .now)) (c .before .before .before .before .before .before .before .before .args .place)) (c .before .before .before .before .enum-told .given .1)) (c .before .before .put-plain .ensures)
+
+same-length-2 : tie.Need-same-length-2
+same-length-2 c = search needs
+
 returns-2 : tie.Need-returns-2
-returns-2 c = puts-done (named-plain (c .before .before .before .before .before .before .before .before .args .s .now) (c .before .before .before .before .before .before .before .before .args .at) (c .before .before .before .before .before .before .before .before .args .end) (c .before .before .before .before .before .before .before .before .pre .0) (c .before .before .before .before .if1 .left)) (c .before .before .put-plain .ensures)
+returns-2 c = puts-done (ap (λ (i : Outside). namedBy i (slice (c .before .before .before .before .before .before .before .before .args .from) (c .before .before .before .before .before .before .before .before .args .end) (c .before .before .before .before .before .before .before .before .args .s .now)) (c .before .before .before .before .before .before .before .before .args .place)) (c .before .before .before .before .enum-told2 .given .1)) (c .before .before .put-plain2 .ensures)
+
+returns-3 : tie.Need-returns-3
+returns-3 c = puts-refused refl (ap (λ (i : Outside). namedBy i (slice (c .before .before .before .before .args .from) (c .before .before .before .before .args .end) (c .before .before .before .before .args .s .now)) (c .before .before .before .before .args .place)) (c .enum-told3 .given .1))
 
 pub put-named-spec : {M : Type 1} → statement M
 put-named-spec =
     tie.close
     (tie.spec
-    add-if1
-    shared-slice-read-if1
-    returns
-    add-put-plain
+    enum-told
     put-plain-requires
+    enum-told-2
+    put-plain-requires-2
+    enum-told-3
     same-length
-    returns-2)
+    returns
+    same-length-2
+    returns-2
+    returns-3)

@@ -1,3 +1,4 @@
+-- `resolving::specifiers::put_namespace` meets its contract.
 use mathlib.Core.Path.{ap, _∙_}
 use mathlib.Core.List.{_∷_, [], _++_}
 use Prim.Native.Nat.{ℕ}

@@ -1,3 +1,4 @@
+-- `resolving::specifiers::put_plain` meets its contract.
 use Rattle.writer.proofs.Wrote.{wrote-as, wrote-field}
 use Rattle.resolving.proofs.WritesLaws.{framed-leaf}
 use borrow.Author.Needs.{needs}

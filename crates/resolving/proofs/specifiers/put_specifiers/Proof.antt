@@ -1,3 +1,5 @@
+-- `resolving::specifiers::put_specifiers` meets its contract. The invariant: with the specifiers from here on, all of them are
+-- written.
 use borrow.Author.Needs.{needs}
 use mathlib.Core.Path.{sym, _∙_}
 use native.Mathlib.Omega.{arith}
