@@ -1,5 +1,6 @@
 -- What the exported calls that start a scope leave, from what their parts leave.
-use Prim.Native.Nat.{ℕ}
+use Prim.Native.Nat.{ℕ, _≤_}
+use native.Mathlib.Omega.{arith}
 use mathlib.Core.Path.{_≡_, sym, ap, subst, _∙_}
 use mathlib.Core.List.{List, []}
 use mathlib.Core.Option.{Option, some}
@@ -9,15 +10,28 @@ use Rattle.scope.specs.Kept.{modulesOf, requested, fileRefusal}
 use Rattle.scope.specs.declared.Requested.{Requested}
 use Rattle.scope.specs.declared.FileAnswer.{FileAnswer}
 use Rattle.scope.specs.declared.FileAnswer.the-variants.{Given, TooManyFiles}
+use Rattle.tree.specs.declared.read.Why.{Why as ReadWhy}
+use Rattle.tree.specs.declared.read.Why.the-variants.{Misplaced, Cut, Lacking, Deep}
+use Rattle.tree.specs.Read.{refusalOf as readRefusal}
 use Rattle.writer.specs.Finished.{zeroed}
+use Rattle.steps.specs.declared.Why.{Why as WalkWhy}
+use Rattle.steps.specs.declared.Why.the-variants.{TooManyFiles as TooMany, StringName, PrivateName, TableFull}
+use Rattle.steps.specs.Step.{refusalOf as walkRefusal}
 use Rattle.extraction_rules.specs.Call.{Lent as Extracting, Lengths, Left as Extracted, extraction}
+use Rattle.extraction.specs.declared.ExtractAnswer.{ExtractAnswer}
+use Rattle.extraction.specs.declared.ExtractAnswer.the-variants.{Extracted as Accepted, BadLists, NamedTwice, Unread, Refused, NoRoom}
 use Rattle.extraction.specs.declared.Extraction.{Extraction}
 use Rattle.extraction.specs.Answer.{answerRefusal as extractRefusal, left as leftExtracting, roomIn}
 use Rattle.resolving_rules.specs.Call.{Lent as Resolving, Left as Listed, resolving}
+use Rattle.resolving.specs.declared.ResolveAnswer.{ResolveAnswer}
+use Rattle.resolving.specs.declared.ResolveAnswer.the-variants.{Listed as Complete, BadTable, NamedTwice as TableTwice, Unread as UnreadRecords, TooManyFiles as TooManySources, Refused as NotListed, NoRoom as NoRoomFor}
 use Rattle.resolving.specs.declared.Resolved.{Resolved}
+use Rattle.resolving.specs.declared.specifiers.Why.{Why as ListWhy}
+use Rattle.resolving.specs.declared.specifiers.Why.the-variants.{Unresolved, StringName as TextName}
+use Rattle.resolving.specs.Writes.{whyNumber}
 use Rattle.resolving.specs.Answer.{answerRefusal as resolveRefusal, left as leftResolving}
 use Rattle.host.specs.Answer.{packedIn, scopeBytes}
-use Rattle.host.specs.Calls.{onFiles, withFiles, extractNone, extractCall, resolveNone, resolveCall, Tells, Leaves, LeavesList}
+use Rattle.host.specs.Calls.{onFiles, withFiles, extractNone, extractCall, resolveNone, resolveCall, Numbered, Tells, Leaves, LeavesList}
 
 -- ---- The files are requested in a fresh scope
 
@@ -35,8 +49,43 @@ module _ {A : Type 0} (q : Requested) (files : List ℕ) (go : Modules → A) (s
   files-refused h = files-answered TooManyFiles h
 
 -- what is told of a refusal and of modules, by what these are
-tells-as : {x y : Option (ℕ × ℕ)} {ms new : Modules} {a : ℕ} {s : List ℕ} → a ≡ packedIn x → s ≡ scopeBytes ms → x ≡ y → ms ≡ new → Tells y new a s
-tells-as a s x m = record { answer = a ∙ ap packedIn x; scope = s ∙ ap scopeBytes m }
+tells-as : {x y : Option (ℕ × ℕ)} {ms new : Modules} {a : ℕ} {s : List ℕ} → Numbered x → a ≡ packedIn x → s ≡ scopeBytes ms → x ≡ y → ms ≡ new → Tells y new a s
+tells-as n a s x m = record { answer = a ∙ ap packedIn x; numbered = subst Numbered x n; scope = s ∙ ap scopeBytes m }
+
+-- ---- No refusal has the number 0
+
+read-numbered : (w : ReadWhy) → 1 ≤ readRefusal w
+read-numbered Misplaced = omega arith
+read-numbered Cut = omega arith
+read-numbered Lacking = omega arith
+read-numbered Deep = omega arith
+
+walk-numbered : (w : WalkWhy) → 1 ≤ walkRefusal w
+walk-numbered TooMany = omega arith
+walk-numbered StringName = omega arith
+walk-numbered PrivateName = omega arith
+walk-numbered TableFull = omega arith
+
+list-numbered : (w : ListWhy) → 1 ≤ whyNumber w
+list-numbered Unresolved = omega arith
+list-numbered TextName = omega arith
+
+extract-numbered : (a : ExtractAnswer) → Numbered (extractRefusal a)
+extract-numbered Accepted = tt
+extract-numbered BadLists = omega arith
+extract-numbered NamedTwice = omega arith
+extract-numbered (Unread w p) = read-numbered w
+extract-numbered (Refused w p) = walk-numbered w
+extract-numbered NoRoom = omega arith
+
+resolve-numbered : (a : ResolveAnswer) → Numbered (resolveRefusal a)
+resolve-numbered Complete = tt
+resolve-numbered BadTable = omega arith
+resolve-numbered TableTwice = omega arith
+resolve-numbered (UnreadRecords w p) = omega arith
+resolve-numbered (TooManySources p) = omega arith
+resolve-numbered (NotListed w p) = list-numbered w
+resolve-numbered NoRoomFor = omega arith
 
 -- ---- Extraction
 
@@ -45,7 +94,7 @@ pub leaves-extracted : {e : Extracted} (r : Extraction) {a : ℕ} {s w o k : Lis
     a ≡ packedIn (extractRefusal (r .answer)) → Leaves e a s w o k
 leaves-extracted r h s a =
     record {
-      tells = tells-as a s (ap (λ (l : Extracted). l .refusal) h) (ap (λ (l : Extracted). l .modules) h);
+      tells = tells-as (extract-numbered (r .answer)) a s (ap (λ (l : Extracted). l .refusal) h) (ap (λ (l : Extracted). l .modules) h);
       work = ap (λ (l : Extracted). l .work) h;
       out = ap (λ (l : Extracted). l .out) h;
       records = ap (λ (l : Extracted). l .records) h;
@@ -73,7 +122,7 @@ pub leaves-resolved : {e : Listed} (r : Resolved) {a : ℕ} {s k : List ℕ} →
     a ≡ packedIn (resolveRefusal (r .answer)) → LeavesList e a s k
 leaves-resolved r h s a =
     record {
-      tells = tells-as a s (ap (λ (l : Listed). l .refusal) h) (ap (λ (l : Listed). l .modules) h);
+      tells = tells-as (resolve-numbered (r .answer)) a s (ap (λ (l : Listed). l .refusal) h) (ap (λ (l : Listed). l .modules) h);
       list = ap (λ (l : Listed). l .list) h;
     }
 

@@ -1,9 +1,9 @@
 -- What the calls give and leave that start a scope. Document 01: 'Its calls start a fresh scope and first request a lent list
 -- of files in it (.. 5 there comes first, place 0)'.
-use Prim.Native.Nat.{ℕ, zero, suc}
+use Prim.Native.Nat.{ℕ, zero, suc, _≤_}
 use mathlib.Core.Path.{_≡_}
 use mathlib.Core.List.{List, []}
-use mathlib.Core.Option.{Option, some}
+use mathlib.Core.Option.{Option, none, some}
 use lib.ListN.{replicate}
 use Rattle.scope.specs.Modules.{Modules, filesIn, requestAll}
 use Rattle.extraction_rules.specs.Call.{Lent as Extracting, Lengths, Left as Extraction, extraction}
@@ -46,9 +46,15 @@ resolveCall files l room = withFiles files (resolving l room) (resolveNone room)
 
 -- ---- What they leave
 
+-- a refusal's number is not 0: so a zero upper half is acceptance
+abbrev pub Numbered : Option (ℕ × ℕ) → Type 0
+Numbered none = Unit {0}
+Numbered (some r) = 1 ≤ r .0
+
 -- a call answers a, and leaves s in the array for the scope
 pub record Tells (refusal : Option (ℕ × ℕ)) (ms : Modules) (a : ℕ) (s : List ℕ) : Type 0 where
   pub answer : a ≡ packedIn refusal
+  pub numbered : Numbered refusal
   pub scope : s ≡ scopeBytes ms
 
 -- and w, o, r in the buffers of an extraction
