@@ -1,7 +1,7 @@
 // One line: the request is answered, and the answer compared with the one that is given.
 use crate::report;
-use crate::request;
-use crate::request::Answer;
+use requests::Answer;
+use requests::respond;
 use text::fields::find;
 
 // Lines so far, those with a request that is not answered here, and those whose answer differs.
@@ -52,14 +52,17 @@ fn compared(t: Tally, expected: &[u8], got: &[u8]) -> Tally {
     different(t)
 }
 
-// Replays the line s. The buffers are for the bytes that it spells, what a call writes, and the answer's text.
+// Replays the line s, the `last` one if no line end stands behind it. The buffers are for the bytes that it spells, what a call
+// writes, and the answer's text.
 pub fn replay(
     s: &[u8],
     broken: bool,
+    last: bool,
     lent: &mut [u8],
     work: &mut [u8],
     out: &mut [u8],
     records: &mut [u8],
+    list: &mut [u8],
     answer: &mut [u8],
     t: Tally,
 ) -> Tally {
@@ -67,33 +70,21 @@ pub fn replay(
         return malformed(t, b"line too long, or reading failed");
     }
     let len = s.len();
+    if is_none(len, last) {
+        return t;
+    }
     let tab = find(s, 0, len, 9);
     if tab == len {
         return malformed(t, b"no answer");
     }
-    match request::respond(s, tab, lent, work, out, records, answer) {
+    match respond(s, tab, lent, work, out, records, list, answer) {
         Answer::Text(n) => compared(t, &s[tab + 1..], &answer[0..n]),
         Answer::Malformed => malformed(t, b"request"),
         Answer::Unknown => skipped(t),
     }
 }
 
-// Replays what stands behind the last line end, if anything does.
-pub fn replay_last(
-    s: &[u8],
-    broken: bool,
-    lent: &mut [u8],
-    work: &mut [u8],
-    out: &mut [u8],
-    records: &mut [u8],
-    answer: &mut [u8],
-    t: Tally,
-) -> Tally {
-    if broken {
-        return malformed(t, b"line too long, or reading failed");
-    }
-    if s.len() == 0 {
-        return t;
-    }
-    replay(s, false, lent, work, out, records, answer, t)
+// Nothing behind the last line end is no line.
+fn is_none(len: usize, last: bool) -> bool {
+    if len == 0 { last } else { false }
 }

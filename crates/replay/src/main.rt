@@ -1,9 +1,7 @@
 // Replays the vectors on standard input: a line is a request, a tab and the answer that is expected.
 // Writes each line whose answer differs, and last how many cases there were.
-mod extracting;
 mod line;
 mod report;
-mod request;
 
 ghost use Prim.Native.Nat.{_≤_, _<_};
 ghost use lib.ListN.{length};
@@ -89,7 +87,7 @@ pub struct State {
     pub done: bool,
 }
 
-// Takes the line that ends at `stop`.
+// Takes the line that ends at `stop`: at a line end, or last at the end of all.
 fn take_line(
     window: &[u8],
     stop: usize,
@@ -97,54 +95,50 @@ fn take_line(
     work: &mut [u8],
     out: &mut [u8],
     records: &mut [u8],
+    list: &mut [u8],
     answer: &mut [u8],
     s: State,
 ) -> State
-    requires { ⌜ Within (length (now window)) (s .window) × (s .window .start ≤ stop) × (stop < s .window .end) ⌝ }
-    ensures { λ r. ⌜ Within (length (now (window .entry))) (r .window) ⌝ }
-{
-    let w = s.window;
-    let t = s.tally;
-    let start = w.start;
-    let line = &window[start..stop];
-    let tally = line::replay(line, w.broken, lent, work, out, records, answer, t);
-    let next = Window {
-        start: stop + 1,
-        end: w.end,
-        open: w.open,
-        broken: false,
-    };
-    State {
-        window: next,
-        tally,
-        done: false,
-    }
-}
-
-// Takes what stands behind the last line end.
-fn take_last(
-    window: &[u8],
-    lent: &mut [u8],
-    work: &mut [u8],
-    out: &mut [u8],
-    records: &mut [u8],
-    answer: &mut [u8],
-    s: State,
-) -> State
-    requires { ⌜ Within (length (now window)) (s .window) ⌝ }
+    requires { ⌜ Within (length (now window)) (s .window) × (s .window .start ≤ stop) × (stop ≤ s .window .end) ⌝ }
     ensures { λ r. ⌜ Within (length (now (window .entry))) (r .window) ⌝ }
 {
     let w = s.window;
     let t = s.tally;
     let start = w.start;
     let end = w.end;
-    let line = &window[start..end];
-    let tally = line::replay_last(line, w.broken, lent, work, out, records, answer, t);
+    let last = stop == end;
+    let line = &window[start..stop];
+    let tally = line::replay(
+        line,
+        w.broken,
+        last,
+        lent,
+        work,
+        out,
+        records,
+        list,
+        answer,
+        t,
+    );
+    let next = Window {
+        start: behind(stop, end),
+        end,
+        open: w.open,
+        broken: false,
+    };
     State {
-        window: w,
+        window: next,
         tally,
-        done: true,
+        done: last,
     }
+}
+
+// Where the next line starts.
+fn behind(stop: usize, end: usize) -> usize
+    requires { ⌜ stop ≤ end ⌝ }
+    ensures { λ r. ⌜ r ≤ end ⌝ }
+{
+    if stop < end { stop + 1 } else { end }
 }
 
 // Takes a line, or reads more, or ends.
@@ -154,6 +148,7 @@ fn turn(
     work: &mut [u8],
     out: &mut [u8],
     records: &mut [u8],
+    list: &mut [u8],
     answer: &mut [u8],
     s: State,
 ) -> State
@@ -165,7 +160,7 @@ fn turn(
     let end = w.end;
     let stop = find(window, start, end, 10);
     if stop < end {
-        return take_line(window, stop, lent, work, out, records, answer, s);
+        return take_line(window, stop, lent, work, out, records, list, answer, s);
     }
     if w.open {
         let tally = s.tally;
@@ -176,7 +171,7 @@ fn turn(
             done: false,
         };
     }
-    take_last(window, lent, work, out, records, answer, s)
+    take_line(window, stop, lent, work, out, records, list, answer, s)
 }
 
 // Nothing says that the input ends, so the turns are counted down from a number that no run uses up.
@@ -186,6 +181,7 @@ fn run(
     work: &mut [u8],
     out: &mut [u8],
     records: &mut [u8],
+    list: &mut [u8],
     answer: &mut [u8],
 ) -> Tally {
     let empty = Window {
@@ -206,7 +202,7 @@ fn run(
     };
     let mut turns = u64::MAX;
     while turns > 0 {
-        s = turn(window, lent, work, out, records, answer, s);
+        s = turn(window, lent, work, out, records, list, answer, s);
         if s.done {
             return s.tally;
         }
@@ -220,15 +216,17 @@ fn main() {
     let mut window = [0u8; 1048576];
     let mut lent = [0u8; 524288];
     let mut work = [0u8; 131072];
-    let mut out = [0u8; 524288];
+    let mut out = [0u8; 131072];
     let mut records = [0u8; 131072];
-    let mut answer = [0u8; 2097152];
+    let mut list = [0u8; 131072];
+    let mut answer = [0u8; 1048576];
     let t = run(
         &mut window,
         &mut lent,
         &mut work,
         &mut out,
         &mut records,
+        &mut list,
         &mut answer,
     );
     report::total(t.cases, t.skipped, t.differences);

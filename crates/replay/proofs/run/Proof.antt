@@ -2,25 +2,26 @@
 use lib.ListN.{length}
 use mathlib.Core.Path.{_≡_, refl}
 use native.Mathlib.Omega.{arith}
+use Rattle.replay.specs.Window.{Within}
 use Rattle.replay.proofs.run.Statement.{statement}
 use Rattle.replay.proofs.run.Tie as tie
-use Rattle.replay.specs.Window.{Within}
 
 abbrev Inv-loop : tie.InvT-loop
-Inv-loop window₀ lent₀ work₀ out₀ records₀ answer₀ s₀ turns₀ window lent work out records answer s turns =
+Inv-loop window₀ lent₀ work₀ out₀ records₀ list₀ answer₀ s₀ turns₀ window lent work out records list answer s turns =
     Within (length window) (s .window)
     × (length window ≡ length window₀)
     × (length lent ≡ length lent₀)
     × (length work ≡ length work₀)
     × (length out ≡ length out₀)
     × (length records ≡ length records₀)
+    × (length list ≡ length list₀)
     × (length answer ≡ length answer₀)
 
 abbrev μ-loop : tie.MeasureT-loop
-μ-loop window₀ lent₀ work₀ out₀ records₀ answer₀ s₀ turns₀ window lent work out records answer s turns = turns
+μ-loop window₀ lent₀ work₀ out₀ records₀ list₀ answer₀ s₀ turns₀ window lent work out records list answer s turns = turns
 
 loop-holds : tie.Need-loop-holds Inv-loop μ-loop
-loop-holds c = ((omega arith, omega arith), refl, refl, refl, refl, refl, refl)
+loop-holds c = ((omega arith, omega arith), refl, refl, refl, refl, refl, refl, refl)
 
 turn-requires : tie.Need-turn-requires Inv-loop μ-loop
 turn-requires c κs = omega arith
@@ -43,6 +44,9 @@ same-length-5 c = omega arith
 same-length-6 : tie.Need-same-length-6 Inv-loop μ-loop
 same-length-6 c = omega arith
 
+same-length-7 : tie.Need-same-length-7 Inv-loop μ-loop
+same-length-7 c = omega arith
+
 returns : tie.Need-returns Inv-loop μ-loop
 returns c = omega arith
 
@@ -54,9 +58,6 @@ loop-less c = omega arith
 
 loop-again : tie.Need-loop-again Inv-loop μ-loop
 loop-again c = omega arith
-
-same-length-7 : tie.Need-same-length-7 Inv-loop μ-loop
-same-length-7 c = omega arith
 
 same-length-8 : tie.Need-same-length-8 Inv-loop μ-loop
 same-length-8 c = omega arith
@@ -72,6 +73,12 @@ same-length-11 c = omega arith
 
 same-length-12 : tie.Need-same-length-12 Inv-loop μ-loop
 same-length-12 c = omega arith
+
+same-length-13 : tie.Need-same-length-13 Inv-loop μ-loop
+same-length-13 c = omega arith
+
+same-length-14 : tie.Need-same-length-14 Inv-loop μ-loop
+same-length-14 c = omega arith
 
 returns-2 : tie.Need-returns-2 Inv-loop μ-loop
 returns-2 c = omega arith
@@ -90,14 +97,16 @@ run-spec =
     same-length-4
     same-length-5
     same-length-6
+    same-length-7
     returns
     sub-turns
     loop-less
     loop-again
-    same-length-7
     same-length-8
     same-length-9
     same-length-10
     same-length-11
     same-length-12
+    same-length-13
+    same-length-14
     returns-2)
