@@ -11,6 +11,13 @@ use text::write::put_all;
 ghost use Prim.Native.Nat.{_≤_};
 ghost use lib.ListN.{length};
 
+// An answer's text up to a length; a request that cannot be read; one that is not answered here.
+pub enum Answer {
+    Text(usize),
+    Malformed,
+    Unknown,
+}
+
 // Fills a buffer before a call, so that a byte that the call leaves alone shows.
 pub fn prefill(buffer: &mut [u8]) {
     let mut i = 0;

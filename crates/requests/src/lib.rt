@@ -1,30 +1,19 @@
-// The requests: each reads its fields, makes its call in buffers that are filled before, and writes the answer as the vectors
-// have it. `lent` gets the bytes that a request spells; `work`, `out`, `records` and `list` lend a call its buffers.
-pub mod extracting; // extract
-pub mod fields; // the fields of a request
-pub mod listing; // resolve
-pub mod pair; // both
+// Answers a request as the vectors have it: those with a scope by the crate scoped, the others here.
 pub mod plain; // detect, encode, decode
 
+use answers::Answer;
 use check::same;
-use extracting::extract;
-use listing::resolve;
-use pair::both;
 use plain::decode;
 use plain::detect;
 use plain::encode;
+use scoped::extracting::extract;
+use scoped::listing::resolve;
+use scoped::pair::both;
 use text::fields::Span;
 use text::fields::field;
 ghost use Prim.Native.Nat.{_≤_};
 ghost use lib.ListN.{length};
-ghost use Rattle.requests.specs.Answer.{AnswerIn};
-
-// An answer's text up to a length; a request that cannot be read; one that is not answered here.
-pub enum Answer {
-    Text(usize),
-    Malformed,
-    Unknown,
-}
+ghost use Rattle.answers.specs.Answer.{AnswerIn};
 
 // Answers the request that stands before `to`.
 pub fn respond(

@@ -1,14 +1,14 @@
 // The requests without a scope: detect, encode, decode.
-use crate::Answer;
-use crate::fields::Context;
-use crate::fields::Flag;
-use crate::fields::context_of;
-use crate::fields::flag_at;
-use crate::fields::has;
-use crate::fields::room_at;
+use answers::Answer;
 use answers::prefill;
 use answers::put_field;
 use answers::refused;
+use asked::Context;
+use asked::Flag;
+use asked::context_of;
+use asked::flag_at;
+use asked::has;
+use asked::room_at;
 use show::buffer::is_zero;
 use text::decimal::Number;
 use text::decimal::put_decimal;
@@ -19,7 +19,7 @@ use text::write::put;
 use text::write::put_all;
 ghost use Prim.Native.Nat.{_≤_};
 ghost use lib.ListN.{length};
-ghost use Rattle.requests.specs.Answer.{AnswerIn};
+ghost use Rattle.answers.specs.Answer.{AnswerIn};
 
 // detect CONFIG TREE
 pub fn detect(s: &[u8], to: usize, lent: &mut [u8], text: &mut [u8]) -> Answer

@@ -1,196 +1,144 @@
+-- `replay::line::replay` meets its contract.
 use native.Mathlib.Omega.{arith}
 use lib.ListN.{length}
 use mathlib.Core.Path.{subst}
-use Rattle.requests.specs.Answer.{AnswerIn}
+use Rattle.answers.specs.Answer.{AnswerIn}
 use borrow.Author.Needs.{needs}
 use Rattle.replay.proofs.line.replay.Statement.{statement}
 use Rattle.replay.proofs.line.replay.Tie as tie
-use Rattle.replay.proofs.line.replay.Reads as reads
-use Rattle.replay.proofs.line.replay.Lts as lts
-use Rattle.replay.proofs.line.compared.Reads as compared-reads
-use Rattle.replay.proofs.line.is_none.Reads as is-none-reads
-use Rattle.replay.proofs.line.malformed.Reads as malformed-reads
-use Rattle.replay.proofs.line.skipped.Reads as skipped-reads
-use Rattle.requests.proofs.respond.Reads as respond-reads
-use Rattle.text.proofs.fields.find.Reads as find-reads
 
--- src/line.rt:70:29
 slice-aggregate-malformed : tie.Need-slice-aggregate-malformed
 slice-aggregate-malformed c = search needs
 
--- src/line.rt:70:9
 malformed-requires : tie.Need-malformed-requires
 malformed-requires c κs = search needs
 
--- src/line.rt:70:9
 returns : tie.Need-returns
 returns c = search needs
 
--- src/line.rt:73:8
 is-none-requires : tie.Need-is-none-requires
 is-none-requires c κs = search needs
 
--- src/line.rt:74:9
 returns-2 : tie.Need-returns-2
 returns-2 c = search needs
 
--- src/line.rt:76:9
 find-requires : tie.Need-find-requires
 find-requires c κs = search needs
 
--- src/line.rt:78:29
 slice-aggregate-malformed-2 : tie.Need-slice-aggregate-malformed-2
 slice-aggregate-malformed-2 c = search needs
 
--- src/line.rt:78:9
 malformed-requires-2 : tie.Need-malformed-requires-2
 malformed-requires-2 c κs = search needs
 
--- src/line.rt:78:9
 returns-3 : tie.Need-returns-3
 returns-3 c = search needs
 
--- src/line.rt:80:11
 respond-requires : tie.Need-respond-requires
 respond-requires c κs = search needs
 
--- src/line.rt:81:22
 enum-known-n : tie.Need-enum-known-n
 enum-known-n c = search needs
 
--- src/line.rt:81:43
 add-compared : tie.Need-add-compared
 add-compared c = search needs
 
--- src/line.rt:81:40
 sub-compared : tie.Need-sub-compared
 sub-compared c = search needs
 
--- src/line.rt:81:40
 part-compared-start : tie.Need-part-compared-start
 part-compared-start c = search needs
 
--- src/line.rt:81:40
 part-compared-end : tie.Need-part-compared-end
 part-compared-end c = search needs
 
--- src/line.rt:81:55
 sub-compared-2 : tie.Need-sub-compared-2
 sub-compared-2 c = search needs
 
--- src/line.rt:81:55
 part-compared-start-2 : tie.Need-part-compared-start-2
 part-compared-start-2 c = search needs
 
--- src/line.rt:81:55
 part-compared-end-2 : tie.Need-part-compared-end-2
 part-compared-end-2 c = let w = subst (AnswerIn (length (c .before .before .before .before .before .before .before .before .before .before .before .before .before .before .before .before .before .before .before .before .before .before .before .before .before .before .before .before .before .before .before .before .before .before .before .before .args .answer .now))) (c .before .before .before .n .given .1) (c .before .before .before .before .before .before .before .before .before .before .before .before .before .before .before .before .before .respond .ensures) in omega arith
 
--- src/line.rt:81:28
 compared-requires : tie.Need-compared-requires
 compared-requires c κs = search needs
 
--- src/line.rt:82:43
 enum-told : tie.Need-enum-told
 enum-told c = search needs
 
--- src/line.rt:82:43
 slice-aggregate-malformed-3 : tie.Need-slice-aggregate-malformed-3
 slice-aggregate-malformed-3 c = search needs
 
--- src/line.rt:82:30
 malformed-requires-3 : tie.Need-malformed-requires-3
 malformed-requires-3 c κs = search needs
 
--- src/line.rt:83:28
 enum-told-2 : tie.Need-enum-told-2
 enum-told-2 c = search needs
 
--- src/line.rt:83:28
 skipped-requires : tie.Need-skipped-requires
 skipped-requires c κs = search needs
 
--- src/line.rt:57:1
 same-length : tie.Need-same-length
 same-length c = search needs
 
--- src/line.rt:57:1
 same-length-2 : tie.Need-same-length-2
 same-length-2 c = search needs
 
--- src/line.rt:57:1
 same-length-3 : tie.Need-same-length-3
 same-length-3 c = search needs
 
--- src/line.rt:57:1
 same-length-4 : tie.Need-same-length-4
 same-length-4 c = search needs
 
--- src/line.rt:57:1
 same-length-5 : tie.Need-same-length-5
 same-length-5 c = search needs
 
--- src/line.rt:57:1
 same-length-6 : tie.Need-same-length-6
 same-length-6 c = search needs
 
--- src/line.rt:57:1
 returns-4 : tie.Need-returns-4
 returns-4 c = search needs
 
--- src/line.rt:57:1
 same-length-7 : tie.Need-same-length-7
 same-length-7 c = search needs
 
--- src/line.rt:57:1
 same-length-8 : tie.Need-same-length-8
 same-length-8 c = search needs
 
--- src/line.rt:57:1
 same-length-9 : tie.Need-same-length-9
 same-length-9 c = search needs
 
--- src/line.rt:57:1
 same-length-10 : tie.Need-same-length-10
 same-length-10 c = search needs
 
--- src/line.rt:57:1
 same-length-11 : tie.Need-same-length-11
 same-length-11 c = search needs
 
--- src/line.rt:57:1
 same-length-12 : tie.Need-same-length-12
 same-length-12 c = search needs
 
--- src/line.rt:57:1
 returns-5 : tie.Need-returns-5
 returns-5 c = search needs
 
--- src/line.rt:57:1
 same-length-13 : tie.Need-same-length-13
 same-length-13 c = search needs
 
--- src/line.rt:57:1
 same-length-14 : tie.Need-same-length-14
 same-length-14 c = search needs
 
--- src/line.rt:57:1
 same-length-15 : tie.Need-same-length-15
 same-length-15 c = search needs
 
--- src/line.rt:57:1
 same-length-16 : tie.Need-same-length-16
 same-length-16 c = search needs
 
--- src/line.rt:57:1
 same-length-17 : tie.Need-same-length-17
 same-length-17 c = search needs
 
--- src/line.rt:57:1
 same-length-18 : tie.Need-same-length-18
 same-length-18 c = search needs
 
--- src/line.rt:57:1
 returns-6 : tie.Need-returns-6
 returns-6 c = search needs
 

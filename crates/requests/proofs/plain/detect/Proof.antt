@@ -1,3 +1,4 @@
+-- `requests::plain::detect` meets its contract.
 use native.Mathlib.Omega.{arith}
 use lib.ListN.{length}
 use mathlib.Core.Path.{subst}
@@ -5,121 +6,85 @@ use Rattle.text.specs.Hex.{BytesIn}
 use borrow.Author.Needs.{needs}
 use Rattle.requests.proofs.plain.detect.Statement.{statement}
 use Rattle.requests.proofs.plain.detect.Tie as tie
-use Rattle.requests.proofs.plain.detect.Reads as reads
-use Rattle.requests.proofs.plain.detect.Lts as lts
-use Rattle.answers.proofs.refused.Reads as refused-reads
-use Rattle.host.proofs.tychodrel_detect.Reads as tychodrel-detect-reads
-use Rattle.requests.proofs.fields.flag_at.Reads as flag-at-reads
-use Rattle.requests.proofs.fields.has.Reads as has-reads
-use Rattle.text.proofs.decimal.put_decimal.Reads as put-decimal-reads
-use Rattle.text.proofs.hex.bytes_at.Reads as bytes-at-reads
-use Rattle.text.proofs.write.put_all.Reads as put-all-reads
 
--- src/plain.rt:29:28
 flag-at-requires : tie.Need-flag-at-requires
 flag-at-requires c κs = search needs
 
--- src/plain.rt:29:18
 enum-known-config : tie.Need-enum-known-config
 enum-known-config c = search needs
 
--- src/plain.rt:30:9
 enum-told : tie.Need-enum-told
 enum-told c = search needs
 
--- src/plain.rt:30:9
 returns : tie.Need-returns
 returns c = search needs
 
--- src/plain.rt:32:26
 bytes-at-requires : tie.Need-bytes-at-requires
 bytes-at-requires c κs = search needs
 
--- src/plain.rt:32:21
 enum-known-n : tie.Need-enum-known-n
 enum-known-n c = search needs
 
--- src/plain.rt:33:9
 enum-told-2 : tie.Need-enum-told-2
 enum-told-2 c = search needs
 
--- src/plain.rt:33:9
 same-length : tie.Need-same-length
 same-length c = search needs
 
--- src/plain.rt:33:9
 returns-2 : tie.Need-returns-2
 returns-2 c = search needs
 
--- src/plain.rt:35:8
 has-requires : tie.Need-has-requires
 has-requires c κs = search needs
 
--- src/plain.rt:36:9
 same-length-2 : tie.Need-same-length-2
 same-length-2 c = search needs
 
--- src/plain.rt:36:9
 returns-3 : tie.Need-returns-3
 returns-3 c = search needs
 
--- src/plain.rt:38:44
 sub-tychodrel-detect : tie.Need-sub-tychodrel-detect
 sub-tychodrel-detect c = search needs
 
--- src/plain.rt:38:44
 part-tychodrel-detect-start : tie.Need-part-tychodrel-detect-start
 part-tychodrel-detect-start c = search needs
 
--- src/plain.rt:38:44
 part-tychodrel-detect-end : tie.Need-part-tychodrel-detect-end
 part-tychodrel-detect-end c = let w = subst (BytesIn 0 (length (c .before .before .before .before .before .before .before .before .before .before .before .before .before .before .before .before .before .args .lent .now))) (c .before .before .before .before .n .given .1) (c .before .before .before .before .before .before .before .before .bytes-at .ensures .1) in omega arith
 
--- src/plain.rt:38:9
 tychodrel-detect-requires : tie.Need-tychodrel-detect-requires
 tychodrel-detect-requires c κs = search needs
 
--- src/plain.rt:40:43
 slice-aggregate-refused : tie.Need-slice-aggregate-refused
 slice-aggregate-refused c = search needs
 
--- src/plain.rt:40:29
 refused-requires : tie.Need-refused-requires
 refused-requires c κs = search needs
 
--- src/plain.rt:40:9
 same-length-3 : tie.Need-same-length-3
 same-length-3 c = search needs
 
--- src/plain.rt:40:9
 same-length-4 : tie.Need-same-length-4
 same-length-4 c = search needs
 
--- src/plain.rt:40:9
 returns-4 : tie.Need-returns-4
 returns-4 c = search needs
 
--- src/plain.rt:42:30
 slice-aggregate-put-all : tie.Need-slice-aggregate-put-all
 slice-aggregate-put-all c = search needs
 
--- src/plain.rt:42:9
 put-all-requires : tie.Need-put-all-requires
 put-all-requires c κs = search needs
 
--- src/plain.rt:43:18
 put-decimal-requires : tie.Need-put-decimal-requires
 put-decimal-requires c κs = search needs
 
--- src/plain.rt:25:1
 same-length-5 : tie.Need-same-length-5
 same-length-5 c = search needs
 
--- src/plain.rt:25:1
 same-length-6 : tie.Need-same-length-6
 same-length-6 c = search needs
 
--- src/plain.rt:25:1
 returns-5 : tie.Need-returns-5
 returns-5 c = search needs
 

@@ -1,111 +1,82 @@
+-- `requests::plain::encode_with` meets its contract.
 use native.Mathlib.Omega.{arith}
 use lib.ListN.{length}
 use mathlib.Core.Path.{subst}
 use Rattle.text.specs.Hex.{BytesIn}
-use Rattle.requests.specs.Answer.{RoomIn}
+use Rattle.asked.specs.Places.{RoomIn}
 use borrow.Author.Needs.{needs}
 use Rattle.requests.proofs.plain.encode_with.Statement.{statement}
 use Rattle.requests.proofs.plain.encode_with.Tie as tie
-use Rattle.requests.proofs.plain.encode_with.Reads as reads
-use Rattle.requests.proofs.plain.encode_with.Lts as lts
-use Rattle.requests.proofs.fields.has.Reads as has-reads
-use Rattle.requests.proofs.fields.room_at.Reads as room-at-reads
-use Rattle.requests.proofs.plain.encoded.Reads as encoded-reads
-use Rattle.text.proofs.hex.bytes_at.Reads as bytes-at-reads
 
--- src/plain.rt:75:26
 bytes-at-requires : tie.Need-bytes-at-requires
 bytes-at-requires c κs = search needs
 
--- src/plain.rt:75:21
 enum-known-n : tie.Need-enum-known-n
 enum-known-n c = search needs
 
--- src/plain.rt:76:9
 enum-told : tie.Need-enum-told
 enum-told c = search needs
 
--- src/plain.rt:76:9
 same-length : tie.Need-same-length
 same-length c = search needs
 
--- src/plain.rt:76:9
 returns : tie.Need-returns
 returns c = search needs
 
--- src/plain.rt:78:28
 room-at-requires : tie.Need-room-at-requires
 room-at-requires c κs = search needs
 
--- src/plain.rt:78:20
 enum-known-room : tie.Need-enum-known-room
 enum-known-room c = search needs
 
--- src/plain.rt:79:9
 enum-told-2 : tie.Need-enum-told-2
 enum-told-2 c = search needs
 
--- src/plain.rt:79:9
 same-length-2 : tie.Need-same-length-2
 same-length-2 c = search needs
 
--- src/plain.rt:79:9
 returns-2 : tie.Need-returns-2
 returns-2 c = search needs
 
--- src/plain.rt:81:8
 has-requires : tie.Need-has-requires
 has-requires c κs = search needs
 
--- src/plain.rt:82:9
 same-length-3 : tie.Need-same-length-3
 same-length-3 c = search needs
 
--- src/plain.rt:82:9
 returns-3 : tie.Need-returns-3
 returns-3 c = search needs
 
--- src/plain.rt:88:9
 sub-encoded : tie.Need-sub-encoded
 sub-encoded c = search needs
 
--- src/plain.rt:88:9
 part-encoded-start : tie.Need-part-encoded-start
 part-encoded-start c = search needs
 
--- src/plain.rt:88:9
 part-encoded-end : tie.Need-part-encoded-end
 part-encoded-end c = let w = subst (BytesIn 0 (length (c .before .before .before .before .before .before .before .before .before .before .before .before .before .before .before .before .before .before .args .lent .now))) (c .before .before .before .before .before .before .before .before .n .given .1) (c .before .before .before .before .before .before .before .before .before .before .before .before .bytes-at .ensures .1) in omega arith
 
--- src/plain.rt:89:9
 sub-encoded-2 : tie.Need-sub-encoded-2
 sub-encoded-2 c = search needs
 
--- src/plain.rt:89:9
 part-encoded-start-2 : tie.Need-part-encoded-start-2
 part-encoded-start-2 c = search needs
 
--- src/plain.rt:89:9
 part-encoded-end-2 : tie.Need-part-encoded-end-2
 part-encoded-end-2 c = let w = subst (RoomIn (length (c .before .before .before .before .before .before .before .before .before .before .before .before .before .before .before .before .before .before .before .args .out .now))) (c .before .before .before .before .before .room .given .1) (c .before .before .before .before .before .before .before .room-at .ensures) in omega arith
 
--- src/plain.rt:84:5
 encoded-requires : tie.Need-encoded-requires
 encoded-requires c κs = search needs
 
--- src/plain.rt:62:1
 same-length-4 : tie.Need-same-length-4
 same-length-4 c = search needs
 
--- src/plain.rt:62:1
 same-length-5 : tie.Need-same-length-5
 same-length-5 c = search needs
 
--- src/plain.rt:62:1
 same-length-6 : tie.Need-same-length-6
 same-length-6 c = search needs
 
--- src/plain.rt:62:1
 returns-4 : tie.Need-returns-4
 returns-4 c = search needs
 

@@ -1,12 +1,12 @@
 // resolve FILES TABLE RECORDS LISTLEN
-use crate::Answer;
-use crate::fields::has;
-use crate::fields::room_at;
+use answers::Answer;
 use answers::modules::marked;
 use answers::modules::put_scope;
 use answers::prefill;
 use answers::put_field;
 use answers::refused;
+use asked::has;
+use asked::room_at;
 use show::buffer::is_zero;
 use text::decimal::Number;
 use text::hex::Bytes;
@@ -14,7 +14,7 @@ use text::hex::bytes_at;
 use text::write::put_all;
 ghost use Prim.Native.Nat.{_≤_};
 ghost use lib.ListN.{length};
-ghost use Rattle.requests.specs.Answer.{AnswerIn};
+ghost use Rattle.answers.specs.Answer.{AnswerIn};
 
 // Answers the request before `to`.
 pub fn resolve(s: &[u8], to: usize, lent: &mut [u8], list: &mut [u8], text: &mut [u8]) -> Answer

@@ -1,22 +1,23 @@
 // both FILES OWN CONFIG EXTERNALS TABLE TREE WORKLEN OUTLEN RECLEN LISTLEN: extract, then resolve its records in its scope.
-use crate::Answer;
-use crate::extracting::Asked;
-use crate::extracting::Asking;
-use crate::extracting::Rooms;
 use crate::extracting::call;
 use crate::extracting::put_extracted;
-use crate::extracting::read_asked;
-use crate::fields::has;
-use crate::fields::room_at;
 use crate::listing::resolved;
+use answers::Answer;
 use answers::front;
 use answers::modules::put_files;
 use answers::modules::put_rest;
 use answers::modules::put_scope;
+use asked::has;
+use asked::lists::Asked;
+use asked::lists::Asking;
+use asked::lists::Rooms;
+use asked::lists::read_asked;
+use asked::room_at;
 use text::decimal::Number;
 ghost use Prim.Native.Nat.{_≤_};
 ghost use lib.ListN.{length};
-ghost use Rattle.requests.specs.Answer.{AnswerIn, EndsIn};
+ghost use Rattle.answers.specs.Answer.{AnswerIn};
+ghost use Rattle.asked.specs.Places.{EndsIn};
 
 // Answers the request before `to`.
 pub fn both(

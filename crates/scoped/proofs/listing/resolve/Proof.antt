@@ -1,171 +1,127 @@
+-- `scoped::listing::resolve` meets its contract.
 use native.Mathlib.Omega.{arith}
 use lib.ListN.{length}
 use mathlib.Core.Path.{subst}
 use Rattle.text.specs.Hex.{BytesIn}
-use Rattle.requests.specs.Answer.{RoomIn}
+use Rattle.asked.specs.Places.{RoomIn}
 use borrow.Author.Needs.{needs}
-use Rattle.requests.proofs.listing.resolve.Statement.{statement}
-use Rattle.requests.proofs.listing.resolve.Tie as tie
-use Rattle.requests.proofs.listing.resolve.Reads as reads
-use Rattle.requests.proofs.listing.resolve.Lts as lts
-use Rattle.requests.proofs.fields.has.Reads as has-reads
-use Rattle.requests.proofs.fields.room_at.Reads as room-at-reads
-use Rattle.requests.proofs.listing.resolve_into.Reads as resolve-into-reads
-use Rattle.text.proofs.hex.bytes_at.Reads as bytes-at-reads
+use Rattle.scoped.proofs.listing.resolve.Statement.{statement}
+use Rattle.scoped.proofs.listing.resolve.Tie as tie
 
--- src/listing.rt:24:8
 has-requires : tie.Need-has-requires
 has-requires c κs = search needs
 
--- src/listing.rt:25:9
 returns : tie.Need-returns
 returns c = search needs
 
--- src/listing.rt:27:26
 bytes-at-requires : tie.Need-bytes-at-requires
 bytes-at-requires c κs = search needs
 
--- src/listing.rt:27:21
 enum-known-a : tie.Need-enum-known-a
 enum-known-a c = search needs
 
--- src/listing.rt:28:9
 enum-told : tie.Need-enum-told
 enum-told c = search needs
 
--- src/listing.rt:28:9
 same-length : tie.Need-same-length
 same-length c = search needs
 
--- src/listing.rt:28:9
 returns-2 : tie.Need-returns-2
 returns-2 c = search needs
 
--- src/listing.rt:30:26
 bytes-at-requires-2 : tie.Need-bytes-at-requires-2
 bytes-at-requires-2 c κs = let v1 = subst (BytesIn 0 (length (c .before .before .before .before .before .before .before .before .before .before .before .before .before .before .args .lent .now))) (c .before .before .a .given .1) (c .before .before .before .before .before .before .bytes-at .ensures .1) in omega arith
 
--- src/listing.rt:30:21
 enum-known-b : tie.Need-enum-known-b
 enum-known-b c = search needs
 
--- src/listing.rt:31:9
 enum-told-2 : tie.Need-enum-told-2
 enum-told-2 c = search needs
 
--- src/listing.rt:31:9
 same-length-2 : tie.Need-same-length-2
 same-length-2 c = search needs
 
--- src/listing.rt:31:9
 returns-3 : tie.Need-returns-3
 returns-3 c = search needs
 
--- src/listing.rt:33:26
 bytes-at-requires-3 : tie.Need-bytes-at-requires-3
 bytes-at-requires-3 c κs = let v2 = subst (BytesIn _ _) (c .before .before .b .given .1) (c .before .before .before .before .before .before .bytes-at2 .ensures .1) in omega arith
 
--- src/listing.rt:33:21
 enum-known-c : tie.Need-enum-known-c
 enum-known-c c = search needs
 
--- src/listing.rt:34:9
 enum-told-3 : tie.Need-enum-told-3
 enum-told-3 c = search needs
 
--- src/listing.rt:34:9
 same-length-3 : tie.Need-same-length-3
 same-length-3 c = search needs
 
--- src/listing.rt:34:9
 returns-4 : tie.Need-returns-4
 returns-4 c = search needs
 
--- src/listing.rt:36:28
 room-at-requires : tie.Need-room-at-requires
 room-at-requires c κs = search needs
 
--- src/listing.rt:36:20
 enum-known-room : tie.Need-enum-known-room
 enum-known-room c = search needs
 
--- src/listing.rt:37:9
 enum-told-4 : tie.Need-enum-told-4
 enum-told-4 c = search needs
 
--- src/listing.rt:37:9
 same-length-4 : tie.Need-same-length-4
 same-length-4 c = search needs
 
--- src/listing.rt:37:9
 returns-5 : tie.Need-returns-5
 returns-5 c = search needs
 
--- src/listing.rt:40:9
 sub-resolve-into : tie.Need-sub-resolve-into
 sub-resolve-into c = search needs
 
--- src/listing.rt:40:9
 part-resolve-into-start : tie.Need-part-resolve-into-start
 part-resolve-into-start c = search needs
 
--- src/listing.rt:40:9
 part-resolve-into-end : tie.Need-part-resolve-into-end
 part-resolve-into-end c = let v1 = subst (BytesIn 0 (length (c .before .before .before .before .before .before .before .before .before .before .before .before .before .before .before .before .before .before .before .before .before .before .before .before .before .before .before .before .before .before .before .before .args .lent .now))) (c .before .before .before .before .before .before .before .before .before .before .before .before .before .before .before .before .before .before .before .before .a .given .1) (c .before .before .before .before .before .before .before .before .before .before .before .before .before .before .before .before .before .before .before .before .before .before .before .before .bytes-at .ensures .1) in omega arith
 
--- src/listing.rt:41:9
 sub-resolve-into-2 : tie.Need-sub-resolve-into-2
 sub-resolve-into-2 c = let v2 = subst (BytesIn _ _) (c .before .before .before .before .before .before .before .before .before .before .before .before .before .before .b .given .1) (c .before .before .before .before .before .before .before .before .before .before .before .before .before .before .before .before .before .before .bytes-at2 .ensures .1) in omega arith
 
--- src/listing.rt:41:9
 part-resolve-into-start-2 : tie.Need-part-resolve-into-start-2
 part-resolve-into-start-2 c = let v2 = subst (BytesIn _ _) (c .before .before .before .before .before .before .before .before .before .before .before .before .before .before .b .given .1) (c .before .before .before .before .before .before .before .before .before .before .before .before .before .before .before .before .before .before .bytes-at2 .ensures .1) in omega arith
 
--- src/listing.rt:41:9
 part-resolve-into-end-2 : tie.Need-part-resolve-into-end-2
 part-resolve-into-end-2 c = let v2 = subst (BytesIn _ _) (c .before .before .before .before .before .before .before .before .before .before .before .before .before .before .b .given .1) (c .before .before .before .before .before .before .before .before .before .before .before .before .before .before .before .before .before .before .bytes-at2 .ensures .1) in omega arith
 
--- src/listing.rt:42:9
 sub-resolve-into-3 : tie.Need-sub-resolve-into-3
 sub-resolve-into-3 c = let v3 = subst (BytesIn _ _) (c .before .before .before .before .before .before .before .before .c .given .1) (c .before .before .before .before .before .before .before .before .before .before .before .before .bytes-at3 .ensures .1) in omega arith
 
--- src/listing.rt:42:9
 part-resolve-into-start-3 : tie.Need-part-resolve-into-start-3
 part-resolve-into-start-3 c = let v3 = subst (BytesIn _ _) (c .before .before .before .before .before .before .before .before .c .given .1) (c .before .before .before .before .before .before .before .before .before .before .before .before .bytes-at3 .ensures .1) in omega arith
 
--- src/listing.rt:42:9
 part-resolve-into-end-3 : tie.Need-part-resolve-into-end-3
 part-resolve-into-end-3 c = let v3 = subst (BytesIn _ _) (c .before .before .before .before .before .before .before .before .c .given .1) (c .before .before .before .before .before .before .before .before .before .before .before .before .bytes-at3 .ensures .1) in omega arith
 
--- src/listing.rt:43:9
 sub-resolve-into-4 : tie.Need-sub-resolve-into-4
 sub-resolve-into-4 c = search needs
 
--- src/listing.rt:43:9
 part-resolve-into-start-4 : tie.Need-part-resolve-into-start-4
 part-resolve-into-start-4 c = search needs
 
--- src/listing.rt:43:9
 part-resolve-into-end-4 : tie.Need-part-resolve-into-end-4
 part-resolve-into-end-4 c = let v = subst (RoomIn (length (c .before .before .before .before .before .before .before .before .before .before .before .before .before .before .before .before .before .before .before .before .before .before .before .before .before .before .before .before .before .before .before .before .before .before .before .args .list .now))) (c .before .before .before .before .before .room .given .1) (c .before .before .before .before .before .before .before .room-at .ensures) in omega arith
 
--- src/listing.rt:39:5
 resolve-into-requires : tie.Need-resolve-into-requires
 resolve-into-requires c κs = search needs
 
--- src/listing.rt:20:1
 same-length-5 : tie.Need-same-length-5
 same-length-5 c = omega (arith, c .before .before .before .before .before .before .before .before .before .before .before .before .before .before .before .before .before .before .before .before .before .before .before .before .before .before .before .before .before .before .before .before .before .before .bytes-at .kept .1 .1 .1 .0, c .before .before .before .before .before .before .before .before .before .before .before .before .before .before .before .before .before .before .before .before .before .before .before .before .before .before .before .bytes-at2 .kept .1 .1 .1 .0, c .before .before .before .before .before .before .before .before .before .before .before .before .before .before .before .before .before .before .before .before .bytes-at3 .kept .1 .1 .1 .0)
 
--- src/listing.rt:20:1
 same-length-6 : tie.Need-same-length-6
 same-length-6 c = omega (arith, c .before .before .before .before .before .before .before .before .before .before .before .before .before .before .before .before .before .before .before .before .before .before .before .before .before .before .before .before .before .before .before .before .before .before .bytes-at .kept .1 .1 .1 .0, c .before .before .before .before .before .before .before .before .before .before .before .before .before .before .before .before .before .before .before .before .before .before .before .before .before .before .before .bytes-at2 .kept .1 .1 .1 .0, c .before .before .before .before .before .before .before .before .before .before .before .before .before .before .before .before .before .before .before .before .bytes-at3 .kept .1 .1 .1 .0)
 
--- src/listing.rt:20:1
 same-length-7 : tie.Need-same-length-7
 same-length-7 c = search needs
 
--- src/listing.rt:20:1
 returns-6 : tie.Need-returns-6
 returns-6 c = search needs
 

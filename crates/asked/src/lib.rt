@@ -1,4 +1,6 @@
-// The fields of a request that are neither plain bytes nor plain numbers.
+// What the fields of a request ask for, beside plain bytes and plain numbers: flags, files, contexts, lengths of buffers.
+pub mod lists;
+
 use text::decimal::Number;
 use text::decimal::number_at;
 use text::fields::Span;
@@ -8,7 +10,7 @@ use text::hex::bytes_at;
 ghost use mathlib.Core.Path.{_≡_};
 ghost use Prim.Native.Nat.{_≤_, _<_};
 ghost use lib.ListN.{length};
-ghost use Rattle.requests.specs.Answer.{RoomIn};
+ghost use Rattle.asked.specs.Places.{RoomIn};
 
 // Whether there are more than k fields.
 pub fn has(s: &[u8], to: usize, k: usize) -> bool

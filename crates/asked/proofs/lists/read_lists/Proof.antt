@@ -1,99 +1,75 @@
+-- `asked::lists::read_lists` meets its contract.
 use native.Mathlib.Omega.{arith}
 use lib.ListN.{length}
 use mathlib.Core.Path.{subst}
 use Rattle.text.specs.Hex.{BytesIn}
 use borrow.Author.Needs.{needs}
-use Rattle.requests.proofs.extracting.read_lists.Statement.{statement}
-use Rattle.requests.proofs.extracting.read_lists.Tie as tie
-use Rattle.requests.proofs.extracting.read_lists.Reads as reads
-use Rattle.requests.proofs.extracting.read_lists.Lts as lts
-use Rattle.text.proofs.hex.bytes_at.Reads as bytes-at-reads
+use Rattle.asked.proofs.lists.read_lists.Statement.{statement}
+use Rattle.asked.proofs.lists.read_lists.Tie as tie
 
--- src/extracting.rt:65:30
 bytes-at-requires : tie.Need-bytes-at-requires
 bytes-at-requires c κs = search needs
 
--- src/extracting.rt:65:21
 enum-known-files : tie.Need-enum-known-files
 enum-known-files c = search needs
 
--- src/extracting.rt:66:9
 enum-told : tie.Need-enum-told
 enum-told c = search needs
 
--- src/extracting.rt:66:9
 same-length : tie.Need-same-length
 same-length c = search needs
 
--- src/extracting.rt:66:9
 returns : tie.Need-returns
 returns c = search needs
 
--- src/extracting.rt:68:34
 bytes-at-requires-2 : tie.Need-bytes-at-requires-2
 bytes-at-requires-2 c κs = let v1 = subst (BytesIn 0 (length (c .before .before .before .before .before .before .before .before .before .before .args .lent .now))) (c .before .before .files .given .1) (c .before .before .before .before .before .before .bytes-at .ensures .1) in omega arith
 
--- src/extracting.rt:68:21
 enum-known-externals : tie.Need-enum-known-externals
 enum-known-externals c = search needs
 
--- src/extracting.rt:69:9
 enum-told-2 : tie.Need-enum-told-2
 enum-told-2 c = search needs
 
--- src/extracting.rt:69:9
 same-length-2 : tie.Need-same-length-2
 same-length-2 c = search needs
 
--- src/extracting.rt:69:9
 returns-2 : tie.Need-returns-2
 returns-2 c = search needs
 
--- src/extracting.rt:71:30
 bytes-at-requires-3 : tie.Need-bytes-at-requires-3
 bytes-at-requires-3 c κs = let v2 = subst (BytesIn _ _) (c .before .before .externals .given .1) (c .before .before .before .before .before .before .bytes-at2 .ensures .1) in omega arith
 
--- src/extracting.rt:71:21
 enum-known-table : tie.Need-enum-known-table
 enum-known-table c = search needs
 
--- src/extracting.rt:72:9
 enum-told-3 : tie.Need-enum-told-3
 enum-told-3 c = search needs
 
--- src/extracting.rt:72:9
 same-length-3 : tie.Need-same-length-3
 same-length-3 c = search needs
 
--- src/extracting.rt:72:9
 returns-3 : tie.Need-returns-3
 returns-3 c = search needs
 
--- src/extracting.rt:74:29
 bytes-at-requires-4 : tie.Need-bytes-at-requires-4
 bytes-at-requires-4 c κs = let v3 = subst (BytesIn _ _) (c .before .before .table .given .1) (c .before .before .before .before .before .before .bytes-at3 .ensures .1) in omega arith
 
--- src/extracting.rt:74:21
 enum-known-tree : tie.Need-enum-known-tree
 enum-known-tree c = search needs
 
--- src/extracting.rt:75:9
 enum-told-4 : tie.Need-enum-told-4
 enum-told-4 c = search needs
 
--- src/extracting.rt:75:9
 same-length-4 : tie.Need-same-length-4
 same-length-4 c = search needs
 
--- src/extracting.rt:75:9
 returns-4 : tie.Need-returns-4
 returns-4 c = search needs
 
--- src/extracting.rt:61:1
 same-length-5 : tie.Need-same-length-5
 same-length-5 c = search needs
 
--- src/extracting.rt:61:1
 returns-5 : tie.Need-returns-5
 returns-5 c = let v1 = subst (BytesIn 0 (length (c .before .before .before .before .before .before .before .before .before .before .before .before .before .before .before .before .before .before .before .before .before .before .before .before .before .before .before .before .before .before .args .lent .now))) (c .before .before .before .before .before .before .before .before .before .before .before .before .before .before .before .before .before .before .before .before .before .before .files .given .1) (c .before .before .before .before .before .before .before .before .before .before .before .before .before .before .before .before .before .before .before .before .before .before .before .before .before .before .bytes-at .ensures .1) in let v2 = subst (BytesIn _ _) (c .before .before .before .before .before .before .before .before .before .before .before .before .before .before .before .externals .given .1) (c .before .before .before .before .before .before .before .before .before .before .before .before .before .before .before .before .before .before .before .bytes-at2 .ensures .1) in let v3 = subst (BytesIn _ _) (c .before .before .before .before .before .before .before .before .table .given .1) (c .before .before .before .before .before .before .before .before .before .before .before .before .bytes-at3 .ensures .1) in let v4 = subst (BytesIn _ _) (c .before .tree .given .1) (c .before .before .before .before .before .bytes-at4 .ensures .1) in omega arith
 

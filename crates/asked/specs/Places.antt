@@ -1,23 +1,15 @@
--- What a request and its answer name lies within the buffers.
+-- What a request names lies within the buffers.
 use Prim.Native.Nat.{ℕ, _≤_}
-use Rattle.requests.specs.declared.Answer.{Answer}
-use Rattle.requests.specs.declared.Answer.the-variants.{Text, Malformed, Unknown}
-use Rattle.requests.specs.declared.extracting.Ends.{Ends}
-use Rattle.requests.specs.declared.extracting.Lists.{Lists}
-use Rattle.requests.specs.declared.extracting.Lists.the-variants.{Upto as Lent, Bad as NotLent}
-use Rattle.requests.specs.declared.extracting.Rooms.{Rooms}
-use Rattle.requests.specs.declared.extracting.Lengths.{Lengths}
-use Rattle.requests.specs.declared.extracting.Lengths.the-variants.{Are, Bad as NoLengths}
-use Rattle.requests.specs.declared.extracting.Asking.{Asking}
-use Rattle.requests.specs.declared.extracting.Asking.the-variants.{For, Bad as NotAsked}
+use Rattle.asked.specs.declared.lists.Ends.{Ends}
+use Rattle.asked.specs.declared.lists.Lists.{Lists}
+use Rattle.asked.specs.declared.lists.Lists.the-variants.{Upto as Lent, Bad as NotLent}
+use Rattle.asked.specs.declared.lists.Rooms.{Rooms}
+use Rattle.asked.specs.declared.lists.Lengths.{Lengths}
+use Rattle.asked.specs.declared.lists.Lengths.the-variants.{Are, Bad as NoLengths}
+use Rattle.asked.specs.declared.lists.Asking.{Asking}
+use Rattle.asked.specs.declared.lists.Asking.the-variants.{For, Bad as NotAsked}
 use Rattle.text.specs.declared.decimal.Number.{Number}
 use Rattle.text.specs.declared.decimal.Number.the-variants.{Of, Bad as NoNumber}
-
--- the text ends within a buffer of n bytes
-abbrev pub AnswerIn : ℕ → Answer → Type 0
-AnswerIn n (Text k) = k ≤ n
-AnswerIn n Malformed = Unit
-AnswerIn n Unknown = Unit
 
 -- a length of at most n bytes
 abbrev pub RoomIn : ℕ → Number → Type 0

@@ -1,62 +1,47 @@
+-- `asked::lists::read_lengths` meets its contract.
 use native.Mathlib.Omega.{arith}
 use mathlib.Core.Path.{subst}
-use Rattle.requests.specs.Answer.{RoomIn}
+use Rattle.asked.specs.Places.{RoomIn}
 use borrow.Author.Needs.{needs}
-use Rattle.requests.proofs.extracting.read_lengths.Statement.{statement}
-use Rattle.requests.proofs.extracting.read_lengths.Tie as tie
-use Rattle.requests.proofs.extracting.read_lengths.Reads as reads
-use Rattle.requests.proofs.extracting.read_lengths.Lts as lts
-use Rattle.requests.proofs.fields.room_at.Reads as room-at-reads
+use Rattle.asked.proofs.lists.read_lengths.Statement.{statement}
+use Rattle.asked.proofs.lists.read_lengths.Tie as tie
 
--- src/extracting.rt:90:28
 room-at-requires : tie.Need-room-at-requires
 room-at-requires c κs = search needs
 
--- src/extracting.rt:90:20
 enum-known-work : tie.Need-enum-known-work
 enum-known-work c = search needs
 
--- src/extracting.rt:91:9
 enum-told : tie.Need-enum-told
 enum-told c = search needs
 
--- src/extracting.rt:91:9
 returns : tie.Need-returns
 returns c = search needs
 
--- src/extracting.rt:93:27
 room-at-requires-2 : tie.Need-room-at-requires-2
 room-at-requires-2 c κs = search needs
 
--- src/extracting.rt:93:20
 enum-known-out : tie.Need-enum-known-out
 enum-known-out c = search needs
 
--- src/extracting.rt:94:9
 enum-told-2 : tie.Need-enum-told-2
 enum-told-2 c = search needs
 
--- src/extracting.rt:94:9
 returns-2 : tie.Need-returns-2
 returns-2 c = search needs
 
--- src/extracting.rt:96:31
 room-at-requires-3 : tie.Need-room-at-requires-3
 room-at-requires-3 c κs = search needs
 
--- src/extracting.rt:96:20
 enum-known-records : tie.Need-enum-known-records
 enum-known-records c = search needs
 
--- src/extracting.rt:97:9
 enum-told-3 : tie.Need-enum-told-3
 enum-told-3 c = search needs
 
--- src/extracting.rt:97:9
 returns-3 : tie.Need-returns-3
 returns-3 c = search needs
 
--- src/extracting.rt:86:1
 returns-4 : tie.Need-returns-4
 returns-4 c = let v1 = subst (RoomIn _) (c .before .before .before .before .before .before .before .before .before .work .given .1) (c .before .before .before .before .before .before .before .before .before .before .before .room-at .ensures) in let v2 = subst (RoomIn _) (c .before .before .before .before .before .out .given .1) (c .before .before .before .before .before .before .before .room-at2 .ensures) in let v3 = subst (RoomIn _) (c .before .records .given .1) (c .before .before .before .room-at3 .ensures) in omega arith
 
