@@ -52,20 +52,8 @@ fn compared(t: Tally, expected: &[u8], got: &[u8]) -> Tally {
     different(t)
 }
 
-// Replays the line s, the `last` one if no line end stands behind it. The buffers are for the bytes that it spells, what a call
-// writes, and the answer's text.
-pub fn replay(
-    s: &[u8],
-    broken: bool,
-    last: bool,
-    lent: &mut [u8],
-    work: &mut [u8],
-    out: &mut [u8],
-    records: &mut [u8],
-    list: &mut [u8],
-    answer: &mut [u8],
-    t: Tally,
-) -> Tally {
+// Replays the line s, the `last` one if no line end stands behind it; `answer` is for the answer's text.
+pub fn replay(s: &[u8], broken: bool, last: bool, answer: &mut [u8], t: Tally) -> Tally {
     if broken {
         return malformed(t, b"line too long, or reading failed");
     }
@@ -77,7 +65,7 @@ pub fn replay(
     if tab == len {
         return malformed(t, b"no answer");
     }
-    match respond(s, tab, lent, work, out, records, list, answer) {
+    match respond(s, tab, answer) {
         Answer::Text(n) => compared(t, &s[tab + 1..], &answer[0..n]),
         Answer::Malformed => malformed(t, b"request"),
         Answer::Unknown => skipped(t),

@@ -88,17 +88,7 @@ pub struct State {
 }
 
 // Takes the line that ends at `stop`: at a line end, or last at the end of all.
-fn take_line(
-    window: &[u8],
-    stop: usize,
-    lent: &mut [u8],
-    work: &mut [u8],
-    out: &mut [u8],
-    records: &mut [u8],
-    list: &mut [u8],
-    answer: &mut [u8],
-    s: State,
-) -> State
+fn take_line(window: &[u8], stop: usize, answer: &mut [u8], s: State) -> State
     requires { ⌜ Within (length (now window)) (s .window) × (s .window .start ≤ stop) × (stop ≤ s .window .end) ⌝ }
     ensures { λ r. ⌜ Within (length (now (window .entry))) (r .window) ⌝ }
 {
@@ -108,18 +98,7 @@ fn take_line(
     let end = w.end;
     let last = stop == end;
     let line = &window[start..stop];
-    let tally = line::replay(
-        line,
-        w.broken,
-        last,
-        lent,
-        work,
-        out,
-        records,
-        list,
-        answer,
-        t,
-    );
+    let tally = line::replay(line, w.broken, last, answer, t);
     let next = Window {
         start: behind(stop, end),
         end,
@@ -142,16 +121,7 @@ fn behind(stop: usize, end: usize) -> usize
 }
 
 // Takes a line, or reads more, or ends.
-fn turn(
-    window: &mut [u8],
-    lent: &mut [u8],
-    work: &mut [u8],
-    out: &mut [u8],
-    records: &mut [u8],
-    list: &mut [u8],
-    answer: &mut [u8],
-    s: State,
-) -> State
+fn turn(window: &mut [u8], answer: &mut [u8], s: State) -> State
     requires { ⌜ Within (length (now window)) (s .window) ⌝ }
     ensures { λ r. ⌜ Within (length (now (window .entry))) (r .window) ⌝ }
 {
@@ -160,7 +130,7 @@ fn turn(
     let end = w.end;
     let stop = find(window, start, end, 10);
     if stop < end {
-        return take_line(window, stop, lent, work, out, records, list, answer, s);
+        return take_line(window, stop, answer, s);
     }
     if w.open {
         let tally = s.tally;
@@ -171,19 +141,11 @@ fn turn(
             done: false,
         };
     }
-    take_line(window, stop, lent, work, out, records, list, answer, s)
+    take_line(window, stop, answer, s)
 }
 
 // Nothing says that the input ends, so the turns are counted down from a number that no run uses up.
-fn run(
-    window: &mut [u8],
-    lent: &mut [u8],
-    work: &mut [u8],
-    out: &mut [u8],
-    records: &mut [u8],
-    list: &mut [u8],
-    answer: &mut [u8],
-) -> Tally {
+fn run(window: &mut [u8], answer: &mut [u8]) -> Tally {
     let empty = Window {
         start: 0,
         end: 0,
@@ -202,7 +164,7 @@ fn run(
     };
     let mut turns = u64::MAX;
     while turns > 0 {
-        s = turn(window, lent, work, out, records, list, answer, s);
+        s = turn(window, answer, s);
         if s.done {
             return s.tally;
         }
@@ -212,22 +174,9 @@ fn run(
 }
 
 fn main() {
-    // A line of up to a mebibyte, the bytes that it spells, what a call writes in each of its buffers, and the answer's text.
+    // A line of up to a mebibyte, and the text of its answer.
     let mut window = [0u8; 1048576];
-    let mut lent = [0u8; 524288];
-    let mut work = [0u8; 131072];
-    let mut out = [0u8; 131072];
-    let mut records = [0u8; 131072];
-    let mut list = [0u8; 131072];
     let mut answer = [0u8; 1048576];
-    let t = run(
-        &mut window,
-        &mut lent,
-        &mut work,
-        &mut out,
-        &mut records,
-        &mut list,
-        &mut answer,
-    );
+    let t = run(&mut window, &mut answer);
     report::total(t.cases, t.skipped, t.differences);
 }

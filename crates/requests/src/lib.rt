@@ -1,4 +1,5 @@
-// Answers a request as the vectors have it: those with a scope by the crate scoped, the others here.
+// Answers a request as the vectors have it: those with a scope by the crate scoped, the others here. `lent` gets the bytes that a
+// request spells; `work`, `out`, `records` and `list` lend a call its buffers.
 pub mod plain; // detect, encode, decode
 
 use answers::Answer;
@@ -16,7 +17,28 @@ ghost use lib.ListN.{length};
 ghost use Rattle.answers.specs.Answer.{AnswerIn};
 
 // Answers the request that stands before `to`.
-pub fn respond(
+pub fn respond(s: &[u8], to: usize, text: &mut [u8]) -> Answer
+    requires { ⌜ to ≤ length (now s) ⌝ }
+    ensures { λ r. ⌜ AnswerIn (length (now (text .entry))) r ⌝ }
+{
+    let mut lent = [0u8; 524288];
+    let mut work = [0u8; 131072];
+    let mut out = [0u8; 131072];
+    let mut records = [0u8; 131072];
+    let mut list = [0u8; 131072];
+    respond_in(
+        s,
+        to,
+        &mut lent,
+        &mut work,
+        &mut out,
+        &mut records,
+        &mut list,
+        text,
+    )
+}
+
+fn respond_in(
     s: &[u8],
     to: usize,
     lent: &mut [u8],

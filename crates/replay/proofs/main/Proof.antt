@@ -10,22 +10,7 @@ slice-aggregate-run : tie.Need-slice-aggregate-run
 slice-aggregate-run c = sym (length-replicate {0} {A = ℕ} 1048576 0)
 
 slice-aggregate-run-2 : tie.Need-slice-aggregate-run-2
-slice-aggregate-run-2 c = sym (length-replicate {0} {A = ℕ} 524288 0)
-
-slice-aggregate-run-3 : tie.Need-slice-aggregate-run-3
-slice-aggregate-run-3 c = sym (length-replicate {0} {A = ℕ} 131072 0)
-
-slice-aggregate-run-4 : tie.Need-slice-aggregate-run-4
-slice-aggregate-run-4 c = sym (length-replicate {0} {A = ℕ} 131072 0)
-
-slice-aggregate-run-5 : tie.Need-slice-aggregate-run-5
-slice-aggregate-run-5 c = sym (length-replicate {0} {A = ℕ} 131072 0)
-
-slice-aggregate-run-6 : tie.Need-slice-aggregate-run-6
-slice-aggregate-run-6 c = sym (length-replicate {0} {A = ℕ} 131072 0)
-
-slice-aggregate-run-7 : tie.Need-slice-aggregate-run-7
-slice-aggregate-run-7 c = sym (length-replicate {0} {A = ℕ} 1048576 0)
+slice-aggregate-run-2 c = sym (length-replicate {0} {A = ℕ} 1048576 0)
 
 run-requires : tie.Need-run-requires
 run-requires c κs = search needs
@@ -42,11 +27,6 @@ main-spec =
     (tie.spec
     slice-aggregate-run
     slice-aggregate-run-2
-    slice-aggregate-run-3
-    slice-aggregate-run-4
-    slice-aggregate-run-5
-    slice-aggregate-run-6
-    slice-aggregate-run-7
     run-requires
     total-requires
     returns)

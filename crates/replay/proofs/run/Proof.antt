@@ -7,21 +7,16 @@ use Rattle.replay.proofs.run.Statement.{statement}
 use Rattle.replay.proofs.run.Tie as tie
 
 abbrev Inv-loop : tie.InvT-loop
-Inv-loop window₀ lent₀ work₀ out₀ records₀ list₀ answer₀ s₀ turns₀ window lent work out records list answer s turns =
+Inv-loop window₀ answer₀ s₀ turns₀ window answer s turns =
     Within (length window) (s .window)
     × (length window ≡ length window₀)
-    × (length lent ≡ length lent₀)
-    × (length work ≡ length work₀)
-    × (length out ≡ length out₀)
-    × (length records ≡ length records₀)
-    × (length list ≡ length list₀)
     × (length answer ≡ length answer₀)
 
 abbrev μ-loop : tie.MeasureT-loop
-μ-loop window₀ lent₀ work₀ out₀ records₀ list₀ answer₀ s₀ turns₀ window lent work out records list answer s turns = turns
+μ-loop window₀ answer₀ s₀ turns₀ window answer s turns = turns
 
 loop-holds : tie.Need-loop-holds Inv-loop μ-loop
-loop-holds c = ((omega arith, omega arith), refl, refl, refl, refl, refl, refl, refl)
+loop-holds c = ((omega arith, omega arith), refl, refl)
 
 turn-requires : tie.Need-turn-requires Inv-loop μ-loop
 turn-requires c κs = omega arith
@@ -31,21 +26,6 @@ same-length c = omega arith
 
 same-length-2 : tie.Need-same-length-2 Inv-loop μ-loop
 same-length-2 c = omega arith
-
-same-length-3 : tie.Need-same-length-3 Inv-loop μ-loop
-same-length-3 c = omega arith
-
-same-length-4 : tie.Need-same-length-4 Inv-loop μ-loop
-same-length-4 c = omega arith
-
-same-length-5 : tie.Need-same-length-5 Inv-loop μ-loop
-same-length-5 c = omega arith
-
-same-length-6 : tie.Need-same-length-6 Inv-loop μ-loop
-same-length-6 c = omega arith
-
-same-length-7 : tie.Need-same-length-7 Inv-loop μ-loop
-same-length-7 c = omega arith
 
 returns : tie.Need-returns Inv-loop μ-loop
 returns c = omega arith
@@ -59,26 +39,11 @@ loop-less c = omega arith
 loop-again : tie.Need-loop-again Inv-loop μ-loop
 loop-again c = omega arith
 
-same-length-8 : tie.Need-same-length-8 Inv-loop μ-loop
-same-length-8 c = omega arith
+same-length-3 : tie.Need-same-length-3 Inv-loop μ-loop
+same-length-3 c = omega arith
 
-same-length-9 : tie.Need-same-length-9 Inv-loop μ-loop
-same-length-9 c = omega arith
-
-same-length-10 : tie.Need-same-length-10 Inv-loop μ-loop
-same-length-10 c = omega arith
-
-same-length-11 : tie.Need-same-length-11 Inv-loop μ-loop
-same-length-11 c = omega arith
-
-same-length-12 : tie.Need-same-length-12 Inv-loop μ-loop
-same-length-12 c = omega arith
-
-same-length-13 : tie.Need-same-length-13 Inv-loop μ-loop
-same-length-13 c = omega arith
-
-same-length-14 : tie.Need-same-length-14 Inv-loop μ-loop
-same-length-14 c = omega arith
+same-length-4 : tie.Need-same-length-4 Inv-loop μ-loop
+same-length-4 c = omega arith
 
 returns-2 : tie.Need-returns-2 Inv-loop μ-loop
 returns-2 c = omega arith
@@ -93,20 +58,10 @@ run-spec =
     turn-requires
     same-length
     same-length-2
-    same-length-3
-    same-length-4
-    same-length-5
-    same-length-6
-    same-length-7
     returns
     sub-turns
     loop-less
     loop-again
-    same-length-8
-    same-length-9
-    same-length-10
-    same-length-11
-    same-length-12
-    same-length-13
-    same-length-14
+    same-length-3
+    same-length-4
     returns-2)

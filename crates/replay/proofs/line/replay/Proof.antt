@@ -59,7 +59,7 @@ part-compared-start-2 : tie.Need-part-compared-start-2
 part-compared-start-2 c = search needs
 
 part-compared-end-2 : tie.Need-part-compared-end-2
-part-compared-end-2 c = let w = subst (AnswerIn (length (c .before .before .before .before .before .before .before .before .before .before .before .before .before .before .before .before .before .before .before .before .before .before .before .before .before .before .before .before .before .before .before .before .before .before .before .before .args .answer .now))) (c .before .before .before .n .given .1) (c .before .before .before .before .before .before .before .before .before .before .before .before .before .before .before .before .before .respond .ensures) in omega arith
+part-compared-end-2 c = let w = subst (AnswerIn (length (c .before .before .before .before .before .before .before .before .before .before .before .before .before .before .before .before .args .answer .now))) (c .before .before .before .n .given .1) (c .before .before .before .before .before .before .before .respond .ensures) in omega arith
 
 compared-requires : tie.Need-compared-requires
 compared-requires c κs = search needs
@@ -82,62 +82,17 @@ skipped-requires c κs = search needs
 same-length : tie.Need-same-length
 same-length c = search needs
 
-same-length-2 : tie.Need-same-length-2
-same-length-2 c = search needs
-
-same-length-3 : tie.Need-same-length-3
-same-length-3 c = search needs
-
-same-length-4 : tie.Need-same-length-4
-same-length-4 c = search needs
-
-same-length-5 : tie.Need-same-length-5
-same-length-5 c = search needs
-
-same-length-6 : tie.Need-same-length-6
-same-length-6 c = search needs
-
 returns-4 : tie.Need-returns-4
 returns-4 c = search needs
 
-same-length-7 : tie.Need-same-length-7
-same-length-7 c = search needs
-
-same-length-8 : tie.Need-same-length-8
-same-length-8 c = search needs
-
-same-length-9 : tie.Need-same-length-9
-same-length-9 c = search needs
-
-same-length-10 : tie.Need-same-length-10
-same-length-10 c = search needs
-
-same-length-11 : tie.Need-same-length-11
-same-length-11 c = search needs
-
-same-length-12 : tie.Need-same-length-12
-same-length-12 c = search needs
+same-length-2 : tie.Need-same-length-2
+same-length-2 c = search needs
 
 returns-5 : tie.Need-returns-5
 returns-5 c = search needs
 
-same-length-13 : tie.Need-same-length-13
-same-length-13 c = search needs
-
-same-length-14 : tie.Need-same-length-14
-same-length-14 c = search needs
-
-same-length-15 : tie.Need-same-length-15
-same-length-15 c = search needs
-
-same-length-16 : tie.Need-same-length-16
-same-length-16 c = search needs
-
-same-length-17 : tie.Need-same-length-17
-same-length-17 c = search needs
-
-same-length-18 : tie.Need-same-length-18
-same-length-18 c = search needs
+same-length-3 : tie.Need-same-length-3
+same-length-3 c = search needs
 
 returns-6 : tie.Need-returns-6
 returns-6 c = search needs
@@ -171,23 +126,8 @@ replay-spec =
     enum-told-2
     skipped-requires
     same-length
-    same-length-2
-    same-length-3
-    same-length-4
-    same-length-5
-    same-length-6
     returns-4
-    same-length-7
-    same-length-8
-    same-length-9
-    same-length-10
-    same-length-11
-    same-length-12
+    same-length-2
     returns-5
-    same-length-13
-    same-length-14
-    same-length-15
-    same-length-16
-    same-length-17
-    same-length-18
+    same-length-3
     returns-6)

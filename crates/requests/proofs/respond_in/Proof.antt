@@ -1,10 +1,10 @@
--- `requests::respond` meets its contract.
+-- `requests::respond_in` meets its contract.
 use native.Mathlib.Omega.{arith}
 use mathlib.Core.Path.{subst}
 use Rattle.text.specs.Fields.{SpanIn}
 use borrow.Author.Needs.{needs}
-use Rattle.requests.proofs.respond.Statement.{statement}
-use Rattle.requests.proofs.respond.Tie as tie
+use Rattle.requests.proofs.respond_in.Statement.{statement}
+use Rattle.requests.proofs.respond_in.Tie as tie
 
 field-requires : tie.Need-field-requires
 field-requires c κs = search needs
@@ -120,8 +120,8 @@ same-length-17 c = search needs
 returns-5 : tie.Need-returns-5
 returns-5 c = search needs
 
-pub respond-spec : {M : Type 1} → statement M
-respond-spec =
+pub respond-in-spec : {M : Type 1} → statement M
+respond-in-spec =
     tie.close
     (tie.spec
     field-requires
