@@ -27,7 +27,7 @@ use Rattle.extraction.specs.declared.Extraction.{Extraction}
 use Rattle.extraction.specs.Answer.{left}
 use Rattle.resolving_rules.specs.Call.{Resolved, resolving}
 use Rattle.resolving.specs.declared.ResolveAnswer.the-variants.{Listed}
-use Rattle.resolving.specs.declared.Resolved.{Resolved as Resolution}
+use Rattle.resolving.specs.declared.Resolution.{Resolution}
 use Rattle.resolving.specs.Answer.{lentAs, left as leftList}
 use Rattle.claims.specs.Stands.{stands}
 use Rattle.claims.specs.Placed.{wellPlaced}

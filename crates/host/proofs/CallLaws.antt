@@ -25,7 +25,7 @@ use Rattle.extraction.specs.Answer.{answerRefusal as extractRefusal, left as le
 use Rattle.resolving_rules.specs.Call.{Lent as Resolving, Left as Listed, resolving}
 use Rattle.resolving.specs.declared.ResolveAnswer.{ResolveAnswer}
 use Rattle.resolving.specs.declared.ResolveAnswer.the-variants.{Listed as Complete, BadTable, NamedTwice as TableTwice, Unread as UnreadRecords, TooManyFiles as TooManySources, Refused as NotListed, NoRoom as NoRoomFor}
-use Rattle.resolving.specs.declared.Resolved.{Resolved}
+use Rattle.resolving.specs.declared.Resolution.{Resolution}
 use Rattle.resolving.specs.declared.specifiers.Why.{Why as ListWhy}
 use Rattle.resolving.specs.declared.specifiers.Why.the-variants.{Unresolved, StringName as TextName}
 use Rattle.resolving.specs.Writes.{whyNumber}
@@ -118,7 +118,7 @@ extract-refused q files l w o k {a} {s} {w'} {o'} {k'} h g t x y z =
 
 -- ---- Resolving, likewise
 
-pub leaves-resolved : {e : Listed} (r : Resolved) {a : ℕ} {s k : List ℕ} → leftResolving r k ≡ e → s ≡ scopeBytes (modulesOf (r .scope)) →
+pub leaves-resolved : {e : Listed} (r : Resolution) {a : ℕ} {s k : List ℕ} → leftResolving r k ≡ e → s ≡ scopeBytes (modulesOf (r .scope)) →
     a ≡ packedIn (resolveRefusal (r .answer)) → LeavesList e a s k
 leaves-resolved r h s a =
     record {

@@ -17,7 +17,7 @@ use Rattle.resolving.specs.Records.{recordsIn}
 use Rattle.resolving.specs.Writes.{whyNumber}
 use Rattle.resolving.specs.declared.ResolveAnswer.{ResolveAnswer}
 use Rattle.resolving.specs.declared.ResolveAnswer.the-variants.{Listed, BadTable, NamedTwice, Unread, TooManyFiles, Refused, NoRoom}
-use Rattle.resolving.specs.declared.Resolved.{Resolved}
+use Rattle.resolving.specs.declared.Resolution.{Resolution}
 
 -- ---- What answers stand for
 
@@ -42,7 +42,7 @@ lentAs table records = record { table = table; records = records }
 abbrev pub leftBy : ResolveAnswer → Modules → List ℕ → Left
 leftBy a ms list = record { refusal = answerRefusal a; modules = ms; list = list }
 
-abbrev pub left : Resolved → List ℕ → Left
+abbrev pub left : Resolution → List ℕ → Left
 left r list = leftBy (r .answer) (modulesOf (r .scope)) list
 
 -- ---- '1, 2, 10'

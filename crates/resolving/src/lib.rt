@@ -42,13 +42,13 @@ pub enum ResolveAnswer {
 }
 
 // What a call gives: the scope, and the answer.
-pub struct Resolved {
+pub struct Resolution {
     pub scope: Scope,
     pub answer: ResolveAnswer,
 }
 
 // Resolves records: each source that resolves gets its number, and `list` then holds the resolved list.
-pub fn resolve_imports(scope: Scope, table: &[u8], records: &[u8], list: &mut [u8]) -> Resolved
+pub fn resolve_imports(scope: Scope, table: &[u8], records: &[u8], list: &mut [u8]) -> Resolution
     ensures { λ r. ⌜ left r (now (list .exit)) ≡ resolving (lentAs (now (table .entry)) (now (records .entry))) (length (now (list .entry))) (modulesOf scope) ⌝ }
 {
     let answer = lists(table, records);
@@ -56,7 +56,7 @@ pub fn resolve_imports(scope: Scope, table: &[u8], records: &[u8], list: &mut [u
         ResolveAnswer::Listed => numbered(scope, table, records, list),
         _ => {
             writer::clear(list);
-            Resolved { scope, answer }
+            Resolution { scope, answer }
         },
     }
 }
@@ -78,7 +78,7 @@ fn lists(table: &[u8], records: &[u8]) -> ResolveAnswer
 }
 
 // The sources are numbered, and the list is made; a 257th file leaves the scope as it was.
-fn numbered(scope: Scope, table: &[u8], records: &[u8], list: &mut [u8]) -> Resolved
+fn numbered(scope: Scope, table: &[u8], records: &[u8], list: &mut [u8]) -> Resolution
     requires { ⌜ RecordsRead (now records) ⌝ }
     ensures { λ r. ⌜ left r (now (list .exit)) ≡ numberedLeft (now (table .entry)) (now (records .entry)) (length (now (list .entry))) (modulesOf scope) ⌝ }
 {
@@ -86,13 +86,13 @@ fn numbered(scope: Scope, table: &[u8], records: &[u8], list: &mut [u8]) -> Reso
     let new = n.scope;
     let answer = n.answer;
     match answer {
-        NumberAnswer::Given => Resolved {
+        NumberAnswer::Given => Resolution {
             scope: new,
             answer: listing(new, table, records, list),
         },
         NumberAnswer::TooManyFiles(place) => {
             writer::clear(list);
-            Resolved {
+            Resolution {
                 scope,
                 answer: ResolveAnswer::TooManyFiles(place),
             }
