@@ -80,7 +80,7 @@ fn refusal(r: u64) {
 
 // A tree, after what reading says of it: detection reads a module, and without config no more than that.
 pub fn module(tree: &[u8]) {
-    let r = host::tychodrel_detect(false, tree);
+    let r = tychodrel::tychodrel_detect(false, tree);
     number(b"tree of ", tree.len() as u64);
     say(b" bytes, its reading: ");
     if r < 4294967296 {

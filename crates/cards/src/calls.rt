@@ -75,7 +75,7 @@ fn extracted(
     answer::rows(table);
     answer::module(tree);
     let mut scope = [170u8; 770];
-    let r = host::tychodrel_extract(
+    let r = tychodrel::tychodrel_extract(
         files,
         own,
         config,
@@ -109,7 +109,7 @@ fn decoded(attributes: &[u8]) {
     say(b"attributes:\n");
     show(attributes);
     let mut metadata = [170u8; 6];
-    let r = host::tychodrel_decode_metadata(attributes, &mut metadata);
+    let r = tychodrel::tychodrel_decode_metadata(attributes, &mut metadata);
     answer::decoding(r, metadata);
 }
 
@@ -143,7 +143,7 @@ fn resolved(files: &[u8], table: &[u8], records: &[u8], list: &mut [u8]) {
     say(b"records:\n");
     show(records);
     let mut scope = [170u8; 770];
-    let r = host::tychodrel_resolve(files, table, records, &mut scope, list);
+    let r = tychodrel::tychodrel_resolve(files, table, records, &mut scope, list);
     answer::resolving(r, list);
     answer::modules(scope);
 }

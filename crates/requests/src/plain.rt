@@ -35,7 +35,7 @@ pub fn detect(s: &[u8], to: usize, lent: &mut [u8], text: &mut [u8]) -> Answer
     if has(s, to, 3) {
         return Answer::Malformed;
     }
-    let r = host::tychodrel_detect(config, &lent[0..n]);
+    let r = tychodrel::tychodrel_detect(config, &lent[0..n]);
     if 4294967296 <= r {
         return Answer::Text(refused(text, b"no", r, true));
     }
@@ -102,7 +102,7 @@ fn encoded(
     ensures { λ r. ⌜ AnswerIn (length (now (text .entry))) r ⌝ }
 {
     prefill(out);
-    let r = host::tychodrel_encode_metadata(injected, has_context, c, attributes, out);
+    let r = tychodrel::tychodrel_encode_metadata(injected, has_context, c, attributes, out);
     if 4294967296 <= r {
         return Answer::Text(refused(text, b"no", r, is_zero(out, 0)));
     }
@@ -122,7 +122,7 @@ pub fn decode(s: &[u8], to: usize, lent: &mut [u8], text: &mut [u8]) -> Answer
         return Answer::Malformed;
     }
     let mut metadata = [170u8; 6];
-    let r = host::tychodrel_decode_metadata(&lent[0..n], &mut metadata);
+    let r = tychodrel::tychodrel_decode_metadata(&lent[0..n], &mut metadata);
     if 4294967296 <= r {
         return Answer::Text(refused(text, b"no", r, is_clear(metadata)));
     }

@@ -90,7 +90,7 @@ pub fn call(
     prefill(work);
     prefill(out);
     prefill(records);
-    host::tychodrel_extract(
+    tychodrel::tychodrel_extract(
         &lent[0..files],
         a.own,
         a.config,

@@ -76,7 +76,7 @@ pub fn resolved(
 {
     let mut scope = [170u8; 770];
     prefill(list);
-    let r = host::tychodrel_resolve(files, table, records, &mut scope, list);
+    let r = tychodrel::tychodrel_resolve(files, table, records, &mut scope, list);
     let n = put_listed(text, at, word, r, list);
     put_scope(text, n, marked(scope, earlier))
 }

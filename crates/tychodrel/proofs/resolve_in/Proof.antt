@@ -1,0 +1,30 @@
+-- `tychodrel::resolve_in` meets its contract.
+use Rattle.tychodrel.proofs.CallLaws.{leaves-resolved}
+use borrow.Author.Needs.{needs}
+use Rattle.tychodrel.proofs.resolve_in.Statement.{statement}
+use Rattle.tychodrel.proofs.resolve_in.Tie as tie
+
+resolve-imports-requires : tie.Need-resolve-imports-requires
+resolve-imports-requires c κs = search needs
+
+scope-bytes-requires : tie.Need-scope-bytes-requires
+scope-bytes-requires c κs = search needs
+
+resolve-answer-requires : tie.Need-resolve-answer-requires
+resolve-answer-requires c κs = search needs
+
+same-length : tie.Need-same-length
+same-length c = search needs
+
+returns : tie.Need-returns
+returns c = leaves-resolved (c .before .before .before .before .before .resolve-imports .result) (c .before .before .before .before .before .resolve-imports .ensures) (c .before .scope-bytes .ensures) (c .resolve-answer .ensures)
+
+pub resolve-in-spec : {M : Type 1} → statement M
+resolve-in-spec =
+    tie.close
+    (tie.spec
+    resolve-imports-requires
+    scope-bytes-requires
+    resolve-answer-requires
+    same-length
+    returns)

@@ -1,0 +1,26 @@
+-- `tychodrel::tychodrel_encode_metadata` meets its contract.
+use mathlib.Core.Path.{_∙_, ap}
+use Rattle.tychodrel.specs.Answer.{encodeAnswerOf}
+use borrow.Author.Needs.{needs}
+use Rattle.tychodrel.proofs.tychodrel_encode_metadata.Statement.{statement}
+use Rattle.tychodrel.proofs.tychodrel_encode_metadata.Tie as tie
+
+metadata-given-requires : tie.Need-metadata-given-requires
+metadata-given-requires c κs = search needs
+
+encode-requires : tie.Need-encode-requires
+encode-requires c κs = search needs
+
+encoded-answer-requires : tie.Need-encoded-answer-requires
+encoded-answer-requires c κs = search needs
+
+same-length : tie.Need-same-length
+same-length c = search needs
+
+returns : tie.Need-returns
+returns c = (rw (← c .before .before .before .before .before .metadata-given .ensures) (c .encoded-answer .ensures ∙ ap encodeAnswerOf (c .before .before .before .encode .ensures .answer)), rw (← c .before .before .before .before .before .metadata-given .ensures) (c .before .before .before .encode .ensures .buffer))
+
+pub tychodrel-encode-metadata-spec : {M : Type 1} → statement M
+tychodrel-encode-metadata-spec =
+    tie.close
+    (tie.spec metadata-given-requires encode-requires encoded-answer-requires same-length returns)

@@ -1,0 +1,50 @@
+-- `tychodrel::tychodrel_resolve` meets its contract.
+use Rattle.tychodrel.proofs.CallLaws.{resolve-given, resolve-refused}
+use borrow.Author.Needs.{needs}
+use Rattle.tychodrel.proofs.tychodrel_resolve.Statement.{statement}
+use Rattle.tychodrel.proofs.tychodrel_resolve.Tie as tie
+
+request-files-requires : tie.Need-request-files-requires
+request-files-requires c κs = search needs
+
+enum-told : tie.Need-enum-told
+enum-told c = search needs
+
+resolve-in-requires : tie.Need-resolve-in-requires
+resolve-in-requires c κs = search needs
+
+enum-told-2 : tie.Need-enum-told-2
+enum-told-2 c = search needs
+
+clear-requires : tie.Need-clear-requires
+clear-requires c κs = search needs
+
+refuse-files-requires : tie.Need-refuse-files-requires
+refuse-files-requires c κs = search needs
+
+same-length : tie.Need-same-length
+same-length c = search needs
+
+returns : tie.Need-returns
+returns c = resolve-given (c .before .before .before .before .before .before .before .before .request-files .result) (c .before .before .before .before .before .before .before .before .before .before .before .before .before .args .files .now) _ _ (c .before .before .before .before .before .before .before .before .request-files .ensures) (c .before .before .before .before .before .enum-told .given .1) (c .before .before .resolve-in .ensures)
+
+same-length-2 : tie.Need-same-length-2
+same-length-2 c = search needs
+
+returns-2 : tie.Need-returns-2
+returns-2 c = resolve-refused (c .before .before .before .before .before .before .before .before .before .request-files .result) (c .before .before .before .before .before .before .before .before .before .before .before .before .before .before .args .files .now) _ (c .before .before .before .before .before .before .before .before .before .before .before .before .before .before .args .list .now) (c .before .before .before .before .before .before .before .before .before .request-files .ensures) (c .before .before .before .before .before .before .enum-told2 .given .1) (c .refuse-files .ensures) (c .before .before .before .before .clear .ensures)
+
+pub tychodrel-resolve-spec : {M : Type 1} → statement M
+tychodrel-resolve-spec =
+    tie.close
+    (tie.spec
+    request-files-requires
+    enum-told
+    resolve-in-requires
+    enum-told-2
+    clear-requires
+    refuse-files-requires
+    same-length
+    returns
+    same-length-2
+    returns-2)
