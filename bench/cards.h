@@ -1,4 +1,6 @@
-/* Cards for the benchmark, built field by field in the byte form of document 01. */
+/* Cards for the benchmark, built field by field in the byte form of document 01: a module each, with the table that is
+   lent with it. */
+#include <stdbool.h>
 #include <stddef.h>
 #include <stdint.h>
 
@@ -110,9 +112,50 @@ static void statement(struct card *c, unsigned k) {
     end(c);
 }
 
+/* require(source) */
+static void require(struct card *c, unsigned source) {
+    begin(c, 0x65);
+    ident(c, 0);
+    begin(c, 0x75);
+    put(c, 0);
+    begin(c, 0x61);
+    put_six(c, source, 1);
+    end(c);
+    end(c);
+    end(c);
+}
+
+/* import * as namespace from source, which resolves to file 10 */
+static void namespace_of(struct card *c, unsigned source, unsigned namespace) {
+    row(c, source, 10);
+    begin_import(c, source);
+    leaf_id(c, 0x22, namespace, 2);
+    end(c);
+}
+
+/* an array as a statement: room for expressions */
+static void begin_array(struct card *c) {
+    begin(c, 0x44);
+    begin(c, 0x6A);
+}
+
+static void end_all(struct card *c) {
+    while (c->depth > 0) {
+        end(c);
+    }
+}
+
+static bool has_room(const struct card *c, size_t bytes) { return c->len + bytes <= CARD_MAX; }
+
+/* rows that nothing asks for, in front of those that are asked for */
+static void idle_rows(struct card *c, unsigned count) {
+    for (unsigned i = 0; i < count; i++) {
+        row(c, 20000 + i, 9);
+    }
+}
+
 /* A dozen imports (four namespaces, four with names, four defaults), then functions full of member uses. */
-__attribute__((unused)) static void typical(struct card *c, const char *name, size_t size) {
-    c->name = name;
+static void typical(struct card *c, size_t size) {
     begin(c, 0x01);
     for (unsigned i = 0; i < 12; i++) {
         row(c, 20 + i, 10 + i);
@@ -144,13 +187,15 @@ __attribute__((unused)) static void typical(struct card *c, const char *name, si
     end(c);
 }
 
-/* Full tables: 255 namespaces that all resolve through the last rows of a full table, `uses` usages of the last of them, and then
-   nothing but ids that force, none of them imported, so that each searches every table to its end. */
-__attribute__((unused)) static void full(struct card *c, const char *name, unsigned uses) {
-    c->name = name;
-    for (unsigned i = 0; i < 769; i++) {
-        row(c, 20000 + i, 9);
-    }
+static void typical_4k(struct card *c) { typical(c, 4096); }
+
+static void typical_32k(struct card *c) { typical(c, CARD_MAX); }
+
+/* Hard for every search: 255 namespaces that all resolve through the last rows of a full table, `uses` usages of the
+   last of them, and then nothing but ids that force, none of them imported, so that each searches every table to its
+   end. */
+static void full(struct card *c, unsigned uses) {
+    idle_rows(c, 769);
     begin(c, 0x01);
     for (unsigned i = 0; i < 255; i++) {
         row(c, 1000 + i, 10 + i);
@@ -161,15 +206,157 @@ __attribute__((unused)) static void full(struct card *c, const char *name, unsig
         }
         end(c);
     }
-    begin(c, 0x44);
-    begin(c, 0x6A);
+    begin_array(c);
     for (unsigned i = 0; i < uses; i++) {
         member(c, 3254, 5000 + i);
     }
-    for (unsigned i = 0; c->len + 9 <= CARD_MAX; i++) {
+    for (unsigned i = 0; has_room(c, 9); i++) {
         ident(c, 9000 + i);
     }
-    end(c);
-    end(c);
-    end(c);
+    end_all(c);
 }
+
+static void full_tables(struct card *c) { full(c, 0); }
+
+static void full_tables_used(struct card *c) { full(c, 600); }
+
+/* Hard for finding the namespace that an id forces: 1,790 namespaces of an import that does not resolve, and ids of the
+   same names in another context, which force none of them. */
+static void namespaces_not_forced(struct card *c) {
+    begin(c, 0x01);
+    namespace_of(c, 1000, 3000);
+    begin_import(c, 1001);
+    for (unsigned i = 0; i < 1790; i++) {
+        leaf_id(c, 0x22, 5000 + i, 2);
+    }
+    end(c);
+    begin_array(c);
+    for (unsigned i = 0; has_room(c, 9); i++) {
+        leaf_id(c, 0x60, 5000 + i % 1790, 7);
+    }
+    end_all(c);
+}
+
+/* Hard for writing the records, which have their specifiers from all over the module: imports of 255 sources, then
+   thousands of the smallest items, and one import behind them. */
+static void imports_far_apart(struct card *c) {
+    begin(c, 0x01);
+    for (unsigned i = 0; i < 255; i++) {
+        row(c, 1000 + i, 10 + i);
+        begin_import(c, 1000 + i);
+        end(c);
+    }
+    while (has_room(c, 3 + 9)) {
+        begin(c, 0x47);
+        end(c);
+    }
+    begin_import(c, 2000);
+    end_all(c);
+}
+
+/* Hard for merging imports into records: as many as fit (3,640), without specifiers, of 256 sources in turn. They do
+   not resolve, since no buffer has room for the metadata of so many. */
+static void imports_merged(struct card *c) {
+    begin(c, 0x01);
+    for (unsigned i = 0; has_room(c, 9); i++) {
+        begin_import(c, 1000 + i % 256);
+        end(c);
+    }
+    end_all(c);
+}
+
+/* Hard for dropping usages: one namespace with as many usages as fit, then 511 other imported ids, each forced. */
+static void imported_ids_forced(struct card *c) {
+    row(c, 1000, 10);
+    begin(c, 0x01);
+    begin_import(c, 1000);
+    leaf_id(c, 0x22, 3000, 2);
+    for (unsigned i = 0; i < 511; i++) {
+        leaf_id(c, 0x21, 4000 + i, 2);
+    }
+    end(c);
+    begin_array(c);
+    for (unsigned i = 0; has_room(c, 17 + 511 * 9); i++) {
+        member(c, 3000, 5000 + i);
+    }
+    for (unsigned i = 0; i < 511; i++) {
+        ident(c, 4000 + i);
+    }
+    end_all(c);
+}
+
+/* Hard for finding a usage's file: nothing but usages of a namespace whose source has the last row of a full table. */
+static void usages_resolved_last(struct card *c) {
+    idle_rows(c, 1023);
+    begin(c, 0x01);
+    namespace_of(c, 5000, 3000);
+    begin_array(c);
+    for (unsigned i = 0; has_room(c, 17); i++) {
+        member(c, 3000, 5000 + i);
+    }
+    end_all(c);
+}
+
+/* Hard for the walk of members: chains of 55 on a namespace. */
+static void member_chains(struct card *c) {
+    begin(c, 0x01);
+    namespace_of(c, 1000, 3000);
+    while (has_room(c, 3 + 55 * 8 + 9)) {
+        begin(c, 0x44);
+        for (unsigned i = 0; i < 55; i++) {
+            begin(c, 0x63);
+        }
+        ident(c, 3000);
+        for (unsigned i = 0; i < 55; i++) {
+            begin(c, 0x70);
+            put_atom(c, 300 + i);
+            end(c);
+            end(c);
+        }
+        end(c);
+    }
+    end_all(c);
+}
+
+/* Hard for finding a require's file: calls of require, all of one source, which has the last row of a full table. */
+static void requires_of_one_source(struct card *c) {
+    idle_rows(c, 1023);
+    row(c, 5000, 10);
+    begin(c, 0x01);
+    begin_array(c);
+    while (has_room(c, 25)) {
+        require(c, 5000);
+    }
+    end_all(c);
+}
+
+/* Hard for resolving: as many lazy records as there may be, each with a row of its own, and as many files as a scope
+   has room for. */
+static void requires_of_all_rows(struct card *c) {
+    begin(c, 0x01);
+    begin(c, 0x45);
+    begin_array(c);
+    for (unsigned i = 0; i < 1024; i++) {
+        row(c, 5000 + i, 10 + i % 255);
+        require(c, 5000 + i);
+    }
+    end_all(c);
+}
+
+static const struct {
+    const char *name;
+    void (*build)(struct card *);
+} cards[] = {
+    {"typical-4k", typical_4k},
+    {"typical-32k", typical_32k},
+    {"full-tables", full_tables},
+    {"full-tables-used", full_tables_used},
+    {"namespaces-not-forced", namespaces_not_forced},
+    {"imports-far-apart", imports_far_apart},
+    {"imports-merged", imports_merged},
+    {"imported-ids-forced", imported_ids_forced},
+    {"usages-resolved-last", usages_resolved_last},
+    {"member-chains", member_chains},
+    {"requires-of-one-source", requires_of_one_source},
+    {"requires-of-all-rows", requires_of_all_rows},
+};

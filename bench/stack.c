@@ -1,57 +1,77 @@
-/* How much stack extraction takes: each call runs on a stack of its own that was filled before; what is no longer as filled was used.
-   The trees nest one shape, with the dearest leaf below it, so that the deepest field has the depth 64, the most that is accepted. */
-#define _GNU_SOURCE
-#include <pthread.h>
+/* How much stack each exported call takes. A call runs on a stack of its own that was filled before; what is no longer
+   as filled was used. Trees nest one shape, with the dearest leaf below it, so that the deepest field has the depth 64,
+   the most that is accepted. */
+#define _XOPEN_SOURCE 700
 #include <stdbool.h>
 #include <stdio.h>
-#include <stdlib.h>
 #include <string.h>
+#include <ucontext.h>
 #include "cards.h"
+#include "tychodrel.h"
 
-uint64_t tychodrel_extract(const uint8_t *files, size_t files_len, uint16_t file, bool config, const uint8_t *externals,
-                           size_t externals_len, const uint8_t *table, size_t table_len, const uint8_t *tree, size_t tree_len,
-                           uint8_t scope[770], uint8_t *work, size_t work_len, uint8_t *out, size_t out_len, uint8_t *records,
-                           size_t records_len);
-
-#define STACK (1024 * 1024)
-#define MOST (256 * 1024)
 #define DEEPEST 64
 #define STEP 12 /* a multiple of every shape's levels */
 
-static uint8_t scope[770], work[65538], out[65538], records[65538];
+static uint8_t stack[1024 * 1024];
+static const uint8_t *caller; /* the frame of the function that calls */
+
 static struct card card;
+static uint8_t scope[TYCHODREL_SCOPE_SIZE], metadata[TYCHODREL_METADATA_SIZE];
+static uint8_t work[TYCHODREL_MAX_FIELD_LEN], out[TYCHODREL_MAX_FIELD_LEN], records[TYCHODREL_MAX_FIELD_LEN];
 static uint64_t answer;
 
-static void *call(void *none) {
-    answer = tychodrel_extract(NULL, 0, 9, true, NULL, 0, card.table, card.table_len, card.tree, card.len, scope, work, sizeof work,
-                               out, sizeof out, records, sizeof records);
-    return none;
+/* Calls: they lend what the card has, be it a tree, records or attributes. */
+static void extract(void) {
+    caller = __builtin_frame_address(0);
+    answer = tychodrel_extract(NULL, 0, 9, true, NULL, 0, card.table, card.table_len, card.tree, card.len, scope, work,
+                               sizeof work, out, sizeof out, records, sizeof records);
 }
 
-static void *idle(void *none) { return none; }
+static void resolve(void) {
+    caller = __builtin_frame_address(0);
+    answer = tychodrel_resolve(NULL, 0, card.table, card.table_len, card.tree, card.len, scope, out, sizeof out);
+}
 
-/* the bytes that a thread with this body touches of a fresh stack, filled with this byte */
-static size_t touched_over(int fill, void *(*body)(void *)) {
-    uint8_t *stack = aligned_alloc(4096, STACK);
-    memset(stack, fill, STACK);
-    pthread_attr_t a;
-    pthread_t t;
-    pthread_attr_init(&a);
-    pthread_attr_setstack(&a, stack, STACK);
-    pthread_create(&t, &a, body, NULL);
-    pthread_join(t, NULL);
+static void detect(void) {
+    caller = __builtin_frame_address(0);
+    answer = tychodrel_detect(true, card.tree, card.len);
+}
+
+static void encode_metadata(void) {
+    caller = __builtin_frame_address(0);
+    answer = tychodrel_encode_metadata(true, true, UINT32_MAX, card.tree, card.len, out, sizeof out);
+}
+
+static void decode_metadata(void) {
+    caller = __builtin_frame_address(0);
+    answer = tychodrel_decode_metadata(card.tree, card.len, metadata);
+}
+
+/* the bytes below its caller's frame that a call touches of a stack filled with this byte */
+static size_t used_over(int fill, void (*call)(void)) {
+    ucontext_t here, there;
+    memset(stack, fill, sizeof stack);
+    getcontext(&there);
+    there.uc_stack.ss_sp = stack;
+    there.uc_stack.ss_size = sizeof stack;
+    there.uc_link = &here;
+    makecontext(&there, call, 0);
+    swapcontext(&here, &there);
     size_t i = 0;
-    while (i < STACK && stack[i] == fill) {
+    while (i < sizeof stack && stack[i] == fill) {
         i++;
     }
-    free(stack);
-    return STACK - i;
+    return (size_t)(caller - (stack + i));
 }
 
-/* two fills, since a byte may be written as it was filled */
-static size_t touched(void *(*body)(void *)) {
-    size_t a = touched_over(0xA5, body), b = touched_over(0x5A, body);
-    return a > b ? a : b;
+static size_t larger(size_t a, size_t b) { return a > b ? a : b; }
+
+/* Two fills, since a byte may be written as it was filled. The call runs once before, since the first call of memcpy
+   may go through the dynamic linker. A call that is refused counts as one that takes all of the stack. */
+static size_t used(void (*call)(void)) {
+    call();
+    size_t bytes = larger(used_over(0xA5, call), used_over(0x5A, call));
+    return tychodrel_refusal_number(answer) == 0 ? bytes : sizeof stack;
 }
 
 /* Shapes: a field that opens another expression or, where marked so, another statement. */
@@ -111,20 +131,8 @@ static const struct shape {
     {"function in function", 2, true, open_function, close_two},
 };
 
-/* require('./m') with a row that resolves it: three levels */
-static void leaf(struct card *c) {
-    begin(c, 0x65);
-    leaf_id(c, 0x60, 0, 2);
-    begin(c, 0x75);
-    put(c, 0);
-    begin(c, 0x61);
-    put_six(c, 20, 1);
-    end(c);
-    end(c);
-    end(c);
-}
-
-/* The shape over and over, then arrays or blocks for levels that are left, then the leaf. */
+/* The shape over and over, then arrays or blocks for levels that are left, then require('./m'), with a row that
+   resolves it: that leaf calls deepest. */
 static void nest(const struct shape *s, int deepest) {
     int below = s->statements ? 4 : 3, n = 0;
     memset(&card, 0, sizeof card);
@@ -143,33 +151,85 @@ static void nest(const struct shape *s, int deepest) {
     if (s->statements) {
         begin(&card, 0x44);
     }
-    leaf(&card);
+    require(&card, 20);
     while (card.depth > nested) {
         end(&card);
     }
     for (; n > 0; n--) {
         s->close(&card);
     }
-    while (card.depth > 0) {
-        end(&card);
-    }
+    end_all(&card);
 }
 
-/* the stack that a call on the nested shape takes; all of it where the call or the tree is not as it should be */
-static size_t used(const struct shape *s, int deepest) {
+/* the stack that a call on the nested shape takes; all of it where the tree has not this depth */
+static size_t used_on(void (*call)(void), const struct shape *s, int deepest) {
     nest(s, deepest);
-    size_t bytes = touched(call);
-    return answer == 0 && card.deepest == deepest ? bytes : STACK;
+    return card.deepest == deepest ? used(call) : sizeof stack;
+}
+
+/* what a call takes on a shape nested as deep as may be, and how much of it for each of the last levels */
+struct taken {
+    size_t bytes, a_level;
+};
+
+static struct taken taken_on(void (*call)(void), const struct shape *s) {
+    size_t less = used_on(call, s, DEEPEST - STEP), bytes = used_on(call, s, DEEPEST);
+    return (struct taken){bytes, (bytes - less) / STEP};
+}
+
+/* As many records as a scope has room for, each with a file of its own: collected and lazy ones with every specifier,
+   dynamic ones, and forced sources. */
+static void all_records(void) {
+    memset(&card, 0, sizeof card);
+    begin(&card, 0x02);
+    for (unsigned i = 0; i < TYCHODREL_MAX_FILES; i++) {
+        row(&card, 1000 + i, 10 + i);
+        begin(&card, i < 100 ? 0x80 : i < 200 ? 0x81 : 0x82);
+        put_six(&card, 1000 + i, 1);
+        if (i < 200) {
+            named(&card, 2000 + i);
+            leaf_id(&card, 0x21, 3000 + i, 2);
+            leaf_id(&card, 0x22, 4000 + i, 2);
+        }
+        end(&card);
+    }
+    for (unsigned i = 0; i < 50; i++) {
+        begin(&card, 0x83);
+        put_atom(&card, 1000 + i);
+        end(&card);
+    }
+    end(&card);
+}
+
+/* attributes with all metadata there is, the context of ten digits */
+static void all_attributes(void) {
+    memset(&card, 0, sizeof card);
+    encode_metadata();
+    card.len = tychodrel_field_length(out);
+    memcpy(card.tree, out, card.len);
+}
+
+static bool within(size_t bar, const char *name, size_t bytes) {
+    bool held = bytes < bar;
+    printf("%-26s %7zu bytes of stack, less than %7zu: %s\n", name, bytes, bar, held ? "held" : "BROKEN");
+    return held;
 }
 
 int main(void) {
-    size_t most = 0, idle_bytes = touched(idle);
+    size_t extraction = 0, detection = 0;
     for (size_t i = 0; i < sizeof shapes / sizeof shapes[0]; i++) {
-        size_t less = used(&shapes[i], DEEPEST - STEP), bytes = used(&shapes[i], DEEPEST);
-        printf("%-24s depth %d  %7zu bytes of stack  %5zu a level%s\n", shapes[i].name, card.deepest, bytes, (bytes - less) / STEP,
-               bytes == STACK || less == STACK ? "  REFUSED, or of another depth" : "");
-        most = bytes > most ? bytes : most;
+        struct taken e = taken_on(extract, &shapes[i]), d = taken_on(detect, &shapes[i]);
+        printf("%-22s depth %d  extract %7zu bytes of stack, %4zu a level  detect %6zu, %3zu a level\n",
+               shapes[i].name, DEEPEST, e.bytes, e.a_level, d.bytes, d.a_level);
+        extraction = larger(extraction, e.bytes);
+        detection = larger(detection, d.bytes);
     }
-    printf("the most: %zu, less than %d; a thread that does nothing has %zu of it\n", most, MOST, idle_bytes);
-    return most >= MOST;
+    bool held = within(256 * 1024, "tychodrel_extract", extraction);
+    held = within(16 * 1024, "tychodrel_detect", detection) && held;
+    all_records();
+    held = within(20 * 1024, "tychodrel_resolve", used(resolve)) && held;
+    all_attributes();
+    held = within(1024, "tychodrel_encode_metadata", used(encode_metadata)) && held;
+    held = within(1024, "tychodrel_decode_metadata", used(decode_metadata)) && held;
+    return !held;
 }
