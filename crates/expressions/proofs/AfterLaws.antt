@@ -18,14 +18,14 @@ use Rattle.tree.proofs.LayoutLaws.{two-at}
 use Rattle.tree.proofs.StandingLaws.{row-more, row-none, tree-upto, tree-short}
 use Rattle.tree.proofs.WidthLaws.{plain-ends}
 use Rattle.tree.specs.declared.grammar.Value.the-variants.{Atom, Id}
-use Rattle.lent.specs.Fields.{has}
+use Rattle.inputs.specs.Fields.{has}
 use Rattle.extraction_rules.specs.State.{Usage, State, Pass, first, second}
 use Rattle.extraction_rules.specs.First.{importedAs}
 use Rattle.extraction_rules.specs.Second.{usagesOf}
-use Rattle.kept.specs.Kept.{At, id-limit, idOf, Shows}
-use Rattle.kept.specs.Does.{Tells, contextBy, any}
-use Rattle.kept.specs.declared.Context.{Context}
-use Rattle.kept.specs.declared.Context.the-variants.{Of, Nowhere}
+use Rattle.state.specs.Cells.{At, id-limit, idOf, Shows}
+use Rattle.state.specs.Does.{Tells, contextBy, any}
+use Rattle.state.specs.declared.Context.{Context}
+use Rattle.state.specs.declared.Context.the-variants.{Of, Nowhere}
 use Rattle.scope.specs.declared.id.SyntaxContext.{SyntaxContext}
 use Rattle.steps.specs.Step.{passOf, identBy, Small}
 use Rattle.steps.specs.declared.Ident.{Ident}
@@ -136,7 +136,8 @@ module _ (s : List ℕ) (at end : ℕ) (le : at ≤ end) where
     row-is : (u : State) → memberAfter (rowAt s at end) second u ≡ memberAfter (more (treeAt s at stop) (rowAt s stop end)) second u
     row-is u = ap (λ (f : Fields). memberAfter f second u) (row-more s at end stop le e)
 
-    pub member-other : {r : Ident} {t : List ℕ} → r ≡ Other → Tells (identAfter (treeAt s at stop) second) t (identBy r) → Small Other × Tells (memberAfter (rowAt s at end) second) t nothing
+    pub member-other : {r : Ident} {t : List ℕ} → r ≡ Other → Tells (identAfter (treeAt s at stop) second) t (identBy r) → Small Other
+        × Tells (memberAfter (rowAt s at end) second) t nothing
     member-other h w =
         (no-id, record { is = λ u v. sym (row-is u ∙ no-object (treeAt s at stop) (rowAt s stop end) u (sym (w .is u v) ∙ ap identBy h)) })
 
@@ -159,7 +160,11 @@ module _ (s : List ℕ) (at end : ℕ) (le : at ≤ end) where
         f .0,
         record {
           is = λ u v.
-              f .1 ∙ sym (row-is u ∙ object-named (treeAt s at stop) (rowAt s stop end) u (idOf n) (four (d .0)) (object-is u v) (sym (not-false b k) ∙ p .is u v) (ap contextBy (sym m) ∙ o .is u v));
+              f .1
+              ∙
+              sym (row-is u
+              ∙ object-named (treeAt s at stop) (rowAt s stop end) u (idOf n) (four (d .0)) (object-is u v) (sym (not-false b k) ∙ p .is u v)
+              (ap contextBy (sym m) ∙ o .is u v));
         },
       )
 

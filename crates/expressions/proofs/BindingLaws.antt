@@ -10,13 +10,15 @@ use lib.Dec.{eqb}
 use lib.ListN.{getD}
 use borrow.Author.Tests.{eqb-true, eqb-false}
 use Rattle.tree.specs.Tree.{Field, field, Fields, none, more, tagOf, fixedOf, size}
-use Rattle.lent.specs.Outcome.{Outcome, done, onto}
-use Rattle.lent.specs.Fields.{has, inside}
+use Rattle.inputs.specs.Outcome.{Outcome, done, onto}
+use Rattle.inputs.specs.Fields.{has, inside}
 use Rattle.metadata.specs.Metadata.{append}
 use Rattle.extraction_rules.specs.State.{Usage, State, Pass, first, second, Setting, refuse}
 use Rattle.extraction_rules.specs.First.{importedAs, onIdent, required, withCallee, exportSpecifier, declarator, Binding, bound, left, below, bindingOf, bindings, bindingsAll, bindingsFirst}
 use Rattle.extraction_rules.specs.Second.{usagesOf, asProperty, rewritten}
-use Rattle.extraction_rules.specs.Walk.{Rule, import, export as exporting, declare, express, nothing as plain, afterExpression, ruleFor, after, Parts, unwalked, member, super, assignment, children, partsFor, enter, walk, walkAll, walkMember, walkAssignment, walkTarget}
+use Rattle.extraction_rules.specs.Walk.{Rule, import, export as exporting, declare, express, nothing as plain, afterExpression, ruleFor, after}
+use Rattle.extraction_rules.specs.Walk.{Parts, unwalked, member, super, assignment, children, partsFor, enter, walk, walkAll, walkMember}
+use Rattle.extraction_rules.specs.Walk.{walkAssignment, walkTarget}
 use Rattle.extraction_rules.proofs.OutcomeLaws.{After, after-bind, after-if, after-weaken, after-both}
 use Rattle.extraction_rules.proofs.ValueLaws.{required-call, first-expression, declarator-value}
 use Rattle.extraction_rules.proofs.TagLaws.{rule-import, rule-export}
@@ -57,12 +59,15 @@ unfolding bindingOf
 ident-below = refl
 
 -- another callee
-callee-binds : (e : Setting) (n : ℕ) (t : ℕ) (x : List ℕ) (ds : Fields) (l : List ℕ) → required e (field t x ds) ≡ some l → bindings (withCallee n (field t x ds)) ≡ bindings (field t x ds)
+callee-binds : (e : Setting) (n : ℕ) (t : ℕ) (x : List ℕ) (ds : Fields) (l : List ℕ) → required e (field t x ds) ≡ some l →
+    bindings (withCallee n (field t x ds)) ≡ bindings (field t x ds)
 unfolding withCallee
 callee-binds e n t x none l q = refl
 callee-binds e n t x (more (field u y cs) gs) l q =
     let w = required-call e t x (field u y cs) gs l q .1 in
-    binds-field t x (more (field u y cs) gs) (more (field u _ cs) gs) (binds-more (field u y cs) (field u _ cs) gs gs (below-binds u _ cs (callee-below w) ∙ sym (below-binds u y cs (callee-below w))) (refl, refl))
+    binds-field t x (more (field u y cs) gs) (more (field u _ cs) gs)
+    (binds-more (field u y cs) (field u _ cs) gs gs (below-binds u _ cs (callee-below w) ∙ sym (below-binds u y cs (callee-below w)))
+    (refl, refl))
   where
     callee-below : u ≡ 0x60 → bindingOf u ≡ below
     callee-below w = ap bindingOf w ∙ ident-below
@@ -124,13 +129,15 @@ module _ (e : Setting) where
       changed q (field t x cs) rest n l r = binds-more q q (more (field t x cs) rest) (more (withCallee n (field t x cs)) rest) refl
           (binds-more (field t x cs) (withCallee n (field t x cs)) rest rest (callee-binds e n t x cs l r) (refl, refl))
 
-  after-binds : (r : Rule) (t : ℕ) (x : List ℕ) (cs ds : Fields) (object : Bool) (p : ℕ) (s : State) → ruleFor t ≡ r → RegularAt t x cs → Binds cs ds → (e .pass ≡ second → Unbound t x ds) →
+  after-binds : (r : Rule) (t : ℕ) (x : List ℕ) (cs ds : Fields) (object : Bool) (p : ℕ) (s : State) → ruleFor t ≡ r → RegularAt t x cs →
+      Binds cs ds → (e .pass ≡ second → Unbound t x ds) →
       After (after r e t x ds object p s) (λ g s'. bindings g ≡ bindings (field t x cs))
   unfolding after exportSpecifier
   after-binds import t x cs ds object p s q w h u = absurd (w .no-import (rule-import t q))
   after-binds exporting t x cs ds object p s q w h u =
       after-if (eqb (getD x 0 0) 2 || eqb (getD x 7 0) 2) (refuse 6 p) _ s (λ g s'. bindings g ≡ bindings (field t x cs)) (λ _. tt)
-      (λ _. below-binds 0x23 _ none export-below ∙ bare ∙ sym (below-binds t x cs (ap bindingOf (rule-export t q) ∙ export-below) ∙ ap bindingsAll (w .export-bare (rule-export t q)) ∙ bare))
+      (λ _. below-binds 0x23 _ none export-below ∙ bare
+      ∙ sym (below-binds t x cs (ap bindingOf (rule-export t q) ∙ export-below) ∙ ap bindingsAll (w .export-bare (rule-export t q)) ∙ bare))
   after-binds declare t x cs ds object p s q w h u =
       after-bind (declarator e ds p s) _ (λ gs s'. Binds ds gs) _ (declarator-binds ds p s) λ gs s' k. binds-field t x cs gs (k .0 ∙ h .0, k .1 ∙ h .1)
   after-binds express t x cs ds object p s q w h u =
@@ -168,7 +175,8 @@ module _ (e : Setting) where
   unfolding onIdent identOf
   unbound x o q (field t y cs) q' s s1 s2 two w b v oo qq i h = go (eqb t 0x60) refl i
     where
-      go : (c : Bool) → eqb t 0x60 ≡ c → cond {A = Option (Field × Field)} c (some (field t y cs, q')) nothing ≡ some (oo, qq) → bindings (field 0x63 x (more (field t y cs) (more q' none))) ≡ none
+      go : (c : Bool) → eqb t 0x60 ≡ c → cond {A = Option (Field × Field)} c (some (field t y cs, q')) nothing ≡ some (oo, qq) →
+          bindings (field 0x63 x (more (field t y cs) (more q' none))) ≡ none
       go true k i =
           let pair : _≡_ {A = Field × Field} (field t y cs, q') (oo, qq) = cc in
           let z : q' ≡ qq = ap (λ (m : Field × Field). m .1) pair in
@@ -224,7 +232,9 @@ module _ (e : Setting) where
 
     walkAll-binds : (fs : Fields) (object : Bool) (p : ℕ) (s : State) → RegularAll fs → After (walkAll fs e object p s) (λ gs s'. Binds fs gs)
     walkAll-binds none object p s w = (refl, refl)
-    walkAll-binds (more f fs) object p s w = both-bind f fs (walk f e object p s) (walkAll fs e object (p + size f)) (walk-binds f object p s (w .0)) (λ s. walkAll-binds fs object (p + size f) s (w .1))
+    walkAll-binds (more f fs) object p s w =
+        both-bind f fs (walk f e object p s) (walkAll fs e object (p + size f)) (walk-binds f object p s (w .0))
+        (λ s. walkAll-binds fs object (p + size f) s (w .1))
 
     walkMember-binds : (fs : Fields) (p : ℕ) (s : State) → RegularAll fs → After (walkMember fs e p s) (λ gs s'. Binds fs gs)
     walkMember-binds none p s w = (refl, refl)
@@ -232,7 +242,9 @@ module _ (e : Setting) where
 
     walkAssignment-binds : (fs : Fields) (object : Bool) (p : ℕ) (s : State) → RegularAll fs → After (walkAssignment fs e object p s) (λ gs s'. Binds fs gs)
     walkAssignment-binds none object p s w = (refl, refl)
-    walkAssignment-binds (more f fs) object p s w = both-bind f fs (walkTarget f e p s) (walkAll fs e object (p + size f)) (walkTarget-binds f p s (w .0)) (λ s. walkAll-binds fs object (p + size f) s (w .1))
+    walkAssignment-binds (more f fs) object p s w =
+        both-bind f fs (walkTarget f e p s) (walkAll fs e object (p + size f)) (walkTarget-binds f p s (w .0))
+        (λ s. walkAll-binds fs object (p + size f) s (w .1))
 
     walkTarget-binds : (f : Field) (p : ℕ) (s : State) → Regular f → After (walkTarget f e p s) (λ g s'. bindings g ≡ bindings f)
     walkTarget-binds (field t x cs) p s w =

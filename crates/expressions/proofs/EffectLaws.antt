@@ -2,12 +2,12 @@
 use Prim.Native.Nat.{ℕ}
 use mathlib.Core.Path.{_≡_, _∙_, sym}
 use mathlib.Core.List.{List}
-use Rattle.lent.specs.Outcome.{done, refused}
+use Rattle.inputs.specs.Outcome.{done, refused}
 use Rattle.extraction_rules.specs.State.{State, Act}
-use Rattle.kept.specs.Kept.{At, Good, Shows}
-use Rattle.kept.specs.Does.{Turns, Acts}
-use Rattle.kept.specs.declared.Room.{Room}
-use Rattle.kept.specs.declared.Room.the-variants.{Made, Full}
+use Rattle.state.specs.Cells.{At, Good, Shows}
+use Rattle.state.specs.Does.{Turns, Acts}
+use Rattle.state.specs.declared.Room.{Room}
+use Rattle.state.specs.declared.Room.the-variants.{Made, Full}
 use Rattle.steps.specs.Step.{refusalOf, Effects}
 use Rattle.steps.specs.declared.Why.{Why}
 use Rattle.steps.specs.declared.Why.the-variants.{TableFull}

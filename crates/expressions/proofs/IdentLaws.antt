@@ -10,8 +10,8 @@ use lib.Dec.{eqb}
 use borrow.Author.Tests.{eqb-true, eqb-false, ne-eqb}
 use Rattle.tree.specs.Tree.{Field, field, Fields, none, more, tagOf, fixedOf, size}
 use Rattle.tree.specs.Grammar.{within}
-use Rattle.lent.specs.Outcome.{done}
-use Rattle.lent.specs.Fields.{has, inside}
+use Rattle.inputs.specs.Outcome.{done}
+use Rattle.inputs.specs.Fields.{has, inside}
 use Rattle.extraction_rules.specs.State.{Usage, State, Pass, first, second, Setting}
 use Rattle.extraction_rules.specs.First.{importedAs, onIdent, usage, required, require}
 use Rattle.extraction_rules.specs.Second.{usagesOf, asProperty, rewritten}
@@ -175,7 +175,8 @@ module _ (e : Setting) where
       (λ g s' t. in-first g s' (t .0)) (expression-same first e 0x63 x (more o' (more q' none)) object p s2 (λ z. absurd (let v : _≡_ {A = ℕ} 0 1 = cc in omega arith)))
     where
       in-first : (g : Field) (s' : State) → tagOf g ≡ 0x63 → Rewrote first o q s g s'
-      in-first g s' t = let n = other-ident g (λ z. let v : _≡_ {A = ℕ} 0x63 0x60 = sym t ∙ z in omega arith) in (nothing-first (identAfter o first s) ∙ sym n, λ z i w. none-some (sym n ∙ w))
+      in-first g s' t = let n = other-ident g (λ z. let v : _≡_ {A = ℕ} 0x63 0x60 = sym t ∙ z in omega arith) in
+          (nothing-first (identAfter o first s) ∙ sym n, λ z i w. none-some (sym n ∙ w))
         where
           nothing-first : (i : Option (List ℕ)) → becomes first i q s ≡ nothing
           nothing-first i = first-never i q s

@@ -19,9 +19,9 @@ use Rattle.tree.proofs.SliceLaws.{getD-slice}
 use Rattle.tree.proofs.StandingLaws.{row-more, row-none, tree-upto, tree-short}
 use Rattle.tree.proofs.WidthLaws.{plain-ends}
 use Rattle.tree.specs.declared.grammar.Value.the-variants.{Literal as SixBytes}
-use Rattle.lent.specs.Fields.{has, sole}
+use Rattle.inputs.specs.Fields.{has, sole}
 use Rattle.extraction_rules.specs.First.{argument}
-use Rattle.kept.specs.Kept.{id-limit, idOf}
+use Rattle.state.specs.Cells.{id-limit, idOf}
 use Rattle.expressions.specs.Require.{literalBy, SmallLiteral, literalFirst}
 use Rattle.expressions.specs.declared.require.Literal.{Literal}
 use Rattle.expressions.specs.declared.require.Literal.the-variants.{Is, Other}

@@ -9,15 +9,15 @@ use Rattle.scope.specs.declared.Mark.the-variants.{Cjs}
 use Rattle.scope.specs.Modules.{setMark}
 use Rattle.tree.specs.Layout.{two}
 use Rattle.tree.specs.Tree.{Field}
-use Rattle.lent.specs.Outcome.{Outcome, onto}
-use Rattle.lent.specs.Table.{Row, fileOf}
+use Rattle.inputs.specs.Outcome.{Outcome, onto}
+use Rattle.inputs.specs.Table.{Row, fileOf}
 use Rattle.extraction_rules.specs.State.{State, Setting, setModules}
 use Rattle.extraction_rules.specs.First.{moduleOf, moduleFor, markCjs, markRequired, withCallee}
-use Rattle.kept.specs.Kept.{idOf}
-use Rattle.kept.specs.Does.{Gave, Turns, Resolves}
-use Rattle.kept.specs.declared.Module.{Module}
-use Rattle.kept.specs.declared.Module.the-variants.{Is as Numbered, Unresolved as NoModule, TooMany as Full}
-use Rattle.kept.proofs.IdLaws.{id-name}
+use Rattle.state.specs.Cells.{idOf}
+use Rattle.state.specs.Does.{Gave, Turns, Resolves}
+use Rattle.state.specs.declared.Module.{Module}
+use Rattle.state.specs.declared.Module.the-variants.{Is as Numbered, Unresolved as NoModule, TooMany as Full}
+use Rattle.state.proofs.IdLaws.{id-name}
 use Rattle.expressions.specs.Require.{Requires}
 use Rattle.expressions.specs.declared.require.Required.the-variants.{Marked, Unresolved, TooMany}
 

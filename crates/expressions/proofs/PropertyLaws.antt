@@ -20,18 +20,18 @@ use Rattle.tree.proofs.LayoutLaws.{two-at}
 use Rattle.tree.proofs.StandingLaws.{tree-upto, tree-short}
 use Rattle.tree.proofs.WidthLaws.{plain-ends}
 use Rattle.tree.specs.declared.grammar.Value.the-variants.{Atom as TwoBytes}
-use Rattle.lent.specs.Outcome.{Outcome, done, refused, onto}
-use Rattle.lent.specs.Table.{fileOf}
+use Rattle.inputs.specs.Outcome.{Outcome, done, refused, onto}
+use Rattle.inputs.specs.Table.{fileOf}
 use Rattle.extraction_rules.specs.State.{Record, State, Setting}
 use Rattle.extraction_rules.specs.First.{moduleOf, moduleFor, usedRecord, addUsage, useFrom, useProperty}
-use Rattle.kept.specs.Kept.{At, id-limit, Good, idOf, Shows}
-use Rattle.kept.specs.Does.{Tells, Acts, Resolves, sourceOf, sourceBy}
-use Rattle.kept.specs.declared.Room.{Room}
-use Rattle.kept.specs.declared.Room.the-variants.{Made, Full}
-use Rattle.kept.specs.declared.Source.{Source}
-use Rattle.kept.specs.declared.Source.the-variants.{From, Nothing}
-use Rattle.kept.specs.declared.Module.{Module}
-use Rattle.kept.specs.declared.Module.the-variants.{Is as Numbered, Unresolved, TooMany}
+use Rattle.state.specs.Cells.{At, id-limit, Good, idOf, Shows}
+use Rattle.state.specs.Does.{Tells, Acts, Resolves, sourceOf, sourceBy}
+use Rattle.state.specs.declared.Room.{Room}
+use Rattle.state.specs.declared.Room.the-variants.{Made, Full}
+use Rattle.state.specs.declared.Source.{Source}
+use Rattle.state.specs.declared.Source.the-variants.{From, Nothing}
+use Rattle.state.specs.declared.Module.{Module}
+use Rattle.state.specs.declared.Module.the-variants.{Is as Numbered, Unresolved, TooMany}
 use Rattle.scope.specs.declared.id.Atom.{Atom}
 use Rattle.steps.specs.Step.{Effects}
 use Rattle.steps.specs.declared.Why.the-variants.{TooManyFiles, PrivateName, TableFull}

@@ -11,7 +11,7 @@ use Rattle.scope.specs.Id.{require-atom, export}
 use Rattle.tree.specs.Layout.{two, four, same, nameOf}
 use Rattle.tree.specs.Tree.{Field, field, Fields, none, more, tagOf, fixedOf, size}
 use Rattle.tree.specs.Grammar.{within}
-use Rattle.lent.specs.Fields.{has, sole, inside}
+use Rattle.inputs.specs.Fields.{has, sole, inside}
 use Rattle.extraction_rules.specs.State.{Usage, State, Pass, first, second, Setting}
 use Rattle.extraction_rules.specs.First.{importedAs, onIdent, argument, notExternal, required, withCallee}
 use Rattle.extraction_rules.specs.Second.{usagesOf, asProperty, rewritten}

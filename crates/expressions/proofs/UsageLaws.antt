@@ -18,14 +18,14 @@ use Rattle.tree.specs.Standing.{treeAt, rowAt}
 use Rattle.tree.proofs.AccessLaws.{extent-upto}
 use Rattle.tree.proofs.StandingLaws.{row-more, row-none, tree-upto, whole-step}
 use Rattle.tree.proofs.WidthLaws.{tree-bare, bare-upto}
-use Rattle.lent.specs.Outcome.{done}
+use Rattle.inputs.specs.Outcome.{done}
 use Rattle.extraction_rules.specs.State.{State, first, Setting}
 use Rattle.extraction_rules.specs.First.{forceId, onIdent, importedAs, usedRecord, useFrom, useImported, usage}
 use Rattle.extraction_rules.proofs.AlikeLaws.{Two, Regular}
-use Rattle.kept.specs.Kept.{At, Good, idOf, Shows}
-use Rattle.kept.specs.Does.{Tells, Turns, contextBy}
-use Rattle.kept.specs.declared.Context.{Context}
-use Rattle.kept.specs.declared.Context.the-variants.{Of, Nowhere}
+use Rattle.state.specs.Cells.{At, Good, idOf, Shows}
+use Rattle.state.specs.Does.{Tells, Turns, contextBy}
+use Rattle.state.specs.declared.Context.{Context}
+use Rattle.state.specs.declared.Context.the-variants.{Of, Nowhere}
 use Rattle.steps.specs.Step.{identBy, Sound, SoundAll, Effects}
 use Rattle.steps.specs.declared.Ident.{Ident}
 use Rattle.steps.specs.declared.Ident.the-variants.{Is, Other}
@@ -178,7 +178,8 @@ module _ (s : List ℕ) (at stop : ℕ) (le : at + 3 ≤ stop) (tag : getD s at 
               Effects (λ x u. Sound s at stop) (usage (onIdent (treeAt s at stop)) e at) t t' Fine
           usage-computed q f =
               effects-turn (forceId (idOf n)) f (λ y u v w. rule-is u v
-              ∙ computed e (idOf n) (treeAt s member end) (at + 3 + size (treeAt s (at + 3) member)) at u (importedAs (idOf n) (u .imported)) _ (ap contextBy (sym o) ∙ p .is u v) (member-tag w ∙ q))
+              ∙ computed e (idOf n) (treeAt s member end) (at + 3 + size (treeAt s (at + 3) member)) at u (importedAs (idOf n) (u .imported)) _
+              (ap contextBy (sym o) ∙ p .is u v) (member-tag w ∙ q))
 
           pub usage-from : {t' : List ℕ} {a : Effect} → Bytes s → (getD s member 0 ≡ 0x71 → ⊥) →
               Effects (λ x u. Named (treeAt s member end)) (λ u. useFrom (usedRecord (e .own) (idOf n) (u .collected)) e (idOf n) (treeAt s member end) member at u) t t' a →
@@ -187,6 +188,7 @@ module _ (s : List ℕ) (at stop : ℕ) (le : at + 3 ≤ stop) (tag : getD s at 
               effects-as f (λ y u v w. (
                 ⊎-elim (λ i. inl i) (λ i. ⊎-elim (λ j. absurd (q (sym (member-tag w) ∙ j))) (λ j. inr j) i) (member-kind w),
                 rule-is u v
-                    ∙ used e (idOf n) (treeAt s member end) (at + 3 + size (treeAt s (at + 3) member)) at u (importedAs (idOf n) (u .imported)) _ (ap contextBy (sym o) ∙ p .is u v) (λ j. q (sym (member-tag w) ∙ j))
+                    ∙ used e (idOf n) (treeAt s member end) (at + 3 + size (treeAt s (at + 3) member)) at u (importedAs (idOf n) (u .imported)) _
+                    (ap contextBy (sym o) ∙ p .is u v) (λ j. q (sym (member-tag w) ∙ j))
                     ∙ ap (λ (l : ℕ). useFrom (usedRecord (e .own) (idOf n) (u .collected)) e (idOf n) (treeAt s member end) l at u) (place-is bs w),
               ))

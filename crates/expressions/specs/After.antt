@@ -8,7 +8,7 @@ use lib.Dec.{eqb}
 use Rattle.scope.specs.Id.{require-atom}
 use Rattle.tree.specs.Layout.{two, same, nameOf}
 use Rattle.tree.specs.Tree.{Field, field, Fields, none, more, fixedOf}
-use Rattle.lent.specs.Fields.{has, sole}
+use Rattle.inputs.specs.Fields.{has, sole}
 use Rattle.extraction_rules.specs.State.{Usage, State, Pass, first, second, Setting}
 use Rattle.extraction_rules.specs.First.{importedAs, argument, notExternal}
 use Rattle.extraction_rules.specs.Second.{usagesOf}

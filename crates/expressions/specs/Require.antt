@@ -8,13 +8,13 @@ use lib.ListN.{length}
 use Rattle.scope.specs.declared.id.ModuleId.{ModuleId}
 use Rattle.writer.specs.Wrote.{Wrote}
 use Rattle.tree.specs.Tree.{Field, field, Fields, none, more, fixedOf, encode}
-use Rattle.lent.specs.Fields.{has}
-use Rattle.lent.specs.Outcome.{refused}
-use Rattle.lent.specs.Table.{Row}
+use Rattle.inputs.specs.Fields.{has}
+use Rattle.inputs.specs.Outcome.{refused}
+use Rattle.inputs.specs.Table.{Row}
 use Rattle.extraction_rules.specs.State.{State, Setting}
 use Rattle.extraction_rules.specs.First.{withCallee, markRequired}
-use Rattle.kept.specs.Kept.{At, id-limit, Good, idOf, Shows}
-use Rattle.kept.specs.Does.{Gave}
+use Rattle.state.specs.Cells.{At, id-limit, Good, idOf, Shows}
+use Rattle.state.specs.Does.{Gave}
 use Rattle.expressions.specs.declared.require.Literal.{Literal}
 use Rattle.expressions.specs.declared.require.Literal.the-variants.{Is, Other}
 use Rattle.expressions.specs.declared.require.Required.{Required}

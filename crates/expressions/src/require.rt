@@ -5,23 +5,23 @@ ghost use mathlib.Core.List.{List};
 ghost use mathlib.Core.Option.{some};
 ghost use lib.ListN.{length};
 ghost use Rattle.tree.specs.Standing.{treeAt, rowAt};
-ghost use Rattle.lent.specs.Fields.{sole};
-ghost use Rattle.lent.specs.Table.{Row, atomsIn, rowsIn};
+ghost use Rattle.inputs.specs.Fields.{sole};
+ghost use Rattle.inputs.specs.Table.{Row, atomsIn, rowsIn};
 ghost use Rattle.extraction_rules.specs.First.{argument};
-ghost use Rattle.kept.specs.Kept.{id-limit, Good, idOf};
-ghost use Rattle.kept.specs.Does.{Tells};
+ghost use Rattle.state.specs.Cells.{id-limit, Good, idOf};
+ghost use Rattle.state.specs.Does.{Tells};
 ghost use Rattle.steps.specs.Step.{settingOf};
 ghost use Rattle.expressions.specs.After.{requiredAfter};
 ghost use Rattle.expressions.specs.Require.{literalBy, SmallLiteral, literalFirst, Requires, CalleeSet};
 use crate::ident::ident_after;
-use kept::Module;
-use kept::ident::id_at;
-use kept::ident::name_of;
-use kept::modules::mark_cjs;
-use kept::modules::module_for;
-use lent::is_external;
+use inputs::is_external;
 use scope::id::Atom;
 use scope::id::ModuleId;
+use state::Module;
+use state::ident::id_at;
+use state::ident::name_of;
+use state::modules::mark_cjs;
+use state::modules::module_for;
 use steps::Ident;
 use steps::Setting;
 use tree::access::extent;
@@ -51,7 +51,9 @@ pub fn required_at(
     t: &[u64],
 ) -> Literal
     requires { ⌜ (at + 3 ≤ stop) × (stop ≤ length (now s)) × Good (now t) ⌝ }
-    ensures { λ r. ⌜ SmallLiteral r × ((rows : List Row) → Tells (requiredAfter (settingOf e (atomsIn (now (externals .entry))) rows) (treeAt (now (s .entry)) at stop)) (now (t .entry)) (literalBy r)) ⌝ }
+    ensures { λ r. ⌜ SmallLiteral r × ((rows : List Row) →
+        Tells (requiredAfter (settingOf e (atomsIn (now (externals .entry))) rows) (treeAt (now (s .entry)) at stop)) (now (t .entry)) (literalBy r))
+        ⌝ }
 {
     if !e.require {
         return Literal::Other;

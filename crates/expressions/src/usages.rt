@@ -5,23 +5,23 @@ ghost use mathlib.Core.List.{List};
 ghost use mathlib.Core.Option.{some};
 ghost use lib.ListN.{length, getD};
 ghost use Rattle.tree.specs.Standing.{treeAt};
-ghost use Rattle.lent.specs.Table.{rowsIn};
+ghost use Rattle.inputs.specs.Table.{rowsIn};
 ghost use Rattle.extraction_rules.specs.First.{onIdent, usage as usage-rule, usedRecord, useFrom, useProperty};
-ghost use Rattle.kept.specs.Kept.{id-limit, Good, idOf};
+ghost use Rattle.state.specs.Cells.{id-limit, Good, idOf};
 ghost use Rattle.steps.specs.Step.{settingOf, Sound, Effects};
 ghost use Rattle.expressions.specs.Usage.{Named};
 use crate::ident::ident_after;
-use kept::Context;
-use kept::Module;
-use kept::Room;
-use kept::Source;
-use kept::forced::force_id;
-use kept::ident::id_from;
-use kept::imported::add_usage;
-use kept::imported::imported_as;
-use kept::modules::module_for;
-use kept::records::used_record;
 use scope::id::ModuleId;
+use state::Context;
+use state::Module;
+use state::Room;
+use state::Source;
+use state::forced::force_id;
+use state::ident::id_from;
+use state::imported::add_usage;
+use state::imported::imported_as;
+use state::modules::module_for;
+use state::records::used_record;
 use steps::Effect;
 use steps::Ident;
 use steps::Setting;
@@ -34,7 +34,10 @@ use tree::layout::atom_at;
 // The usage of the 63 at `at` up to stop, whose parts are walked.
 pub fn usage(s: &[u8], at: usize, stop: usize, e: Setting, table: &[u8], t: &mut [u64]) -> Effect
     requires { ⌜ (at + 3 ≤ stop) × (stop ≤ length (now s)) × (getD (now s) at 0 ≡ 0x63) × Good (now t) ⌝ }
-    ensures { λ r. ⌜ ((externals : List (List ℕ)) → Effects (λ x u. Sound (now (s .entry)) at stop) (usage-rule (onIdent (treeAt (now (s .entry)) at stop)) (settingOf e externals (rowsIn (now (table .entry)))) at) (now (t .entry)) (now (t .exit)) r) ⌝ }
+    ensures { λ r. ⌜ ((externals : List (List ℕ)) →
+        Effects (λ x u. Sound (now (s .entry)) at stop)
+        (usage-rule (onIdent (treeAt (now (s .entry)) at stop)) (settingOf e externals (rowsIn (now (table .entry)))) at) (now (t .entry))
+        (now (t .exit)) r) ⌝ }
 {
     let Reach::Upto(member) = extent(s, at + 3, stop) else {
         return Effect::Fine;
@@ -67,7 +70,10 @@ fn use_from(
     t: &mut [u64],
 ) -> Effect
     requires { ⌜ (member + 3 ≤ end) × (end ≤ length (now s)) × Good (now t) × (id < id-limit) ⌝ }
-    ensures { λ r. ⌜ ((externals : List (List ℕ)) → Effects (λ x u. Named (treeAt (now (s .entry)) member end)) (λ u. useFrom (usedRecord (e .own .0) (idOf id) (u .collected)) (settingOf e externals (rowsIn (now (table .entry)))) (idOf id) (treeAt (now (s .entry)) member end) member at u) (now (t .entry)) (now (t .exit)) r) ⌝ }
+    ensures { λ r. ⌜ ((externals : List (List ℕ)) →
+        Effects (λ x u. Named (treeAt (now (s .entry)) member end))
+        (λ u. useFrom (usedRecord (e .own .0) (idOf id) (u .collected)) (settingOf e externals (rowsIn (now (table .entry)))) (idOf id)
+        (treeAt (now (s .entry)) member end) member at u) (now (t .entry)) (now (t .exit)) r) ⌝ }
 {
     let own = e.own;
     let Source::From(source) = used_record(t, own, id) else {
@@ -91,7 +97,9 @@ fn use_property(
     t: &mut [u64],
 ) -> Effect
     requires { ⌜ (member + 3 ≤ end) × (end ≤ length (now s)) × Good (now t) × (id < id-limit) ⌝ }
-    ensures { λ r. ⌜ Effects (λ x u. Named (treeAt (now (s .entry)) member end)) (useProperty (some (n .0)) (idOf id) (treeAt (now (s .entry)) member end) member at) (now (t .entry)) (now (t .exit)) r ⌝ }
+    ensures { λ r.
+        ⌜ Effects (λ x u. Named (treeAt (now (s .entry)) member end))
+        (useProperty (some (n .0)) (idOf id) (treeAt (now (s .entry)) member end) member at) (now (t .entry)) (now (t .exit)) r ⌝ }
 {
     let tag = s[member];
     let Reach::Upto(_) = fixed(s, tag, member + 3, end) else {

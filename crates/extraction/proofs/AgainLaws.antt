@@ -14,9 +14,9 @@ use Rattle.writer.specs.Wrote.{Wrote}
 use Rattle.writer.specs.Finished.{hasRoom, delivered}
 use Rattle.writer.proofs.Wrote.{wrote-as}
 use Rattle.tree.proofs.WidthLaws.{read-module}
-use Rattle.lent.specs.Outcome.{Outcome, done, refused, onto, placeless}
-use Rattle.lent.specs.Buffer.{fits}
-use Rattle.lent.proofs.AcceptedLaws.{done-inj, onto-done, fits-room, done-refused}
+use Rattle.inputs.specs.Outcome.{Outcome, done, refused, onto, placeless}
+use Rattle.inputs.specs.Buffer.{fits}
+use Rattle.inputs.proofs.AcceptedLaws.{done-inj, onto-done, fits-room, done-refused}
 use Rattle.extraction_rules.specs.State.{Record, State, Setting, setCollected}
 use Rattle.extraction_rules.specs.Second.{wrapAll, loseNamespaces, finish}
 use Rattle.extraction_rules.specs.Walk.{walkModule, walkAgain}
@@ -27,7 +27,7 @@ use Rattle.extraction_rules.proofs.WalkLaws.{ImportsAll}
 use Rattle.extraction_rules.proofs.SanityLaws.{Known}
 use Rattle.extraction_rules.proofs.OutcomeLaws.{after-done}
 use Rattle.extraction_rules.proofs.ReadableLaws.{items-readable}
-use Rattle.kept.specs.Kept.{At, Shows, sourcesIn}
+use Rattle.state.specs.Cells.{At, Shows, sourcesIn}
 use Rattle.steps.specs.declared.Setting.{Setting as CodeSetting}
 use Rattle.steps.specs.declared.Why.{Why}
 use Rattle.steps.specs.declared.Step.{Step}
@@ -36,9 +36,9 @@ use Rattle.steps.specs.declared.Effect.{Effect}
 use Rattle.steps.specs.declared.Effect.the-variants.{Fine, Refused as Turned}
 use Rattle.steps.specs.Step.{refusalOf, Made, Steps}
 use Rattle.walking.specs.Walking.{set}
-use Rattle.recording.specs.Model.{specifiersOf, rebuilt}
-use Rattle.recording.specs.Writes.{Placing, itemsIn, recordsIn}
-use Rattle.recording.proofs.ToldLaws.{items-read, records-are}
+use Rattle.records.specs.Model.{specifiersOf, rebuilt}
+use Rattle.records.specs.Writes.{Placing, itemsIn, recordsIn}
+use Rattle.records.proofs.ToldLaws.{items-read, records-are}
 use Rattle.extraction.specs.declared.ExtractAnswer.{ExtractAnswer}
 use Rattle.extraction.specs.declared.ExtractAnswer.the-variants.{Refused as Answered}
 use Rattle.extraction.specs.Passes.{ItemsRead, passAct}

@@ -12,11 +12,11 @@ use Rattle.writer.specs.Wrote.{Wrote}
 use Rattle.writer.specs.Finished.{hasRoom, Finished, Delivered}
 use Rattle.writer.proofs.Wrote.{wrote-end}
 use Rattle.writer.proofs.Finished.{room-true, delivered-field, delivers}
-use Rattle.lent.specs.Outcome.{Outcome, done, refused, onto, refuseIf}
-use Rattle.lent.specs.Buffer.{fits}
+use Rattle.inputs.specs.Outcome.{Outcome, done, refused, onto, refuseIf}
+use Rattle.inputs.specs.Buffer.{fits}
 use Rattle.extraction_rules.specs.State.{State}
-use Rattle.kept.specs.Kept.{At, Shows}
-use Rattle.recording.specs.Writes.{WroteFor, Placing, BothRead, RowRead, recordsIn}
+use Rattle.state.specs.Cells.{At, Shows}
+use Rattle.records.specs.Writes.{WroteFor, Placing, BothRead, RowRead, recordsIn}
 use Rattle.extraction.specs.declared.ExtractAnswer.the-variants.{Extracted as Accepted, Refused as Answered, NoRoom}
 use Rattle.extraction.specs.Answer.{Closes}
 use Rattle.steps.specs.declared.Why.{Why}
@@ -98,6 +98,7 @@ module _ (tree work : List ℕ) {t out out1 records records1 records2 : List ℕ
             let m = recordsIn work (encode h) s in
             record {
               accepted = λ a. no-room-accepted a;
-              refused = λ _. ap (λ (o : Outcome (Unit {0})). onto o (λ _. fits m (length records))) (fits-so h (length l) (room-size h d ∙ e)) ∙ fits-not m (length records) (room-size m j ∙ c);
+              refused = λ _. ap (λ (o : Outcome (Unit {0})). onto o (λ _. fits m (length records))) (fits-so h (length l) (room-size h d ∙ e))
+                  ∙ fits-not m (length records) (room-size m j ∙ c);
             };
       }

@@ -18,9 +18,9 @@ use Rattle.tree.specs.Access.{fixedAt, extentAt}
 use Rattle.tree.specs.Standing.{treeAt}
 use Rattle.tree.proofs.StandingLaws.{row-more, row-none, tree-upto, whole-step}
 use Rattle.tree.proofs.WidthLaws.{tree-bare}
-use Rattle.lent.specs.Outcome.{Outcome, done, onto}
-use Rattle.lent.specs.Lists.{among}
-use Rattle.lent.specs.Fields.{has, keep, sole, inside}
+use Rattle.inputs.specs.Outcome.{Outcome, done, onto}
+use Rattle.inputs.specs.Lists.{among}
+use Rattle.inputs.specs.Fields.{has, keep, sole, inside}
 use Rattle.extraction_rules.specs.State.{Usage, State, Pass, first, second, Setting, give}
 use Rattle.extraction_rules.specs.First.{external, moduleFor, collect, noteSpecifiers, specifiersIn, stays, importFirst}
 use Rattle.extraction_rules.specs.Second.{usagesOf, takeApart, onSole, importSecond}
@@ -34,7 +34,7 @@ use Rattle.extraction_rules.proofs.ReadableLaws.{item-step}
 use Rattle.extraction_rules.proofs.WalkLaws.{Imports}
 use Rattle.extraction_rules.proofs.SanityLaws.{Known}
 use Rattle.extraction_rules.proofs.StayLaws.{item-no-member, stays-plain, import-stays, walk-stays}
-use Rattle.kept.specs.Kept.{At, Good, namespacesIn, sourcesIn}
+use Rattle.state.specs.Cells.{At, Good, namespacesIn, sourcesIn}
 use Rattle.steps.specs.declared.Setting.{Setting as CodeSetting}
 use Rattle.steps.specs.declared.Step.{Step}
 use Rattle.steps.specs.declared.Step.the-variants.{Done}
@@ -88,7 +88,8 @@ module _ (e : Setting) where
   second-tag x cs u = after-if (external e x || among (valueOf x) (u .forced)) (give (field 0x10 x cs)) _ u (λ g y. tagOf g ≡ 0x10) (λ _. refl) (λ _. sole-tag (sole (specifiersIn cs)) x cs u)
 
   -- the import is among those of which something is known
-  known-here : (f : Field) (u : State) → tagOf f ≡ 0x10 → Imports f (Known (e .externals) (sourcesIn (u .collected))) → external e (fixedOf f) ≡ false → among (valueOf (fixedOf f)) (sourcesIn (u .collected)) ≡ true
+  known-here : (f : Field) (u : State) → tagOf f ≡ 0x10 → Imports f (Known (e .externals) (sourcesIn (u .collected))) →
+      external e (fixedOf f) ≡ false → among (valueOf (fixedOf f)) (sourcesIn (u .collected)) ≡ true
   unfolding external
   known-here (field t x cs) u q h = h .0 q
 
@@ -109,7 +110,8 @@ module _ (c : CodeSetting) (e : Setting) (s : List ℕ) (bytes : Bytes s) (at st
   item-regular w h =
       let t = read-tag (w .read) in
       regular (treeAt s at stop)
-      (item-outer (tagOf (treeAt s at stop)) (subst (λ (n : ℕ). holdsAt Item n ≡ true) (sym t) (item-step (getD s at 0) (ruleOf 0x01) (w .tag) .0)) (ne-eqb (tagOf (treeAt s at stop)) 0x10 (λ z. h (sym t ∙ z))))
+      (item-outer (tagOf (treeAt s at stop)) (subst (λ (n : ℕ). holdsAt Item n ≡ true) (sym t) (item-step (getD s at 0) (ruleOf 0x01) (w .tag) .0))
+      (ne-eqb (tagOf (treeAt s at stop)) 0x10 (λ z. h (sym t ∙ z))))
       (item-shaped (w .read))
 
   -- one that stays is what it is walked to
@@ -136,7 +138,8 @@ module _ (c : CodeSetting) (e : Setting) (s : List ℕ) (bytes : Bytes s) (at st
 
   -- ---- Items that are dropped
 
-  bare-walk : (t : ℕ) (x : List ℕ) (p : ℕ) (u : State) → (t ≡ 0x40) ⊎ (t ≡ 0x41) → onto {B = Fields × State} (walk (field t x none) e false p u) (λ r. done (one-item (r .0), r .1)) ≡ done (none, u)
+  bare-walk : (t : ℕ) (x : List ℕ) (p : ℕ) (u : State) → (t ≡ 0x40) ⊎ (t ≡ 0x41) →
+      onto {B = Fields × State} (walk (field t x none) e false p u) (λ r. done (one-item (r .0), r .1)) ≡ done (none, u)
   unfolding walk partsFor ruleFor within after stays keep
   bare-walk t x p u (inl q) = rw q refl
   bare-walk t x p u (inr q) = rw q refl
@@ -152,11 +155,13 @@ module _ (c : CodeSetting) (e : Setting) (s : List ℕ) (bytes : Bytes s) (at st
       ap (λ (f : Field). onto (walk f e false at u) (λ r. done (one-item (r .0), r .1))) (z ∙ ap (field (getD s at 0) (slice (at + 3) (b .0) s)) (r .0 .empty-bare q))
       ∙ bare-walk (getD s at 0) (slice (at + 3) (b .0) s) at u (inl q))
 
-  pub item-bare : {t out : List ℕ} {o : ℕ} → getD s at 0 ≡ 0x41 → at + 3 ≤ stop → extentAt s (at + 3) stop ≡ Short → Good t → Steps encodes (ItemRead c e s at stop) (itemAct e s at stop) t out o t out (Done o)
+  pub item-bare : {t out : List ℕ} {o : ℕ} → getD s at 0 ≡ 0x41 → at + 3 ≤ stop → extentAt s (at + 3) stop ≡ Short → Good t →
+      Steps encodes (ItemRead c e s at stop) (itemAct e s at stop) t out o t out (Done o)
   unfolding encode
   item-bare q le x g =
       steps-give encodes (ItemRead c e s at stop) (itemAct e s at stop) none g refl
-      (λ y u w. ap (λ (f : Field). onto (walk f e false at u) (λ r. done (one-item (r .0), r .1))) (tree-bare 0x41 refl s at stop le q ∙ ap (field 0x41 []) (row-none s (at + 3) stop le x)) ∙ bare-walk 0x41 [] at u (inr refl))
+      (λ y u w. ap (λ (f : Field). onto (walk f e false at u) (λ r. done (one-item (r .0), r .1)))
+      (tree-bare 0x41 refl s at stop le q ∙ ap (field 0x41 []) (row-none s (at + 3) stop le x)) ∙ bare-walk 0x41 [] at u (inr refl))
 
   -- ---- Imports
 
@@ -164,30 +169,59 @@ module _ (c : CodeSetting) (e : Setting) (s : List ℕ) (bytes : Bytes s) (at st
   unfolding walk partsFor ruleFor within after
   walk-10 x cs p u = refl
 
-  pub import-walk : ReadAt s at stop → getD s at 0 ≡ 0x10 → (u : State) → walk (treeAt s at stop) e false at u ≡ afterImport (e .pass) e (fixedOf (treeAt s at stop)) (partsOf (treeAt s at stop)) at u
+  pub import-walk : ReadAt s at stop → getD s at 0 ≡ 0x10 → (u : State) →
+      walk (treeAt s at stop) e false at u ≡ afterImport (e .pass) e (fixedOf (treeAt s at stop)) (partsOf (treeAt s at stop)) at u
   import-walk r q u = go (treeAt s at stop) (read-tag r ∙ q)
     where
       go : (f : Field) → tagOf f ≡ 0x10 → walk f e false at u ≡ afterImport (e .pass) e (fixedOf f) (partsOf f) at u
       go (field t x cs) z = ap (λ (n : ℕ). walk (field n x cs) e false at u) z ∙ walk-10 x cs at u
 
   -- bytes that are no import cannot have been read
-  pub import-short : {t out : List ℕ} {o : ℕ} → getD s at 0 ≡ 0x10 → Good t → fixedAt s 0x10 (at + 3) stop ≡ Short → Steps encodes (ItemRead c e s at stop) (itemAct e s at stop) t out o t out (Done o)
+  pub import-short : {t out : List ℕ} {o : ℕ} → getD s at 0 ≡ 0x10 → Good t → fixedAt s 0x10 (at + 3) stop ≡ Short →
+      Steps encodes (ItemRead c e s at stop) (itemAct e s at stop) t out o t out (Done o)
   import-short q g x = steps-never encodes (ItemRead c e s at stop) (itemAct e s at stop) _ g (λ y u w. read-short (w .read) (ap (λ (n : ℕ). fixedAt s n (at + 3) stop) q ∙ x))
 
   pub import-one : {t out t' out' : List ℕ} {o : ℕ} {k : Step} → c .second ≡ false → e .pass ≡ first → getD s at 0 ≡ 0x10 →
-      Steps encode (λ x u. ReadAt s at stop × (9 * namespacesIn (u .collected) ≤ at) × (stop ≤ 32768)) (importFirst e (fixedOf (treeAt s at stop)) (partsOf (treeAt s at stop)) at) t out o t' out' k →
+      Steps encode (λ x u. ReadAt s at stop × (9 * namespacesIn (u .collected) ≤ at) × (stop ≤ 32768))
+      (importFirst e (fixedOf (treeAt s at stop)) (partsOf (treeAt s at stop)) at) t out o t' out' k →
       Steps encodes (ItemRead c e s at stop) (itemAct e s at stop) t out o t' out' k
   import-one d one q m =
       steps-as (itemAct e s at stop)
-      (steps-map encode encodes one-item (ItemRead c e s at stop) m (λ x u w. let r = ready-first at stop u (Imports (treeAt s at stop) (Known (e .externals) (sourcesIn (u .collected)))) d (w .ready) in (w .read, r .0, r .1))
-      (λ x u w g v z. item-bytes g (import-stays g (after-done (importFirst e (fixedOf (treeAt s at stop)) (partsOf (treeAt s at stop)) at u) (λ g y. tagOf g ≡ 0x10) (g, v) z (first-tag e (fixedOf (treeAt s at stop)) (partsOf (treeAt s at stop)) at u)))))
-      (λ x u w. (w, ap (λ (m : Outcome (Field × State)). onto m (λ r. done (one-item (r .0), r .1))) (import-walk (w .read) q u ∙ ap (λ (b : Pass). afterImport b e (fixedOf (treeAt s at stop)) (partsOf (treeAt s at stop)) at u) one ∙ import-first e _ _ at u)))
+      (steps-map encode encodes one-item (ItemRead c e s at stop) m
+      (λ x u w. let r = ready-first at stop u (Imports (treeAt s at stop) (Known (e .externals) (sourcesIn (u .collected)))) d (w .ready) in
+      (w .read, r .0, r .1))
+      (λ x u w g v z. item-bytes g
+      (import-stays g
+      (after-done (importFirst e (fixedOf (treeAt s at stop)) (partsOf (treeAt s at stop)) at u) (λ g y. tagOf g ≡ 0x10) (g, v) z
+      (first-tag e (fixedOf (treeAt s at stop)) (partsOf (treeAt s at stop)) at u)))))
+      (λ x u w. (
+        w,
+        ap (λ (m : Outcome (Field × State)). onto m (λ r. done (one-item (r .0), r .1)))
+            (import-walk (w .read) q u ∙ ap (λ (b : Pass). afterImport b e (fixedOf (treeAt s at stop)) (partsOf (treeAt s at stop)) at u) one
+            ∙ import-first e _ _ at u),
+      ))
 
   pub import-two : {t out t' out' : List ℕ} {o : ℕ} {k : Step} → c .second ≡ true → e .pass ≡ second → getD s at 0 ≡ 0x10 →
-      Steps encode (λ x u. ReadAt s at stop × (external e (fixedOf (treeAt s at stop)) ≡ false → among (valueOf (fixedOf (treeAt s at stop))) (sourcesIn (u .collected)) ≡ true)) (importSecond e (fixedOf (treeAt s at stop)) (partsOf (treeAt s at stop))) t out o t' out' k →
+      Steps encode
+      (λ x u. ReadAt s at stop
+      × (external e (fixedOf (treeAt s at stop)) ≡ false → among (valueOf (fixedOf (treeAt s at stop))) (sourcesIn (u .collected)) ≡ true))
+      (importSecond e (fixedOf (treeAt s at stop)) (partsOf (treeAt s at stop))) t out o t' out' k →
       Steps encodes (ItemRead c e s at stop) (itemAct e s at stop) t out o t' out' k
   import-two d two q m =
       steps-as (itemAct e s at stop)
-      (steps-map encode encodes one-item (ItemRead c e s at stop) m (λ x u w. (w .read, known-here e (treeAt s at stop) u (read-tag (w .read) ∙ q) (ready-second at stop u (Imports (treeAt s at stop) (Known (e .externals) (sourcesIn (u .collected)))) d (w .ready))))
-      (λ x u w g v z. item-bytes g (import-stays g (after-done (importSecond e (fixedOf (treeAt s at stop)) (partsOf (treeAt s at stop)) u) (λ g y. tagOf g ≡ 0x10) (g, v) z (second-tag e (fixedOf (treeAt s at stop)) (partsOf (treeAt s at stop)) u)))))
-      (λ x u w. (w, ap (λ (m : Outcome (Field × State)). onto m (λ r. done (one-item (r .0), r .1))) (import-walk (w .read) q u ∙ ap (λ (b : Pass). afterImport b e (fixedOf (treeAt s at stop)) (partsOf (treeAt s at stop)) at u) two ∙ import-second e _ _ at u)))
+      (steps-map encode encodes one-item (ItemRead c e s at stop) m
+      (λ x u w. (
+        w .read,
+        known-here e (treeAt s at stop) u (read-tag (w .read) ∙ q)
+            (ready-second at stop u (Imports (treeAt s at stop) (Known (e .externals) (sourcesIn (u .collected)))) d (w .ready)),
+      ))
+      (λ x u w g v z. item-bytes g
+      (import-stays g
+      (after-done (importSecond e (fixedOf (treeAt s at stop)) (partsOf (treeAt s at stop)) u) (λ g y. tagOf g ≡ 0x10) (g, v) z
+      (second-tag e (fixedOf (treeAt s at stop)) (partsOf (treeAt s at stop)) u)))))
+      (λ x u w. (
+        w,
+        ap (λ (m : Outcome (Field × State)). onto m (λ r. done (one-item (r .0), r .1)))
+            (import-walk (w .read) q u ∙ ap (λ (b : Pass). afterImport b e (fixedOf (treeAt s at stop)) (partsOf (treeAt s at stop)) at u) two
+            ∙ import-second e _ _ at u),
+      ))

@@ -1,5 +1,5 @@
--- Laws of a pass: what it keeps (KeptLaws), each item (ItemLaws), one after the other (PassLaws).
-pub mod KeptLaws
+-- Laws of a pass: what it keeps (CellsLaws), each item (ItemLaws), one after the other (PassLaws).
+pub mod CellsLaws
 pub mod ItemLaws
 pub mod PassLaws
 -- Laws of the call: its end (WrapLaws, EndLaws), modules that were read (ReadLaws), the second pass and what follows it (AgainLaws), the first

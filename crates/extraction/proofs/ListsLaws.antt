@@ -16,11 +16,11 @@ use Rattle.tree.specs.Layout.{Bytes}
 use Rattle.tree.specs.Tree.{Fields}
 use Rattle.tree.specs.Read.{read, verdict, refusalOf as readRefusal}
 use Rattle.tree.proofs.ReadLaws.{good-fine, verdict-refused}
-use Rattle.lent.specs.Outcome.{Outcome, done, refused, onto, refuseIf}
-use Rattle.lent.specs.Table.{Row, rowsIn, badExternals, badTable, repeats, tableOf}
+use Rattle.inputs.specs.Outcome.{Outcome, done, refused, onto, refuseIf}
+use Rattle.inputs.specs.Table.{Row, rowsIn, badExternals, badTable, repeats, tableOf}
 use Rattle.extraction_rules.specs.Call.{Lent, Lengths, Extracted, badLists, itemsRead, ownModule, passes, extracted}
-use Rattle.kept.specs.Kept.{Good}
-use Rattle.recording.specs.Writes.{itemsIn}
+use Rattle.state.specs.Cells.{Good}
+use Rattle.records.specs.Writes.{itemsIn}
 use Rattle.extraction.specs.declared.ExtractAnswer.{ExtractAnswer}
 use Rattle.extraction.specs.declared.ExtractAnswer.the-variants.{Extracted as Accepted, BadLists, NamedTwice, Unread}
 use Rattle.extraction.specs.Answer.{lentAs, roomIn, ModuleRead, Calls, ownedBy}
@@ -53,7 +53,9 @@ or-first true b e = e
 
 most : (externals table tree : List ℕ) → badLists (lentAs 0 false externals table tree) ≡ false → length tree ≤ 32768
 unfolding badLists
-most externals table tree e = ltb-false 32768 (length tree) (or-first (ltb 32768 (length tree)) (badExternals externals) (or-first (ltb 32768 (length tree) || badExternals externals) (badTable table) e))
+most externals table tree e =
+    ltb-false 32768 (length tree)
+    (or-first (ltb 32768 (length tree)) (badExternals externals) (or-first (ltb 32768 (length tree) || badExternals externals) (badTable table) e))
 
 -- ---- The call up to the own file
 
@@ -115,7 +117,8 @@ module _ (file : ℕ) (config : Bool) (externals table tree : List ℕ) {b : Boo
               record { accepted = λ a. answered-2 a; refused = λ _. called-by (lentAs file config externals table tree) (roomIn work out records) ms true (bad-is false e) (sym twice ∙ f) };
         }
 
-    pub lists-unread : {t work out records : List ℕ} {r : Verdict} {why : ReadWhy} {p : ℕ} → Good t → b ≡ false → c ≡ false → r ≡ verdict (read Module tree) → r ≡ Refused why p →
+    pub lists-unread : {t work out records : List ℕ} {r : Verdict} {why : ReadWhy} {p : ℕ} → Good t → b ≡ false → c ≡ false →
+        r ≡ verdict (read Module tree) → r ≡ Refused why p →
         Calls (Bytes tree) (extracted (lentAs file config externals table tree) (roomIn work out records)) t work out records t work out records (Unread why p)
     lists-unread {work = work} {out} {records} {why = why} {p} g e f v q =
         record {

@@ -15,10 +15,10 @@ use Rattle.tree.specs.Read.{read}
 use Rattle.tree.proofs.TreeLaws.{size-encode}
 use Rattle.writer.specs.Finished.{Finished, delivered}
 use Rattle.writer.proofs.Finished.{delivers}
-use Rattle.lent.specs.Outcome.{Outcome, done, refused, onto, placeless}
-use Rattle.lent.specs.Buffer.{fits}
-use Rattle.lent.specs.Table.{rowsIn}
-use Rattle.lent.proofs.AcceptedLaws.{done-inj, onto-done, done-refused}
+use Rattle.inputs.specs.Outcome.{Outcome, done, refused, onto, placeless}
+use Rattle.inputs.specs.Buffer.{fits}
+use Rattle.inputs.specs.Table.{rowsIn}
+use Rattle.inputs.proofs.AcceptedLaws.{done-inj, onto-done, done-refused}
 use Rattle.extraction_rules.specs.State.{Record, State, first, second, Setting, start, setTop, setModules}
 use Rattle.extraction_rules.specs.First.{requested, moduleOf}
 use Rattle.extraction_rules.specs.Walk.{walkModule, walkAgain}
@@ -31,10 +31,10 @@ use Rattle.extraction_rules.proofs.SanityLaws.{Known}
 use Rattle.extraction_rules.proofs.ImportsLaws.{walkModule-known}
 use Rattle.extraction_rules.proofs.ReadableLaws.{Items, items-readable, run-within, room-size as room-most}
 use Rattle.extraction_rules.proofs.StepLaws.{some-inj}
-use Rattle.kept.specs.Kept.{At, Shows, namespacesIn}
-use Rattle.kept.specs.Does.{Resolves}
-use Rattle.kept.specs.declared.Module.{Module as ModuleAnswer}
-use Rattle.kept.specs.declared.Module.the-variants.{Is as Numbered, Unresolved, TooMany}
+use Rattle.state.specs.Cells.{At, Shows, namespacesIn}
+use Rattle.state.specs.Does.{Resolves}
+use Rattle.state.specs.declared.Module.{Module as ModuleAnswer}
+use Rattle.state.specs.declared.Module.the-variants.{Is as Numbered, Unresolved, TooMany}
 use Rattle.steps.specs.declared.Setting.{Setting as CodeSetting}
 use Rattle.steps.specs.declared.Why.{Why}
 use Rattle.steps.specs.declared.Why.the-variants.{TooManyFiles}
@@ -42,9 +42,9 @@ use Rattle.steps.specs.declared.Step.{Step}
 use Rattle.steps.specs.declared.Step.the-variants.{Done, Refused}
 use Rattle.steps.specs.Step.{refusalOf, Steps}
 use Rattle.walking.specs.Walking.{set}
-use Rattle.recording.specs.Writes.{placed, Placing, itemsIn}
-use Rattle.recording.specs.Model.{rebuilt}
-use Rattle.recording.proofs.RebuiltLaws.{run-rebuilt}
+use Rattle.records.specs.Writes.{placed, Placing, itemsIn}
+use Rattle.records.specs.Model.{rebuilt}
+use Rattle.records.proofs.RebuiltLaws.{run-rebuilt}
 use Rattle.extraction.specs.declared.ExtractAnswer.{ExtractAnswer}
 use Rattle.extraction.specs.declared.ExtractAnswer.the-variants.{Refused as Answered, NoRoom}
 use Rattle.extraction.specs.Passes.{ItemsRead, passAct}

@@ -21,9 +21,9 @@ use Rattle.writer.specs.Wrote.{Opened}
 use Rattle.writer.proofs.Wrote.{wrote-none}
 use Rattle.metadata.specs.Metadata.{append}
 use Rattle.metadata.proofs.EncodeLaws.{encodes-append}
-use Rattle.lent.specs.Outcome.{Outcome, done, refused, onto}
-use Rattle.lent.specs.Fields.{keep, inside}
-use Rattle.lent.proofs.AcceptedLaws.{done-inj, onto-done}
+use Rattle.inputs.specs.Outcome.{Outcome, done, refused, onto}
+use Rattle.inputs.specs.Fields.{keep, inside}
+use Rattle.inputs.proofs.AcceptedLaws.{done-inj, onto-done}
 use Rattle.extraction_rules.specs.State.{State, Pass, first, second, Setting, Act, setTop}
 use Rattle.extraction_rules.specs.First.{stays, importFirst}
 use Rattle.extraction_rules.specs.Walk.{afterImport, after, walk, walkAll, walkModule}
@@ -32,8 +32,8 @@ use Rattle.extraction_rules.proofs.ShapeLaws.{Shaped, ShapedAll}
 use Rattle.extraction_rules.proofs.ReadableLaws.{item-step}
 use Rattle.extraction_rules.proofs.WalkLaws.{ImportsAll}
 use Rattle.extraction_rules.proofs.SanityLaws.{Known}
-use Rattle.kept.specs.Kept.{At, Good, namespacesIn, sourcesIn}
-use Rattle.kept.specs.Does.{Turns}
+use Rattle.state.specs.Cells.{At, Good, namespacesIn, sourcesIn}
+use Rattle.state.specs.Does.{Turns}
 use Rattle.imports.proofs.CountLaws.{import-brings}
 use Rattle.steps.specs.declared.Setting.{Setting as CodeSetting}
 use Rattle.steps.specs.declared.Why.{Why}
@@ -44,7 +44,7 @@ use Rattle.steps.proofs.SoundLaws.{read-size, row-read, read-tag}
 use Rattle.steps.proofs.StepsLaws.{steps-is, steps-give, steps-as, steps-never, steps-changed, steps-field, begun, pairOf, steps-pair, steps-turned}
 use Rattle.walking.proofs.RowLaws.{all-more, all-none}
 use Rattle.extraction.specs.Passes.{Ready, ItemRead, ItemsRead, itemAct, itemsAct, passAct}
-use Rattle.extraction.proofs.KeptLaws.{item-few, item-sources}
+use Rattle.extraction.proofs.CellsLaws.{item-few, item-sources}
 use Rattle.extraction.proofs.ItemLaws.{one-item, import-first, ready-first, ready-second, item-shaped, item-regular, import-walk}
 
 -- ---- The items one after the other
@@ -97,7 +97,8 @@ module _ (c : CodeSetting) (e : Setting) (s : List ℕ) (bytes : Bytes s) (at en
         }
 
     -- what the first pass brings
-    brought : (u : State) → e .pass ≡ first → {y : At} → ItemRead c e s at stop y u → 9 * namespacesIn (u .collected) ≤ at → After (walk (treeAt s at stop) e false at u) (λ g v. 9 * namespacesIn (v .collected) ≤ stop)
+    brought : (u : State) → e .pass ≡ first → {y : At} → ItemRead c e s at stop y u → 9 * namespacesIn (u .collected) ≤ at →
+        After (walk (treeAt s at stop) e false at u) (λ g v. 9 * namespacesIn (v .collected) ≤ stop)
     brought u one w k = go (eqb (getD s at 0) 0x10) refl
       where
         by-import : getD s at 0 ≡ 0x10 → After (importFirst e (fixedOf (treeAt s at stop)) (partsOf (treeAt s at stop)) at u) (λ g v. 9 * namespacesIn (v .collected) ≤ stop)
@@ -106,21 +107,25 @@ module _ (c : CodeSetting) (e : Setting) (s : List ℕ) (bytes : Bytes s) (at en
             let i = inside-here .0 in
             let f = treeAt s at stop in
             let m = field-size f in
-            after-weaken (importFirst e (fixedOf f) (partsOf f) at u) _ (λ g v. 9 * namespacesIn (v .collected) ≤ stop) (λ g v b. let z : 9 * namespacesIn (v .collected) ≤ stop = omega arith in z)
+            after-weaken (importFirst e (fixedOf f) (partsOf f) at u) _ (λ g v. 9 * namespacesIn (v .collected) ≤ stop)
+            (λ g v b. let z : 9 * namespacesIn (v .collected) ≤ stop = omega arith in z)
             (import-brings e (fixedOf f) (partsOf f) at u (import-shaped f (read-tag (w .read) ∙ q) (item-shaped c e s bytes at stop (w .read))))
 
         go : (b : Bool) → eqb (getD s at 0) 0x10 ≡ b → After (walk (treeAt s at stop) e false at u) (λ g v. 9 * namespacesIn (v .collected) ≤ stop)
         go true q =
             let t = eqb-true (getD s at 0) 0x10 q in
             subst (λ (m : Outcome (Field × State)). After m (λ g v. 9 * namespacesIn (v .collected) ≤ stop))
-            (sym (import-walk c e s bytes at stop (w .read) t u ∙ ap (λ (b : Pass). afterImport b e (fixedOf (treeAt s at stop)) (partsOf (treeAt s at stop)) at u) one ∙ import-first e _ _ at u)) (by-import t)
+            (sym (import-walk c e s bytes at stop (w .read) t u
+            ∙ ap (λ (b : Pass). afterImport b e (fixedOf (treeAt s at stop)) (partsOf (treeAt s at stop)) at u) one ∙ import-first e _ _ at u))
+            (by-import t)
         go false q =
             let i = inside-here .0 in
             after-weaken (walk (treeAt s at stop) e false at u) _ (λ g v. 9 * namespacesIn (v .collected) ≤ stop) (λ g v b. let z : 9 * namespacesIn (v .collected) ≤ stop = omega arith in z)
             (item-few e one (treeAt s at stop) false at u (item-regular c e s bytes at stop w (eqb-false (getD s at 0) 0x10 q)))
 
     -- the others, in the state that the first one leaves
-    items-rest : e .pass ≡ passOf (c .second) → {y : At} {u v : State} {g : Field} → ItemsRead c e s at end y u → walk (treeAt s at stop) e false at u ≡ done (g, v) → ItemsRead c e s stop end y v
+    items-rest : e .pass ≡ passOf (c .second) → {y : At} {u v : State} {g : Field} → ItemsRead c e s at end y u →
+        walk (treeAt s at stop) e false at u ≡ done (g, v) → ItemsRead c e s stop end y v
     items-rest p {y} {u} {v} {g} w z =
         let r = row-read (ruleOf 0x01) le (w .fits) (w .row) x in
         let q = item-step (getD s at 0) (r .1 .0) (r .1 .1) .1 in
@@ -156,12 +161,15 @@ module _ (c : CodeSetting) (e : Setting) (s : List ℕ) (bytes : Bytes s) (at en
         two g (refused n k) = refl
 
         go : (m : Outcome (Field × State)) →
-            onto {B = Fields × State} (onto {B = Fields × State} m (λ a. onto (walkAll (rowAt s stop end) e false stop (a .1)) (λ b. done (more (a .0) (b .0), b .1)))) (λ r. done (keep stays (r .0), r .1)) ≡
+            onto {B = Fields × State}
+            (onto {B = Fields × State} m (λ a. onto (walkAll (rowAt s stop end) e false stop (a .1)) (λ b. done (more (a .0) (b .0), b .1))))
+            (λ r. done (keep stays (r .0), r .1)) ≡
             onto (onto {B = Fields × State} m (λ r. done (one-item (r .0), r .1))) (λ a. onto (itemsAct e s stop end (a .1)) (λ b. done (append (a .0) (b .0), b .1)))
         go (done a) = two (a .0) (walkAll (rowAt s stop end) e false stop (a .1))
         go (refused n k) = refl
 
-    pub items-then : e .pass ≡ passOf (c .second) → {t out t1 out1 t2 out2 : List ℕ} {o p : ℕ} {k : Step} → Steps encodes (ItemRead c e s at stop) (itemAct e s at stop) t out o t1 out1 (Done p) →
+    pub items-then : e .pass ≡ passOf (c .second) → {t out t1 out1 t2 out2 : List ℕ} {o p : ℕ} {k : Step} →
+        Steps encodes (ItemRead c e s at stop) (itemAct e s at stop) t out o t1 out1 (Done p) →
         Steps encodes (ItemsRead c e s stop end) (itemsAct e s stop end) t1 out1 p t2 out2 k → Steps encodes (ItemsRead c e s at end) (itemsAct e s at end) t out o t2 out2 k
     items-then h one rest =
         steps-as (itemsAct e s at end)
@@ -213,7 +221,8 @@ module _ {c : CodeSetting} {e : Setting} {s : List ℕ} {from end : ℕ} {t₀ o
     passing-turned z = g .rest t1 out1 _ (items-turned c e s bytes at end (g .inside) stop x (steps-is m z))
 
 -- bytes that are no module cannot have been read
-pub pass-short : (c : CodeSetting) (e : Setting) (act : Act Field) {s : List ℕ} {t out : List ℕ} {o : ℕ} (k : Step) → Good t → length s < 3 → Steps encode (ItemsRead c e s 3 (length s)) act t out o t out k
+pub pass-short : (c : CodeSetting) (e : Setting) (act : Act Field) {s : List ℕ} {t out : List ℕ} {o : ℕ} (k : Step) → Good t → length s < 3 →
+    Steps encode (ItemsRead c e s 3 (length s)) act t out o t out k
 pass-short c e act {s} k g h = steps-never encode (ItemsRead c e s 3 (length s)) act k g (λ x u w. let i = w .inside in omega arith)
 
 ready-top : (b : Bool) (at end : ℕ) (u : State) (K : Type 0) → Ready b at end u K → Ready b at end (setTop true u) K
@@ -226,5 +235,8 @@ pub pass-made : {c : CodeSetting} {e : Setting} {s : List ℕ} {t t1 t2 out out1
     Steps encode (ItemsRead c e s 3 (length s)) (passAct e s) t out 0 t2 out3 k
 unfolding walkModule
 pass-made {c} {e} {s} r g b m n =
-    steps-as (passAct e s) (steps-changed (setTop true) g (steps-field r (begun b wrote-none) m n) (λ x u w. record { inside = w .inside; row = w .row; fits = w .fits; reads = w .reads; ready = ready-top (c .second) 3 (length s) u _ (w .ready) }))
+    steps-as (passAct e s)
+    (steps-changed (setTop true) g (steps-field r (begun b wrote-none) m n)
+    (λ x u w. record
+    { inside = w .inside; row = w .row; fits = w .fits; reads = w .reads; ready = ready-top (c .second) 3 (length s) u _ (w .ready) }))
     (λ x u w. (w, refl))

@@ -11,13 +11,13 @@ use Rattle.tree.specs.Tree.{Fields}
 use Rattle.tree.specs.Read.{fine, read}
 use Rattle.tree.proofs.AccessLaws.{extent-upto}
 use Rattle.tree.proofs.WidthLaws.{read-module}
-use Rattle.lent.specs.Outcome.{done}
+use Rattle.inputs.specs.Outcome.{done}
 use Rattle.extraction_rules.specs.Call.{itemsRead}
 use Rattle.extraction_rules.proofs.OutcomeLaws.{of-done}
 use Rattle.extraction_rules.proofs.ReadableLaws.{Items, read-items}
-use Rattle.kept.specs.Kept.{At}
-use Rattle.recording.specs.Writes.{placed, Placing, itemsIn}
-use Rattle.recording.proofs.ToldLaws.{placed-0, placed-first, placed-second}
+use Rattle.state.specs.Cells.{At}
+use Rattle.records.specs.Writes.{placed, Placing, itemsIn}
+use Rattle.records.proofs.ToldLaws.{placed-0, placed-first, placed-second}
 use Rattle.walking.specs.Walking.{Reads}
 use Rattle.extraction.specs.Answer.{ModuleRead}
 

@@ -6,17 +6,17 @@ use mathlib.Core.List.{List, []}
 use mathlib.Core.Option.{Option, none as nothing, some}
 use lib.ListN.{length, getD, replicate, length-replicate}
 use Rattle.scope.specs.Modules.{Modules}
-use Rattle.scope.specs.Kept.{modulesOf}
+use Rattle.scope.specs.ScopeValue.{modulesOf}
 use Rattle.scope.specs.declared.Scope.{Scope}
 use Rattle.tree.specs.Layout.{Bytes}
 use Rattle.writer.specs.Finished.{zeroed}
-use Rattle.lent.specs.Outcome.{Outcome, done, refused, refusalIn}
-use Rattle.lent.specs.Buffer.{bufferOf}
+use Rattle.inputs.specs.Outcome.{Outcome, done, refused, refusalIn}
+use Rattle.inputs.specs.Buffer.{bufferOf}
 use Rattle.extraction_rules.specs.State.{start, setTop, setModules}
 use Rattle.extraction_rules.specs.Call.{Lent, Lengths, Extracted, Left, modulesAfter, extracted, extraction}
-use Rattle.kept.specs.Kept.{At, cells, Good, Shows}
-use Rattle.kept.specs.Does.{Tells, Turns}
-use Rattle.kept.proofs.RestLaws.{zero-good, zero-shows}
+use Rattle.state.specs.Cells.{At, cells, Good, Shows}
+use Rattle.state.specs.Does.{Tells, Turns}
+use Rattle.state.proofs.RestLaws.{zero-good, zero-shows}
 use Rattle.extraction.specs.declared.ExtractAnswer.{ExtractAnswer}
 use Rattle.extraction.specs.declared.ExtractAnswer.the-variants.{Extracted as Accepted, BadLists, NamedTwice, Unread, Refused, NoRoom}
 use Rattle.extraction.specs.Answer.{answerRefusal, answerNumber, answerPlace, roomIn, left, Calls}

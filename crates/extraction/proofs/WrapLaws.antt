@@ -9,18 +9,18 @@ use Rattle.scope.specs.Modules.{setMark}
 use Rattle.scope.specs.declared.Mark.the-variants.{Wrapping as WrappingMark}
 use Rattle.scope.specs.declared.id.ModuleId.{ModuleId}
 use Rattle.tree.specs.Layout.{two}
-use Rattle.lent.specs.Outcome.{Outcome, done, refused, onto}
-use Rattle.lent.specs.Table.{Row, rowsIn, fileOf}
+use Rattle.inputs.specs.Outcome.{Outcome, done, refused, onto}
+use Rattle.inputs.specs.Table.{Row, rowsIn, fileOf}
 use Rattle.extraction_rules.specs.State.{State, Setting, setModules}
 use Rattle.extraction_rules.specs.First.{moduleOf, moduleFor}
 use Rattle.extraction_rules.specs.Second.{wrapModule, wrapAll}
 use Rattle.extraction_rules.proofs.OutcomeLaws.{After, after-bind, after-weaken, after-done}
 use Rattle.extraction_rules.proofs.StepLaws.{moduleFor-stays}
-use Rattle.kept.specs.Kept.{Good, forces, tableOf, held}
+use Rattle.state.specs.Cells.{Good, forces, tableOf, held}
 use Rattle.tables.proofs.RowLaws.{rows-length}
-use Rattle.kept.specs.Does.{Tells, Holds, Turns, Resolves}
-use Rattle.kept.specs.declared.Module.{Module}
-use Rattle.kept.specs.declared.Module.the-variants.{Is as Numbered, Unresolved, TooMany}
+use Rattle.state.specs.Does.{Tells, Holds, Turns, Resolves}
+use Rattle.state.specs.declared.Module.{Module}
+use Rattle.state.specs.declared.Module.the-variants.{Is as Numbered, Unresolved, TooMany}
 use Rattle.steps.specs.declared.Why.{Why}
 use Rattle.steps.specs.declared.Why.the-variants.{TooManyFiles}
 use Rattle.steps.specs.declared.Effect.{Effect}

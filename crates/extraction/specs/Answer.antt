@@ -6,7 +6,7 @@ use mathlib.Core.List.{List, map}
 use mathlib.Core.Option.{Option, none as nothing, some}
 use lib.ListN.{length, drop}
 use Rattle.scope.specs.Modules.{Modules, request}
-use Rattle.scope.specs.Kept.{modulesOf}
+use Rattle.scope.specs.ScopeValue.{modulesOf}
 use Rattle.tree.specs.declared.grammar.Set.the-variants.{Module}
 use Rattle.tree.specs.Grammar.{ruleOf}
 use Rattle.tree.specs.Tree.{Field, Fields, none, more, encode, size}
@@ -14,9 +14,9 @@ use Rattle.tree.specs.Read.{fine, read, refusalOf as readRefusal}
 use Rattle.tree.specs.Standing.{Row}
 use Rattle.writer.specs.Wrote.{Wrote}
 use Rattle.writer.specs.Finished.{hasRoom, delivered}
-use Rattle.lent.specs.Outcome.{Outcome, done, refused, onto, placeless, numberIn, placeIn}
-use Rattle.lent.specs.Table.{rowsIn}
-use Rattle.lent.specs.Buffer.{fits}
+use Rattle.inputs.specs.Outcome.{Outcome, done, refused, onto, placeless, numberIn, placeIn}
+use Rattle.inputs.specs.Table.{rowsIn}
+use Rattle.inputs.specs.Buffer.{fits}
 use Rattle.extraction_rules.specs.State.{State, Setting, Act, start, setTop}
 use Rattle.extraction_rules.specs.First.{moduleFor}
 use Rattle.extraction_rules.specs.Second.{wrapModule, wrapAll}
@@ -27,11 +27,11 @@ use Rattle.extraction_rules.proofs.OutcomeLaws.{After}
 use Rattle.extraction_rules.proofs.WalkLaws.{ImportsAll}
 use Rattle.extraction_rules.proofs.SanityLaws.{Known}
 use Rattle.extraction_rules.proofs.ReadableLaws.{Items}
-use Rattle.kept.specs.Kept.{At, Good, Shows, sourcesIn}
+use Rattle.state.specs.Cells.{At, Good, Shows, sourcesIn}
 use Rattle.steps.specs.declared.Effect.{Effect}
 use Rattle.steps.specs.Step.{refusalOf, Effects}
-use Rattle.recording.specs.Model.{rebuilt}
-use Rattle.recording.specs.Writes.{Placing, RowRead, itemsIn, recordsIn}
+use Rattle.records.specs.Model.{rebuilt}
+use Rattle.records.specs.Writes.{Placing, RowRead, itemsIn, recordsIn}
 use Rattle.extraction.specs.declared.ExtractAnswer.{ExtractAnswer}
 use Rattle.extraction.specs.declared.ExtractAnswer.the-variants.{Extracted as Accepted, BadLists, NamedTwice, Unread, Refused, NoRoom}
 use Rattle.extraction.specs.declared.Extraction.{Extraction}

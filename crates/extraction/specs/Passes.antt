@@ -8,15 +8,15 @@ use Rattle.tree.specs.declared.grammar.Step.the-variants.{Go}
 use Rattle.tree.specs.Grammar.{ruleOf, stepAt}
 use Rattle.tree.specs.Tree.{Field, Fields, none, more}
 use Rattle.tree.specs.Standing.{treeAt, rowAt, Row}
-use Rattle.lent.specs.Outcome.{done, onto}
-use Rattle.lent.specs.Fields.{keep}
+use Rattle.inputs.specs.Outcome.{done, onto}
+use Rattle.inputs.specs.Fields.{keep}
 use Rattle.extraction_rules.specs.State.{State, Setting, Act}
 use Rattle.extraction_rules.specs.First.{stays}
 use Rattle.extraction_rules.specs.Walk.{walk, walkAll, walkModule}
 use Rattle.extraction_rules.specs.Call.{moduleWith}
 use Rattle.extraction_rules.proofs.WalkLaws.{Imports, ImportsAll}
 use Rattle.extraction_rules.proofs.SanityLaws.{Known}
-use Rattle.kept.specs.Kept.{At, namespacesIn, sourcesIn}
+use Rattle.state.specs.Cells.{At, namespacesIn, sourcesIn}
 use Rattle.steps.specs.declared.Setting.{Setting as CodeSetting}
 use Rattle.steps.specs.Step.{ReadAt}
 use Rattle.walking.specs.Walking.{Reads}

@@ -4,32 +4,32 @@ ghost use Prim.Native.Nat.{_≤_};
 ghost use mathlib.Core.Bool.{false, true};
 ghost use lib.ListN.{length};
 ghost use Rattle.tree.specs.Layout.{two as twoOf, Bytes};
-ghost use Rattle.scope.specs.Kept.{modulesOf};
+ghost use Rattle.scope.specs.ScopeValue.{modulesOf};
 ghost use Rattle.extraction_rules.specs.State.{second as pass-two};
 ghost use Rattle.extraction_rules.specs.Call.{setting, badLists, extracted, extraction};
-ghost use Rattle.lent.specs.Table.{rowsIn};
-ghost use Rattle.kept.specs.Kept.{Good};
+ghost use Rattle.inputs.specs.Table.{rowsIn};
+ghost use Rattle.state.specs.Cells.{Good};
 ghost use Rattle.extraction.specs.Answer.{left, lentAs, roomIn, wrapOne, wrapFrom, Wraps, Closes, Seconds, ModuleRead, Calls, passesBy, ownedBy};
 
 pub mod passes; // a pass over a module's items
 
-use kept::CELLS;
-use kept::Module;
-use kept::forced::count_forced;
-use kept::forced::forced_at;
-use kept::modules::load;
-use kept::modules::mark_wrapping;
-use kept::modules::module_for;
-use kept::modules::request;
-use kept::modules::scope_of;
-use lent::bad_externals;
-use lent::bad_table;
-use lent::names_twice;
+use inputs::bad_externals;
+use inputs::bad_table;
+use inputs::names_twice;
 use passes::pass;
-use recording::put_records;
+use records::put_records;
 use scope::Scope;
 use scope::id::FileName;
 use scope::id::ModuleId;
+use state::CELLS;
+use state::Module;
+use state::forced::count_forced;
+use state::forced::forced_at;
+use state::modules::load;
+use state::modules::mark_wrapping;
+use state::modules::module_for;
+use state::modules::request;
+use state::modules::scope_of;
 use steps::Effect;
 use steps::Setting;
 use steps::Step;
@@ -74,7 +74,10 @@ pub fn extract_import_info(
     out: &mut [u8],
     records: &mut [u8],
 ) -> Extraction
-    ensures { λ r. ⌜ left r (now (work .exit)) (now (out .exit)) (now (records .exit)) ≡ extraction (lentAs (file .0) config (now (externals .entry)) (now (table .entry)) (now (tree .entry))) (roomIn (now (work .entry)) (now (out .entry)) (now (records .entry))) (modulesOf scope) ⌝ }
+    ensures { λ r.
+        ⌜ left r (now (work .exit)) (now (out .exit)) (now (records .exit)) ≡ extraction
+        (lentAs (file .0) config (now (externals .entry)) (now (table .entry)) (now (tree .entry)))
+        (roomIn (now (work .entry)) (now (out .entry)) (now (records .entry))) (modulesOf scope) ⌝ }
 {
     let mut t = [0u64; CELLS];
     load(&mut t, scope);
@@ -129,7 +132,11 @@ fn lists(
     records: &mut [u8],
 ) -> ExtractAnswer
     requires { ⌜ Good (now t) ⌝ }
-    ensures { λ a. ⌜ Calls (Bytes (now (tree .entry))) (extracted (lentAs (file .0) config (now (externals .entry)) (now (table .entry)) (now (tree .entry))) (roomIn (now (work .entry)) (now (out .entry)) (now (records .entry)))) (now (t .entry)) (now (work .entry)) (now (out .entry)) (now (records .entry)) (now (t .exit)) (now (work .exit)) (now (out .exit)) (now (records .exit)) a ⌝ }
+    ensures { λ a.
+        ⌜ Calls (Bytes (now (tree .entry)))
+        (extracted (lentAs (file .0) config (now (externals .entry)) (now (table .entry)) (now (tree .entry)))
+        (roomIn (now (work .entry)) (now (out .entry)) (now (records .entry)))) (now (t .entry)) (now (work .entry)) (now (out .entry))
+        (now (records .entry)) (now (t .exit)) (now (work .exit)) (now (out .exit)) (now (records .exit)) a ⌝ }
 {
     if bad_lists(externals, table, tree) {
         return ExtractAnswer::BadLists;
@@ -156,7 +163,11 @@ fn own_file(
     records: &mut [u8],
 ) -> ExtractAnswer
     requires { ⌜ Good (now t) ⌝ }
-    ensures { λ a. ⌜ Calls (ModuleRead (now (tree .entry))) (ownedBy (lentAs (file .0) config (now (externals .entry)) (now (table .entry)) (now (tree .entry))) (roomIn (now (work .entry)) (now (out .entry)) (now (records .entry)))) (now (t .entry)) (now (work .entry)) (now (out .entry)) (now (records .entry)) (now (t .exit)) (now (work .exit)) (now (out .exit)) (now (records .exit)) a ⌝ }
+    ensures { λ a.
+        ⌜ Calls (ModuleRead (now (tree .entry)))
+        (ownedBy (lentAs (file .0) config (now (externals .entry)) (now (table .entry)) (now (tree .entry)))
+        (roomIn (now (work .entry)) (now (out .entry)) (now (records .entry)))) (now (t .entry)) (now (work .entry)) (now (out .entry))
+        (now (records .entry)) (now (t .exit)) (now (work .exit)) (now (out .exit)) (now (records .exit)) a ⌝ }
 {
     match request(t, file) {
         Module::Is(own) => first_pass(own, config, externals, table, tree, t, work, out, records),
@@ -178,7 +189,11 @@ fn first_pass(
     records: &mut [u8],
 ) -> ExtractAnswer
     requires { ⌜ Good (now t) ⌝ }
-    ensures { λ a. ⌜ Calls (ModuleRead (now (tree .entry))) (passesBy (lentAs 0 config (now (externals .entry)) (now (table .entry)) (now (tree .entry))) (roomIn (now (work .entry)) (now (out .entry)) (now (records .entry))) (own .0)) (now (t .entry)) (now (work .entry)) (now (out .entry)) (now (records .entry)) (now (t .exit)) (now (work .exit)) (now (out .exit)) (now (records .exit)) a ⌝ }
+    ensures { λ a.
+        ⌜ Calls (ModuleRead (now (tree .entry)))
+        (passesBy (lentAs 0 config (now (externals .entry)) (now (table .entry)) (now (tree .entry)))
+        (roomIn (now (work .entry)) (now (out .entry)) (now (records .entry))) (own .0)) (now (t .entry)) (now (work .entry)) (now (out .entry))
+        (now (records .entry)) (now (t .exit)) (now (work .exit)) (now (out .exit)) (now (records .exit)) a ⌝ }
 {
     let e = Setting {
         second: false,
@@ -218,7 +233,11 @@ fn second_pass(
     records: &mut [u8],
 ) -> ExtractAnswer
     requires { ⌜ Good (now t) ⌝ }
-    ensures { λ a. ⌜ Seconds (setting pass-two (own .0) (lentAs 0 config (now (externals .entry)) (now (table .entry)) (now (tree .entry))) (rowsIn (now (table .entry)))) (now (tree .entry)) (now (t .entry)) (now (work .entry)) (now (out .entry)) (now (records .entry)) (now (t .exit)) (now (out .exit)) (now (records .exit)) a ⌝ }
+    ensures { λ a.
+        ⌜ Seconds
+        (setting pass-two (own .0) (lentAs 0 config (now (externals .entry)) (now (table .entry)) (now (tree .entry))) (rowsIn (now (table .entry))))
+        (now (tree .entry)) (now (t .entry)) (now (work .entry)) (now (out .entry)) (now (records .entry)) (now (t .exit)) (now (out .exit))
+        (now (records .exit)) a ⌝ }
 {
     let e = Setting {
         second: true,

@@ -5,13 +5,13 @@ ghost use lib.ListN.{length, getD};
 ghost use Rattle.tree.specs.Access.{fixedAt};
 ghost use Rattle.tree.specs.Tree.{encode, encodes};
 ghost use Rattle.tree.specs.declared.layout.Reach.the-variants.{Upto};
-ghost use Rattle.kept.specs.Kept.{Good};
+ghost use Rattle.state.specs.Cells.{Good};
 ghost use Rattle.steps.specs.Step.{Steps};
 ghost use Rattle.walking.specs.Walking.{set};
 ghost use Rattle.extraction.specs.Passes.{ItemRead, ItemsRead, itemAct, itemsAct, passAct};
 use imports::first::import_first;
 use imports::second::import_second;
-use kept::rest::set_top;
+use state::rest::set_top;
 use steps::Setting;
 use steps::Step;
 use steps::end_field;
@@ -33,7 +33,10 @@ pub fn pass(
     out: &mut [u8],
 ) -> Step
     requires { ⌜ Good (now t) ⌝ }
-    ensures { λ k. ⌜ Steps encode (ItemsRead e (set e (now (externals .entry)) (now (table .entry))) (now (s .entry)) 3 (length (now (s .entry)))) (passAct (set e (now (externals .entry)) (now (table .entry))) (now (s .entry))) (now (t .entry)) (now (out .entry)) 0 (now (t .exit)) (now (out .exit)) k ⌝ }
+    ensures { λ k.
+        ⌜ Steps encode (ItemsRead e (set e (now (externals .entry)) (now (table .entry))) (now (s .entry)) 3 (length (now (s .entry))))
+        (passAct (set e (now (externals .entry)) (now (table .entry))) (now (s .entry))) (now (t .entry)) (now (out .entry)) 0 (now (t .exit))
+        (now (out .exit)) k ⌝ }
 {
     if s.len() < START {
         return Step::Done(0);
@@ -57,7 +60,10 @@ fn items(
     o: usize,
 ) -> Step
     requires { ⌜ (from ≤ end) × (end ≤ length (now s)) × Good (now t) ⌝ }
-    ensures { λ k. ⌜ Steps encodes (ItemsRead e (set e (now (externals .entry)) (now (table .entry))) (now (s .entry)) from end) (itemsAct (set e (now (externals .entry)) (now (table .entry))) (now (s .entry)) from end) (now (t .entry)) (now (out .entry)) o (now (t .exit)) (now (out .exit)) k ⌝ }
+    ensures { λ k.
+        ⌜ Steps encodes (ItemsRead e (set e (now (externals .entry)) (now (table .entry))) (now (s .entry)) from end)
+        (itemsAct (set e (now (externals .entry)) (now (table .entry))) (now (s .entry)) from end) (now (t .entry)) (now (out .entry)) o
+        (now (t .exit)) (now (out .exit)) k ⌝ }
 {
     let mut at = from;
     let mut to = o;
@@ -88,7 +94,10 @@ fn item(
     o: usize,
 ) -> Step
     requires { ⌜ (at + 3 ≤ stop) × (stop ≤ length (now s)) × Good (now t) ⌝ }
-    ensures { λ k. ⌜ Steps encodes (ItemRead e (set e (now (externals .entry)) (now (table .entry))) (now (s .entry)) at stop) (itemAct (set e (now (externals .entry)) (now (table .entry))) (now (s .entry)) at stop) (now (t .entry)) (now (out .entry)) o (now (t .exit)) (now (out .exit)) k ⌝ }
+    ensures { λ k.
+        ⌜ Steps encodes (ItemRead e (set e (now (externals .entry)) (now (table .entry))) (now (s .entry)) at stop)
+        (itemAct (set e (now (externals .entry)) (now (table .entry))) (now (s .entry)) at stop) (now (t .entry)) (now (out .entry)) o (now (t .exit))
+        (now (out .exit)) k ⌝ }
 {
     match s[at] {
         0x10 => import(s, at, stop, e, externals, table, t, out, o),
@@ -114,7 +123,10 @@ fn import(
     o: usize,
 ) -> Step
     requires { ⌜ (getD (now s) at 0 ≡ 0x10) × (at + 3 ≤ stop) × (stop ≤ length (now s)) × Good (now t) ⌝ }
-    ensures { λ k. ⌜ Steps encodes (ItemRead e (set e (now (externals .entry)) (now (table .entry))) (now (s .entry)) at stop) (itemAct (set e (now (externals .entry)) (now (table .entry))) (now (s .entry)) at stop) (now (t .entry)) (now (out .entry)) o (now (t .exit)) (now (out .exit)) k ⌝ }
+    ensures { λ k.
+        ⌜ Steps encodes (ItemRead e (set e (now (externals .entry)) (now (table .entry))) (now (s .entry)) at stop)
+        (itemAct (set e (now (externals .entry)) (now (table .entry))) (now (s .entry)) at stop) (now (t .entry)) (now (out .entry)) o (now (t .exit))
+        (now (out .exit)) k ⌝ }
 {
     let Reach::Upto(from) = fixed(s, 0x10, at + 3, stop) else {
         return Step::Done(o);

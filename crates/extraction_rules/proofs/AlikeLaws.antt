@@ -14,11 +14,13 @@ use Rattle.scope.specs.Id.{require-atom, export}
 use Rattle.tree.specs.Layout.{same, two, four, idAt, nameOf}
 use Rattle.tree.specs.Tree.{Field, field, Fields, none, more, tagOf, fixedOf, partsOf, size}
 use Rattle.tree.proofs.LayoutLaws.{same-equal}
-use Rattle.lent.specs.Outcome.{Outcome, done, onto}
-use Rattle.lent.specs.Fields.{has, sole, inside}
+use Rattle.inputs.specs.Outcome.{Outcome, done, onto}
+use Rattle.inputs.specs.Fields.{has, sole, inside}
 use Rattle.extraction_rules.specs.State.{State, first, Setting, refuse}
 use Rattle.extraction_rules.specs.First.{idFrom, argument, notExternal, required, withCallee, exportSpecifier, declarator}
-use Rattle.extraction_rules.specs.Walk.{Rule, import, export as exporting, declare, express, nothing as plain, ruleFor, after, Parts, unwalked, member, super, assignment, children, partsFor, enter, walk, walkAll, walkMember, walkAssignment, walkTarget}
+use Rattle.extraction_rules.specs.Walk.{Rule, import, export as exporting, declare, express, nothing as plain, ruleFor, after, Parts, unwalked}
+use Rattle.extraction_rules.specs.Walk.{member, super, assignment, children, partsFor, enter, walk, walkAll, walkMember, walkAssignment}
+use Rattle.extraction_rules.specs.Walk.{walkTarget}
 use Rattle.extraction_rules.proofs.OutcomeLaws.{After, after-bind, after-if}
 use Rattle.extraction_rules.proofs.ValueLaws.{required-call, first-expression, declarator-value}
 use Rattle.extraction_rules.proofs.TagLaws.{rule-import, rule-export}
@@ -162,7 +164,8 @@ module _ (e : Setting) (one : e .pass ≡ first) where
   rule-alike import t x cs ds object p s q w h = absurd (w .no-import (rule-import t q))
   rule-alike exporting t x cs ds object p s q w h = go t cs (rule-export t q) (w .export-bare (rule-export t q)) (w .export-kind (rule-export t q))
     where
-      go : (t : ℕ) (cs : Fields) → t ≡ 0x23 → cs ≡ none → ((getD x 0 0 ≡ 1) × (7 ≤ length x)) ⊎ (getD x 0 0 ≡ 2) → After (exportSpecifier e x p s) (λ g s. Alike (field t x cs) g)
+      go : (t : ℕ) (cs : Fields) → t ≡ 0x23 → cs ≡ none → ((getD x 0 0 ≡ 1) × (7 ≤ length x)) ⊎ (getD x 0 0 ≡ 2) →
+          After (exportSpecifier e x p s) (λ g s. Alike (field t x cs) g)
       go t cs q b k = rw (q, b) (export-alike x p s k)
   rule-alike declare t x cs ds object p s q w h =
       after-bind (declarator e ds p s) _ (λ gs s. AlikeAll cs gs) (λ g s. Alike (field t x cs) g) (declarator-alike cs ds p s h) λ gs s k. (refl, equal refl, k)
@@ -175,7 +178,8 @@ module _ (e : Setting) (one : e .pass ≡ first) where
   abbrev PartsAlike : Fields → (ℕ → State → Outcome (Fields × State)) → Type 0
   PartsAlike cs m = (p : ℕ) (s : State) → After (m p s) (λ ds s. AlikeAll cs ds)
 
-  pub parts-alike : (v : Parts) (cs : Fields) (object : Bool) (p : ℕ) (s : State) → ((b : Bool) → PartsAlike cs (walkAll cs e b)) → PartsAlike cs (walkMember cs e) → PartsAlike cs (walkAssignment cs e object) →
+  pub parts-alike : (v : Parts) (cs : Fields) (object : Bool) (p : ℕ) (s : State) → ((b : Bool) → PartsAlike cs (walkAll cs e b)) →
+      PartsAlike cs (walkMember cs e) → PartsAlike cs (walkAssignment cs e object) →
       After (walkParts v cs e object p s) (λ ds s. AlikeAll cs ds)
   parts-alike unwalked cs object p s all mem asg = alikeAll-refl cs
   parts-alike member cs object p s all mem asg = mem p s
@@ -183,7 +187,8 @@ module _ (e : Setting) (one : e .pass ≡ first) where
   parts-alike assignment cs object p s all mem asg = asg p s
   parts-alike children cs object p s all mem asg = all object p s
 
-  both-alike : (f : Field) (fs : Fields) (m : Outcome (Field × State)) (k : State → Outcome (Fields × State)) → After m (λ g s. Alike f g) → ((s : State) → After (k s) (λ gs s. AlikeAll fs gs)) →
+  both-alike : (f : Field) (fs : Fields) (m : Outcome (Field × State)) (k : State → Outcome (Fields × State)) → After m (λ g s. Alike f g) →
+      ((s : State) → After (k s) (λ gs s. AlikeAll fs gs)) →
       After (onto m (λ r. onto (k (r .1)) (λ q. done (more (r .0) (q .0), q .1)))) (λ gs s. AlikeAll (more f fs) gs)
   both-alike f fs m k h w =
       after-bind m _ (λ g s. Alike f g) (λ gs s. AlikeAll (more f fs) gs) h λ g s a.
@@ -195,12 +200,15 @@ module _ (e : Setting) (one : e .pass ≡ first) where
     pub walk-alike : (f : Field) (object : Bool) (p : ℕ) (s : State) → Regular f → After (walk f e object p s) (λ g s. Alike f g)
     walk-alike (field t x cs) object p s w =
         after-bind (walkParts (partsFor t) cs e object (inside p x) (enter t s)) _ (λ ds s. AlikeAll cs ds) (λ g s. Alike (field t x cs) g)
-        (parts-alike (partsFor t) cs object (inside p x) (enter t s) (λ b p s. walkAll-alike cs b p s (w .1)) (λ p s. walkMember-alike cs p s (w .1)) (λ p s. walkAssignment-alike cs object p s (w .1))) λ ds s h.
+        (parts-alike (partsFor t) cs object (inside p x) (enter t s) (λ b p s. walkAll-alike cs b p s (w .1)) (λ p s. walkMember-alike cs p s (w .1))
+        (λ p s. walkAssignment-alike cs object p s (w .1))) λ ds s h.
         rule-alike (ruleFor t) t x cs ds object p s refl (w .0) h
 
     pub walkAll-alike : (fs : Fields) (object : Bool) (p : ℕ) (s : State) → RegularAll fs → After (walkAll fs e object p s) (λ gs s. AlikeAll fs gs)
     walkAll-alike none object p s w = refl
-    walkAll-alike (more f fs) object p s w = both-alike f fs (walk f e object p s) (walkAll fs e object (p + size f)) (walk-alike f object p s (w .0)) (λ s. walkAll-alike fs object (p + size f) s (w .1))
+    walkAll-alike (more f fs) object p s w =
+        both-alike f fs (walk f e object p s) (walkAll fs e object (p + size f)) (walk-alike f object p s (w .0))
+        (λ s. walkAll-alike fs object (p + size f) s (w .1))
 
     pub walkMember-alike : (fs : Fields) (p : ℕ) (s : State) → RegularAll fs → After (walkMember fs e p s) (λ gs s. AlikeAll fs gs)
     walkMember-alike none p s w = refl
@@ -208,7 +216,9 @@ module _ (e : Setting) (one : e .pass ≡ first) where
 
     pub walkAssignment-alike : (fs : Fields) (object : Bool) (p : ℕ) (s : State) → RegularAll fs → After (walkAssignment fs e object p s) (λ gs s. AlikeAll fs gs)
     walkAssignment-alike none object p s w = refl
-    walkAssignment-alike (more f fs) object p s w = both-alike f fs (walkTarget f e p s) (walkAll fs e object (p + size f)) (walkTarget-alike f p s (w .0)) (λ s. walkAll-alike fs object (p + size f) s (w .1))
+    walkAssignment-alike (more f fs) object p s w =
+        both-alike f fs (walkTarget f e p s) (walkAll fs e object (p + size f)) (walkTarget-alike f p s (w .0))
+        (λ s. walkAll-alike fs object (p + size f) s (w .1))
 
     pub walkTarget-alike : (f : Field) (p : ℕ) (s : State) → Regular f → After (walkTarget f e p s) (λ g s. Alike f g)
     walkTarget-alike (field t x cs) p s w =
@@ -227,8 +237,14 @@ pub alike-two : (cs ds : Fields) → AlikeAll cs ds → Two cs → Two ds
 alike-two none ds h w = absurd (let e = w .2 in let z : _≡_ {A = ℕ} 0 1 = cc in omega arith)
 alike-two (more o none) ds h w = absurd (let e = w .2 in let z : _≡_ {A = ℕ} 0 1 = cc in omega arith)
 alike-two (more o (more q none)) ds h w =
-    let e : w .1 ≡ q = cc (w .2) in
-    (h .0, h .4 .0, h .2 ∙ ap (more (h .0)) (h .4 .2 ∙ ap (more (h .4 .0)) (h .4 .4)), go (h .4 .0) (alike-tag q (h .4 .0) (h .4 .3)) (subst (λ (k : Field). (tagOf k ≡ 0x70) ⊎ ((tagOf k ≡ 0x71) ⊎ (tagOf k ≡ 0x72))) e (w .3)))
+    let e : w .1 ≡ q = cc (w .2) in (
+      h .0,
+      h .4 .0,
+      h .2
+          ∙ ap (more (h .0)) (h .4 .2 ∙ ap (more (h .4 .0)) (h .4 .4)),
+      go (h .4 .0) (alike-tag q (h .4 .0) (h .4 .3))
+          (subst (λ (k : Field). (tagOf k ≡ 0x70) ⊎ ((tagOf k ≡ 0x71) ⊎ (tagOf k ≡ 0x72))) e (w .3)),
+    )
   where
     go : (g : Field) → tagOf g ≡ tagOf q → (tagOf q ≡ 0x70) ⊎ ((tagOf q ≡ 0x71) ⊎ (tagOf q ≡ 0x72)) → (tagOf g ≡ 0x70) ⊎ ((tagOf g ≡ 0x71) ⊎ (tagOf g ≡ 0x72))
     go g r (inl v) = inl (r ∙ v)
@@ -261,7 +277,8 @@ original-kind x y q (inl k) =
     inl (first-byte y ∙ ap (λ (l : List ℕ). getD l 0 0) q ∙ sym (first-byte x) ∙ k .0, let e = ap length q in let a = length-take-le 7 x (k .1) in let b = length-take 7 y in omega arith)
 original-kind x y q (inr k) = inr (first-byte y ∙ ap (λ (l : List ℕ). getD l 0 0) q ∙ sym (first-byte x) ∙ k)
 
-kind-alike : (t : ℕ) (x y : List ℕ) → SameBytes t x y → t ≡ 0x23 → ((getD x 0 0 ≡ 1) × (7 ≤ length x)) ⊎ (getD x 0 0 ≡ 2) → ((getD y 0 0 ≡ 1) × (7 ≤ length y)) ⊎ (getD y 0 0 ≡ 2)
+kind-alike : (t : ℕ) (x y : List ℕ) → SameBytes t x y → t ≡ 0x23 → ((getD x 0 0 ≡ 1) × (7 ≤ length x)) ⊎ (getD x 0 0 ≡ 2) →
+    ((getD y 0 0 ≡ 1) × (7 ≤ length y)) ⊎ (getD y 0 0 ≡ 2)
 kind-alike t x y (equal q) e k = rw q k
 kind-alike t x y (behind _ q) e k = original-kind x y q k
 kind-alike t x y (callee a b n c) e k = absurd (let w : 0x23 ≡ 0x60 = sym e ∙ a in omega arith)

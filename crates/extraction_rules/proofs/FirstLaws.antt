@@ -9,7 +9,7 @@ use Rattle.tree.specs.Layout.{same, valueOf, sameLiteral}
 use Rattle.metadata.specs.Metadata.{append}
 use Rattle.tree.specs.Tree.{Fields}
 use Rattle.tree.proofs.LayoutLaws.{same-refl, same-equal}
-use Rattle.lent.specs.Lists.{find, filter, mapped, among}
+use Rattle.inputs.specs.Lists.{find, filter, mapped, among}
 use Rattle.extraction_rules.specs.State.{Record, Imported, State, setForced}
 use Rattle.extraction_rules.specs.First.{holdsNamespace, forceSource, forceHolder, forget, forceId, importedAs, collectIn, noteIn}
 use Rattle.extraction_rules.specs.Second.{extend, loseNamespaces}

@@ -10,16 +10,20 @@ use lib.ListN.{getD, length}
 use Rattle.tree.specs.Layout.{valueOf}
 use Rattle.tree.specs.Tree.{Field, field, Fields, none, more, tagOf, partsOf, size}
 use Rattle.metadata.specs.Metadata.{append}
-use Rattle.lent.specs.Lists.{among}
-use Rattle.lent.specs.Outcome.{onto}
-use Rattle.lent.specs.Fields.{keep, inside}
+use Rattle.inputs.specs.Lists.{among}
+use Rattle.inputs.specs.Outcome.{onto}
+use Rattle.inputs.specs.Fields.{keep, inside}
 use Rattle.extraction_rules.specs.State.{Record, State, Pass, first, second, Setting, Act, give, change, refuse, setTop, setCollected}
-use Rattle.extraction_rules.specs.First.{external, forget, withContext, moduleFor, required, withCallee, collectIn, collect, noteSpecifiers, specifiersIn, importFirst, exportSpecifier, declarator, stays}
-use Rattle.extraction_rules.specs.Walk.{Rule, import, export, declare, express, nothing as plain, ruleFor, afterImport, after, Parts, unwalked, member, super, assignment, children, partsFor, enter, walk, walkAll, walkMember, walkAssignment, walkTarget, walkModule}
+use Rattle.extraction_rules.specs.First.{external, forget, withContext, moduleFor, required, withCallee, collectIn, collect, noteSpecifiers}
+use Rattle.extraction_rules.specs.First.{specifiersIn, importFirst, exportSpecifier, declarator, stays}
+use Rattle.extraction_rules.specs.Walk.{Rule, import, export, declare, express, nothing as plain, ruleFor, afterImport, after, Parts, unwalked}
+use Rattle.extraction_rules.specs.Walk.{member, super, assignment, children, partsFor, enter, walk, walkAll, walkMember, walkAssignment}
+use Rattle.extraction_rules.specs.Walk.{walkTarget, walkModule}
 use Rattle.extraction_rules.proofs.OutcomeLaws.{After, after-bind, after-weaken, after-both, after-if}
 use Rattle.extraction_rules.proofs.FirstLaws.{force-cases, sourcesOf, collect-stays, collect-among}
 use Rattle.extraction_rules.proofs.StepLaws.{after-keeps}
-use Rattle.extraction_rules.proofs.WalkLaws.{rule-tag, rule-not-import, parts-weaken, Imports, ImportsAll, ImportsAssignment, ImportsTarget, ImportsParts, walkParts, imports-any-all, Steps, walkAll-keeps}
+use Rattle.extraction_rules.proofs.WalkLaws.{rule-tag, rule-not-import, parts-weaken, Imports, ImportsAll, ImportsAssignment, ImportsTarget}
+use Rattle.extraction_rules.proofs.WalkLaws.{ImportsParts, walkParts, imports-any-all, Steps, walkAll-keeps}
 use Rattle.extraction_rules.proofs.SanityLaws.{Known, first-second}
 use Rattle.extraction_rules.proofs.ValueLaws.{after-any, required-call, first-expression, declarator-value}
 

@@ -6,7 +6,7 @@ use mathlib.Core.Option.{Option, none as nothing, some}
 use Rattle.tree.specs.Tree.{Field, Fields, none, more, tagOf}
 use Rattle.metadata.specs.Metadata.{append, withMetadata}
 use Rattle.metadata.proofs.EncodeLaws.{append-none}
-use Rattle.lent.specs.Fields.{has, keep}
+use Rattle.inputs.specs.Fields.{has, keep}
 use Rattle.extraction_rules.specs.First.{specifiersIn, attributesIn, withContext}
 use borrow.Author.Tests.{eqb-true}
 use native.Mathlib.Omega.{arith}
@@ -48,7 +48,8 @@ unfolding keep append
 keep-append t none gs = refl
 keep-append t (more f fs) gs = go (t f) (keep-append t fs gs)
   where
-    go : (b : Bool) → keep t (append fs gs) ≡ append (keep t fs) (keep t gs) → cond b (more f (keep t (append fs gs))) (keep t (append fs gs)) ≡ append (cond b (more f (keep t fs)) (keep t fs)) (keep t gs)
+    go : (b : Bool) → keep t (append fs gs) ≡ append (keep t fs) (keep t gs) →
+        cond b (more f (keep t (append fs gs))) (keep t (append fs gs)) ≡ append (cond b (more f (keep t fs)) (keep t fs)) (keep t gs)
     go true h = ap (more f) h
     go false h = h
 
@@ -98,7 +99,8 @@ unfolding keep
 keep-specifiers none = refl
 keep-specifiers (more f fs) = go (has 0x2F f) (has 0x22 f) refl refl (keep-specifiers fs)
   where
-    go : (a b : Bool) → has 0x2F f ≡ a → has 0x22 f ≡ b → keep (has 0x22) (specifiersIn fs) ≡ keep (has 0x22) fs → keep (has 0x22) (cond (not a) (more f (specifiersIn fs)) (specifiersIn fs)) ≡ cond b (more f (keep (has 0x22) fs)) (keep (has 0x22) fs)
+    go : (a b : Bool) → has 0x2F f ≡ a → has 0x22 f ≡ b → keep (has 0x22) (specifiersIn fs) ≡ keep (has 0x22) fs →
+        keep (has 0x22) (cond (not a) (more f (specifiersIn fs)) (specifiersIn fs)) ≡ cond b (more f (keep (has 0x22) fs)) (keep (has 0x22) fs)
     go true true p q h = absurd (let v : _≡_ {A = ℕ} 0x2F 0x22 = sym (eqb-true (tagOf f) 0x2F p) ∙ eqb-true (tagOf f) 0x22 q in omega arith)
     go true false p q h = h
     go false true p q h = rw q (ap (more f) h)

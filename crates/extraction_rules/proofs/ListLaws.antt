@@ -7,7 +7,7 @@ use mathlib.Core.Option.{some}
 use native.Mathlib.Omega.{arith}
 use Rattle.tree.specs.Layout.{same}
 use Rattle.tree.proofs.LayoutLaws.{same-refl, same-equal}
-use Rattle.lent.specs.Lists.{find, filter, among}
+use Rattle.inputs.specs.Lists.{find, filter, among}
 use Rattle.extraction_rules.proofs.TestLaws.{or-neither, neither-or, is-false}
 
 -- P holds of every element

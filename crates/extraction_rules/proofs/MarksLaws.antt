@@ -16,9 +16,9 @@ use Rattle.scope.proofs.Laws.{number-below, request-keeps-marks, request-keeps-
 use Rattle.tree.specs.Layout.{valueOf}
 use Rattle.tree.specs.Tree.{Fields, field}
 use Rattle.metadata.specs.Metadata.{append}
-use Rattle.lent.specs.Outcome.{onto}
-use Rattle.lent.specs.Lists.{find, isSome}
-use Rattle.lent.specs.Table.{Row, rowsIn, fileOf}
+use Rattle.inputs.specs.Outcome.{onto}
+use Rattle.inputs.specs.Lists.{find, isSome}
+use Rattle.inputs.specs.Table.{Row, rowsIn, fileOf}
 use Rattle.extraction_rules.specs.State.{Record, State, first, second, Setting, start, setModules}
 use Rattle.extraction_rules.specs.First.{requested, moduleOf, moduleFor, forget}
 use Rattle.extraction_rules.specs.Second.{wrapModule, wrapAll, finish}
@@ -29,7 +29,7 @@ use Rattle.extraction_rules.specs.Reach.{isModuleOf, reaches}
 use Rattle.extraction_rules.proofs.OutcomeLaws.{After, after-bind, after-weaken, Of, of-each, after-done}
 use Rattle.extraction_rules.proofs.FirstLaws.{source-cases, force-cases}
 use Rattle.extraction_rules.proofs.WalkLaws.{Steps, imports-any-all, walkModule-keeps}
-use Rattle.extraction_rules.proofs.CallLaws.{call-made}
+use Rattle.extraction_rules.proofs.ExtractedLaws.{call-made}
 
 -- ---- One mark
 
@@ -61,7 +61,13 @@ unwrapped-steps e ms =
     record {
       common =
           record {
-            requires = record { on-request = λ s f k ms′ q h n. request-keeps-marks f (s .modules) q Wrapping n ∙ h n; on-cjs = λ s m h n. mark-keeps-kinds Cjs Wrapping m n (s .modules) wrapping-not-cjs ∙ h n; on-lazy = λ s r b h. h };
+            requires =
+                record {
+                  on-request = λ s f k ms′ q h n. request-keeps-marks f (s .modules) q Wrapping n ∙ h n;
+                  on-cjs =
+                      λ s m h n. mark-keeps-kinds Cjs Wrapping m n (s .modules) wrapping-not-cjs ∙ h n;
+                  on-lazy = λ s r b h. h;
+                };
             on-force = λ s i h. force-cases i s (Unwrapped ms) h (λ r w. h);
             on-top = λ s b h. h;
           };
@@ -180,7 +186,8 @@ extraction-marks l room ms =
     let a = after-done (walkModule one (m .items) (start (m .own .1))) (λ works s. Unwrapped ms s) (u .works, u .middle) (u .once)
     (walk-unwrapped one (m .items) ms (start (m .own .1)) (request-keeps-marks (l .file) ms (m .requests) Wrapping)) in
     subst (λ (z : Extracted). MarksForced (rowsIn (l .table)) ms (z .forced) (z .modules)) (u .given)
-    (after-done (walkAgain two (u .works) (u .middle)) (λ outs s. MarksForced (rowsIn (l .table)) ms (s .forced) (s .modules)) (u .outs, u .end) (u .twice) (again-marks two (u .works) ms (u .middle) a))
+    (after-done (walkAgain two (u .works) (u .middle)) (λ outs s. MarksForced (rowsIn (l .table)) ms (s .forced) (s .modules)) (u .outs, u .end)
+    (u .twice) (again-marks two (u .works) ms (u .middle) a))
 
 -- ---- What a call forces is what its 83s hold
 

@@ -1,7 +1,7 @@
 -- What holds of the value and the state of a step that is not refused.
 use mathlib.Core.Path.{_≡_, refl, subst}
 use mathlib.Core.Bool.{Bool, true, false, cond}
-use Rattle.lent.specs.Outcome.{Outcome, done, refused, onto}
+use Rattle.inputs.specs.Outcome.{Outcome, done, refused, onto}
 use Rattle.extraction_rules.specs.State.{State, Act}
 
 -- P holds of the value and the state, if the step is not refused

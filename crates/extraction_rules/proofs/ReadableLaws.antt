@@ -20,9 +20,9 @@ use Rattle.tree.proofs.TreeLaws.{depth-parts, depth-first, depth-rest, depth-mo
 use Rattle.tree.proofs.SoundLaws.{read-sound}
 use Rattle.tree.proofs.CompleteLaws.{read-complete}
 use Rattle.writer.specs.Finished.{hasRoom}
-use Rattle.lent.specs.Outcome.{done}
-use Rattle.lent.specs.Fields.{keep}
-use Rattle.lent.specs.Table.{Row, rowsIn}
+use Rattle.inputs.specs.Outcome.{done}
+use Rattle.inputs.specs.Fields.{keep}
+use Rattle.inputs.specs.Table.{Row, rowsIn}
 use Rattle.extraction_rules.specs.State.{State, first, second, Setting, start, setTop}
 use Rattle.extraction_rules.specs.First.{stays}
 use Rattle.extraction_rules.specs.Second.{finish}
@@ -33,7 +33,7 @@ use Rattle.extraction_rules.proofs.StepLaws.{finish-keeps}
 use Rattle.extraction_rules.proofs.RuleLaws.{only-step, rule-targets}
 use Rattle.extraction_rules.proofs.ShapeLaws.{ShapedAll, formed-shaped-all, shaped-formed}
 use Rattle.extraction_rules.proofs.WithinLaws.{walkAll-within}
-use Rattle.extraction_rules.proofs.CallLaws.{Made, call-made, run-both}
+use Rattle.extraction_rules.proofs.ExtractedLaws.{Made, call-made, run-both}
 use Rattle.extraction_rules.proofs.ResultLaws.{Results, Widths, widths-common}
 
 -- ---- A module's items

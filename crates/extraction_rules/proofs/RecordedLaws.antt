@@ -19,10 +19,11 @@ use Rattle.tree.specs.Within.{Exact}
 use Rattle.tree.proofs.WidthLaws.{plain-width}
 use Rattle.tree.specs.declared.grammar.Value.the-variants.{Id, Literal}
 use Rattle.metadata.specs.Metadata.{append}
-use Rattle.lent.specs.Lists.{among}
-use Rattle.lent.specs.Fields.{has, keep, sole}
+use Rattle.inputs.specs.Lists.{among}
+use Rattle.inputs.specs.Fields.{has, keep, sole}
 use Rattle.extraction_rules.specs.State.{Record, State, Setting, setForced}
-use Rattle.extraction_rules.specs.First.{external, holdsNamespace, forget, forceId, argument, notExternal, required, collectIn, require, Binding, bound, left, below, bindingOf, bindings, bindingsAll, bindingsFirst}
+use Rattle.extraction_rules.specs.First.{external, holdsNamespace, forget, forceId, argument, notExternal, required, collectIn, require}
+use Rattle.extraction_rules.specs.First.{Binding, bound, left, below, bindingOf, bindings, bindingsAll, bindingsFirst}
 use Rattle.extraction_rules.specs.Second.{extend, loseNamespaces}
 use Rattle.extraction_rules.proofs.ListLaws.{All, all-last, all-find}
 use Rattle.extraction_rules.proofs.FirstLaws.{force-cases}

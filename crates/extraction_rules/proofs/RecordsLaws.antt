@@ -22,8 +22,8 @@ use Rattle.tree.proofs.WidthLaws.{plain-exact}
 use Rattle.tree.specs.declared.grammar.Value.the-variants.{Empty, Atom, Literal}
 use Rattle.writer.specs.Finished.{hasRoom}
 use Rattle.metadata.specs.Metadata.{append}
-use Rattle.lent.specs.Outcome.{done}
-use Rattle.lent.specs.Table.{Row, rowsIn}
+use Rattle.inputs.specs.Outcome.{done}
+use Rattle.inputs.specs.Table.{Row, rowsIn}
 use Rattle.extraction_rules.specs.State.{Record, State, first, second, Setting, start, setTop}
 use Rattle.extraction_rules.specs.Second.{finish}
 use Rattle.extraction_rules.specs.Walk.{walkAll, walkModule, walkAgain}
@@ -36,7 +36,7 @@ use Rattle.extraction_rules.proofs.RuleLaws.{rule-targets}
 use Rattle.extraction_rules.proofs.ShapeLaws.{ShapedAll, Specifiers, shaped-formed, specifier-rule, leaf-depth}
 use Rattle.extraction_rules.proofs.ReadableLaws.{Items, module-results, start-widths, room-size, made-items}
 use Rattle.extraction_rules.proofs.WholeLaws.{walkAll-whole, finish-whole}
-use Rattle.extraction_rules.proofs.CallLaws.{call-made, run-both}
+use Rattle.extraction_rules.proofs.ExtractedLaws.{call-made, run-both}
 use Rattle.extraction_rules.proofs.RecordedLaws.{WholeRecord, Whole}
 use Rattle.extraction_rules.proofs.ResultLaws.{Results, Widths}
 
@@ -173,4 +173,5 @@ call-records l room ms bs r e =
     let rows = rowsIn (l .table) in
     subst (λ (z : Extracted). ReadBack (z .records)) (u .given)
     (records-readable (u .end) (room .records)
-    (run-both l rows (m .own .0) (m .items) (m .own .1) r u (λ works s. Whole s) (λ outs s. Whole s) (run-whole l rows (m .own .0) (m .own .1) (m .items) (made-items l ms r bs m)) .1) (u .records-room))
+    (run-both l rows (m .own .0) (m .items) (m .own .1) r u (λ works s. Whole s) (λ outs s. Whole s)
+    (run-whole l rows (m .own .0) (m .own .1) (m .items) (made-items l ms r bs m)) .1) (u .records-room))

@@ -176,5 +176,7 @@ item-tag t u h k = is-false (eqb t u) (λ z. true≢false (sym h ∙ ap (holdsAt
 pub item-outer : (t : ℕ) → holdsAt Item t ≡ true → eqb t 0x10 ≡ false → outer t ≡ false
 unfolding holdsAt within
 item-outer t h n =
-    neither-or (eqb t 0x01) _ (item-tag t 0x01 h refl) (neither-or (eqb t 0x02) _ (item-tag t 0x02 h refl) (neither-or (eqb t 0x10) _ n (neither-or (eqb t 0x20) _ (item-tag t 0x20 h refl) (neither-or (eqb t 0x21) _ (item-tag t 0x21 h refl)
+    neither-or (eqb t 0x01) _ (item-tag t 0x01 h refl)
+    (neither-or (eqb t 0x02) _ (item-tag t 0x02 h refl)
+    (neither-or (eqb t 0x10) _ n (neither-or (eqb t 0x20) _ (item-tag t 0x20 h refl) (neither-or (eqb t 0x21) _ (item-tag t 0x21 h refl)
     (neither-or (eqb t 0x22) _ (item-tag t 0x22 h refl) (neither-or (eqb t 0x80) _ (item-tag t 0x80 h refl) (item-tag t 0x81 h refl)))))))

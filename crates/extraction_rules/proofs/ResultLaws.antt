@@ -15,7 +15,7 @@ use Rattle.tree.specs.Tree.{Field, field, Fields, none, more, tagOf, fixedOf, p
 use Rattle.tree.specs.Grammar.{within, ruleOf, stepAt, doneAt}
 use Rattle.tree.specs.Within.{Exact}
 use Rattle.tree.proofs.TreeLaws.{depth-parts, depth-first, depth-rest, depth-most}
-use Rattle.lent.specs.Lists.{find, mapped}
+use Rattle.inputs.specs.Lists.{find, mapped}
 use Rattle.extraction_rules.specs.State.{Imported, State, Setting}
 use Rattle.extraction_rules.specs.First.{idFrom, forget, importedAs, required, withCallee, noteIn}
 use Rattle.extraction_rules.proofs.ListLaws.{All, all-filter, all-find}

@@ -9,12 +9,12 @@ use Rattle.scope.proofs.Laws.{request-keeps-numbers}
 use Rattle.tree.specs.Layout.{same}
 use Rattle.tree.specs.Tree.{Field, field, Fields, none, fixedOf}
 use Rattle.tree.proofs.LayoutLaws.{same-equal}
-use Rattle.lent.specs.Outcome.{done}
-use Rattle.lent.specs.Table.{Row, rowsIn}
+use Rattle.inputs.specs.Outcome.{done}
+use Rattle.inputs.specs.Table.{Row, rowsIn}
 use Rattle.extraction_rules.specs.State.{Usage, State, first, second, Setting, start}
 use Rattle.extraction_rules.specs.Second.{usagesOf, asProperty, rewritten}
 use Rattle.extraction_rules.specs.First.{importedAs}
-use Rattle.lent.specs.Fields.{has}
+use Rattle.inputs.specs.Fields.{has}
 use Rattle.extraction_rules.specs.Walk.{walkModule, walkAgain}
 use Rattle.extraction_rules.specs.Call.{Lent, Lengths, Extracted, setting, extracted}
 use Rattle.extraction_rules.proofs.OutcomeLaws.{After, after-weaken, after-both}
@@ -22,9 +22,11 @@ use Rattle.extraction_rules.proofs.ListLaws.{all-first}
 use Rattle.extraction_rules.proofs.FirstLaws.{sourcesOf, IsImported}
 use Rattle.extraction_rules.proofs.StepLaws.{EndSteps}
 use Rattle.extraction_rules.proofs.WalkLaws.{Steps, both-steps, both-end, ImportsAll, imports-any-all, walkModule-keeps, walkAgain-keeps}
-use Rattle.extraction_rules.proofs.SanityLaws.{Numbered, numbered-steps, numbered-end, DistinctSources, distinct-steps, distinct-end, OwnSources, own-steps, own-end, UsagesImported, imported-steps, imported-end, ForcedCollected, forced-steps-first, Known, ForcedAmong, forced-steps-second, forced-end}
+use Rattle.extraction_rules.proofs.SanityLaws.{Numbered, numbered-steps, numbered-end, DistinctSources, distinct-steps, distinct-end}
+use Rattle.extraction_rules.proofs.SanityLaws.{OwnSources, own-steps, own-end, UsagesImported, imported-steps, imported-end, ForcedCollected}
+use Rattle.extraction_rules.proofs.SanityLaws.{forced-steps-first, Known, ForcedAmong, forced-steps-second, forced-end}
 use Rattle.extraction_rules.proofs.ImportsLaws.{walkModule-known}
-use Rattle.extraction_rules.proofs.CallLaws.{call-made, run-both}
+use Rattle.extraction_rules.proofs.ExtractedLaws.{call-made, run-both}
 
 abbrev AnyLiteral : List ℕ → Type 0
 AnyLiteral x = Unit {0}

@@ -11,12 +11,13 @@ use Rattle.scope.specs.Modules.{numberOf}
 use Rattle.scope.specs.declared.Mark.the-variants.{Cjs, Wrapping}
 use Rattle.scope.proofs.Laws.{request-keeps-numbers, mark-keeps-numbers}
 use Rattle.tree.specs.Layout.{same, valueOf}
-use Rattle.lent.specs.Lists.{among}
+use Rattle.inputs.specs.Lists.{among}
 use Rattle.extraction_rules.specs.State.{Record, State, Pass, first, second, Setting}
 use Rattle.extraction_rules.specs.First.{external, holdsNamespace, forget, forceId, noteIn, collectIn}
 use Rattle.extraction_rules.specs.Second.{specifiersFrom, extend, loseNamespaces}
 use Rattle.extraction_rules.proofs.ListLaws.{All, all-weaken, all-last, all-filter, all-map, Distinct, distinct-last}
-use Rattle.extraction_rules.proofs.FirstLaws.{source-cases, force-cases, sourcesOf, collect-cases, collect-stays, collect-all, extend-literal, lose-literal, map-sources, found-among, IsImported, note-stays, drop-stays}
+use Rattle.extraction_rules.proofs.FirstLaws.{source-cases, force-cases, sourcesOf, collect-cases, collect-stays, collect-all, extend-literal}
+use Rattle.extraction_rules.proofs.FirstLaws.{lose-literal, map-sources, found-among, IsImported, note-stays, drop-stays}
 use Rattle.extraction_rules.proofs.StepLaws.{EndSteps}
 use Rattle.extraction_rules.proofs.WalkLaws.{Steps}
 
@@ -99,7 +100,13 @@ own-steps e P =
     record {
       common =
           record {
-            requires = record { on-request = λ s g m ms q h. h; on-cjs = λ s m h. h; on-lazy = λ s r b h. (h .0, all-last (λ r. among (valueOf (r .literal)) (e .externals) ≡ false) (s .lazy) r (h .1) b) };
+            requires =
+                record {
+                  on-request = λ s g m ms q h. h;
+                  on-cjs = λ s m h. h;
+                  on-lazy =
+                      λ s r b h. (h .0, all-last (λ r. among (valueOf (r .literal)) (e .externals) ≡ false) (s .lazy) r (h .1) b);
+                };
             on-force = λ s i h. force-cases i s J h (λ r w. h);
             on-top = λ s b h. h;
           };

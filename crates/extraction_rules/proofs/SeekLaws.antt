@@ -10,8 +10,8 @@ use Rattle.tree.specs.Layout.{same, valueOf}
 use Rattle.tree.specs.Tree.{Field, Fields, none, more, fixedOf}
 use Rattle.tree.proofs.LayoutLaws.{same-refl, same-equal}
 use Rattle.metadata.specs.Metadata.{append}
-use Rattle.lent.specs.Lists.{find, filter, isSome, mapped, among}
-use Rattle.lent.specs.Fields.{has, findField}
+use Rattle.inputs.specs.Lists.{find, filter, isSome, mapped, among}
+use Rattle.inputs.specs.Fields.{has, findField}
 use Rattle.extraction_rules.specs.State.{Record, Imported, Usage, State}
 use Rattle.extraction_rules.specs.First.{holdsNamespace, forceSource, forceHolder, forget, forceId, importedAs, suits, collectIn, noteIn}
 use Rattle.extraction_rules.specs.Second.{usagesOf}
@@ -123,7 +123,9 @@ noted-other i m (k ∷ l) n = go (same (k .id) (m .id)) refl (noted-other i m l 
     Ask : List Imported → Option (List ℕ)
     Ask l = mapped (λ (m : Imported). m .context) (find (λ (n : Imported). same (n .id) i) l)
 
-    next : (b : Bool) → Ask (noteIn m l) ≡ Ask l → mapped (λ (m : Imported). m .context) (cond b (some k) (find (λ (n : Imported). same (n .id) i) (noteIn m l))) ≡ mapped (λ (m : Imported). m .context) (cond b (some k) (find (λ (n : Imported). same (n .id) i) l))
+    next : (b : Bool) → Ask (noteIn m l) ≡ Ask l →
+        mapped (λ (m : Imported). m .context) (cond b (some k) (find (λ (n : Imported). same (n .id) i) (noteIn m l))) ≡ mapped
+        (λ (m : Imported). m .context) (cond b (some k) (find (λ (n : Imported). same (n .id) i) l))
     next true r = refl
     next false r = r
 
@@ -151,13 +153,17 @@ seek-step t r l = go (t (r .specifiers))
     go false = refl
 
 -- a record that the test does not feel
-pub seek-collect : (t : Fields → Bool) (r : Record) (l : List Record) → t (r .specifiers) ≡ false → ((gs : Fields) → t (append gs (r .specifiers)) ≡ t gs) → seek t (collectIn r l) ≡ seek t l
+pub seek-collect : (t : Fields → Bool) (r : Record) (l : List Record) → t (r .specifiers) ≡ false →
+    ((gs : Fields) → t (append gs (r .specifiers)) ≡ t gs) → seek t (collectIn r l) ≡ seek t l
 unfolding collectIn
 seek-collect t r [] h k = seek-step t r [] ∙ rw h
 seek-collect t r (q ∷ l) h k = go (same (valueOf (q .literal)) (valueOf (r .literal))) (seek-collect t r l h k)
   where
-    go : (b : Bool) → seek t (collectIn r l) ≡ seek t l → seek t (cond b (record { literal = q .literal; specifiers = append (q .specifiers) (r .specifiers) } ∷ l) (q ∷ collectIn r l)) ≡ seek t (q ∷ l)
-    go true e = seek-step t (record { literal = q .literal; specifiers = append (q .specifiers) (r .specifiers) }) l ∙ ap (λ (b : Bool). cond b (some (valueOf (q .literal))) (seek t l)) (k (q .specifiers)) ∙ sym (seek-step t q l)
+    go : (b : Bool) → seek t (collectIn r l) ≡ seek t l →
+        seek t (cond b (record { literal = q .literal; specifiers = append (q .specifiers) (r .specifiers) } ∷ l) (q ∷ collectIn r l)) ≡ seek t
+        (q ∷ l)
+    go true e = seek-step t (record { literal = q .literal; specifiers = append (q .specifiers) (r .specifiers) }) l
+        ∙ ap (λ (b : Bool). cond b (some (valueOf (q .literal))) (seek t l)) (k (q .specifiers)) ∙ sym (seek-step t q l)
     go false e = seek-step t q (collectIn r l) ∙ ap (λ (o : Option (List ℕ)). cond (t (q .specifiers)) (some (valueOf (q .literal))) o) e ∙ sym (seek-step t q l)
 
 -- a record of a new source becomes the last
@@ -173,13 +179,15 @@ unfolding find
 seek-last t r [] h = seek-step t r []
 seek-last t r (q ∷ l) h = seek-step t q (l ++ (r ∷ [])) ∙ go (t (q .specifiers)) (sym (seek-step t q l) ∙ h) (seek-last t r l)
   where
-    go : (b : Bool) → cond b (some (valueOf (q .literal))) (seek t l) ≡ nothing → (seek t l ≡ nothing → seek t (l ++ (r ∷ [])) ≡ cond (t (r .specifiers)) (some (valueOf (r .literal))) nothing) →
+    go : (b : Bool) → cond b (some (valueOf (q .literal))) (seek t l) ≡ nothing →
+        (seek t l ≡ nothing → seek t (l ++ (r ∷ [])) ≡ cond (t (r .specifiers)) (some (valueOf (r .literal))) nothing) →
         cond b (some (valueOf (q .literal))) (seek t (l ++ (r ∷ []))) ≡ cond (t (r .specifiers)) (some (valueOf (r .literal))) nothing
     go true e k = absurd (let z : _≡_ {A = ℕ} 0 1 = cc in omega arith)
     go false e k = k e
 
 -- what is found at the last, of a source that no other has, is found in the last
-pub seek-own : (t : Fields → Bool) (r : Record) (l : List Record) → among (valueOf (r .literal)) (sourcesOf l) ≡ false → seek t (l ++ (r ∷ [])) ≡ some (valueOf (r .literal)) → t (r .specifiers) ≡ true
+pub seek-own : (t : Fields → Bool) (r : Record) (l : List Record) → among (valueOf (r .literal)) (sourcesOf l) ≡ false →
+    seek t (l ++ (r ∷ [])) ≡ some (valueOf (r .literal)) → t (r .specifiers) ≡ true
 unfolding among find
 seek-own t r [] h e = go (t (r .specifiers)) refl (sym (seek-step t r []) ∙ e)
   where
@@ -190,7 +198,8 @@ seek-own t r (q ∷ l) h e =
     let k = or-neither (same (valueOf (r .literal)) (valueOf (q .literal))) (among (valueOf (r .literal)) (sourcesOf l)) h in
     go (t (q .specifiers)) (sym (seek-step t q (l ++ (r ∷ []))) ∙ e) (seek-own t r l (k .1)) (k .0)
   where
-    go : (b : Bool) → cond b (some (valueOf (q .literal))) (seek t (l ++ (r ∷ []))) ≡ some (valueOf (r .literal)) → (seek t (l ++ (r ∷ [])) ≡ some (valueOf (r .literal)) → t (r .specifiers) ≡ true) →
+    go : (b : Bool) → cond b (some (valueOf (q .literal))) (seek t (l ++ (r ∷ []))) ≡ some (valueOf (r .literal)) →
+        (seek t (l ++ (r ∷ [])) ≡ some (valueOf (r .literal)) → t (r .specifiers) ≡ true) →
         same (valueOf (r .literal)) (valueOf (q .literal)) ≡ false → t (r .specifiers) ≡ true
     go true e k d = absurd (not-same (valueOf (r .literal)) (valueOf (q .literal)) d (let w : valueOf (q .literal) ≡ valueOf (r .literal) = cc in sym w))
     go false e k d = k e
@@ -209,7 +218,8 @@ source-forced a s = source-cases a s (λ t. among a (t .forced) ≡ true) (λ q.
 
 pub source-other : (a b : List ℕ) (s : State) → (a ≡ b → ⊥) → among a (forceSource b s .forced) ≡ among a (s .forced)
 source-other a b s n =
-    source-cases b s (λ t. among a (t .forced) ≡ among a (s .forced)) (λ _. refl) (among-last a b (s .forced) ∙ ap (λ (c : Bool). among a (s .forced) || c) (same-not a b n) ∙ or-false (among a (s .forced)))
+    source-cases b s (λ t. among a (t .forced) ≡ among a (s .forced)) (λ _. refl)
+    (among-last a b (s .forced) ∙ ap (λ (c : Bool). among a (s .forced) || c) (same-not a b n) ∙ or-false (among a (s .forced)))
 
 -- the source that forcing an id forces
 pub force-own : (i a : List ℕ) (s : State) → seek (holdsIn i) (s .collected) ≡ some a → among a (forceId i s .forced) ≡ true
@@ -235,5 +245,6 @@ pub force-tables : (i : List ℕ) (s : State) →
 unfolding forget
 force-tables i s =
     force-cases i s
-    (λ t. (t .collected ≡ s .collected) × (t .modules ≡ s .modules) × (t .imported ≡ filter (λ m. not (same (m .id) i)) (s .imported)) × (t .usages ≡ filter (λ u. not (same (u .id) i)) (s .usages)))
+    (λ t. (t .collected ≡ s .collected) × (t .modules ≡ s .modules) × (t .imported ≡ filter (λ m. not (same (m .id) i)) (s .imported))
+    × (t .usages ≡ filter (λ u. not (same (u .id) i)) (s .usages)))
     (refl, refl, refl, refl) (λ r w. (refl, refl, refl, refl))

@@ -23,7 +23,7 @@ use Rattle.tree.proofs.TreeLaws.{content-size, depth-parts, depth-none, depth-m
 use Rattle.tree.proofs.WidthLaws.{plain-width}
 use Rattle.tree.specs.declared.grammar.Value.the-variants.{Atom}
 use Rattle.metadata.specs.Metadata.{Metadata, append, attributesFor, withMetadata, contextAttribute}
-use Rattle.lent.specs.Fields.{has, keep, findField}
+use Rattle.inputs.specs.Fields.{has, keep, findField}
 use Rattle.scope.specs.Id.{export}
 use Rattle.extraction_rules.specs.State.{Usage}
 use Rattle.extraction_rules.specs.First.{specifiersIn, attributesIn, attributesOf, withContext}

@@ -14,10 +14,11 @@ use Rattle.tree.specs.Layout.{same, four, idAt, nameOf, contextOf, valueOf}
 use Rattle.tree.specs.Tree.{Field, field, Fields, none, more, fixedOf, size}
 use Rattle.tree.proofs.LayoutLaws.{same-equal}
 use Rattle.metadata.specs.Metadata.{append}
-use Rattle.lent.specs.Lists.{filter}
-use Rattle.lent.specs.Fields.{has, findField, inside}
+use Rattle.inputs.specs.Lists.{filter}
+use Rattle.inputs.specs.Fields.{has, findField, inside}
 use Rattle.extraction_rules.specs.State.{Record, Imported, Usage, State, Setting, give, change, refuse, setImported, setCollected}
-use Rattle.extraction_rules.specs.First.{external, idFrom, moduleFor, forceId, importedAs, suits, usedRecord, collectIn, collect, noteIn, noteId, noteNamed, notedContext, noteSpecifier, noteAll, noteSpecifiers, specifiersIn, importFirst}
+use Rattle.extraction_rules.specs.First.{external, idFrom, moduleFor, forceId, importedAs, suits, usedRecord, collectIn, collect, noteIn}
+use Rattle.extraction_rules.specs.First.{noteId, noteNamed, notedContext, noteSpecifier, noteAll, noteSpecifiers, specifiersIn, importFirst}
 use Rattle.extraction_rules.specs.Second.{usagesOf}
 use Rattle.extraction_rules.proofs.OutcomeLaws.{After, after-bind, after-if}
 use Rattle.extraction_rules.proofs.ListLaws.{All, all-last, all-filter, all-find, all-first}
@@ -78,7 +79,9 @@ module _ (Space : List ℕ → Type 0) (own : ℕ) (locals : (j : List ℕ) → 
   used-space : (j : List ℕ) (l : List Record) (r : Record) → All (λ r. Each OfSpace (r .specifiers)) l → usedRecord own j l ≡ some r → Space j
   unfolding usedRecord
   used-space j l r h e =
-      suits-space j (findField (has 0x22) (r .specifiers)) (λ f q. first-space (r .specifiers) f (all-find (λ r. Each OfSpace (r .specifiers)) (λ r. suits own j (findField (has 0x22) (r .specifiers))) l r h e) q)
+      suits-space j (findField (has 0x22) (r .specifiers))
+      (λ f q. first-space (r .specifiers) f
+      (all-find (λ r. Each OfSpace (r .specifiers)) (λ r. suits own j (findField (has 0x22) (r .specifiers))) l r h e) q)
       (find-meets (λ r. suits own j (findField (has 0x22) (r .specifiers))) l r e)
 
   collect-space : (r : Record) (l : List Record) → Each OfSpace (r .specifiers) → All (λ r. Each OfSpace (r .specifiers)) l → All (λ r. Each OfSpace (r .specifiers)) (collectIn r l)
@@ -86,7 +89,9 @@ module _ (Space : List ℕ → Type 0) (own : ℕ) (locals : (j : List ℕ) → 
   collect-space r [] k h = (k, tt)
   collect-space r (q ∷ l) k h = go (same (valueOf (q .literal)) (valueOf (r .literal))) (collect-space r l k (h .1))
     where
-      go : (b : Bool) → All (λ r. Each OfSpace (r .specifiers)) (collectIn r l) → All (λ r. Each OfSpace (r .specifiers)) (cond b (record { literal = q .literal; specifiers = append (q .specifiers) (r .specifiers) } ∷ l) (q ∷ collectIn r l))
+      go : (b : Bool) → All (λ r. Each OfSpace (r .specifiers)) (collectIn r l) →
+          All (λ r. Each OfSpace (r .specifiers))
+          (cond b (record { literal = q .literal; specifiers = append (q .specifiers) (r .specifiers) } ∷ l) (q ∷ collectIn r l))
       go true w = (each-append OfSpace (q .specifiers) (r .specifiers) (h .0) k, h .1)
       go false w = (h .0, w)
 
@@ -96,10 +101,15 @@ module _ (Space : List ℕ → Type 0) (own : ℕ) (locals : (j : List ℕ) → 
       record {
         records = rw (t .0) (h .records);
         imports = λ j k. rw (t .2) (go j (same i j) refl (h .imports j k));
-        usages = rw (t .3) (all-filter (λ u. Space (u .id) × Property (u .property)) (λ u. Space (u .id) × Property (u .property)) (λ u. not (same (u .id) i)) (s .usages) (λ u _ k. k) (h .usages));
+        usages =
+            rw (t .3)
+            (all-filter (λ u. Space (u .id) × Property (u .property)) (λ u. Space (u .id) × Property (u .property)) (λ u. not (same (u .id) i))
+            (s .usages) (λ u _ k. k) (h .usages));
       }
     where
-      go : (j : List ℕ) (b : Bool) → same i j ≡ b → AsExport j s → (importedAs j (filter (λ m. not (same (m .id) i)) (s .imported)) ≡ nothing) ⊎ ((n : ℕ) × (importedAs j (filter (λ m. not (same (m .id) i)) (s .imported)) ≡ some (four (export n))))
+      go : (j : List ℕ) (b : Bool) → same i j ≡ b → AsExport j s →
+          (importedAs j (filter (λ m. not (same (m .id) i)) (s .imported)) ≡ nothing) ⊎
+          ((n : ℕ) × (importedAs j (filter (λ m. not (same (m .id) i)) (s .imported)) ≡ some (four (export n))))
       go j true q w = inl (rw (same-equal i j q) (forgotten-imported j (s .imported)))
       go j false q (inl w) = inl (other-imported j i (s .imported) q ∙ w)
       go j false q (inr w) = inr (w .0, other-imported j i (s .imported) q ∙ w .1)
@@ -121,7 +131,9 @@ module _ (Space : List ℕ → Type 0) (own : ℕ) (locals : (j : List ℕ) → 
             record {
               records = h .records;
               imports = h .imports;
-              usages = all-last (λ u. Space (u .id) × Property (u .property)) (s .usages) (record { id = j; property = idFrom p (export n) }) (h .usages) (used-space j (s .collected) r (h .records) (subst (λ (o : ℕ). usedRecord o j (s .collected) ≡ some r) mine w), (p, n, len, refl));
+              usages =
+                  all-last (λ u. Space (u .id) × Property (u .property)) (s .usages) (record { id = j; property = idFrom p (export n) }) (h .usages)
+                  (used-space j (s .collected) r (h .records) (subst (λ (o : ℕ). usedRecord o j (s .collected) ≡ some r) mine w), (p, n, len, refl));
             };
       }
 
@@ -138,7 +150,8 @@ module _ (Space : List ℕ → Type 0) (own : ℕ) (locals : (j : List ℕ) → 
       after-if (leb (length (noteIn m (s .imported))) 512) (change (setImported (noteIn m (s .imported)))) (refuse 8 p) s (λ u t. Spaces t)
       (λ _. record { records = h .records; imports = λ j w. go j (same (m .id) j) refl w (h .imports j w); usages = h .usages }) (λ _. tt)
     where
-      go : (j : List ℕ) (b : Bool) → same (m .id) j ≡ b → Space j → AsExport j s → (importedAs j (noteIn m (s .imported)) ≡ nothing) ⊎ ((n : ℕ) × (importedAs j (noteIn m (s .imported)) ≡ some (four (export n))))
+      go : (j : List ℕ) (b : Bool) → same (m .id) j ≡ b → Space j → AsExport j s →
+          (importedAs j (noteIn m (s .imported)) ≡ nothing) ⊎ ((n : ℕ) × (importedAs j (noteIn m (s .imported)) ≡ some (four (export n))))
       go j true q w v =
           let e : m .id ≡ j = same-equal (m .id) j q in
           let c = k (subst Space (sym e) w) in
@@ -151,8 +164,11 @@ module _ (Space : List ℕ → Type 0) (own : ℕ) (locals : (j : List ℕ) → 
   specifier-space n f p s k h =
       after-if (has 0x20 f) (noteNamed n (fixedOf f) p) _ s (λ g t. Spaces t × OfSpace g)
       (λ _. after-if (eqb (getD (fixedOf f) 6 0) 2) (refuse 6 p) _ s (λ g t. Spaces t × OfSpace g) (λ _. tt)
-      (λ _. after-bind (noteId (record { id = idAt (fixedOf f) 0; context = four (export n) }) p s) _ (λ u t. Spaces t) (λ g t. Spaces t × OfSpace g) (note-space (record { id = idAt (fixedOf f) 0; context = four (export n) }) p s (λ _. (n, refl)) h) λ u t w. (w, λ q. absurd (true≢false (sym q)))))
-      (λ _. after-bind (noteId (record { id = fixedOf f; context = notedContext n f }) p s) _ (λ u t. Spaces t) (λ g t. Spaces t × OfSpace g) (note-space (record { id = fixedOf f; context = notedContext n f }) p s (noted (has 0x21 f) (k .1)) h) λ u t w. (w, k .0))
+      (λ _. after-bind (noteId (record { id = idAt (fixedOf f) 0; context = four (export n) }) p s) _ (λ u t. Spaces t) (λ g t. Spaces t × OfSpace g)
+      (note-space (record { id = idAt (fixedOf f) 0; context = four (export n) }) p s (λ _. (n, refl)) h) λ u t w.
+      (w, λ q. absurd (true≢false (sym q)))))
+      (λ _. after-bind (noteId (record { id = fixedOf f; context = notedContext n f }) p s) _ (λ u t. Spaces t) (λ g t. Spaces t × OfSpace g)
+      (note-space (record { id = fixedOf f; context = notedContext n f }) p s (noted (has 0x21 f) (k .1)) h) λ u t w. (w, k .0))
     where
       noted : (b : Bool) → (b ≡ true → Space (fixedOf f) → ⊥) → Space (fixedOf f) → (m : ℕ) × (cond b (contextOf (fixedOf f)) (four (export n)) ≡ four (export m))
       noted true d w = absurd (d refl w)
@@ -163,7 +179,8 @@ module _ (Space : List ℕ → Type 0) (own : ℕ) (locals : (j : List ℕ) → 
   notes-space n none p s k h = (h, tt)
   notes-space n (more f fs) p s k h =
       after-bind (noteSpecifier n f p s) _ (λ g t. Spaces t × OfSpace g) (λ gs t. Spaces t × Each OfSpace gs) (specifier-space n f p s (k .0) h) λ g t w.
-      after-bind (noteAll n fs (p + size f) t) _ (λ gs u. Spaces u × Each OfSpace gs) (λ gs t. Spaces t × Each OfSpace gs) (notes-space n fs (p + size f) t (k .1) (w .0)) λ gs u v. (v .0, (w .1, v .1))
+      after-bind (noteAll n fs (p + size f) t) _ (λ gs u. Spaces u × Each OfSpace gs) (λ gs t. Spaces t × Each OfSpace gs)
+      (notes-space n fs (p + size f) t (k .1) (w .0)) λ gs u v. (v .0, (w .1, v .1))
 
   specifiers-space : (o : Option ℕ) (fs : Fields) (p : ℕ) (s : State) → Each OfImport fs → Spaces s → After (noteSpecifiers o fs p s) (λ gs t. Spaces t × Each OfSpace gs)
   specifiers-space nothing fs p s k h = (h, each-weaken OfImport OfSpace fs (λ f k. k .0) k)

@@ -11,8 +11,8 @@ use borrow.Author.Tests.{eqb-true, eqb-false, ne-eqb}
 use Rattle.tree.specs.declared.grammar.Set.the-variants.{Item}
 use Rattle.tree.specs.Tree.{Field, field, Fields, none, more, tagOf, fixedOf, partsOf, size}
 use Rattle.tree.specs.Grammar.{within, holdsAt}
-use Rattle.lent.specs.Outcome.{Outcome}
-use Rattle.lent.specs.Fields.{has, inside}
+use Rattle.inputs.specs.Outcome.{Outcome}
+use Rattle.inputs.specs.Fields.{has, inside}
 use Rattle.extraction_rules.specs.State.{State, Pass, first, second, Setting, refuse}
 use Rattle.extraction_rules.specs.First.{onIdent, withCallee, exportSpecifier, declarator, stays}
 use Rattle.extraction_rules.specs.Second.{rewritten}
@@ -103,7 +103,8 @@ module _ (e : Setting) where
   walk-41 x f fs p s =
       after-bind (walkAll (more f fs) e false (inside p x) s) _ (λ ds s'. (h : Field) × (hs : Fields) × (ds ≡ more h hs)) (λ g s'. (h : Field) × (hs : Fields) × (partsOf g ≡ more h hs))
       (after-bind (walk f e false (inside p x) s) _ (λ _ _. Unit {0}) (λ ds s'. (h : Field) × (hs : Fields) × (ds ≡ more h hs)) (after-any (walk f e false (inside p x) s)) λ g s1 _.
-      after-bind (walkAll fs e false (inside p x + size f) s1) _ (λ _ _. Unit {0}) (λ ds s'. (h : Field) × (hs : Fields) × (ds ≡ more h hs)) (after-any (walkAll fs e false (inside p x + size f) s1)) λ gs s2 _. (g, gs, refl))
+      after-bind (walkAll fs e false (inside p x + size f) s1) _ (λ _ _. Unit {0}) (λ ds s'. (h : Field) × (hs : Fields) × (ds ≡ more h hs))
+      (after-any (walkAll fs e false (inside p x + size f) s1)) λ gs s2 _. (g, gs, refl))
       λ ds s1 k. k
 
   -- one that stays, if it is no import, is walked to one that stays
@@ -126,4 +127,5 @@ module _ (e : Setting) where
       parted (field t x none) w = later (walk (field t x none) e false p s) t (λ q. absurd (true≢false (sym w ∙ ap (λ (k : ℕ). stays (field k x none)) (eqb-true t 0x41 q))))
       parted (field t x (more f fs)) w =
           later (walk (field t x (more f fs)) e false p s) t
-          (λ q. subst (λ (k : ℕ). After (walk (field k x (more f fs)) e false p s) (λ g s'. (a : Field) × (bs : Fields) × (partsOf g ≡ more a bs))) (sym (eqb-true t 0x41 q)) (walk-41 x f fs p s))
+          (λ q. subst (λ (k : ℕ). After (walk (field k x (more f fs)) e false p s) (λ g s'. (a : Field) × (bs : Fields) × (partsOf g ≡ more a bs)))
+          (sym (eqb-true t 0x41 q)) (walk-41 x f fs p s))

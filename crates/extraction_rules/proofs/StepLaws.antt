@@ -12,12 +12,17 @@ use Rattle.scope.specs.declared.Mark.the-variants.{Cjs, Wrapping}
 use Rattle.scope.proofs.Laws.{none-some}
 use Rattle.tree.specs.Layout.{same, two, four, idAt, valueOf, nameOf}
 use Rattle.tree.specs.Tree.{Field, field, Fields, none, more, fixedOf, size}
-use Rattle.lent.specs.Outcome.{Outcome, onto}
-use Rattle.lent.specs.Lists.{among}
-use Rattle.lent.specs.Table.{fileOf}
-use Rattle.lent.specs.Fields.{has, sole, inside}
-use Rattle.extraction_rules.specs.State.{Record, Imported, Usage, State, Pass, first, second, Setting, give, change, refuse, roomFor, setModules, setImported, setUsages, setCollected, setLazy, setTop}
-use Rattle.extraction_rules.specs.First.{external, idFrom, requested, moduleOf, moduleFor, forceSource, forceId, onIdent, importedAs, usedRecord, addUsage, useProperty, useFrom, useImported, usage, argument, notExternal, required, markCjs, markRequired, collectIn, collect, addLazy, require, noteIn, noteId, noteNamed, noteSpecifier, notedContext, noteAll, noteSpecifiers, specifiersIn, importFirst, exportSpecifier, bindings, requireLazily, declarator}
+use Rattle.inputs.specs.Outcome.{Outcome, onto}
+use Rattle.inputs.specs.Lists.{among}
+use Rattle.inputs.specs.Table.{fileOf}
+use Rattle.inputs.specs.Fields.{has, sole, inside}
+use Rattle.extraction_rules.specs.State.{Record, Imported, Usage, State, Pass, first, second, Setting, give, change, refuse, roomFor}
+use Rattle.extraction_rules.specs.State.{setModules, setImported, setUsages, setCollected, setLazy, setTop}
+use Rattle.extraction_rules.specs.First.{external, idFrom, requested, moduleOf, moduleFor, forceSource, forceId, onIdent, importedAs}
+use Rattle.extraction_rules.specs.First.{usedRecord, addUsage, useProperty, useFrom, useImported, usage, argument, notExternal, required}
+use Rattle.extraction_rules.specs.First.{markCjs, markRequired, collectIn, collect, addLazy, require, noteIn, noteId, noteNamed, noteSpecifier}
+use Rattle.extraction_rules.specs.First.{notedContext, noteAll, noteSpecifiers, specifiersIn, importFirst, exportSpecifier, bindings}
+use Rattle.extraction_rules.specs.First.{requireLazily, declarator}
 use Rattle.extraction_rules.specs.Second.{usagesOf, specifiersFrom, extend, takeApart, onSole, importSecond, wrapModule, wrapAll, loseNamespaces, finish}
 use Rattle.extraction_rules.specs.Walk.{Rule, import, export as exporting, declare, express, nothing as plain, afterExpression, afterImport, after, enter}
 use Rattle.extraction_rules.proofs.OutcomeLaws.{After, after-bind, after-if, after-both}
@@ -275,7 +280,8 @@ module _ (e : Setting) (J : State → Type 0) (c : CommonSteps e J) where
   useFrom-keeps nothing i q at p s k w u h = h
   useFrom-keeps (some r) i q at p s k w u h =
       after-bind (moduleFor e (valueOf (r .literal)) p s) _ (λ n t. J t × (t ≡ setModules (t .modules) s)) (λ r s. J s)
-      (after-both (moduleFor e (valueOf (r .literal)) p s) (λ n t. J t) (λ n t. t ≡ setModules (t .modules) s) (moduleFor-keeps e J (c .requires) (valueOf (r .literal)) p s h) (moduleFor-stays e (valueOf (r .literal)) p s)) λ n t j.
+      (after-both (moduleFor e (valueOf (r .literal)) p s) (λ n t. J t) (λ n t. t ≡ setModules (t .modules) s)
+      (moduleFor-keeps e J (c .requires) (valueOf (r .literal)) p s h) (moduleFor-stays e (valueOf (r .literal)) p s)) λ n t j.
       useProperty-keeps n i q at p t k (ap (λ (t : State). importedAs i (t .imported)) (j .1) ∙ w) u (j .0)
 
   useImported-keeps : (o : Option (List ℕ)) (i : List ℕ) (q : Field) (at p : ℕ) (s : State) → importedAs i (s .imported) ≡ o →

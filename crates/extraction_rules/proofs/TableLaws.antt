@@ -10,8 +10,8 @@ use Rattle.tree.specs.Tree.{Field, field, Fields, none, more, fixedOf}
 use Rattle.tree.proofs.LayoutLaws.{same-refl, same-equal}
 use Rattle.metadata.specs.Metadata.{append}
 use Rattle.metadata.proofs.EncodeLaws.{append-none}
-use Rattle.lent.specs.Lists.{find, isSome, mapped, among}
-use Rattle.lent.specs.Fields.{has, findField}
+use Rattle.inputs.specs.Lists.{find, isSome, mapped, among}
+use Rattle.inputs.specs.Fields.{has, findField}
 use Rattle.extraction_rules.specs.State.{Record, Usage}
 use Rattle.extraction_rules.specs.First.{suits, collectIn}
 use Rattle.extraction_rules.specs.Second.{specifiersFrom, extend}
@@ -22,7 +22,8 @@ use Rattle.extraction_rules.proofs.SeekLaws.{seek, holdsIn, suitsIn, se
 -- ---- Collecting a record of another source
 
 -- what is found of the source a was found there before
-pub seek-back : (t : Fields → Bool) (a : List ℕ) (r : Record) (l : List Record) → same (valueOf (r .literal)) a ≡ false → ((gs : Fields) → t (append gs (r .specifiers)) ≡ false → t gs ≡ false) →
+pub seek-back : (t : Fields → Bool) (a : List ℕ) (r : Record) (l : List Record) → same (valueOf (r .literal)) a ≡ false →
+    ((gs : Fields) → t (append gs (r .specifiers)) ≡ false → t gs ≡ false) →
     seek t (collectIn r l) ≡ some a → seek t l ≡ some a
 unfolding collectIn
 seek-back t a r [] d m e = go (t (r .specifiers)) (sym (seek-step t r []) ∙ e)
@@ -32,16 +33,19 @@ seek-back t a r [] d m e = go (t (r .specifiers)) (sym (seek-step t r []) ∙ e)
     go false e = e
 seek-back t a r (q ∷ l) d m e = seek-step t q l ∙ go (same (valueOf (q .literal)) (valueOf (r .literal))) refl e (seek-back t a r l d m)
   where
-    joined : (b c : Bool) → valueOf (q .literal) ≡ valueOf (r .literal) → t (append (q .specifiers) (r .specifiers)) ≡ b → t (q .specifiers) ≡ c → cond b (some (valueOf (q .literal))) (seek t l) ≡ some a → cond c (some (valueOf (q .literal))) (seek t l) ≡ some a
+    joined : (b c : Bool) → valueOf (q .literal) ≡ valueOf (r .literal) → t (append (q .specifiers) (r .specifiers)) ≡ b → t (q .specifiers) ≡ c →
+        cond b (some (valueOf (q .literal))) (seek t l) ≡ some a → cond c (some (valueOf (q .literal))) (seek t l) ≡ some a
     joined true c w u v e = absurd (not-same (valueOf (r .literal)) a d (sym w ∙ cc))
     joined false true w u v e = absurd (true≢false (sym v ∙ m (q .specifiers) u))
     joined false false w u v e = e
 
-    passed : (c : Bool) → cond c (some (valueOf (q .literal))) (seek t (collectIn r l)) ≡ some a → (seek t (collectIn r l) ≡ some a → seek t l ≡ some a) → cond c (some (valueOf (q .literal))) (seek t l) ≡ some a
+    passed : (c : Bool) → cond c (some (valueOf (q .literal))) (seek t (collectIn r l)) ≡ some a →
+        (seek t (collectIn r l) ≡ some a → seek t l ≡ some a) → cond c (some (valueOf (q .literal))) (seek t l) ≡ some a
     passed true e k = e
     passed false e k = k e
 
-    go : (b : Bool) → same (valueOf (q .literal)) (valueOf (r .literal)) ≡ b → seek t (cond b (record { literal = q .literal; specifiers = append (q .specifiers) (r .specifiers) } ∷ l) (q ∷ collectIn r l)) ≡ some a →
+    go : (b : Bool) → same (valueOf (q .literal)) (valueOf (r .literal)) ≡ b →
+        seek t (cond b (record { literal = q .literal; specifiers = append (q .specifiers) (r .specifiers) } ∷ l) (q ∷ collectIn r l)) ≡ some a →
         (seek t (collectIn r l) ≡ some a → seek t l ≡ some a) → cond (t (q .specifiers)) (some (valueOf (q .literal))) (seek t l) ≡ some a
     go true w e k =
         joined (t (append (q .specifiers) (r .specifiers))) (t (q .specifiers)) (same-equal (valueOf (q .literal)) (valueOf (r .literal)) w) refl refl
@@ -58,7 +62,8 @@ record-other a r [] d = rw d
 record-other a r (q ∷ l) d = go (same (valueOf (q .literal)) (valueOf (r .literal))) refl (record-other a r l d)
   where
     go : (b : Bool) → same (valueOf (q .literal)) (valueOf (r .literal)) ≡ b → recordOf a (collectIn r l) ≡ recordOf a l →
-        recordOf a (cond b (record { literal = q .literal; specifiers = append (q .specifiers) (r .specifiers) } ∷ l) (q ∷ collectIn r l)) ≡ cond (same (valueOf (q .literal)) a) (some q) (recordOf a l)
+        recordOf a (cond b (record { literal = q .literal; specifiers = append (q .specifiers) (r .specifiers) } ∷ l) (q ∷ collectIn r l)) ≡ cond
+        (same (valueOf (q .literal)) a) (some q) (recordOf a l)
     go true w k = rw (ap (λ (v : List ℕ). same v a) (same-equal (valueOf (q .literal)) (valueOf (r .literal)) w) ∙ d)
     go false w k = rw k
 
@@ -68,7 +73,9 @@ unfolding find collectIn
 record-empty a l r [] h = absurd (let z : _≡_ {A = ℕ} 0 1 = cc in omega arith)
 record-empty a l r (q ∷ rs) h = go (same (valueOf (q .literal)) (valueOf l)) (record-empty a l r rs)
   where
-    by : (b : Bool) → cond b (some q) (recordOf a rs) ≡ some r → (recordOf a rs ≡ some r → recordOf a (collectIn (record { literal = l; specifiers = none }) rs) ≡ some r) → cond b (some q) (recordOf a (collectIn (record { literal = l; specifiers = none }) rs)) ≡ some r
+    by : (b : Bool) → cond b (some q) (recordOf a rs) ≡ some r →
+        (recordOf a rs ≡ some r → recordOf a (collectIn (record { literal = l; specifiers = none }) rs) ≡ some r) →
+        cond b (some q) (recordOf a (collectIn (record { literal = l; specifiers = none }) rs)) ≡ some r
     by true h k = h
     by false h k = k h
 
@@ -91,7 +98,8 @@ unfolding find
 record-last a r [] h d = rw d
 record-last a r (q ∷ l) h d = go (same (valueOf (q .literal)) a) h (λ k. record-last a r l k d)
   where
-    go : (b : Bool) → cond b (some q) (recordOf a l) ≡ nothing → (recordOf a l ≡ nothing → recordOf a (l ++ (r ∷ [])) ≡ some r) → cond b (some q) (recordOf a (l ++ (r ∷ []))) ≡ some r
+    go : (b : Bool) → cond b (some q) (recordOf a l) ≡ nothing → (recordOf a l ≡ nothing → recordOf a (l ++ (r ∷ [])) ≡ some r) →
+        cond b (some q) (recordOf a (l ++ (r ∷ []))) ≡ some r
     go true h k = absurd (let z : _≡_ {A = ℕ} 0 1 = cc in omega arith)
     go false h k = k h
 
@@ -101,7 +109,8 @@ unfolding append findField
 suits-append own i none fs h = h
 suits-append own i (more f gs) fs h = go (has 0x22 f) (suits-append own i gs fs h)
   where
-    go : (b : Bool) → suitsIn own i (append gs fs) ≡ suitsIn own i gs → suits own i (cond b (some f) (findField (has 0x22) (append gs fs))) ≡ suits own i (cond b (some f) (findField (has 0x22) gs))
+    go : (b : Bool) → suitsIn own i (append gs fs) ≡ suitsIn own i gs →
+        suits own i (cond b (some f) (findField (has 0x22) (append gs fs))) ≡ suits own i (cond b (some f) (findField (has 0x22) gs))
     go true k = refl
     go false k = k
 
@@ -127,7 +136,8 @@ record-map f a (q ∷ l) k = ap (λ (v : List ℕ). cond (same (valueOf v) a) (s
     go true h = refl
     go false h = h
 
-pub seek-map : (f : Record → Record) (t : Fields → Bool) (l : List Record) → ((r : Record) → f r .literal ≡ r .literal) → ((r : Record) → t (f r .specifiers) ≡ t (r .specifiers)) → seek t (map f l) ≡ seek t l
+pub seek-map : (f : Record → Record) (t : Fields → Bool) (l : List Record) → ((r : Record) → f r .literal ≡ r .literal) →
+    ((r : Record) → t (f r .specifiers) ≡ t (r .specifiers)) → seek t (map f l) ≡ seek t l
 unfolding find
 seek-map f t [] k h = refl
 seek-map f t (q ∷ l) k h =

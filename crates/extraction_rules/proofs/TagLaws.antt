@@ -75,20 +75,44 @@ rule-export t q =
 pub parts-member : (t : ℕ) → partsFor t ≡ member → t ≡ 0x63
 unfolding partsFor
 parts-member t q =
-    find-any (λ r. r ≡ member → t ≡ 0x63) t partsTable children
-    ((λ _. not-parts unwalked member _ (λ z. omega arith)), ((λ _. not-parts unwalked member _ (λ z. omega arith)), ((λ v _. eqb-true t 0x63 v), ((λ _. not-parts super member _ (λ z. omega arith)), ((λ _. not-parts assignment member _ (λ z. omega arith)), tt)))))
+    find-any (λ r. r ≡ member → t ≡ 0x63) t partsTable children (
+      (λ _. not-parts unwalked member _ (λ z. omega arith)),
+      (
+        (λ _. not-parts unwalked member _ (λ z. omega arith)),
+        (
+          (λ v _. eqb-true t 0x63 v),
+          ((λ _. not-parts super member _ (λ z. omega arith)), ((λ _. not-parts assignment member _ (λ z. omega arith)), tt)),
+        ),
+      ),
+    )
     (not-parts children member _ (λ z. omega arith)) q
 
 pub parts-assignment : (t : ℕ) → partsFor t ≡ assignment → t ≡ 0x66
 unfolding partsFor
 parts-assignment t q =
-    find-any (λ r. r ≡ assignment → t ≡ 0x66) t partsTable children
-    ((λ _. not-parts unwalked assignment _ (λ z. omega arith)), ((λ _. not-parts unwalked assignment _ (λ z. omega arith)), ((λ _. not-parts member assignment _ (λ z. omega arith)), ((λ _. not-parts super assignment _ (λ z. omega arith)), ((λ v _. eqb-true t 0x66 v), tt)))))
+    find-any (λ r. r ≡ assignment → t ≡ 0x66) t partsTable children (
+      (λ _. not-parts unwalked assignment _ (λ z. omega arith)),
+      (
+        (λ _. not-parts unwalked assignment _ (λ z. omega arith)),
+        (
+          (λ _. not-parts member assignment _ (λ z. omega arith)),
+          ((λ _. not-parts super assignment _ (λ z. omega arith)), ((λ v _. eqb-true t 0x66 v), tt)),
+        ),
+      ),
+    )
     (not-parts children assignment _ (λ z. omega arith)) q
 
 pub parts-unwalked : (t : ℕ) → partsFor t ≡ unwalked → (t ≡ 0x10) ⊎ (t ≡ 0x23)
 unfolding partsFor
 parts-unwalked t q =
-    find-any (λ r. r ≡ unwalked → (t ≡ 0x10) ⊎ (t ≡ 0x23)) t partsTable children
-    ((λ v _. inl (eqb-true t 0x10 v)), ((λ v _. inr (eqb-true t 0x23 v)), ((λ _. not-parts member unwalked _ (λ z. omega arith)), ((λ _. not-parts super unwalked _ (λ z. omega arith)), ((λ _. not-parts assignment unwalked _ (λ z. omega arith)), tt)))))
+    find-any (λ r. r ≡ unwalked → (t ≡ 0x10) ⊎ (t ≡ 0x23)) t partsTable children (
+      (λ v _. inl (eqb-true t 0x10 v)),
+      (
+        (λ v _. inr (eqb-true t 0x23 v)),
+        (
+          (λ _. not-parts member unwalked _ (λ z. omega arith)),
+          ((λ _. not-parts super unwalked _ (λ z. omega arith)), ((λ _. not-parts assignment unwalked _ (λ z. omega arith)), tt)),
+        ),
+      ),
+    )
     (not-parts children unwalked _ (λ z. omega arith)) q

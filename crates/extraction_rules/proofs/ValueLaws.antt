@@ -11,10 +11,11 @@ use Rattle.tree.proofs.Table.{both-true}
 use Rattle.scope.specs.Id.{require-atom}
 use Rattle.tree.specs.Layout.{same, two, nameOf, valueOf}
 use Rattle.tree.specs.Tree.{Field, field, Fields, none, more, tagOf, fixedOf, partsOf}
-use Rattle.lent.specs.Outcome.{Outcome, done, refused}
-use Rattle.lent.specs.Fields.{has, sole}
+use Rattle.inputs.specs.Outcome.{Outcome, done, refused}
+use Rattle.inputs.specs.Fields.{has, sole}
 use Rattle.extraction_rules.specs.State.{Record, State, Pass, first, second, Setting}
-use Rattle.extraction_rules.specs.First.{moduleFor, onIdent, usage, argument, notExternal, required, withCallee, markCjs, markRequired, collect, addLazy, require, bindings, requireLazily, declarator, importFirst}
+use Rattle.extraction_rules.specs.First.{moduleFor, onIdent, usage, argument, notExternal, required, withCallee, markCjs, markRequired}
+use Rattle.extraction_rules.specs.First.{collect, addLazy, require, bindings, requireLazily, declarator, importFirst}
 use Rattle.extraction_rules.specs.Second.{importSecond}
 use Rattle.extraction_rules.specs.Walk.{afterExpression, afterImport, ruleFor, after, partsFor, walk}
 use Rattle.extraction_rules.proofs.OutcomeLaws.{After, after-bind, after-if}

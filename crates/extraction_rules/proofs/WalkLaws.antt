@@ -7,10 +7,12 @@ use lib.Dec.{eqb}
 use borrow.Author.Tests.{eqb-true, ne-eqb}
 use Rattle.tree.specs.Tree.{Field, field, Fields, none, more, size}
 use Rattle.tree.specs.Grammar.{expressionTag}
-use Rattle.lent.specs.Fields.{inside}
+use Rattle.inputs.specs.Fields.{inside}
 use Rattle.extraction_rules.specs.State.{State, first, second, Setting, Act, give, setTop}
 use Rattle.extraction_rules.specs.Second.{finish}
-use Rattle.extraction_rules.specs.Walk.{Rule, import, export, declare, express, nothing, ruleFor, Parts, unwalked, member, super, assignment, children, partsFor, enter, walk, walkAll, walkMember, walkAssignment, walkTarget, walkModule, walkAgain}
+use Rattle.extraction_rules.specs.Walk.{Rule, import, export, declare, express, nothing, ruleFor, Parts, unwalked, member, super, assignment}
+use Rattle.extraction_rules.specs.Walk.{children, partsFor, enter, walk, walkAll, walkMember, walkAssignment, walkTarget, walkModule}
+use Rattle.extraction_rules.specs.Walk.{walkAgain}
 use Rattle.extraction_rules.proofs.StepLaws.{CommonSteps, FirstSteps, SecondSteps, EndSteps, Keeps, after-keeps, finish-keeps, then-keeps, enter-keeps}
 
 -- ---- Tags

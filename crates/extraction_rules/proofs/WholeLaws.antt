@@ -14,13 +14,17 @@ use Rattle.tree.specs.Grammar.{ruleOf}
 use Rattle.tree.specs.Within.{Exact}
 use Rattle.tree.proofs.WidthLaws.{plain-width}
 use Rattle.tree.specs.declared.grammar.Value.the-variants.{Literal}
-use Rattle.lent.specs.Outcome.{onto}
-use Rattle.lent.specs.Lists.{among}
-use Rattle.lent.specs.Fields.{has, sole, inside}
+use Rattle.inputs.specs.Outcome.{onto}
+use Rattle.inputs.specs.Lists.{among}
+use Rattle.inputs.specs.Fields.{has, sole, inside}
 use Rattle.extraction_rules.specs.State.{Record, Usage, State, Pass, first, second, Setting, Act, give, change, refuse, setLazy, setModules}
-use Rattle.extraction_rules.specs.First.{external, moduleFor, forceId, onIdent, importedAs, usedRecord, useProperty, useFrom, useImported, usage, required, markCjs, markRequired, collect, addLazy, require, noteSpecifiers, specifiersIn, importFirst, exportSpecifier, bindings, requireLazily, declarator}
+use Rattle.extraction_rules.specs.First.{external, moduleFor, forceId, onIdent, importedAs, usedRecord, useProperty, useFrom, useImported}
+use Rattle.extraction_rules.specs.First.{usage, required, markCjs, markRequired, collect, addLazy, require, noteSpecifiers, specifiersIn}
+use Rattle.extraction_rules.specs.First.{importFirst, exportSpecifier, bindings, requireLazily, declarator}
 use Rattle.extraction_rules.specs.Second.{usagesOf, specifiersFrom, extend, takeApart, onSole, importSecond, wrapModule, wrapAll, loseNamespaces, finish}
-use Rattle.extraction_rules.specs.Walk.{Rule as Kind, import, export as exporting, declare, express, nothing as plain, ruleFor, afterExpression, afterImport, after, Parts, unwalked, member, super, assignment, children, partsFor, enter, walk, walkAll, walkMember, walkAssignment, walkTarget}
+use Rattle.extraction_rules.specs.Walk.{Rule as Kind, import, export as exporting, declare, express, nothing as plain, ruleFor}
+use Rattle.extraction_rules.specs.Walk.{afterExpression, afterImport, after, Parts, unwalked, member, super, assignment, children, partsFor}
+use Rattle.extraction_rules.specs.Walk.{enter, walk, walkAll, walkMember, walkAssignment, walkTarget}
 use Rattle.extraction_rules.proofs.OutcomeLaws.{After, after-bind, after-both, after-if, after-weaken}
 use Rattle.extraction_rules.proofs.ListLaws.{All, all-last, all-map}
 use Rattle.extraction_rules.proofs.FirstLaws.{source-cases}
@@ -28,7 +32,9 @@ use Rattle.extraction_rules.proofs.StepLaws.{Keeps, moduleFor-keeps, en
 use Rattle.extraction_rules.proofs.WalkLaws.{rule-tag, parts-tag, parts-other, walkParts}
 use Rattle.extraction_rules.proofs.RuleLaws.{inRule, takesTarget, step-without, rule-targets}
 use Rattle.extraction_rules.proofs.ShapeLaws.{Shaped, ShapedAll, Specifiers, target-step, import-parts, usages-specifiers}
-use Rattle.extraction_rules.proofs.WithinLaws.{noteSpecifiers-within, used-width, parts-within, enter-widths, not-module, value-row, target-not, walk-within, walkAll-within, walkMember-within, walkAssignment-within, walkTarget-within}
+use Rattle.extraction_rules.proofs.WithinLaws.{noteSpecifiers-within, used-width, parts-within, enter-widths, not-module, value-row}
+use Rattle.extraction_rules.proofs.WithinLaws.{target-not, walk-within, walkAll-within, walkMember-within, walkAssignment-within}
+use Rattle.extraction_rules.proofs.WithinLaws.{walkTarget-within}
 use Rattle.extraction_rules.proofs.RecordedLaws.{WholeRecord, Whole, value-width, bindings-whole, required-width, collectIn-whole, extend-whole, lose-whole, source-whole, force-whole}
 use Rattle.extraction_rules.proofs.ResultLaws.{Result, Results, Widths, widths-common}
 

@@ -22,13 +22,17 @@ use Rattle.tree.proofs.TreeLaws.{depth-parts, depth-none, depth-positive}
 use Rattle.tree.proofs.WidthLaws.{plain-width}
 use Rattle.tree.specs.declared.grammar.Value.the-variants.{Id}
 use Rattle.metadata.specs.Metadata.{append}
-use Rattle.lent.specs.Outcome.{onto}
-use Rattle.lent.specs.Lists.{among}
-use Rattle.lent.specs.Fields.{has, sole, inside}
+use Rattle.inputs.specs.Outcome.{onto}
+use Rattle.inputs.specs.Lists.{among}
+use Rattle.inputs.specs.Fields.{has, sole, inside}
 use Rattle.extraction_rules.specs.State.{Imported, Usage, State, Pass, first, second, Setting, Act, give, refuse}
-use Rattle.extraction_rules.specs.First.{external, idFrom, moduleFor, onIdent, importedAs, withCallee, collect, noteId, noteNamed, outsideName, notedContext, noteSpecifier, noteAll, noteSpecifiers, specifiersIn, attributesIn, withContext, importFirst, exportedName, exportSpecifier, declarator}
+use Rattle.extraction_rules.specs.First.{external, idFrom, moduleFor, onIdent, importedAs, withCallee, collect, noteId, noteNamed, outsideName}
+use Rattle.extraction_rules.specs.First.{notedContext, noteSpecifier, noteAll, noteSpecifiers, specifiersIn, attributesIn, withContext}
+use Rattle.extraction_rules.specs.First.{importFirst, exportedName, exportSpecifier, declarator}
 use Rattle.extraction_rules.specs.Second.{usagesOf, specifiersFrom, takeApart, onSole, importSecond, asProperty, rewritten}
-use Rattle.extraction_rules.specs.Walk.{Rule as Kind, import, export as exporting, declare, express, nothing as plain, ruleFor, afterExpression, afterImport, after, Parts, unwalked, member, super, assignment, children, partsFor, enter, walk, walkAll, walkMember, walkAssignment, walkTarget}
+use Rattle.extraction_rules.specs.Walk.{Rule as Kind, import, export as exporting, declare, express, nothing as plain, ruleFor}
+use Rattle.extraction_rules.specs.Walk.{afterExpression, afterImport, after, Parts, unwalked, member, super, assignment, children, partsFor}
+use Rattle.extraction_rules.specs.Walk.{enter, walk, walkAll, walkMember, walkAssignment, walkTarget}
 use Rattle.extraction_rules.proofs.OutcomeLaws.{After, after-bind, after-both, after-if}
 use Rattle.extraction_rules.proofs.ListLaws.{All, all-last, all-filter}
 use Rattle.extraction_rules.proofs.FirstLaws.{source-cases}
@@ -37,9 +41,12 @@ use Rattle.extraction_rules.proofs.WalkLaws.{rule-tag, parts-tag, parts
 use Rattle.extraction_rules.proofs.ValueLaws.{Called, first-expression, declarator-value}
 use Rattle.extraction_rules.proofs.RuleLaws.{inRule, step-without, takesTarget, turned-step, no-module, rule-targets}
 use Rattle.extraction_rules.proofs.ExactLaws.{id-width, rewritten-exact, named-exact, exported-exact}
-use Rattle.extraction_rules.proofs.ShapeLaws.{Shaped, ShapedAll, name-width, member-width, target-step, Specifiers, import-parts, import-from, context-shaped, named-specifier, usages-specifiers}
+use Rattle.extraction_rules.proofs.ShapeLaws.{Shaped, ShapedAll, name-width, member-width, target-step, Specifiers, import-parts, import-from}
+use Rattle.extraction_rules.proofs.ShapeLaws.{context-shaped, named-specifier, usages-specifiers}
 use Rattle.extraction_rules.proofs.TestLaws.{or-neither}
-use Rattle.extraction_rules.proofs.ResultLaws.{Result, Results, same-results, none-results, more-results, target-results, field-result, import-result, Widths, widths-common, all-note, imported-width, withCallee-same, same-result, second-results, exported-done, ident-done}
+use Rattle.extraction_rules.proofs.ResultLaws.{Result, Results, same-results, none-results, more-results, target-results, field-result}
+use Rattle.extraction_rules.proofs.ResultLaws.{import-result, Widths, widths-common, all-note, imported-width, withCallee-same, same-result}
+use Rattle.extraction_rules.proofs.ResultLaws.{second-results, exported-done, ident-done}
 
 -- ---- The rules of both passes
 

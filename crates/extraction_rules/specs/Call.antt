@@ -10,9 +10,9 @@ use Rattle.scope.specs.Modules.{Modules, request}
 use Rattle.tree.specs.declared.grammar.Set.the-variants.{Module}
 use Rattle.tree.specs.Tree.{Field, field, Fields, none, more, partsOf, size}
 use Rattle.tree.specs.Read.{Reading, fine, refused as unread, read, refusalOf}
-use Rattle.lent.specs.Outcome.{Outcome, done, refused, _>>=_, _>>_, refuseIf, placeless, refusalIn}
-use Rattle.lent.specs.Table.{Row, atomsIn, badExternals, badTable, tableOf}
-use Rattle.lent.specs.Buffer.{fits, bufferOf}
+use Rattle.inputs.specs.Outcome.{Outcome, done, refused, _>>=_, _>>_, refuseIf, placeless, refusalIn}
+use Rattle.inputs.specs.Table.{Row, atomsIn, badExternals, badTable, tableOf}
+use Rattle.inputs.specs.Buffer.{fits, bufferOf}
 use Rattle.extraction_rules.specs.State.{State, Pass, first, second, Config, Setting, start}
 use Rattle.extraction_rules.specs.Walk.{walkModule, walkAgain}
 use Rattle.extraction_rules.specs.Records.{recordsOf}

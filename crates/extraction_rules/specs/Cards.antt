@@ -9,7 +9,9 @@ use Rattle.scope.specs.Modules.{unmarked}
 use Rattle.tree.specs.Tree.{Field, encode}
 use Rattle.extraction_rules.specs.Call.{extraction}
 use Rattle.extraction_rules.specs.Computes.{computing}
-use Rattle.extraction_rules.specs.Build.{a, x, b, d, f, y, q, own, exp, literal, leaf, fields, program, imports, named, default, namespace, const, statement, ident, member, call, requiring, require, metadata, records, collected, lazy, forced, Case, lending, rooms, holding, files, accepts, refuses}
+use Rattle.extraction_rules.specs.Build.{a, x, b, d, f, y, q, own, exp, literal, leaf, fields, program, imports, named, default, namespace}
+use Rattle.extraction_rules.specs.Build.{const, statement, ident, member, call, requiring, require, metadata, records, collected, lazy, forced}
+use Rattle.extraction_rules.specs.Build.{Case, lending, rooms, holding, files, accepts, refuses}
 
 -- `01 0000` gives itself, records `02 0000`
 pub card1 : Case

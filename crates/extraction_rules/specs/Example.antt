@@ -7,7 +7,9 @@ use Rattle.tree.specs.Layout.{two, four}
 use Rattle.tree.specs.Tree.{Field, field, none, more, encode}
 use Rattle.extraction_rules.specs.Call.{extraction}
 use Rattle.extraction_rules.specs.Computes.{computing}
-use Rattle.extraction_rules.specs.Build.{a, x, b, d, y, q, own, exp, literal, listed, leaf, fields, program, imports, named, default, namespace, statement, ident, member, requiring, require, context5, metadata, records, collected, lazy, forced, Case, lending, rooms, files, accepts, refuses}
+use Rattle.extraction_rules.specs.Build.{a, x, b, d, y, q, own, exp, literal, listed, leaf, fields, program, imports, named, default}
+use Rattle.extraction_rules.specs.Build.{namespace, statement, ident, member, requiring, require, context5, metadata, records, collected, lazy}
+use Rattle.extraction_rules.specs.Build.{forced, Case, lending, rooms, files, accepts, refuses}
 
 -- a.x, and what it becomes
 abbrev ax : Field

@@ -12,11 +12,12 @@ use Rattle.scope.specs.declared.Mark.the-variants.{Cjs}
 use Rattle.tree.specs.Layout.{two, four, same, atomAt, idAt, nameOf, contextOf, valueOf}
 use Rattle.tree.specs.Tree.{Field, field, Fields, none, more, tagOf, fixedOf, partsOf, size}
 use Rattle.metadata.specs.Metadata.{append, withMetadata}
-use Rattle.lent.specs.Outcome.{done}
-use Rattle.lent.specs.Lists.{find, filter, isSome, mapped, among}
-use Rattle.lent.specs.Table.{fileOf}
-use Rattle.lent.specs.Fields.{has, keep, findField, sole, inside}
-use Rattle.extraction_rules.specs.State.{Record, Imported, Usage, State, Setting, Act, _>>=_, _>>_, give, skip, change, refuse, roomFor, setModules, setImported, setUsages, setCollected, setLazy, setForced}
+use Rattle.inputs.specs.Outcome.{done}
+use Rattle.inputs.specs.Lists.{find, filter, isSome, mapped, among}
+use Rattle.inputs.specs.Table.{fileOf}
+use Rattle.inputs.specs.Fields.{has, keep, findField, sole, inside}
+use Rattle.extraction_rules.specs.State.{Record, Imported, Usage, State, Setting, Act, _>>=_, _>>_, give, skip, change, refuse, roomFor}
+use Rattle.extraction_rules.specs.State.{setModules, setImported, setUsages, setCollected, setLazy, setForced}
 
 -- ---- Ids and sources
 

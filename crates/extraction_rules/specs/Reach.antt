@@ -5,8 +5,8 @@ use mathlib.Core.List.{List}
 use mathlib.Core.Option.{bind, Option·elim}
 use lib.Dec.{eqb}
 use Rattle.scope.specs.Modules.{Modules, numberOf}
-use Rattle.lent.specs.Lists.{find, isSome}
-use Rattle.lent.specs.Table.{Row, fileOf}
+use Rattle.inputs.specs.Lists.{find, isSome}
+use Rattle.inputs.specs.Table.{Row, fileOf}
 
 -- 'A source resolves to the module of the file its table names': the module n
 abbrev pub isModuleOf : ℕ → List Row → Modules → List ℕ → Bool

@@ -8,8 +8,8 @@ use Rattle.scope.specs.declared.Mark.the-variants.{Wrapping}
 use Rattle.tree.specs.Layout.{same, valueOf, sameLiteral}
 use Rattle.tree.specs.Tree.{Field, field, Fields, none, more, fixedOf}
 use Rattle.metadata.specs.Metadata.{append}
-use Rattle.lent.specs.Lists.{filter, among}
-use Rattle.lent.specs.Fields.{has, keep, sole}
+use Rattle.inputs.specs.Lists.{filter, among}
+use Rattle.inputs.specs.Fields.{has, keep, sole}
 use Rattle.extraction_rules.specs.State.{Record, Usage, State, Setting, Act, _>>=_, _>>_, give, skip, change, setModules, setCollected}
 use Rattle.extraction_rules.specs.First.{external, moduleFor, forceSource, importedAs, specifiersIn, attributesIn}
 

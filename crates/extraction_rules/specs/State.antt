@@ -6,8 +6,8 @@ use mathlib.Core.List.{List, []}
 use lib.Dec.{leb}
 use Rattle.scope.specs.Modules.{Modules}
 use Rattle.tree.specs.Tree.{Fields}
-use Rattle.lent.specs.Outcome.{Outcome, done, refused, onto}
-use Rattle.lent.specs.Table.{Row}
+use Rattle.inputs.specs.Outcome.{Outcome, done, refused, onto}
+use Rattle.inputs.specs.Table.{Row}
 
 -- ---- The state. Atoms, ids and literals are the bytes that stand in the tree.
 

@@ -6,8 +6,8 @@ use mathlib.Core.List.{List, [], _∷_}
 use lib.Dec.{eqb}
 use Rattle.tree.specs.Tree.{Field, field, Fields, none, more, fixedOf, size}
 use Rattle.tree.specs.Grammar.{find, expressionTag}
-use Rattle.lent.specs.Outcome.{done}
-use Rattle.lent.specs.Fields.{has, keep, inside}
+use Rattle.inputs.specs.Outcome.{done}
+use Rattle.inputs.specs.Fields.{has, keep, inside}
 use Rattle.extraction_rules.specs.State.{State, Pass, first, second, Setting, Act, _>>=_, _>>_, give, change, setTop}
 use Rattle.extraction_rules.specs.First.{onIdent, usage, required, require, forceId, importFirst, exportSpecifier, declarator, stays}
 use Rattle.extraction_rules.specs.Second.{importSecond, rewritten, finish}

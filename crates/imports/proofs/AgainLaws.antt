@@ -14,14 +14,14 @@ use Rattle.tree.specs.Tree.{Field, field, Fields, fixedOf, partsOf, encode}
 use Rattle.tree.specs.Access.{fixedAt}
 use Rattle.tree.specs.Grammar.{ruleOf}
 use Rattle.tree.specs.Standing.{treeAt, rowAt, Row}
-use Rattle.lent.specs.Lists.{among}
-use Rattle.lent.specs.Fields.{has, sole}
-use Rattle.lent.specs.Outcome.{done}
+use Rattle.inputs.specs.Lists.{among}
+use Rattle.inputs.specs.Fields.{has, sole}
+use Rattle.inputs.specs.Outcome.{done}
 use Rattle.extraction_rules.specs.State.{State, Setting, give}
 use Rattle.extraction_rules.specs.First.{external, specifiersIn}
 use Rattle.extraction_rules.specs.Second.{usagesOf, takeApart, onSole, importSecond}
-use Rattle.kept.specs.Kept.{At, Good, Shows, idOf, sourcesIn}
-use Rattle.kept.specs.Does.{Tells}
+use Rattle.state.specs.Cells.{At, Good, Shows, idOf, sourcesIn}
+use Rattle.state.specs.Does.{Tells}
 use Rattle.steps.specs.Step.{ReadAt, Steps, identBy}
 use Rattle.steps.specs.declared.Step.{Step}
 use Rattle.steps.specs.declared.Step.the-variants.{Done}
@@ -31,7 +31,8 @@ use Rattle.steps.proofs.StepsLaws.{steps-by}
 use Rattle.imports.specs.Parts.{namespaceBy}
 use Rattle.imports.proofs.HeadLaws.{head-external, head-parts, head-row, head-stays}
 
-module _ (E : Setting) (s : List ℕ) (at stop from : ℕ) (bytes : Bytes s) (room : at + 3 ≤ stop) (fits : stop ≤ length s) (tag : getD s at 0 ≡ 0x10) (e : fixedAt s 0x10 (at + 3) stop ≡ Upto from) where
+module _ (E : Setting) (s : List ℕ) (at stop from : ℕ) (bytes : Bytes s) (room : at + 3 ≤ stop) (fits : stop ≤ length s) (tag : getD s at 0 ≡ 0x10)
+    (e : fixedAt s 0x10 (at + 3) stop ≡ Upto from) where
   abbrev X : List ℕ
   X = fixedOf (treeAt s at stop)
 

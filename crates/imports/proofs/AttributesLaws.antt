@@ -26,7 +26,7 @@ use Rattle.tree.proofs.TreeLaws.{encodes-none, encodes-one}
 use Rattle.tree.specs.declared.grammar.Value.the-variants.{Empty}
 use Rattle.metadata.specs.Metadata.{append, attributesFor, withMetadata, contextAttribute}
 use Rattle.metadata.proofs.EncodeLaws.{encodes-append, framed-field}
-use Rattle.lent.specs.Fields.{has, keep, findField}
+use Rattle.inputs.specs.Fields.{has, keep, findField}
 use Rattle.extraction_rules.specs.First.{attributesOf}
 use Rattle.extraction_rules.proofs.ShapeLaws.{specifier-is}
 use Rattle.steps.specs.Step.{ReadAt}

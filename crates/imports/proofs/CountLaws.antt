@@ -19,14 +19,15 @@ use Rattle.tree.proofs.TreeLaws.{content-size, row-size}
 use Rattle.tree.proofs.WidthLaws.{plain-width}
 use Rattle.tree.specs.declared.grammar.Value.the-variants.{Id}
 use Rattle.metadata.specs.Metadata.{append}
-use Rattle.lent.specs.Fields.{has, keep, inside}
-use Rattle.lent.specs.Table.{fileOf}
+use Rattle.inputs.specs.Fields.{has, keep, inside}
+use Rattle.inputs.specs.Table.{fileOf}
 use Rattle.extraction_rules.specs.State.{Record, Imported, State, Setting, give, change, refuse, setImported, setCollected}
-use Rattle.extraction_rules.specs.First.{external, requested, moduleOf, moduleFor, noteIn, noteId, noteNamed, notedContext, noteSpecifier, noteAll, noteSpecifiers, specifiersIn, attributesIn, collectIn, collect, importFirst}
+use Rattle.extraction_rules.specs.First.{external, requested, moduleOf, moduleFor, noteIn, noteId, noteNamed, notedContext, noteSpecifier, noteAll}
+use Rattle.extraction_rules.specs.First.{noteSpecifiers, specifiersIn, attributesIn, collectIn, collect, importFirst}
 use Rattle.extraction_rules.proofs.OutcomeLaws.{After, after-bind, after-if}
 use Rattle.extraction_rules.proofs.ShapeLaws.{Shaped, ShapedAll, ImportStep, import-step, specifier-is, shaped-none}
 use Rattle.extraction_rules.proofs.KeepLaws.{keep-none, keep-yes, keep-no, keep-specifiers}
-use Rattle.kept.specs.Kept.{flag, countNamespaces, namespacesIn}
+use Rattle.state.specs.Cells.{flag, countNamespaces, namespacesIn}
 use Rattle.imports.proofs.GatherLaws.{count-more, collect-count}
 
 -- ---- A namespace takes 9 bytes
@@ -64,7 +65,8 @@ unfolding append
 parts-again none h = ap₂ append (keep-none (λ g. not (has 0x2F g))) (keep-none (has 0x2F))
 parts-again (more f fs) h = by (import-step (tagOf f) (h .0) (h .1)) (parts-again fs)
   where
-    by : ImportStep (tagOf f) (h .0) → (ShapedAll fs (ruleOf 0x10) → append (specifiersIn fs) (attributesIn fs) ≡ fs) → append (specifiersIn (more f fs)) (attributesIn (more f fs)) ≡ more f fs
+    by : ImportStep (tagOf f) (h .0) → (ShapedAll fs (ruleOf 0x10) → append (specifiersIn fs) (attributesIn fs) ≡ fs) →
+        append (specifiersIn (more f fs)) (attributesIn (more f fs)) ≡ more f fs
     by (inl w) r =
         let i = specifier-is (tagOf f) (w .0) in
         let n : has 0x2F f ≡ false = ne-eqb (tagOf f) 0x2F (λ z. omega arith) in
@@ -101,7 +103,8 @@ specifier-same n f p s =
     after-bind (noteId (record { id = fixedOf f; context = notedContext n f }) p s) _ (λ _ s'. s' .collected ≡ s .collected) (Same s f) (noteId-collects _ p s)
     (λ a u e. (refl, (λ _. refl), e)))
 
-keep-same : (f g : Field) (fs gs : Fields) → has 0x22 g ≡ has 0x22 f → (has 0x22 f ≡ true → g ≡ f) → keep (has 0x22) gs ≡ keep (has 0x22) fs → keep (has 0x22) (more g gs) ≡ keep (has 0x22) (more f fs)
+keep-same : (f g : Field) (fs gs : Fields) → has 0x22 g ≡ has 0x22 f → (has 0x22 f ≡ true → g ≡ f) → keep (has 0x22) gs ≡ keep (has 0x22) fs →
+    keep (has 0x22) (more g gs) ≡ keep (has 0x22) (more f fs)
 keep-same f g fs gs a b c = by (has 0x22 f) refl
   where
     by : (k : Bool) → has 0x22 f ≡ k → keep (has 0x22) (more g gs) ≡ keep (has 0x22) (more f fs)
@@ -150,7 +153,8 @@ pub import-brings : (e : Setting) (x : List ℕ) (cs : Fields) (p : ℕ) (s : St
     After (importFirst e x cs p s) (λ g s'. 9 * namespacesIn (s' .collected) ≤ 9 * namespacesIn (s .collected) + sizes cs)
 unfolding importFirst
 import-brings e x cs p s h =
-    after-if (external e x) (give (field 0x10 x cs)) _ s (λ g s'. Brings s cs s') (λ _. let z : 9 * namespacesIn (s .collected) ≤ 9 * namespacesIn (s .collected) + sizes cs = omega arith in z) (λ _.
+    after-if (external e x) (give (field 0x10 x cs)) _ s (λ g s'. Brings s cs s')
+    (λ _. let z : 9 * namespacesIn (s .collected) ≤ 9 * namespacesIn (s .collected) + sizes cs = omega arith in z) (λ _.
     after-bind (moduleFor e (valueOf x) p s) _ (λ _ s'. s' .collected ≡ s .collected) (λ g s'. Brings s cs s') (moduleFor-collects e (valueOf x) p s) (λ n u a.
     after-bind (noteSpecifiers n (specifiersIn cs) (inside p x) u) _ (SameAll u (specifiersIn cs)) (λ g s'. Brings s cs s') (specifiers-same n (specifiersIn cs) (inside p x) u) (λ fs v b.
     after-bind (collect (record { literal = x; specifiers = fs }) p v) _ (λ _ s'. namespacesIn (s' .collected) ≡ namespacesIn (v .collected) + countNamespaces fs) (λ g s'. Brings s cs s')

@@ -20,8 +20,8 @@ use Rattle.scope.specs.Id.{local}
 use Rattle.extraction_rules.specs.State.{Setting}
 use Rattle.extraction_rules.specs.First.{idFrom, exportedName, exportSpecifier, forceId}
 use Rattle.extraction_rules.proofs.ExactLaws.{width-23}
-use Rattle.kept.specs.Kept.{Good, idOf, Shows}
-use Rattle.kept.specs.Does.{Turns}
+use Rattle.state.specs.Cells.{Good, idOf, Shows}
+use Rattle.state.specs.Does.{Turns}
 use Rattle.steps.specs.Step.{Steps}
 use Rattle.steps.specs.declared.Step.the-variants.{Done, Refused}
 use Rattle.steps.specs.declared.Why.the-variants.{StringName}

@@ -22,19 +22,19 @@ use Rattle.tree.specs.Within.{Formed}
 use Rattle.tree.proofs.TreeLaws.{content-size}
 use Rattle.metadata.specs.Metadata.{append, withMetadata}
 use Rattle.metadata.proofs.EncodeLaws.{encodes-append, framed-field}
-use Rattle.lent.specs.Lists.{among}
-use Rattle.lent.specs.Fields.{has, keep, findField, inside}
-use Rattle.lent.specs.Outcome.{Outcome, done, onto}
-use Rattle.lent.specs.Table.{fileOf}
+use Rattle.inputs.specs.Lists.{among}
+use Rattle.inputs.specs.Fields.{has, keep, findField, inside}
+use Rattle.inputs.specs.Outcome.{Outcome, done, onto}
+use Rattle.inputs.specs.Table.{fileOf}
 use Rattle.extraction_rules.specs.State.{State, Setting, Act}
 use Rattle.extraction_rules.specs.First.{external, moduleOf, moduleFor, noteAll, specifiersIn, attributesIn, attributesOf, withContext, collect, importFirst}
 use Rattle.extraction_rules.proofs.OutcomeLaws.{after-done}
 use Rattle.extraction_rules.proofs.ShapeLaws.{ShapedAll, formed-shaped-all}
 use Rattle.extraction_rules.proofs.KeepLaws.{keep-all, keep-meets, keep-specifiers}
-use Rattle.kept.specs.Kept.{At, Good, Shows, countNamespaces, namespacesIn}
-use Rattle.kept.specs.Does.{Gave, Resolves}
-use Rattle.kept.specs.declared.Module.{Module}
-use Rattle.kept.specs.declared.Module.the-variants.{Is, Unresolved, TooMany}
+use Rattle.state.specs.Cells.{At, Good, Shows, countNamespaces, namespacesIn}
+use Rattle.state.specs.Does.{Gave, Resolves}
+use Rattle.state.specs.declared.Module.{Module}
+use Rattle.state.specs.declared.Module.the-variants.{Is, Unresolved, TooMany}
 use Rattle.steps.specs.Step.{ReadAt, Steps}
 use Rattle.steps.specs.declared.Step.{Step}
 use Rattle.steps.specs.declared.Step.the-variants.{Done, Refused}
@@ -113,7 +113,8 @@ module _ (s : List ℕ) (at stop from : ℕ) (bytes : Bytes s) (room : at + 3 �
   unfolding withContext
   unresolved-bytes r = ap (λ (fs : Fields). encode (field 0x10 X fs)) (sym (parts-again CS (shaped r)))
 
-  pub first-unresolved : {t t' out out' : List ℕ} {o p : ℕ} {k : Step} → Wrote out o (slice at stop s) out' p → Collected X CS at t t' p k → Steps encode Ready (importOn nothing X CS at) t out o t' out' k
+  pub first-unresolved : {t t' out out' : List ℕ} {o p : ℕ} {k : Step} → Wrote out o (slice at stop s) out' p → Collected X CS at t t' p k →
+      Steps encode Ready (importOn nothing X CS at) t out o t' out' k
   first-unresolved {out = out} {out' = out'} {o = o} {p = p} w c =
       record {
         good = c .good;
@@ -172,7 +173,8 @@ module _ (s : List ℕ) (at stop from : ℕ) (bytes : Bytes s) (room : at + 3 �
         steps-refused (nt .good) (nt .size ∙ cp .size ∙ ap length (op .tag) ∙ length-set l o 0x10) (λ x u b h.
         resolved-is n u ∙ ap (rest-of n) (nt .turned w q f u b (head-row s at stop from room fits tag e (h .0))))
 
-    pub first-resolved : {q a p : ℕ} {h out' t'' : List ℕ} {z : Step} → y ≡ Done q → Ends s from stop a → Attributes s a stop (λ old. encode (contextual n old)) j q h p → out' ≡ closed h o p →
+    pub first-resolved : {q a p : ℕ} {h out' t'' : List ℕ} {z : Step} → y ≡ Done q → Ends s from stop a →
+        Attributes s a stop (λ old. encode (contextual n old)) j q h p → out' ≡ closed h o p →
         length out' ≡ length l → Collected X CS at t' t'' p z → Steps encode Ready (importOn (some n) X CS at) t l o t'' out' z
     first-resolved {q} {a} {p} {h} {out'} f v w cl sz g =
         record {

@@ -14,23 +14,23 @@ use Rattle.tree.specs.Standing.{treeAt, rowAt}
 use Rattle.tree.proofs.AccessLaws.{extent-upto}
 use Rattle.tree.proofs.StandingLaws.{row-more, row-none}
 use Rattle.metadata.specs.Metadata.{append}
-use Rattle.lent.specs.Fields.{has, keep}
-use Rattle.lent.specs.Outcome.{Outcome, done, refused}
-use Rattle.lent.proofs.AcceptedLaws.{done-refused as not-done}
+use Rattle.inputs.specs.Fields.{has, keep}
+use Rattle.inputs.specs.Outcome.{Outcome, done, refused}
+use Rattle.inputs.proofs.AcceptedLaws.{done-refused as not-done}
 use Rattle.tree.specs.Layout.{same, valueOf}
 use Rattle.extraction_rules.specs.State.{Record, State, setCollected, change, refuse}
 use Rattle.extraction_rules.specs.First.{collectIn, collect}
 use Rattle.extraction_rules.proofs.KeepLaws.{keep-none, keep-yes, keep-no}
-use Rattle.kept.specs.Kept.{At, records, held, Good, Shows, idOf, flag, countNamespaces, namespacesIn}
-use Rattle.kept.specs.Does.{extendAt, Extends, Collects}
-use Rattle.kept.specs.declared.Place.{Place}
-use Rattle.kept.specs.declared.Place.the-variants.{Index, NoRoom}
-use Rattle.kept.specs.declared.Room.{Room}
-use Rattle.kept.specs.declared.Room.the-variants.{Made, Full}
-use Rattle.kept.proofs.CollectLaws.{length-extend}
-use Rattle.kept.proofs.ExtendLaws.{extended-other}
-use Rattle.kept.proofs.NamespaceLaws.{namespaces-extended, extend-more, extend-none}
-use Rattle.kept.proofs.RecordLaws.{held-shown}
+use Rattle.state.specs.Cells.{At, records, held, Good, Shows, idOf, flag, countNamespaces, namespacesIn}
+use Rattle.state.specs.Does.{extendAt, Extends, Collects}
+use Rattle.state.specs.declared.Place.{Place}
+use Rattle.state.specs.declared.Place.the-variants.{Index, NoRoom}
+use Rattle.state.specs.declared.Room.{Room}
+use Rattle.state.specs.declared.Room.the-variants.{Made, Full}
+use Rattle.state.proofs.CollectLaws.{length-extend}
+use Rattle.state.proofs.ExtendLaws.{extended-other}
+use Rattle.state.proofs.NamespaceLaws.{namespaces-extended, extend-more, extend-none}
+use Rattle.state.proofs.RecordLaws.{held-shown}
 use Rattle.steps.specs.Step.{identBy, refusalOf}
 use Rattle.steps.specs.declared.Ident.{Ident}
 use Rattle.steps.specs.declared.Ident.the-variants.{Is, Other}
@@ -59,7 +59,9 @@ others-shown : {y : At} {t : List ℕ} (i : ℕ) (fs : Fields) (s : State) → k
 others-shown {y} {t} i none s e b w = subst (λ (l : List Record). Shows y t (setCollected l s)) (sym (extend-none i (s .collected))) w
 others-shown {y} {t} i (more f fs) s e b w = by (has 0x22 f) refl (λ u. others-shown i fs u)
   where
-    by : (c : Bool) → has 0x22 f ≡ c → ((u : State) → keep (has 0x22) fs ≡ none → i < length (u .collected) → Shows y t u → Shows y t (setCollected (extendAt i fs (u .collected)) u)) →
+    by : (c : Bool) → has 0x22 f ≡ c →
+        ((u : State) → keep (has 0x22) fs ≡ none → i < length (u .collected) → Shows y t u →
+        Shows y t (setCollected (extendAt i fs (u .collected)) u)) →
         Shows y t (setCollected (extendAt i (more f fs) (s .collected)) s)
     by true q h = no-more (sym (keep-yes (has 0x22) f fs q) ∙ e)
     by false q h =
@@ -205,7 +207,8 @@ done-state : {u v : State} → _≡_ {A = Outcome (Unit {0} × State)} (done (tt
 done-state {u} e = ap (stateOf u) e
 
 -- collecting a record without specifiers brings no namespace
-gathered-count : (x : List ℕ) (l : List Record) (s : State) → collect (record { literal = x; specifiers = none }) 0 s ≡ done (tt, setCollected l s) → namespacesIn l ≡ namespacesIn (s .collected)
+gathered-count : (x : List ℕ) (l : List Record) (s : State) → collect (record { literal = x; specifiers = none }) 0 s ≡ done (tt, setCollected l s) →
+    namespacesIn l ≡ namespacesIn (s .collected)
 unfolding collect countNamespaces
 gathered-count x l s e = by (leb (length (collectIn (record { literal = x; specifiers = none }) (s .collected))) 256) e
   where

@@ -18,9 +18,9 @@ use Rattle.tree.proofs.WidthLaws.{plain-width}
 use Rattle.tree.specs.declared.grammar.Value.the-variants.{Literal}
 use Rattle.extraction_rules.specs.State.{State, Setting, Act}
 use Rattle.extraction_rules.specs.First.{external}
-use Rattle.lent.specs.Lists.{among}
-use Rattle.lent.specs.Outcome.{done}
-use Rattle.kept.specs.Kept.{At, Good, Shows, idOf}
+use Rattle.inputs.specs.Lists.{among}
+use Rattle.inputs.specs.Outcome.{done}
+use Rattle.state.specs.Cells.{At, Good, Shows, idOf}
 use Rattle.steps.specs.Step.{ReadAt, Steps}
 use Rattle.steps.specs.declared.Step.the-variants.{Done}
 use Rattle.steps.proofs.SoundLaws.{read-bytes, read-parts}
@@ -77,7 +77,8 @@ module _ (s : List ℕ) (at stop from : ℕ) (room : at + 3 ≤ stop) (fits : st
   pub head-copied : {out out' : List ℕ} {o p : ℕ} → Bytes s → ReadAt s at stop → Wrote out o (slice at stop s) out' p → Wrote out o (encode (field 0x10 (fixedOf F) (partsOf F))) out' p
   head-copied b r w = wrote-as w (sym (read-bytes r b) ∙ ap encode head-tree)
 
-  pub head-stays : {P : At → State → Type 0} {act : Act Field} {t out out' : List ℕ} {o p : ℕ} → Bytes s → Good t → Wrote out o (slice at stop s) out' p → ((x : At) (u : State) → P x u → ReadAt s at stop) →
+  pub head-stays : {P : At → State → Type 0} {act : Act Field} {t out out' : List ℕ} {o p : ℕ} → Bytes s → Good t →
+      Wrote out o (slice at stop s) out' p → ((x : At) (u : State) → P x u → ReadAt s at stop) →
       ((x : At) (u : State) → Shows x t u → P x u → act u ≡ done (field 0x10 (fixedOf F) (partsOf F), u)) → Steps encode P act t out o t out' (Done p)
   head-stays b g w h k = steps-done g (w .size) (λ x u v c. record { value = field 0x10 (fixedOf F) (partsOf F); state = u; is = k x u v c; wrote = head-copied b (h x u c) w; shows = v })
 

@@ -4,12 +4,12 @@ use mathlib.Core.Path.{_≡_, refl, ap}
 use mathlib.Core.List.{List}
 use lib.ListN.{length}
 use Rattle.writer.specs.Wrote.{Wrote}
-use Rattle.lent.specs.Outcome.{Outcome, done, onto}
+use Rattle.inputs.specs.Outcome.{Outcome, done, onto}
 use Rattle.extraction_rules.specs.State.{State, Act, _>>=_, _>>_, give}
-use Rattle.kept.specs.Kept.{At}
-use Rattle.kept.specs.Does.{Acts}
-use Rattle.kept.specs.declared.Room.{Room}
-use Rattle.kept.specs.declared.Room.the-variants.{Made as made-room, Full}
+use Rattle.state.specs.Cells.{At}
+use Rattle.state.specs.Does.{Acts}
+use Rattle.state.specs.declared.Room.{Room}
+use Rattle.state.specs.declared.Room.the-variants.{Made as made-room, Full}
 use Rattle.steps.specs.Step.{Steps}
 use Rattle.steps.specs.declared.Step.the-variants.{Done, Refused}
 use Rattle.steps.specs.declared.Why.the-variants.{TableFull}

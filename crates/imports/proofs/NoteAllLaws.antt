@@ -17,7 +17,7 @@ use Rattle.tree.proofs.TreeLaws.{encodes-more}
 use Rattle.extraction_rules.specs.State.{State, _>>=_, give}
 use Rattle.extraction_rules.specs.First.{noteSpecifier, noteAll, specifiersIn}
 use Rattle.extraction_rules.proofs.KeepLaws.{keep-none}
-use Rattle.kept.specs.Kept.{Good}
+use Rattle.state.specs.Cells.{Good}
 use Rattle.steps.specs.Step.{Steps}
 use Rattle.steps.specs.declared.Step.{Step}
 use Rattle.steps.specs.declared.Step.the-variants.{Done, Refused}
@@ -62,7 +62,9 @@ module _ (n : ℕ) (s : List ℕ) (at end : ℕ) {t out : List ℕ} {to : ℕ} (
 
       pub notes-more : {p : ℕ} {r : Step} {t'' out'' : List ℕ} → k ≡ Done p → NotedAll n s stop end t' out' p r t'' out'' → NotedAll n s at end t out to r t'' out''
       notes-more d w =
-          steps-as _ (steps-pair encode encodes encodes more encodes-more (λ x u. Row s at end (ruleOf 0x10)) (λ _. noteAll n (specifiersIn (rowAt s stop end)) stop) (steps-is v d) (λ _. w) (treeAt s at stop)
+          steps-as _
+          (steps-pair encode encodes encodes more encodes-more (λ x u. Row s at end (ruleOf 0x10))
+          (λ _. noteAll n (specifiersIn (rowAt s stop end)) stop) (steps-is v d) (λ _. w) (treeAt s at stop)
           (λ x u a. part-first bytes le fits e a no .specified) (λ x u a _ _ _. part-first bytes le fits e a no .rest))
           (λ x u a. (a, step-is u a))
 

@@ -23,10 +23,10 @@ use Rattle.extraction_rules.specs.State.{State, Act}
 use Rattle.extraction_rules.specs.First.{idFrom, outsideName, noteId, noteNamed, notedContext, noteSpecifier}
 use Rattle.extraction_rules.proofs.ExactLaws.{width-20}
 use Rattle.extraction_rules.proofs.ShapeLaws.{one-of, specifier-is}
-use Rattle.kept.specs.Kept.{At, id-limit, Good, idOf}
-use Rattle.kept.specs.Does.{Acts}
-use Rattle.kept.specs.declared.Room.{Room}
-use Rattle.kept.specs.declared.Room.the-variants.{Made, Full}
+use Rattle.state.specs.Cells.{At, id-limit, Good, idOf}
+use Rattle.state.specs.Does.{Acts}
+use Rattle.state.specs.declared.Room.{Room}
+use Rattle.state.specs.declared.Room.the-variants.{Made, Full}
 use Rattle.steps.specs.Step.{Steps, ReadAt}
 use Rattle.steps.specs.declared.Step.{Step}
 use Rattle.steps.specs.declared.Step.the-variants.{Done, Refused}

@@ -18,7 +18,7 @@ use Rattle.tree.specs.Standing.{treeAt, rowAt, Row}
 use Rattle.tree.proofs.AccessLaws.{extent-upto}
 use Rattle.tree.proofs.StandingLaws.{row-more, row-none}
 use Rattle.tree.proofs.SoundLaws.{row-sound}
-use Rattle.lent.specs.Fields.{has}
+use Rattle.inputs.specs.Fields.{has}
 use Rattle.extraction_rules.specs.First.{specifiersIn, attributesIn}
 use Rattle.extraction_rules.proofs.ShapeLaws.{formed-shaped-all, shaped-none, ImportStep, import-step, specifier-is}
 use Rattle.extraction_rules.proofs.KeepLaws.{keep-yes, keep-no, keep-none}

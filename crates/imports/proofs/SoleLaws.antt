@@ -15,7 +15,7 @@ use Rattle.tree.specs.Access.{fixedAt, extentAt}
 use Rattle.tree.specs.Grammar.{ruleOf}
 use Rattle.tree.specs.Standing.{treeAt, rowAt, Row}
 use Rattle.tree.proofs.StandingLaws.{row-none, tree-short}
-use Rattle.lent.specs.Fields.{sole}
+use Rattle.inputs.specs.Fields.{sole}
 use Rattle.extraction_rules.specs.First.{specifiersIn}
 use Rattle.extraction_rules.proofs.KeepLaws.{keep-none}
 use Rattle.steps.specs.Step.{identBy, Small}

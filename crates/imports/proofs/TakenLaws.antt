@@ -18,16 +18,16 @@ use Rattle.tree.specs.Standing.{treeAt}
 use Rattle.tree.proofs.SoundLaws.{row-sound}
 use Rattle.metadata.specs.Metadata.{append}
 use Rattle.metadata.proofs.EncodeLaws.{encodes-append, framed-field}
-use Rattle.lent.specs.Lists.{filter, among}
-use Rattle.lent.specs.Outcome.{done}
+use Rattle.inputs.specs.Lists.{filter, among}
+use Rattle.inputs.specs.Outcome.{done}
 use Rattle.extraction_rules.specs.State.{Usage, State, setCollected}
 use Rattle.extraction_rules.specs.First.{attributesIn, forceSource}
 use Rattle.extraction_rules.specs.Second.{usagesOf, specifiersFrom, extend, takeApart}
-use Rattle.kept.specs.Kept.{Good, Shows, idOf, sourcesIn}
-use Rattle.kept.specs.Does.{Tells, Lists, listed, any, Forces}
-use Rattle.kept.specs.declared.Property.{Property}
-use Rattle.kept.specs.declared.Property.the-variants.{Is, Other}
-use Rattle.kept.proofs.SecondLaws.{specifiers-plain, shows-extended}
+use Rattle.state.specs.Cells.{Good, Shows, idOf, sourcesIn}
+use Rattle.state.specs.Does.{Tells, Lists, listed, any, Forces}
+use Rattle.state.specs.declared.Property.{Property}
+use Rattle.state.specs.declared.Property.the-variants.{Is, Other}
+use Rattle.state.proofs.SecondLaws.{specifiers-plain, shows-extended}
 use Rattle.steps.specs.Step.{ReadAt, Steps}
 use Rattle.steps.specs.declared.Step.the-variants.{Done}
 use Rattle.steps.proofs.StepsLaws.{steps-done}
@@ -87,7 +87,8 @@ pub record Listing (x : List ℕ) (t out₀ : List ℕ) (o : ℕ) (out : List �
 pub listing-start : (x : List ℕ) {t out : List ℕ} {o : ℕ} → Listing x t out o out 0 o
 listing-start x = record { size = refl; rest = λ out' p w. w }
 
-pub listing-more : {x t out₀ out out' : List ℕ} {o i to p : ℕ} → Listing x t out₀ o out i to → Written x i t out to out' p → length out' ≡ length out → Listing x t out₀ o out' (i + 1) p
+pub listing-more : {x t out₀ out out' : List ℕ} {o i to p : ℕ} → Listing x t out₀ o out i to → Written x i t out to out' p →
+    length out' ≡ length out → Listing x t out₀ o out' (i + 1) p
 listing-more g w e = record { size = e ∙ g .size; rest = λ out'' q v. g .rest out'' q (w .next v) }
 
 -- ---- The import that gets them
@@ -147,7 +148,8 @@ module _ (s : List ℕ) (at stop from : ℕ) (bytes : Bytes s) (room : at + 3 �
         shows = shows-extended (specifiersFrom l) (specifiers-plain l) X k;
       })
 
-  pub apart-none : (id n : ℕ) {t t' out out' : List ℕ} {o p : ℕ} {b : Bool} → Tells (λ u. any (usagesOf (idOf id) (u .usages))) t b → b ≡ false → two n ≡ valueOf X → Forces (two n) t t' →
+  pub apart-none : (id n : ℕ) {t t' out out' : List ℕ} {o p : ℕ} {b : Bool} → Tells (λ u. any (usagesOf (idOf id) (u .usages))) t b → b ≡ false →
+      two n ≡ valueOf X → Forces (two n) t t' →
       Wrote out o (slice at stop s) out' p → Apart id t out o t' out' p
   apart-none id n {t' = t'} w q c f v =
       steps-done (f .good) (v .size) (λ x u k h.

@@ -14,15 +14,15 @@ use Rattle.tree.specs.Tree.{Field, field, Fields, none, more, tagOf, fixedOf, e
 use Rattle.tree.specs.Access.{fixedAt}
 use Rattle.tree.specs.Grammar.{holdsAt, ruleOf}
 use Rattle.tree.specs.Standing.{rowAt, Row}
-use Rattle.lent.specs.Fields.{has, keep, findField, inside}
-use Rattle.lent.specs.Outcome.{refused}
+use Rattle.inputs.specs.Fields.{has, keep, findField, inside}
+use Rattle.inputs.specs.Outcome.{refused}
 use Rattle.extraction_rules.specs.State.{Imported, State, Act, _>>=_, _>>_, give, setCollected}
 use Rattle.extraction_rules.specs.First.{outsideName, noteId, noteSpecifiers, specifiersIn, attributesIn, attributesOf, withContext, collect}
 use Rattle.extraction_rules.specs.Second.{usagesOf, specifiersFrom}
-use Rattle.kept.specs.Kept.{At, id-limit, records, held, Good, idOf, countNamespaces, namespacesIn, Shows}
-use Rattle.kept.specs.Does.{Did, extendAt}
-use Rattle.kept.specs.declared.Room.{Room}
-use Rattle.kept.specs.declared.Room.the-variants.{Made, Full}
+use Rattle.state.specs.Cells.{At, id-limit, records, held, Good, idOf, countNamespaces, namespacesIn, Shows}
+use Rattle.state.specs.Does.{Did, extendAt}
+use Rattle.state.specs.declared.Room.{Room}
+use Rattle.state.specs.declared.Room.the-variants.{Made, Full}
 use Rattle.metadata.specs.Metadata.{append}
 use Rattle.steps.specs.Step.{ReadAt, refusalOf}
 use Rattle.steps.specs.declared.Step.{Step}

@@ -9,17 +9,17 @@ ghost use Rattle.tree.specs.Layout.{two};
 ghost use Rattle.tree.specs.Tree.{encode, field, none, fixedOf};
 ghost use Rattle.tree.specs.Access.{fixedAt};
 ghost use Rattle.tree.specs.Standing.{treeAt};
-ghost use Rattle.lent.specs.Table.{Row as TableRow};
+ghost use Rattle.inputs.specs.Table.{Row as TableRow};
 ghost use Rattle.writer.specs.Wrote.{Wrote};
 ghost use Rattle.extraction_rules.specs.First.{idFrom, exportSpecifier};
-ghost use Rattle.kept.specs.Kept.{Good};
+ghost use Rattle.state.specs.Cells.{Good};
 ghost use Rattle.steps.specs.Step.{settingOf, Steps};
 ghost use Rattle.imports.specs.Parts.{exportedAt};
-use kept::forced::force_id;
-use kept::ident::id_at;
-use kept::ident::id_from;
-use kept::ident::put_id;
 use scope::id::SyntaxContext;
+use state::forced::force_id;
+use state::ident::id_at;
+use state::ident::id_from;
+use state::ident::put_id;
 use steps::Setting;
 use steps::Step;
 use steps::Why;
@@ -37,7 +37,9 @@ pub fn export_specifier(
     o: usize,
 ) -> Step
     requires { ⌜ (at + 3 ≤ stop) × (stop ≤ length (now s)) × (getD (now s) at 0 ≡ 0x23) × (fixedAt (now s) 0x23 (at + 3) stop ≡ Upto from) × Good (now t) ⌝ }
-    ensures { λ r. ⌜ ((externals : List (List ℕ)) (rows : List TableRow) → Steps encode (λ x u. Unit {0}) (exportSpecifier (settingOf e externals rows) (fixedOf (treeAt (now (s .entry)) at stop)) at) (now (t .entry)) (now (out .entry)) o (now (t .exit)) (now (out .exit)) r) ⌝ }
+    ensures { λ r. ⌜ ((externals : List (List ℕ)) (rows : List TableRow) →
+        Steps encode (λ x u. Unit {0}) (exportSpecifier (settingOf e externals rows) (fixedOf (treeAt (now (s .entry)) at stop)) at) (now (t .entry))
+        (now (out .entry)) o (now (t .exit)) (now (out .exit)) r) ⌝ }
 {
     if s[at + 3] == 2 {
         return Step::Refused(Why::StringName, at);
@@ -65,7 +67,10 @@ fn exported_name(s: &[u8], at: usize) -> u16
 // Writes the 23 with its exported name in a context.
 fn put_exported(s: &[u8], at: usize, c: SyntaxContext, out: &mut [u8], o: usize) -> usize
     requires { ⌜ (at + 11 ≤ length (now s)) × (getD (now s) (at + 10) 0 ≡ 1 → at + 13 ≤ length (now s)) ⌝ }
-    ensures { λ p. ⌜ Wrote (now (out .entry)) o (encode (field 0x23 (slice (at + 3) (at + 10) (now (s .entry)) ++ 1 ∷ idFrom (exportedAt (now (s .entry)) at) (c .0)) none)) (now (out .exit)) p ⌝ }
+    ensures { λ p.
+        ⌜ Wrote (now (out .entry)) o
+        (encode (field 0x23 (slice (at + 3) (at + 10) (now (s .entry)) ++ 1 ∷ idFrom (exportedAt (now (s .entry)) at) (c .0)) none)) (now (out .exit))
+        p ⌝ }
 {
     let content = writer::open_field(out, o, 0x23);
     let kind = writer::copy(out, content, s, at + 3, at + 10);

@@ -8,25 +8,25 @@ ghost use Rattle.tree.specs.declared.layout.Reach.the-variants.{Upto};
 ghost use Rattle.tree.specs.Tree.{encode, fixedOf, partsOf};
 ghost use Rattle.tree.specs.Access.{fixedAt};
 ghost use Rattle.tree.specs.Standing.{treeAt, rowAt};
-ghost use Rattle.lent.specs.Table.{atomsIn, rowsIn};
+ghost use Rattle.inputs.specs.Table.{atomsIn, rowsIn};
 ghost use Rattle.extraction_rules.specs.First.{importFirst};
-ghost use Rattle.kept.specs.Kept.{id-limit, Good, idOf, records, held, namespacesIn};
+ghost use Rattle.state.specs.Cells.{id-limit, Good, idOf, records, held, namespacesIn};
 ghost use Rattle.steps.specs.Step.{settingOf, ReadAt, Steps};
 ghost use Rattle.imports.specs.Parts.{Gathers, Extending, Gathering, Collected, importOn};
 use crate::note::note_all;
 use crate::note::put_context_attributes;
 use crate::parts::namespace_at;
 use crate::parts::specifiers_end;
-use kept::Module;
-use kept::Place;
-use kept::Room;
-use kept::ident::id_at;
-use kept::ident::name_of;
-use kept::modules::module_for;
-use kept::records::add_namespace;
-use kept::records::collect;
-use lent::is_external;
+use inputs::is_external;
 use scope::id::ModuleId;
+use state::Module;
+use state::Place;
+use state::Room;
+use state::ident::id_at;
+use state::ident::name_of;
+use state::modules::module_for;
+use state::records::add_namespace;
+use state::records::collect;
 use steps::Ident;
 use steps::Setting;
 use steps::Step;
@@ -88,7 +88,10 @@ pub fn import_first(
     o: usize,
 ) -> Step
     requires { ⌜ (at + 3 ≤ stop) × (stop ≤ length (now s)) × (getD (now s) at 0 ≡ 0x10) × (fixedAt (now s) 0x10 (at + 3) stop ≡ Upto from) × Good (now t) ⌝ }
-    ensures { λ r. ⌜ Steps encode (λ x u. ReadAt (now (s .entry)) at stop × (9 * namespacesIn (u .collected) ≤ at) × (stop ≤ 32768)) (importFirst (settingOf e (atomsIn (now (externals .entry))) (rowsIn (now (table .entry)))) (fixedOf (treeAt (now (s .entry)) at stop)) (partsOf (treeAt (now (s .entry)) at stop)) at) (now (t .entry)) (now (out .entry)) o (now (t .exit)) (now (out .exit)) r ⌝ }
+    ensures { λ r.
+        ⌜ Steps encode (λ x u. ReadAt (now (s .entry)) at stop × (9 * namespacesIn (u .collected) ≤ at) × (stop ≤ 32768))
+        (importFirst (settingOf e (atomsIn (now (externals .entry))) (rowsIn (now (table .entry)))) (fixedOf (treeAt (now (s .entry)) at stop))
+        (partsOf (treeAt (now (s .entry)) at stop)) at) (now (t .entry)) (now (out .entry)) o (now (t .exit)) (now (out .exit)) r ⌝ }
 {
     let source = name_of(id_at(s, at + 3));
     if is_external(externals, source) {
@@ -113,7 +116,10 @@ fn import_resolved(
     o: usize,
 ) -> Step
     requires { ⌜ (at + 3 ≤ stop) × (stop ≤ length (now s)) × (getD (now s) at 0 ≡ 0x10) × (fixedAt (now s) 0x10 (at + 3) stop ≡ Upto from) × Good (now t) ⌝ }
-    ensures { λ r. ⌜ Steps encode (λ x u. ReadAt (now (s .entry)) at stop × (9 * namespacesIn (u .collected) ≤ at) × (stop ≤ 32768)) (importOn (some (n .0)) (fixedOf (treeAt (now (s .entry)) at stop)) (partsOf (treeAt (now (s .entry)) at stop)) at) (now (t .entry)) (now (out .entry)) o (now (t .exit)) (now (out .exit)) r ⌝ }
+    ensures { λ r.
+        ⌜ Steps encode (λ x u. ReadAt (now (s .entry)) at stop × (9 * namespacesIn (u .collected) ≤ at) × (stop ≤ 32768))
+        (importOn (some (n .0)) (fixedOf (treeAt (now (s .entry)) at stop)) (partsOf (treeAt (now (s .entry)) at stop)) at) (now (t .entry))
+        (now (out .entry)) o (now (t .exit)) (now (out .exit)) r ⌝ }
 {
     let content = writer::open_field(out, o, 0x10);
     let c = writer::copy(out, content, s, at + 3, from);
@@ -139,7 +145,10 @@ fn import_unresolved(
     o: usize,
 ) -> Step
     requires { ⌜ (at + 3 ≤ stop) × (stop ≤ length (now s)) × (getD (now s) at 0 ≡ 0x10) × (fixedAt (now s) 0x10 (at + 3) stop ≡ Upto from) × Good (now t) ⌝ }
-    ensures { λ r. ⌜ Steps encode (λ x u. ReadAt (now (s .entry)) at stop × (9 * namespacesIn (u .collected) ≤ at) × (stop ≤ 32768)) (importOn nothing (fixedOf (treeAt (now (s .entry)) at stop)) (partsOf (treeAt (now (s .entry)) at stop)) at) (now (t .entry)) (now (out .entry)) o (now (t .exit)) (now (out .exit)) r ⌝ }
+    ensures { λ r.
+        ⌜ Steps encode (λ x u. ReadAt (now (s .entry)) at stop × (9 * namespacesIn (u .collected) ≤ at) × (stop ≤ 32768))
+        (importOn nothing (fixedOf (treeAt (now (s .entry)) at stop)) (partsOf (treeAt (now (s .entry)) at stop)) at) (now (t .entry))
+        (now (out .entry)) o (now (t .exit)) (now (out .exit)) r ⌝ }
 {
     let p = writer::copy(out, o, s, at, stop);
     gathered(s, at, from, stop, t, p)

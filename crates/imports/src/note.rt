@@ -13,18 +13,18 @@ ghost use Rattle.writer.specs.Wrote.{Wrote};
 ghost use Rattle.scope.specs.Id.{export};
 ghost use Rattle.metadata.specs.Metadata.{withMetadata};
 ghost use Rattle.extraction_rules.specs.First.{idFrom, noteNamed, noteSpecifier, noteAll, specifiersIn};
-ghost use Rattle.kept.specs.Kept.{id-limit, Good, idOf};
+ghost use Rattle.state.specs.Cells.{id-limit, Good, idOf};
 ghost use Rattle.steps.specs.Step.{ReadAt, Steps};
 ghost use Rattle.imports.specs.Parts.{Framed, OutsideAt, OutsideIs, SpecifierIs, Specified, noting, Attributes};
-use kept::Room;
-use kept::ident::id_at;
-use kept::ident::id_from;
-use kept::ident::name_of;
-use kept::ident::put_id;
-use kept::imported::note_id;
 use scope::id::Atom;
 use scope::id::ModuleId;
 use scope::id::SyntaxContext;
+use state::Room;
+use state::ident::id_at;
+use state::ident::id_from;
+use state::ident::name_of;
+use state::ident::put_id;
+use state::imported::note_id;
 use steps::Step;
 use steps::Why;
 use tree::access::extent;
@@ -82,7 +82,9 @@ pub fn note_specifier(
     o: usize,
 ) -> Step
     requires { ⌜ (at + 3 ≤ stop) × (stop ≤ length (now s)) × Good (now t) ⌝ }
-    ensures { λ r. ⌜ Steps encode (λ x u. Specified (now (s .entry)) at stop) (noteSpecifier (n .0) (treeAt (now (s .entry)) at stop) at) (now (t .entry)) (now (out .entry)) o (now (t .exit)) (now (out .exit)) r ⌝ }
+    ensures { λ r.
+        ⌜ Steps encode (λ x u. Specified (now (s .entry)) at stop) (noteSpecifier (n .0) (treeAt (now (s .entry)) at stop) at) (now (t .entry))
+        (now (out .entry)) o (now (t .exit)) (now (out .exit)) r ⌝ }
 {
     let tag = s[at];
     let Reach::Upto(_) = fixed(s, tag, at + 3, stop) else {
@@ -109,7 +111,9 @@ fn note_given(
     o: usize,
 ) -> Step
     requires { ⌜ (stop ≤ length (now s)) × SpecifierIs (treeAt (now s) at stop) given × Good (now t) ⌝ }
-    ensures { λ r. ⌜ Steps encode (λ x u. ReadAt (now (s .entry)) at stop) (noteSpecifier (n .0) (treeAt (now (s .entry)) at stop) at) (now (t .entry)) (now (out .entry)) o (now (t .exit)) (now (out .exit)) r ⌝ }
+    ensures { λ r.
+        ⌜ Steps encode (λ x u. ReadAt (now (s .entry)) at stop) (noteSpecifier (n .0) (treeAt (now (s .entry)) at stop) at) (now (t .entry))
+        (now (out .entry)) o (now (t .exit)) (now (out .exit)) r ⌝ }
 {
     match given {
         Specifier::Named(id, outside) => note_named(id, outside, at, n, t, out, o),
@@ -133,7 +137,8 @@ fn note_other(
     o: usize,
 ) -> Step
     requires { ⌜ (stop ≤ length (now s)) × (id < id-limit) × Good (now t) ⌝ }
-    ensures { λ r. ⌜ Steps encode (λ x u. ReadAt (now (s .entry)) at stop) (noting (record { id = idOf id; context = four (c .0) }) (treeAt (now (s .entry)) at stop) at) (now (t .entry)) (now (out .entry)) o (now (t .exit)) (now (out .exit)) r ⌝ }
+    ensures { λ r. ⌜ Steps encode (λ x u. ReadAt (now (s .entry)) at stop) (noting (record { id = idOf id; context = four (c .0) })
+        (treeAt (now (s .entry)) at stop) at) (now (t .entry)) (now (out .entry)) o (now (t .exit)) (now (out .exit)) r ⌝ }
 {
     match note_id(t, id, c) {
         Room::Made => Step::Done(writer::copy(out, o, s, at, stop)),
@@ -152,7 +157,8 @@ fn note_named(
     o: usize,
 ) -> Step
     requires { ⌜ (id < id-limit) × Good (now t) ⌝ }
-    ensures { λ r. ⌜ ((x : List ℕ) → idOf id ≡ idAt x 0 → OutsideIs x outside → Steps encode (λ x u. Unit {0}) (noteNamed (n .0) x at) (now (t .entry)) (now (out .entry)) o (now (t .exit)) (now (out .exit)) r) ⌝ }
+    ensures { λ r. ⌜ ((x : List ℕ) → idOf id ≡ idAt x 0 → OutsideIs x outside →
+        Steps encode (λ x u. Unit {0}) (noteNamed (n .0) x at) (now (t .entry)) (now (out .entry)) o (now (t .exit)) (now (out .exit)) r) ⌝ }
 {
     match outside {
         Outside::Nothing => note_as(id, Atom(name_of(id)), at, n, t, out, o),
@@ -172,7 +178,9 @@ fn note_as(
     o: usize,
 ) -> Step
     requires { ⌜ (id < id-limit) × Good (now t) ⌝ }
-    ensures { λ r. ⌜ Steps encode (λ x u. Unit {0}) (noting (record { id = idOf id; context = four (export (n .0)) }) (field 0x20 (idOf id ++ 1 ∷ idFrom (two (name .0)) (export (n .0))) none) at) (now (t .entry)) (now (out .entry)) o (now (t .exit)) (now (out .exit)) r ⌝ }
+    ensures { λ r. ⌜ Steps encode (λ x u. Unit {0})
+        (noting (record { id = idOf id; context = four (export (n .0)) }) (field 0x20 (idOf id ++ 1 ∷ idFrom (two (name .0)) (export (n .0))) none)
+        at) (now (t .entry)) (now (out .entry)) o (now (t .exit)) (now (out .exit)) r ⌝ }
 {
     let c = n.export_ctxt();
     match note_id(t, id, c) {
@@ -205,7 +213,9 @@ pub fn note_all(
     o: usize,
 ) -> Step
     requires { ⌜ (from ≤ end) × (end ≤ length (now s)) × Good (now t) ⌝ }
-    ensures { λ r. ⌜ Steps encodes (λ x u. Row (now (s .entry)) from end (ruleOf 0x10)) (noteAll (n .0) (specifiersIn (rowAt (now (s .entry)) from end)) from) (now (t .entry)) (now (out .entry)) o (now (t .exit)) (now (out .exit)) r ⌝ }
+    ensures { λ r.
+        ⌜ Steps encodes (λ x u. Row (now (s .entry)) from end (ruleOf 0x10)) (noteAll (n .0) (specifiersIn (rowAt (now (s .entry)) from end)) from)
+        (now (t .entry)) (now (out .entry)) o (now (t .exit)) (now (out .exit)) r ⌝ }
 {
     let mut at = from;
     let mut to = o;
@@ -236,7 +246,8 @@ pub fn put_context_attributes(
     o: usize,
 ) -> usize
     requires { ⌜ (at ≤ end) × (end ≤ length (now s)) ⌝ }
-    ensures { λ p. ⌜ Attributes (now (s .entry)) at end (λ old. encode (withMetadata (record { injected = false; context = some (export (n .0)) }) old)) (now (out .entry)) o (now (out .exit)) p ⌝ }
+    ensures { λ p. ⌜ Attributes (now (s .entry)) at end (λ old. encode (withMetadata (record { injected = false; context = some (export (n .0)) }) old))
+        (now (out .entry)) o (now (out .exit)) p ⌝ }
 {
     let content = writer::open_field(out, o, 0x2F);
     let old = put_attributes(s, at, end, out, content);

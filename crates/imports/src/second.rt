@@ -10,27 +10,27 @@ ghost use Rattle.tree.specs.Tree.{encode, field, fixedOf, partsOf};
 ghost use Rattle.tree.specs.Access.{fixedAt};
 ghost use Rattle.tree.specs.Standing.{treeAt};
 ghost use Rattle.metadata.specs.Metadata.{append};
-ghost use Rattle.lent.specs.Lists.{among};
-ghost use Rattle.lent.specs.Table.{Row as TableRow, atomsIn};
+ghost use Rattle.inputs.specs.Lists.{among};
+ghost use Rattle.inputs.specs.Table.{Row as TableRow, atomsIn};
 ghost use Rattle.extraction_rules.specs.First.{external, attributesIn};
 ghost use Rattle.extraction_rules.specs.Second.{usagesOf, specifiersFrom, takeApart, importSecond};
-ghost use Rattle.kept.specs.Kept.{id-limit, Good, idOf, uses, held, sourcesIn};
+ghost use Rattle.state.specs.Cells.{id-limit, Good, idOf, uses, held, sourcesIn};
 ghost use Rattle.steps.specs.Step.{settingOf, ReadAt, Steps};
 ghost use Rattle.steps.specs.declared.Step.the-variants.{Done};
 ghost use Rattle.imports.specs.Parts.{Writes, usagesFrom, Usage};
 use crate::parts::sole_namespace;
 use crate::parts::specifiers_end;
-use kept::Property;
-use kept::forced::force_source;
-use kept::forced::is_forced;
-use kept::ident::id_at;
-use kept::ident::name_of;
-use kept::ident::put_named;
-use kept::imported::count_usages;
-use kept::imported::has_usages;
-use kept::imported::usage_at;
-use lent::is_external;
+use inputs::is_external;
 use scope::id::Atom;
+use state::Property;
+use state::forced::force_source;
+use state::forced::is_forced;
+use state::ident::id_at;
+use state::ident::name_of;
+use state::ident::put_named;
+use state::imported::count_usages;
+use state::imported::has_usages;
+use state::imported::usage_at;
 use steps::Ident;
 use steps::Setting;
 use steps::Step;
@@ -48,7 +48,14 @@ pub fn import_second(
     o: usize,
 ) -> Step
     requires { ⌜ (at + 3 ≤ stop) × (stop ≤ length (now s)) × (getD (now s) at 0 ≡ 0x10) × (fixedAt (now s) 0x10 (at + 3) stop ≡ Upto from) × Good (now t) ⌝ }
-    ensures { λ r. ⌜ ((rows : List TableRow) → Steps encode (λ x u. ReadAt (now (s .entry)) at stop × (external (settingOf e (atomsIn (now (externals .entry))) rows) (fixedOf (treeAt (now (s .entry)) at stop)) ≡ false → among (valueOf (fixedOf (treeAt (now (s .entry)) at stop))) (sourcesIn (u .collected)) ≡ true)) (importSecond (settingOf e (atomsIn (now (externals .entry))) rows) (fixedOf (treeAt (now (s .entry)) at stop)) (partsOf (treeAt (now (s .entry)) at stop))) (now (t .entry)) (now (out .entry)) o (now (t .exit)) (now (out .exit)) r) ⌝ }
+    ensures { λ r. ⌜ ((rows : List TableRow) →
+        Steps encode
+        (λ x u. ReadAt (now (s .entry)) at stop
+        ×
+        (external (settingOf e (atomsIn (now (externals .entry))) rows) (fixedOf (treeAt (now (s .entry)) at stop)) ≡ false →
+        among (valueOf (fixedOf (treeAt (now (s .entry)) at stop))) (sourcesIn (u .collected)) ≡ true))
+        (importSecond (settingOf e (atomsIn (now (externals .entry))) rows) (fixedOf (treeAt (now (s .entry)) at stop))
+        (partsOf (treeAt (now (s .entry)) at stop))) (now (t .entry)) (now (out .entry)) o (now (t .exit)) (now (out .exit)) r) ⌝ }
 {
     let source = name_of(id_at(s, at + 3));
     if is_external(externals, source) {
@@ -75,7 +82,11 @@ fn take_apart(
     o: usize,
 ) -> usize
     requires { ⌜ (at + 3 ≤ stop) × (stop ≤ length (now s)) × (getD (now s) at 0 ≡ 0x10) × (fixedAt (now s) 0x10 (at + 3) stop ≡ Upto from) × Good (now t) × (id < id-limit) ⌝ }
-    ensures { λ r. ⌜ Steps encode (λ x u. ReadAt (now (s .entry)) at stop × (among (valueOf (fixedOf (treeAt (now (s .entry)) at stop))) (sourcesIn (u .collected)) ≡ true)) (λ u. takeApart (usagesOf (idOf id) (u .usages)) (fixedOf (treeAt (now (s .entry)) at stop)) (partsOf (treeAt (now (s .entry)) at stop)) u) (now (t .entry)) (now (out .entry)) o (now (t .exit)) (now (out .exit)) (Done r) ⌝ }
+    ensures { λ r.
+        ⌜ Steps encode
+        (λ x u. ReadAt (now (s .entry)) at stop × (among (valueOf (fixedOf (treeAt (now (s .entry)) at stop))) (sourcesIn (u .collected)) ≡ true))
+        (λ u. takeApart (usagesOf (idOf id) (u .usages)) (fixedOf (treeAt (now (s .entry)) at stop)) (partsOf (treeAt (now (s .entry)) at stop)) u)
+        (now (t .entry)) (now (out .entry)) o (now (t .exit)) (now (out .exit)) (Done r) ⌝ }
 {
     if has_usages(t, id) {
         return put_taken_apart(s, at, from, stop, id, t, out, o);
@@ -96,7 +107,14 @@ fn put_taken_apart(
     o: usize,
 ) -> usize
     requires { ⌜ (at + 3 ≤ stop) × (stop ≤ length (now s)) × (getD (now s) at 0 ≡ 0x10) × (fixedAt (now s) 0x10 (at + 3) stop ≡ Upto from) × Good (now t) × (id < id-limit) ⌝ }
-    ensures { λ p. ⌜ (ReadAt (now (s .entry)) at stop → Writes (λ u. encode (field 0x10 (fixedOf (treeAt (now (s .entry)) at stop)) (append (specifiersFrom (usagesOf (idOf id) (u .usages))) (attributesIn (partsOf (treeAt (now (s .entry)) at stop)))))) (now (t .entry)) (now (out .entry)) o (now (out .exit)) p) ⌝ }
+    ensures { λ p.
+        ⌜
+        (ReadAt (now (s .entry)) at stop →
+        Writes
+        (λ u. encode
+        (field 0x10 (fixedOf (treeAt (now (s .entry)) at stop))
+        (append (specifiersFrom (usagesOf (idOf id) (u .usages))) (attributesIn (partsOf (treeAt (now (s .entry)) at stop)))))) (now (t .entry))
+        (now (out .entry)) o (now (out .exit)) p) ⌝ }
 {
     let content = writer::open_field(out, o, 0x10);
     let c = writer::copy(out, content, s, at + 3, from);

@@ -32,7 +32,7 @@ use Rattle.tree.proofs.StandingLaws.{read-standing}
 use Rattle.tree.proofs.SoundLaws.{read-sound}
 use Rattle.metadata.specs.declared.Encoded.the-variants.{Done, Broken, NoRoom}
 use Rattle.metadata.specs.Metadata.{Metadata, append, attributesFor, withMetadata, decode}
-use Rattle.metadata.specs.Kept.{writtenBytes}
+use Rattle.metadata.specs.MetadataValue.{writtenBytes}
 use Rattle.metadata.specs.Calls.{attributesIn, lent, decodeCall, answerOn, outOn, encodeAnswer, encodeOut, Encoding}
 use Rattle.metadata.proofs.EncodeLaws.{framed-field, encodes-append}
 

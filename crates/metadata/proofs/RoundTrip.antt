@@ -18,7 +18,8 @@ use Rattle.tree.specs.Within.{Within}
 use Rattle.tree.proofs.TreeLaws.{size-encode}
 use Rattle.tree.proofs.ReadLaws.{fine-inj}
 use Rattle.tree.proofs.CompleteLaws.{read-complete}
-use Rattle.metadata.specs.Metadata.{Metadata, Small, injectedAttribute, contextAttribute, injectedAttributes, contextAttributes, append, attributesFor, withMetadata, startsWith, contextIn, told, newer, merged, decodeFrom, unset, decode}
+use Rattle.metadata.specs.Metadata.{Metadata, Small, injectedAttribute, contextAttribute, injectedAttributes, contextAttributes, append}
+use Rattle.metadata.specs.Metadata.{attributesFor, withMetadata, startsWith, contextIn, told, newer, merged, decodeFrom, unset, decode}
 use Rattle.metadata.specs.declared.Encoded.the-variants.{Done, NoRoom}
 use Rattle.metadata.specs.Calls.{attributesIn, lent, decodeCall, answerOn, outOn, encodeAnswer, encodeOut, Encoding}
 use Rattle.metadata.proofs.DecimalLaws.{decimal-parses}

@@ -23,7 +23,8 @@ use Rattle.tree.specs.Within.{Exact, Formed, FormedAll, Within}
 use Rattle.tree.proofs.GrammarLaws.{no-step, many-slot}
 use Rattle.tree.proofs.TreeLaws.{size-encode, content-size, depth-parts, depth-none, depth-first, depth-rest, depth-most}
 use Rattle.metadata.specs.Decimal.{decimal}
-use Rattle.metadata.specs.Metadata.{Metadata, Small, injectedKey, contextKey, header, attribute, injectedAttribute, contextAttribute, injectedAttributes, contextAttributes, append, attributesFor, withMetadata}
+use Rattle.metadata.specs.Metadata.{Metadata, Small, injectedKey, contextKey, header, attribute, injectedAttribute, contextAttribute}
+use Rattle.metadata.specs.Metadata.{injectedAttributes, contextAttributes, append, attributesFor, withMetadata}
 use Rattle.metadata.proofs.DecimalLaws.{decimal-short}
 use Rattle.metadata.proofs.CallsLaws.{skip-none, Sound}
 

@@ -14,7 +14,7 @@ use Rattle.metadata.specs.declared.Encoded.the-variants.{Done, Broken, N
 use Rattle.metadata.specs.declared.Decoded.{Decoded}
 use Rattle.metadata.specs.declared.Decoded.the-variants.{Done as Told, Broken as Unread}
 use Rattle.metadata.specs.Metadata.{Metadata, withMetadata, decode}
-use Rattle.metadata.specs.Kept.{metadataOf}
+use Rattle.metadata.specs.MetadataValue.{metadataOf}
 
 -- the attributes in a 2F
 abbrev pub attributesIn : Fields → Fields

@@ -1,6 +1,6 @@
--- What is right for metadata: numbers as text (Decimal), what attributes tell (Metadata), how the code keeps it (Kept), the two calls (Calls).
+-- What is right for metadata: numbers as text (Decimal), what attributes tell (Metadata), how the code keeps it (MetadataValue), the two calls (Calls).
 pub mod Decimal
 pub mod Metadata
-pub mod Kept
+pub mod MetadataValue
 pub mod Calls
 pub mod Example

@@ -10,11 +10,14 @@ use Rattle.metadata.specs.Decimal.{decimal, parsed}
 
 -- `__swc_bundler__injected__`
 abbrev pub injectedKey : List ℕ
-injectedKey = 95 ∷ 95 ∷ 115 ∷ 119 ∷ 99 ∷ 95 ∷ 98 ∷ 117 ∷ 110 ∷ 100 ∷ 108 ∷ 101 ∷ 114 ∷ 95 ∷ 95 ∷ 105 ∷ 110 ∷ 106 ∷ 101 ∷ 99 ∷ 116 ∷ 101 ∷ 100 ∷ 95 ∷ 95 ∷ []
+injectedKey =
+    95 ∷ 95 ∷ 115 ∷ 119 ∷ 99 ∷ 95 ∷ 98 ∷ 117 ∷ 110 ∷ 100 ∷ 108 ∷ 101 ∷ 114 ∷ 95 ∷ 95 ∷ 105 ∷ 110 ∷ 106 ∷ 101 ∷ 99 ∷ 116 ∷ 101 ∷ 100 ∷ 95 ∷ 95 ∷ []
 
 -- `__swc_bundler__export_ctxt__`
 abbrev pub contextKey : List ℕ
-contextKey = 95 ∷ 95 ∷ 115 ∷ 119 ∷ 99 ∷ 95 ∷ 98 ∷ 117 ∷ 110 ∷ 100 ∷ 108 ∷ 101 ∷ 114 ∷ 95 ∷ 95 ∷ 101 ∷ 120 ∷ 112 ∷ 111 ∷ 114 ∷ 116 ∷ 95 ∷ 99 ∷ 116 ∷ 120 ∷ 116 ∷ 95 ∷ 95 ∷ []
+contextKey =
+    95 ∷ 95 ∷ 115 ∷ 119 ∷ 99 ∷ 95 ∷ 98 ∷ 117 ∷ 110 ∷ 100 ∷ 108 ∷ 101 ∷ 114 ∷ 95 ∷ 95 ∷ 101 ∷ 120 ∷ 112 ∷ 111 ∷ 114 ∷ 116 ∷ 95 ∷ 99 ∷ 116 ∷ 120 ∷ 116 ∷
+    95 ∷ 95 ∷ []
 
 -- '30: key kind (1 identifier, 0 other), value kind (1 string, 0 other), key length byte, key, value': what stands before the value
 abbrev pub header : List ℕ → List ℕ

@@ -5,7 +5,7 @@ ghost use lib.ListN.{length};
 ghost use lib.Seq.{slice};
 ghost use Rattle.writer.specs.Wrote.{Wrote};
 ghost use Rattle.metadata.specs.Decimal.{decimal, isDigit, numberFrom, limited, unsigned, parsed};
-ghost use Rattle.metadata.specs.Kept.{numberBy};
+ghost use Rattle.metadata.specs.MetadataValue.{numberBy};
 
 // What a text stands for.
 pub enum Parsed {

@@ -22,7 +22,7 @@ ghost use Rattle.tree.specs.Tree.{size, encode, encodes, fixedOf};
 ghost use Rattle.tree.specs.Read.{verdict};
 ghost use Rattle.tree.specs.Standing.{treeAt, rowAt};
 ghost use Rattle.metadata.specs.Metadata.{injectedAttribute, contextAttribute, injectedAttributes, attributesFor, startsWith, contextIn, told, newer as newerOf, merged, unset, decode};
-ghost use Rattle.metadata.specs.Kept.{contextOf, metadataOf, writtenBytes};
+ghost use Rattle.metadata.specs.MetadataValue.{contextOf, metadataOf, writtenBytes};
 ghost use Rattle.metadata.specs.Calls.{attributesIn, lent, decoded, decodeCall, Encoding};
 
 // The content of the attribute of an injected export: kinds, key length, key and value.

@@ -1,6 +1,6 @@
 // One line: the request is answered, and the answer compared with the one that is given.
 use crate::report;
-use answers::Answer;
+use answer_text::Answer;
 use requests::respond;
 use text::fields::find;
 

@@ -2,19 +2,19 @@
 // request spells; `work`, `out`, `records` and `list` lend a call its buffers.
 pub mod plain; // detect, encode, decode
 
-use answers::Answer;
+use answer_text::Answer;
 use check::same;
 use plain::decode;
 use plain::detect;
 use plain::encode;
-use scoped::extracting::extract;
-use scoped::listing::resolve;
-use scoped::pair::both;
+use scoped_requests::extracting::extract;
+use scoped_requests::listing::resolve;
+use scoped_requests::pair::both;
 use text::fields::Span;
 use text::fields::field;
 ghost use Prim.Native.Nat.{_≤_};
 ghost use lib.ListN.{length};
-ghost use Rattle.answers.specs.Answer.{AnswerIn};
+ghost use Rattle.answer_text.specs.Answer.{AnswerIn};
 
 // Answers the request that stands before `to`.
 pub fn respond(s: &[u8], to: usize, text: &mut [u8]) -> Answer

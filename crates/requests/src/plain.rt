@@ -1,14 +1,14 @@
 // The requests without a scope: detect, encode, decode.
-use answers::Answer;
-use answers::prefill;
-use answers::put_field;
-use answers::refused;
-use asked::Context;
-use asked::Flag;
-use asked::context_of;
-use asked::flag_at;
-use asked::has;
-use asked::room_at;
+use answer_text::Answer;
+use answer_text::prefill;
+use answer_text::put_field;
+use answer_text::refused;
+use request_fields::Context;
+use request_fields::Flag;
+use request_fields::context_of;
+use request_fields::flag_at;
+use request_fields::has;
+use request_fields::room_at;
 use show::buffer::is_zero;
 use text::decimal::Number;
 use text::decimal::put_decimal;
@@ -19,7 +19,7 @@ use text::write::put;
 use text::write::put_all;
 ghost use Prim.Native.Nat.{_≤_};
 ghost use lib.ListN.{length};
-ghost use Rattle.answers.specs.Answer.{AnswerIn};
+ghost use Rattle.answer_text.specs.Answer.{AnswerIn};
 
 // detect CONFIG TREE
 pub fn detect(s: &[u8], to: usize, lent: &mut [u8], text: &mut [u8]) -> Answer

@@ -16,10 +16,10 @@ use Rattle.tree.proofs.ReadLaws.{good-fine, verdict-refused}
 use Rattle.tree.proofs.TreeLaws.{size-encode}
 use Rattle.writer.specs.Finished.{hasRoom, zeroed, Finished, Delivered}
 use Rattle.writer.proofs.Finished.{delivered-none, delivers}
-use Rattle.lent.specs.Outcome.{Outcome, done, refused, onto, refuseIf, refusalIn, numberIn, placeIn}
-use Rattle.lent.specs.Table.{rowsIn, badTable, repeats, tableOf}
-use Rattle.lent.specs.Buffer.{fits, bufferOf}
-use Rattle.lent.proofs.AcceptedLaws.{done-inj, done-refused, onto-done}
+use Rattle.inputs.specs.Outcome.{Outcome, done, refused, onto, refuseIf, refusalIn, numberIn, placeIn}
+use Rattle.inputs.specs.Table.{rowsIn, badTable, repeats, tableOf}
+use Rattle.inputs.specs.Buffer.{fits, bufferOf}
+use Rattle.inputs.proofs.AcceptedLaws.{done-inj, done-refused, onto-done}
 use Rattle.resolving_rules.specs.Resolve.{sourcesIn, forcedIn, numberAll, resolvedAll}
 use Rattle.resolving_rules.specs.Call.{recordsRead, Numbered, numbered, Resolved, listed, resolved, modulesAfter, Left, resolving}
 use Rattle.resolving.specs.declared.specifiers.Why.{Why}

@@ -16,9 +16,9 @@ use Rattle.tree.specs.Layout.{two, four, literalValue}
 use Rattle.tree.specs.Tree.{Field, field, Fields, none}
 use Rattle.tree.specs.Standing.{treeAt, rowAt}
 use Rattle.writer.specs.Bytes.{twoBytes, fourBytes}
-use Rattle.lent.specs.Outcome.{done, refused, onto}
-use Rattle.lent.specs.Lists.{among}
-use Rattle.lent.specs.Table.{Row, fileOf}
+use Rattle.inputs.specs.Outcome.{done, refused, onto}
+use Rattle.inputs.specs.Lists.{among}
+use Rattle.inputs.specs.Table.{Row, fileOf}
 use Rattle.resolving_rules.specs.Resolve.{sourceOf, sourcesIn, kindByte, moduleOf, heading, resolvedSpecifiers, resolvedRecord, resolvedAll}
 use Rattle.resolving.specs.Records.{RecordsFrom, SourceRead, sourceEnd}
 use Rattle.resolving.specs.Numbers.{Numbers, NumbersAll}

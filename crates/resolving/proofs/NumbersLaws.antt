@@ -14,9 +14,9 @@ use Rattle.tree.specs.Tree.{Field, Fields, none, more, fixedOf, size}
 use Rattle.tree.specs.Standing.{treeAt, rowAt}
 use Rattle.tree.proofs.SliceLaws.{take-slice}
 use Rattle.tree.proofs.LayoutLaws.{two-at}
-use Rattle.lent.specs.Outcome.{Outcome, done, refused, onto}
-use Rattle.lent.specs.Table.{Row, fileOf}
-use Rattle.lent.proofs.AcceptedLaws.{done-inj, done-refused, onto-done}
+use Rattle.inputs.specs.Outcome.{Outcome, done, refused, onto}
+use Rattle.inputs.specs.Table.{Row, fileOf}
+use Rattle.inputs.proofs.AcceptedLaws.{done-inj, done-refused, onto-done}
 use Rattle.resolving_rules.specs.Resolve.{sourceOf, sourcesIn, requested, numberOne, numberAll}
 use Rattle.resolving_rules.proofs.ResolveLaws.{numberAll-keeps}
 use Rattle.resolving.specs.Records.{RecordsFrom, SourceRead, sourceEnd}

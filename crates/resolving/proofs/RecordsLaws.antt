@@ -32,9 +32,9 @@ use Rattle.tree.proofs.StandingLaws.{row-more, row-none, tree-upto, whole-step,
 use Rattle.tree.proofs.WidthLaws.{Plainly, plain-ends, tree-bare}
 use Rattle.tree.proofs.SoundLaws.{row-sound, whole-sound}
 use Rattle.tree.proofs.TreeLaws.{size-encode}
-use Rattle.lent.specs.Lists.{among}
-use Rattle.lent.specs.Fields.{keep}
-use Rattle.lent.specs.Outcome.{done}
+use Rattle.inputs.specs.Lists.{among}
+use Rattle.inputs.specs.Fields.{keep}
+use Rattle.inputs.specs.Outcome.{done}
 use Rattle.resolving_rules.specs.Resolve.{sourcesIn, forcedIn}
 use Rattle.resolving_rules.specs.Call.{recordsRead}
 use Rattle.resolving.specs.Records.{FieldRead, FieldsRead, recordsIn, leftRule, RecordsFrom, RecordsRead, SourceRead, sourceOn, sourceEnd, forcesAt}

@@ -24,7 +24,7 @@ use Rattle.tree.proofs.SliceLaws.{getD-slice}
 use Rattle.tree.proofs.StandingLaws.{row-more, row-none, tree-upto, whole-step}
 use Rattle.tree.proofs.WidthLaws.{skip-ends}
 use Rattle.writer.specs.Bytes.{twoBytes, fourBytes, framed}
-use Rattle.lent.specs.Outcome.{Outcome, done, refused}
+use Rattle.inputs.specs.Outcome.{Outcome, done, refused}
 use Rattle.resolving_rules.specs.Resolve.{resolvedNamed, resolvedDefault, resolvedNamespace, resolvedSpecifier, resolvedSpecifiers}
 use Rattle.resolving.specs.declared.specifiers.Outside.the-variants.{Nothing, Name, Text}
 use Rattle.resolving.specs.declared.specifiers.Specifier.{Specifier}

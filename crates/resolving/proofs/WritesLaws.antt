@@ -9,7 +9,7 @@ use Rattle.tree.proofs.TreeLaws.{encodes-none, encodes-more}
 use Rattle.writer.specs.Bytes.{framed}
 use Rattle.writer.specs.Wrote.{Wrote, Opened, closed}
 use Rattle.writer.proofs.Wrote.{wrote-none, wrote-then, wrote-as, wrote-field}
-use Rattle.lent.specs.Outcome.{Outcome, done, refused, onto}
+use Rattle.inputs.specs.Outcome.{Outcome, done, refused, onto}
 use Rattle.resolving.specs.declared.specifiers.Why.{Why}
 use Rattle.resolving.specs.declared.specifiers.Step.{Step}
 use Rattle.resolving.specs.declared.specifiers.Step.the-variants.{Done, Refused}

@@ -4,13 +4,13 @@ use mathlib.Core.List.{List}
 use mathlib.Core.Option.{Option, some}
 use lib.ListN.{replicate}
 use Rattle.scope.specs.Modules.{Modules}
-use Rattle.scope.specs.Kept.{modulesOf}
+use Rattle.scope.specs.ScopeValue.{modulesOf}
 use Rattle.tree.specs.declared.grammar.Set.the-variants.{Records}
 use Rattle.tree.specs.Tree.{Fields}
 use Rattle.tree.specs.Read.{read}
-use Rattle.lent.specs.Outcome.{Outcome, done, refused, onto, refuseIf, refusalIn}
-use Rattle.lent.specs.Table.{rowsIn, badTable, repeats}
-use Rattle.lent.specs.Buffer.{bufferOf}
+use Rattle.inputs.specs.Outcome.{Outcome, done, refused, onto, refuseIf, refusalIn}
+use Rattle.inputs.specs.Table.{rowsIn, badTable, repeats}
+use Rattle.inputs.specs.Buffer.{bufferOf}
 use Rattle.resolving_rules.specs.Resolve.{sourcesIn, numberAll}
 use Rattle.resolving_rules.specs.Call.{Lent, recordsRead, Numbered, listed, Left}
 use Rattle.resolving.specs.Records.{recordsIn}

@@ -4,10 +4,10 @@ use mathlib.Core.Path.{_≡_}
 use mathlib.Core.List.{List}
 use mathlib.Core.Option.{some}
 use Rattle.scope.specs.Modules.{Modules, numberOf}
-use Rattle.scope.specs.Kept.{modulesOf}
+use Rattle.scope.specs.ScopeValue.{modulesOf}
 use Rattle.tree.specs.Tree.{Field, Fields, none, more}
-use Rattle.lent.specs.Outcome.{Outcome, done, refused}
-use Rattle.lent.specs.Table.{Row, fileOf}
+use Rattle.inputs.specs.Outcome.{Outcome, done, refused}
+use Rattle.inputs.specs.Table.{Row, fileOf}
 use Rattle.resolving_rules.specs.Resolve.{sourceOf}
 use Rattle.resolving.specs.declared.sources.NumberAnswer.{NumberAnswer}
 use Rattle.resolving.specs.declared.sources.NumberAnswer.the-variants.{Given, TooManyFiles}

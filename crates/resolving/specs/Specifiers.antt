@@ -6,7 +6,7 @@ use mathlib.Core.List.{List}
 use lib.Dec.{eqb}
 use lib.ListN.{getD}
 use Rattle.tree.specs.Tree.{Field, field, none}
-use Rattle.lent.specs.Outcome.{Outcome, done, refused}
+use Rattle.inputs.specs.Outcome.{Outcome, done, refused}
 use Rattle.resolving.specs.declared.specifiers.Outside.{Outside}
 use Rattle.resolving.specs.declared.specifiers.Outside.the-variants.{Nothing, Name, Text}
 use Rattle.resolving.specs.declared.specifiers.Specifier.{Specifier}

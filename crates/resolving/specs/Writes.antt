@@ -5,7 +5,7 @@ use mathlib.Core.List.{List, []}
 use lib.ListN.{length}
 use Rattle.tree.specs.Tree.{Field, field, Fields, encodes}
 use Rattle.writer.specs.Wrote.{Wrote}
-use Rattle.lent.specs.Outcome.{Outcome, done, refused, onto}
+use Rattle.inputs.specs.Outcome.{Outcome, done, refused, onto}
 use Rattle.resolving.specs.declared.specifiers.Why.{Why}
 use Rattle.resolving.specs.declared.specifiers.Why.the-variants.{Unresolved, StringName}
 use Rattle.resolving.specs.declared.specifiers.Step.{Step}

@@ -2,8 +2,8 @@
 // `resolve_imports`.
 ghost use mathlib.Core.Path.{_≡_};
 ghost use lib.ListN.{length};
-ghost use Rattle.scope.specs.Kept.{modulesOf};
-ghost use Rattle.lent.specs.Table.{rowsIn};
+ghost use Rattle.scope.specs.ScopeValue.{modulesOf};
+ghost use Rattle.inputs.specs.Table.{rowsIn};
 ghost use Rattle.resolving_rules.specs.Call.{resolving};
 ghost use Rattle.resolving_rules.specs.Resolve.{sourcesIn};
 ghost use Rattle.resolving.specs.Records.{RecordsRead, recordsIn};
@@ -65,10 +65,10 @@ pub fn resolve_imports(scope: Scope, table: &[u8], records: &[u8], list: &mut [u
 fn lists(table: &[u8], records: &[u8]) -> ResolveAnswer
     ensures { λ a. ⌜ outcomeOf a (recordsIn (now (records .entry))) ≡ tested (now (table .entry)) (now (records .entry)) ⌝ }
 {
-    if lent::bad_table(table) {
+    if inputs::bad_table(table) {
         return ResolveAnswer::BadTable;
     }
-    if lent::names_twice(table) {
+    if inputs::names_twice(table) {
         return ResolveAnswer::NamedTwice;
     }
     match read_tree(records, Set::Records) {

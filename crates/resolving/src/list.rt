@@ -5,12 +5,12 @@ ghost use Prim.Native.Nat.{_+_, _≤_};
 ghost use lib.ListN.{length};
 ghost use lib.Seq.{slice};
 ghost use Rattle.scope.specs.Id.{local, export};
-ghost use Rattle.scope.specs.Kept.{modulesOf};
+ghost use Rattle.scope.specs.ScopeValue.{modulesOf};
 ghost use Rattle.tree.specs.Layout.{two, four};
 ghost use Rattle.tree.specs.Tree.{encode, encodes};
 ghost use Rattle.tree.specs.Standing.{treeAt};
 ghost use Rattle.writer.specs.Wrote.{Wrote};
-ghost use Rattle.lent.specs.Table.{rowsIn, fileOf};
+ghost use Rattle.inputs.specs.Table.{rowsIn, fileOf};
 ghost use Rattle.resolving_rules.specs.Resolve.{sourceOf, sourcesIn, forcedIn, kindByte, resolvedRecord, resolvedAll};
 ghost use Rattle.resolving.specs.Records.{RecordsRead, SourceRead, recordsIn};
 ghost use Rattle.resolving.specs.Numbers.{Numbers, NumbersAll};
@@ -50,7 +50,10 @@ fn put_heading(
     o: usize,
 ) -> usize
     requires { ⌜ end ≤ length (now records) ⌝ }
-    ensures { λ p. ⌜ Wrote (now (list .entry)) o (kind ∷ two (id .0) ++ two file ++ four (local (id .0)) ++ four (export (id .0)) ++ slice from end (now (records .entry))) (now (list .exit)) p ⌝ }
+    ensures { λ p.
+        ⌜ Wrote (now (list .entry)) o
+        (kind ∷ two (id .0) ++ two file ++ four (local (id .0)) ++ four (export (id .0)) ++ slice from end (now (records .entry))) (now (list .exit))
+        p ⌝ }
 {
     let a = writer::put(list, o, kind);
     let b = writer::put_u16(list, a, id.0);
@@ -71,10 +74,14 @@ fn put_record(
     o: usize,
 ) -> Step
     requires { ⌜ RecordsRead (now records) × SourceRead (now records) at stop × Numbers (rowsIn (now table)) (modulesOf scope) (treeAt (now records) at stop) ⌝ }
-    ensures { λ k. ⌜ Puts encode (resolvedRecord (fileOf (sourceOf (treeAt (now (records .entry)) at stop)) (rowsIn (now (table .entry)))) (forcedIn (recordsIn (now (records .entry)))) (modulesOf scope) (treeAt (now (records .entry)) at stop) at) (now (list .entry)) o (now (list .exit)) k ⌝ }
+    ensures { λ k.
+        ⌜ Puts encode
+        (resolvedRecord (fileOf (sourceOf (treeAt (now (records .entry)) at stop)) (rowsIn (now (table .entry))))
+        (forcedIn (recordsIn (now (records .entry)))) (modulesOf scope) (treeAt (now (records .entry)) at stop) at) (now (list .entry)) o
+        (now (list .exit)) k ⌝ }
 {
     let source = literal_value(records, at + 3);
-    let lent::Resolved::File(file) = lent::resolve(table, source) else {
+    let inputs::Resolved::File(file) = inputs::resolve(table, source) else {
         return Step::Refused(Why::Unresolved, at);
     };
     let content = writer::open_field(list, o, 0x90);
@@ -94,7 +101,10 @@ fn put_record(
 // All records with a source, in order.
 fn put_records(scope: Scope, table: &[u8], records: &[u8], list: &mut [u8], o: usize) -> Step
     requires { ⌜ RecordsRead (now records) × NumbersAll (rowsIn (now table)) (modulesOf scope) (sourcesIn (recordsIn (now records))) ⌝ }
-    ensures { λ k. ⌜ Puts encodes (resolvedAll (rowsIn (now (table .entry))) (forcedIn (recordsIn (now (records .entry)))) (modulesOf scope) (sourcesIn (recordsIn (now (records .entry)))) 3) (now (list .entry)) o (now (list .exit)) k ⌝ }
+    ensures { λ k.
+        ⌜ Puts encodes
+        (resolvedAll (rowsIn (now (table .entry))) (forcedIn (recordsIn (now (records .entry)))) (modulesOf scope)
+        (sourcesIn (recordsIn (now (records .entry)))) 3) (now (list .entry)) o (now (list .exit)) k ⌝ }
 {
     let mut at = START;
     let mut to = o;
@@ -115,7 +125,11 @@ fn put_records(scope: Scope, table: &[u8], records: &[u8], list: &mut [u8], o: u
 // Writes the list at 0.
 pub fn put_list(scope: Scope, table: &[u8], records: &[u8], list: &mut [u8]) -> Step
     requires { ⌜ RecordsRead (now records) × NumbersAll (rowsIn (now table)) (modulesOf scope) (sourcesIn (recordsIn (now records))) ⌝ }
-    ensures { λ k. ⌜ Puts encode (listWith (resolvedAll (rowsIn (now (table .entry))) (forcedIn (recordsIn (now (records .entry)))) (modulesOf scope) (sourcesIn (recordsIn (now (records .entry)))) 3)) (now (list .entry)) 0 (now (list .exit)) k ⌝ }
+    ensures { λ k.
+        ⌜ Puts encode
+        (listWith
+        (resolvedAll (rowsIn (now (table .entry))) (forcedIn (recordsIn (now (records .entry)))) (modulesOf scope)
+        (sourcesIn (recordsIn (now (records .entry)))) 3)) (now (list .entry)) 0 (now (list .exit)) k ⌝ }
 {
     let content = writer::open_field(list, 0, 0x03);
     match put_records(scope, table, records, list, content) {

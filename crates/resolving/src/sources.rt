@@ -2,10 +2,10 @@
 ghost use mathlib.Core.Path.{_≡_};
 ghost use Prim.Native.Nat.{_+_, _≤_};
 ghost use lib.ListN.{length};
-ghost use Rattle.scope.specs.Kept.{modulesOf};
+ghost use Rattle.scope.specs.ScopeValue.{modulesOf};
 ghost use Rattle.tree.specs.Layout.{two};
-ghost use Rattle.lent.specs.Lists.{among};
-ghost use Rattle.lent.specs.Table.{rowsIn, fileOf};
+ghost use Rattle.inputs.specs.Lists.{among};
+ghost use Rattle.inputs.specs.Table.{rowsIn, fileOf};
 ghost use Rattle.resolving_rules.specs.Resolve.{sourcesIn, forcedIn, numberOne, numberAll};
 ghost use Rattle.resolving.specs.Records.{RecordsRead, recordsIn, sourceEnd, forcesAt};
 ghost use Rattle.resolving.specs.Numbers.{numberBy};
@@ -51,8 +51,8 @@ pub fn source_end(records: &[u8], at: usize) -> Reach
 fn number_source(scope: Scope, table: &[u8], source: u16, place: usize) -> Numbering
     ensures { λ r. ⌜ numberBy r ≡ numberOne (fileOf (two source) (rowsIn (now (table .entry)))) (modulesOf scope) place ⌝ }
 {
-    match lent::resolve(table, source) {
-        lent::Resolved::File(file) => {
+    match inputs::resolve(table, source) {
+        inputs::Resolved::File(file) => {
             let g = scope.gen_id(FileName(file));
             let new = g.scope;
             let given = g.answer;
@@ -67,7 +67,7 @@ fn number_source(scope: Scope, table: &[u8], source: u16, place: usize) -> Numbe
                 },
             }
         },
-        lent::Resolved::Nowhere => Numbering {
+        inputs::Resolved::Nowhere => Numbering {
             scope,
             answer: NumberAnswer::Given,
         },

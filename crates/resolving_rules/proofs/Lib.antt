@@ -1,4 +1,4 @@
 -- Laws about the rules of resolving: what an accepted record and an accepted list are made of (ResolveLaws), and an accepted
--- call (CallLaws).
+-- call (ResolvedLaws).
 pub mod ResolveLaws
-pub mod CallLaws
+pub mod ResolvedLaws

@@ -9,12 +9,13 @@ use lib.ListN.{getD}
 use Rattle.scope.specs.Modules.{Modules, numberOf, request}
 use Rattle.scope.proofs.Laws.{request-keeps-numbers}
 use Rattle.tree.specs.Tree.{Field, field, Fields, none, more, fixedOf, partsOf, size}
-use Rattle.lent.specs.Outcome.{done, refused}
-use Rattle.lent.specs.Lists.{among}
-use Rattle.lent.specs.Fields.{inside}
-use Rattle.lent.specs.Table.{Row, fileOf}
-use Rattle.lent.proofs.AcceptedLaws.{done-inj, done-refused, onto-done}
-use Rattle.resolving_rules.specs.Resolve.{sourceOf, requested, numberOne, numberAll, resolvedNamed, resolvedNamespace, resolvedSpecifier, resolvedSpecifiers, moduleOf, heading, resolvedRecord, resolvedAll}
+use Rattle.inputs.specs.Outcome.{done, refused}
+use Rattle.inputs.specs.Lists.{among}
+use Rattle.inputs.specs.Fields.{inside}
+use Rattle.inputs.specs.Table.{Row, fileOf}
+use Rattle.inputs.proofs.AcceptedLaws.{done-inj, done-refused, onto-done}
+use Rattle.resolving_rules.specs.Resolve.{sourceOf, requested, numberOne, numberAll, resolvedNamed, resolvedNamespace, resolvedSpecifier}
+use Rattle.resolving_rules.specs.Resolve.{resolvedSpecifiers, moduleOf, heading, resolvedRecord, resolvedAll}
 
 -- ---- 'Resolving numbers every resolvable source': a number once given stays
 

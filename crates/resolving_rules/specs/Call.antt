@@ -7,9 +7,9 @@ use Rattle.scope.specs.Modules.{Modules}
 use Rattle.tree.specs.declared.grammar.Set.the-variants.{Records}
 use Rattle.tree.specs.Tree.{Field, field, Fields, none, more, partsOf}
 use Rattle.tree.specs.Read.{Reading, fine, refused as unread, read}
-use Rattle.lent.specs.Outcome.{Outcome, done, refused, _>>=_, _>>_, refuseIf, refusalIn}
-use Rattle.lent.specs.Table.{Row, badTable, tableOf}
-use Rattle.lent.specs.Buffer.{fits, bufferOf}
+use Rattle.inputs.specs.Outcome.{Outcome, done, refused, _>>=_, _>>_, refuseIf, refusalIn}
+use Rattle.inputs.specs.Table.{Row, badTable, tableOf}
+use Rattle.inputs.specs.Buffer.{fits, bufferOf}
 use Rattle.resolving_rules.specs.Resolve.{sourcesIn, forcedIn, numberAll, resolvedAll}
 
 -- what is lent, but for the buffer

@@ -9,10 +9,10 @@ use Rattle.scope.specs.Id.{default-atom, empty, local, export}
 use Rattle.scope.specs.Modules.{Modules, numberOf, request}
 use Rattle.tree.specs.Layout.{two, four, valueOf}
 use Rattle.tree.specs.Tree.{Field, field, Fields, none, more, tagOf, fixedOf, partsOf, size}
-use Rattle.lent.specs.Outcome.{Outcome, done, refused, _>>=_}
-use Rattle.lent.specs.Lists.{among}
-use Rattle.lent.specs.Fields.{has, keep, inside}
-use Rattle.lent.specs.Table.{Row, fileOf}
+use Rattle.inputs.specs.Outcome.{Outcome, done, refused, _>>=_}
+use Rattle.inputs.specs.Lists.{among}
+use Rattle.inputs.specs.Fields.{has, keep, inside}
+use Rattle.inputs.specs.Table.{Row, fileOf}
 
 -- '80* collected, 81* lazy, 82* dynamic (L)': the records that have a source; '83* forced' stand behind them
 abbrev pub sourcesIn : Fields → Fields

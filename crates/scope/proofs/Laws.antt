@@ -17,8 +17,9 @@ use Rattle.scope.specs.declared.id.Id.{Id}
 use Rattle.scope.specs.declared.Mark.{Mark}
 use Rattle.scope.specs.declared.Mark.the-variants.{Loaded, Stored, Cjs, Wrapping}
 use Rattle.scope.specs.Id.{local, export}
-use Rattle.scope.specs.Modules.{Module, Modules, next, placeOf, numberOf, unmarked, requestBy, request, generatedBy, gen, Left, goOn, requestAll, marked, withMark, isMarked, setMark, given, marking, done, refused, readMark, esmId, wrappedEsmId}
-use Rattle.scope.specs.Kept.{moduleBy, modulesIn, Rewrites}
+use Rattle.scope.specs.Modules.{Module, Modules, next, placeOf, numberOf, unmarked, requestBy, request, generatedBy, gen, Left, goOn}
+use Rattle.scope.specs.Modules.{requestAll, marked, withMark, isMarked, setMark, given, marking, done, refused, readMark, esmId, wrappedEsmId}
+use Rattle.scope.specs.ScopeValue.{moduleBy, modulesIn, Rewrites}
 
 -- ---- Contexts: distinct modules have distinct contexts, and local and export contexts never meet each other or 0
 

@@ -16,7 +16,7 @@ ghost use lib.ListN.{length, take, getD};
 ghost use mathlib.Core.Bool.{false, cond};
 ghost use Rattle.scope.specs.declared.Mark.the-variants.{Loaded, Stored, Cjs, Wrapping};
 ghost use Rattle.scope.specs.Modules.{placeOf, unmarked, generatedBy, gen, filesIn, requestAll, marking, readMark, wrappedEsmId};
-ghost use Rattle.scope.specs.Kept.{rankOf, slotOf, modulesFrom, modulesOf, stored, generated, requested, markedBy, readBy, esmBy, placeBy, modulesIn, Rewrites};
+ghost use Rattle.scope.specs.ScopeValue.{rankOf, slotOf, modulesFrom, modulesOf, stored, generated, requested, markedBy, readBy, esmBy, placeBy, modulesIn, Rewrites};
 
 // The marks of a module.
 pub enum Mark {
@@ -222,7 +222,9 @@ impl Scope {
     // Puts the modules into cells in that form, and answers how many they are.
     pub fn to_cells(self, cells: &mut [u64], base: usize) -> usize
         requires { ⌜ base + 512 ≤ length (now cells) ⌝ }
-        ensures { λ n. ⌜ (n ≡ length (modulesOf self)) × (n ≤ 256) × (modulesIn n base (now (cells .exit)) ≡ modulesOf self) × Rewrites base (base + 512) (now (cells .entry)) (now (cells .exit)) ⌝ }
+        ensures { λ n.
+            ⌜ (n ≡ length (modulesOf self)) × (n ≤ 256) × (modulesIn n base (now (cells .exit)) ≡ modulesOf self)
+            × Rewrites base (base + 512) (now (cells .entry)) (now (cells .exit)) ⌝ }
     {
         let n = counted(self.count);
         let mut k = 0;

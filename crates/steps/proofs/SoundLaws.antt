@@ -5,7 +5,7 @@ use mathlib.Core.Path.{_≡_, sym, ap, subst, _∙_}
 use mathlib.Core.List.{List}
 use lib.ListN.{length, getD}
 use lib.Seq.{slice, length-slice}
-use Rattle.lent.specs.Fields.{inside}
+use Rattle.inputs.specs.Fields.{inside}
 use Rattle.tree.specs.declared.layout.Reach.the-variants.{Upto, Short}
 use Rattle.tree.specs.Layout.{Bytes}
 use Rattle.tree.specs.declared.grammar.Rule.{Rule}

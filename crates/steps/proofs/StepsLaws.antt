@@ -8,10 +8,10 @@ use Rattle.writer.specs.Wrote.{Wrote, Opened, closed}
 use Rattle.writer.proofs.Wrote.{wrote-none, wrote-then, wrote-as, wrote-field, length-closed}
 use Rattle.tree.specs.Tree.{field, Fields, encode, encodes}
 use Rattle.metadata.proofs.EncodeLaws.{framed-field}
-use Rattle.lent.specs.Outcome.{Outcome, done, refused, onto}
+use Rattle.inputs.specs.Outcome.{Outcome, done, refused, onto}
 use Rattle.extraction_rules.specs.State.{State, Act}
-use Rattle.kept.specs.Kept.{At, Good, Shows, id-limit}
-use Rattle.kept.specs.Does.{Turns, Did}
+use Rattle.state.specs.Cells.{At, Good, Shows, id-limit}
+use Rattle.state.specs.Does.{Turns, Did}
 use Rattle.steps.specs.declared.Why.{Why}
 use Rattle.steps.specs.declared.Step.{Step}
 use Rattle.steps.specs.declared.Step.the-variants.{Done, Refused}
@@ -97,7 +97,8 @@ pub steps-as : {A : Type 0} {bytes : A → List ℕ} {P Q : At → State → Typ
 steps-as rule m h = steps-by rule m (λ x s w c. h x s c)
 
 -- a value made of the step's value, with the same bytes
-pub steps-map : {A B : Type 0} (bA : A → List ℕ) (bB : B → List ℕ) (h : A → B) {P : At → State → Type 0} (R : At → State → Type 0) {m : Act A} {t out t' out' : List ℕ} {o : ℕ} {k : Step} →
+pub steps-map : {A B : Type 0} (bA : A → List ℕ) (bB : B → List ℕ) (h : A → B) {P : At → State → Type 0} (R : At → State → Type 0) {m : Act A}
+    {t out t' out' : List ℕ} {o : ℕ} {k : Step} →
     Steps bA P m t out o t' out' k → ((x : At) (s : State) → R x s → P x s) → ((x : At) (s : State) → R x s → (a : A) (s1 : State) → m s ≡ done (a, s1) → bB (h a) ≡ bA a) →
     Steps bB R (λ s. onto (m s) (λ r. done (h (r .0), r .1))) t out o t' out' k
 steps-map {A} {B} bA bB h R m before bytes =
@@ -250,13 +251,15 @@ effects-turned {q = q} {v} m e = steps-refused (m .good) refl (λ x s w c. m .tu
 abbrev pub thenOf : {A : Type 0} → Act A → Act (Unit {0}) → Act A
 thenOf m n = pairOf (λ a b. a) m (λ _. n)
 
-pub steps-then : {A : Type 0} (bytes : A → List ℕ) (a₀ : A) {P Q : At → State → Type 0} (R : At → State → Type 0) {m : Act A} {n : Act (Unit {0})} {t out t1 out1 t2 : List ℕ} {o p : ℕ} {k : Step} →
+pub steps-then : {A : Type 0} (bytes : A → List ℕ) (a₀ : A) {P Q : At → State → Type 0} (R : At → State → Type 0) {m : Act A} {n : Act (Unit {0})}
+    {t out t1 out1 t2 : List ℕ} {o p : ℕ} {k : Step} →
     Steps bytes P m t out o t1 out1 (Done p) → Steps (λ _. []) Q n t1 out1 p t2 out1 k →
     ((x : At) (s : State) → R x s → P x s) → ((x : At) (s : State) → R x s → (a : A) (s1 : State) → m s ≡ done (a, s1) → Q x s1) →
     Steps bytes R (thenOf m n) t out o t2 out1 k
 steps-then bytes a₀ R {n = n} first second before between =
     steps-pair bytes (λ _. []) bytes (λ a b. a) (λ a b. sym (append-nil (bytes a))) R (λ _. n) first (λ _. second) a₀ before between
 
-pub steps-then-turned : {A : Type 0} (bytes : A → List ℕ) {P : At → State → Type 0} (R : At → State → Type 0) {m : Act A} (n : Act (Unit {0})) {t out t1 out1 : List ℕ} {o q : ℕ} {v : Why} →
+pub steps-then-turned : {A : Type 0} (bytes : A → List ℕ) {P : At → State → Type 0} (R : At → State → Type 0) {m : Act A} (n : Act (Unit {0}))
+    {t out t1 out1 : List ℕ} {o q : ℕ} {v : Why} →
     Steps bytes P m t out o t1 out1 (Refused v q) → ((x : At) (s : State) → R x s → P x s) → Steps bytes R (thenOf m n) t out o t1 out1 (Refused v q)
 steps-then-turned bytes R n first before = steps-turned bytes (λ _. []) bytes (λ a b. a) (λ a b. sym (append-nil (bytes a))) R (λ _. n) first before

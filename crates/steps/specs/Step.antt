@@ -11,12 +11,12 @@ use Rattle.tree.specs.Access.{extentAt}
 use Rattle.tree.specs.Standing.{treeAt, rowAt, Whole, Row}
 use Rattle.tree.specs.declared.grammar.Rule.{Rule}
 use Rattle.tree.specs.Tree.{Field, field, Fields}
-use Rattle.lent.specs.Outcome.{Outcome, done, refused, onto}
-use Rattle.lent.specs.Table.{Row as TableRow}
+use Rattle.inputs.specs.Outcome.{Outcome, done, refused, onto}
+use Rattle.inputs.specs.Table.{Row as TableRow}
 use Rattle.extraction_rules.specs.State.{State, Pass, first, second, Setting, Act}
 use Rattle.extraction_rules.proofs.AlikeLaws.{Regular, RegularAll}
-use Rattle.kept.specs.Kept.{At, id-limit, Good, idOf, Shows}
-use Rattle.kept.specs.Does.{Did}
+use Rattle.state.specs.Cells.{At, id-limit, Good, idOf, Shows}
+use Rattle.state.specs.Does.{Did}
 use Rattle.steps.specs.declared.Setting.{Setting as CodeSetting}
 use Rattle.steps.specs.declared.Why.{Why}
 use Rattle.steps.specs.declared.Why.the-variants.{TooManyFiles, StringName, PrivateName, TableFull}

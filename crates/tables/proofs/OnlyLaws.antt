@@ -77,7 +77,12 @@ pushed-rows b t n key value l e h =
 pub row-pushed : (b : Table) (t : List ℕ) (n key value : ℕ) → Lies b t → n ≡ length (rows b t) → n < b .room →
     (rows b (set (set (set t (b .base + 2 * n) key) (b .base + 2 * n + 1) value) (b .count) (n + 1)) ≡ rows b t ++ ((key, value) ∷ []))
     × Only b t (set (set (set t (b .base + 2 * n) key) (b .base + 2 * n + 1) value) (b .count) (n + 1))
-row-pushed b t n key value l e h = (pushed-rows b t n key value l e h, only-then (only-then (store-row b t (b .base + 2 * n) key (omega arith) (omega arith)) (store-row b _ (b .base + 2 * n + 1) value (omega arith) (omega arith))) (store-count b _ (n + 1)))
+row-pushed b t n key value l e h = (
+  pushed-rows b t n key value l e h,
+  only-then
+      (only-then (store-row b t (b .base + 2 * n) key (omega arith) (omega arith))
+      (store-row b _ (b .base + 2 * n + 1) value (omega arith) (omega arith))) (store-count b _ (n + 1)),
+)
 
 -- ---- Another value in a row
 

@@ -77,7 +77,8 @@ found-start lo hi b n t e =
     let l = from-length (getD t (b .count) 0) (b .base) t in
     let c : getD t (b .count) 0 ≡ n - 0 = omega arith in
     let z : b .base ≡ b .base + 2 * 0 = omega arith in
-    sym (shifted-none (firstIn lo hi (rowsFrom (getD t (b .count) 0) (b .base) t))) ∙ ap (λ (x : ℕ). shifted 0 (firstIn lo hi (rowsFrom x (b .base) t))) c ∙ ap (λ (x : ℕ). shifted 0 (firstIn lo hi (rowsFrom (n - 0) x t))) z
+    sym (shifted-none (firstIn lo hi (rowsFrom (getD t (b .count) 0) (b .base) t)))
+    ∙ ap (λ (x : ℕ). shifted 0 (firstIn lo hi (rowsFrom x (b .base) t))) c ∙ ap (λ (x : ℕ). shifted 0 (firstIn lo hi (rowsFrom (n - 0) x t))) z
 
 pub rows-onward : (n i base : ℕ) (t : List ℕ) → i < n →
     rowsFrom (n - i) (base + 2 * i) t ≡ (getD t (base + 2 * i) 0, getD t (base + 2 * i + 1) 0) ∷ rowsFrom (n - (i + 1)) (base + 2 * (i + 1)) t
@@ -190,7 +191,10 @@ module _ (key base n : ℕ) (t₀ : List ℕ) (i kept : ℕ) (t : List ℕ) (d :
       let k : getD t₀ (base + 2 * i) 0 ≡ key = sym first ∙ e in
       let less = d .less in
       record {
-        kept-rows = d .kept-rows ∙ sym (ap (without key) read ∙ without-append key (rowsFrom i base t₀) _ ∙ rw (eq-eqb (getD t₀ (base + 2 * i) 0) key k) (append-nil (without key (rowsFrom i base t₀))));
+        kept-rows = d .kept-rows
+            ∙
+            sym (ap (without key) read ∙ without-append key (rowsFrom i base t₀) _
+            ∙ rw (eq-eqb (getD t₀ (base + 2 * i) 0) key k) (append-nil (without key (rowsFrom i base t₀))));
         less = omega arith;
         upto = omega arith;
         same = λ j f. d .same j (λ p q. f p (omega arith));

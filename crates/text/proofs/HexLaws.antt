@@ -158,7 +158,8 @@ module _ (s : List ℕ) (from to : ℕ) (inside : to ≤ length s) where
       d (cc)
   field-bad h d out k o r (b ∷ bs) m f e = r (b ∷ bs) m f e
 
-  pub field-digits : from < to → (getD s from 0 ≡ 45 → ⊥) → (out : List ℕ) (o : ℕ) (r : Bytes) (k : List ℕ) → BytesRead hexed s from to out o r k → BytesRead spelt s from to out o r k
+  pub field-digits : from < to → (getD s from 0 ≡ 45 → ⊥) → (out : List ℕ) (o : ℕ) (r : Bytes) (k : List ℕ) → BytesRead hexed s from to out o r k →
+      BytesRead spelt s from to out o r k
   field-digits h d out o (Upto n) k r =
       record {
         bytes = r .bytes;

@@ -15,7 +15,8 @@ use Rattle.tree.specs.declared.grammar.Value.the-variants.{Empty}
 use Rattle.tree.specs.declared.grammar.Piece.the-variants.{Plain}
 use Rattle.tree.specs.declared.grammar.Pieces.{Pieces}
 use Rattle.tree.specs.Tree.{Field, Fields, none, more, tagOf}
-use Rattle.tree.specs.Grammar.{within, find, statements, patterns, expressions, others, parts0, parts3, parts4, ruleOf, restOf, onFit, slotAt, stepBy, stepAt, holdsAt, only, fixedParts, piecesOf}
+use Rattle.tree.specs.Grammar.{within, find, statements, patterns, expressions, others, parts0, parts3, parts4, ruleOf, restOf, onFit, slotAt}
+use Rattle.tree.specs.Grammar.{stepBy, stepAt, holdsAt, only, fixedParts, piecesOf}
 use Rattle.tree.specs.Within.{Formed, FormedAll}
 use Rattle.tree.proofs.Table.{find-passes}
 use Rattle.tree.proofs.FixedLaws.{opens}

@@ -13,7 +13,8 @@ use Rattle.tree.specs.Read.{Reading, fine, refused, onExtent, onStep, he
 
 -- `read`, with all that it computes by: an example says `unfolding reading`
 unfoldable pub reading : Set → List ℕ → Reading Fields
-unfolding skipAt literalEnd within holdsAt ruleOf piecesOf slotAt stepBy stepAt valueAt kinds choiceOf onChoice kindAt keyAt pieceAt thenPiece fixedAt lengthAt extentAt onExtent onStep headAt onFixed contentBy onHead children childrenAt read
+unfolding skipAt literalEnd within holdsAt ruleOf piecesOf slotAt stepBy stepAt valueAt kinds choiceOf onChoice kindAt keyAt pieceAt thenPiece fixedAt
+    lengthAt extentAt onExtent onStep headAt onFixed contentBy onHead children childrenAt read
 reading root s = read root s
 
 -- document 01's second worked case: `import * as a from './m'; a.x;`

@@ -4,7 +4,10 @@ use mathlib.Core.List.{List, [], _∷_}
 use mathlib.Core.Bool.{Bool, true, false, _&&_, _||_, cond}
 use lib.Dec.{leb, eqb}
 use Rattle.tree.specs.declared.grammar.Set.{Set}
-use Rattle.tree.specs.declared.grammar.Set.the-variants.{Module, Item, Specifier, ExportSpecifier, Attributes, Attribute, Declaration, Statement, Declarator, Block, Pattern, PatternProperty, Expression, Callee, Target, Body, Member, SuperMember, Argument, Property, Records, Collected, Lazy, Dynamic, Forced}
+use Rattle.tree.specs.declared.grammar.Set.the-variants.{Module, Item, Specifier, ExportSpecifier, Attributes, Attribute, Declaration}
+use Rattle.tree.specs.declared.grammar.Set.the-variants.{Statement, Declarator, Block, Pattern, PatternProperty, Expression, Callee, Target}
+use Rattle.tree.specs.declared.grammar.Set.the-variants.{Body, Member, SuperMember, Argument, Property, Records, Collected, Lazy, Dynamic}
+use Rattle.tree.specs.declared.grammar.Set.the-variants.{Forced}
 use Rattle.tree.specs.declared.grammar.Slot.{Slot}
 use Rattle.tree.specs.declared.grammar.Slot.the-variants.{Nothing, One, Maybe, Many}
 use Rattle.tree.specs.declared.grammar.Rule.{Rule}

@@ -1,7 +1,8 @@
 // The grammar of document 01, section 'Tree': which fixed bytes and which parts a tag has.
 ghost use mathlib.Core.Path.{_≡_};
 ghost use Rattle.tree.specs.declared.grammar.Set.the-variants.{Item, Callee, Body};
-ghost use Rattle.tree.specs.Grammar.{within, statementTag, patternTag, expressionTag, holdsAt, slotAt, restOf, stepAt, fullAt, doneAt, parts0, parts1, parts2, parts3, parts4, statements, patterns, expressions, find, ruleOf, only, pieces, piecesOf};
+ghost use Rattle.tree.specs.Grammar.{within, statementTag, patternTag, expressionTag, holdsAt, slotAt, restOf, stepAt, fullAt, doneAt, parts0};
+ghost use Rattle.tree.specs.Grammar.{parts1, parts2, parts3, parts4, statements, patterns, expressions, find, ruleOf, only, pieces, piecesOf};
 use crate::grammar::Piece::*;
 use crate::grammar::Set::*;
 use crate::grammar::Slot::*;

@@ -1,3 +1,3 @@
--- Laws of the bytes of a scope (ListingLaws) and of the exported calls that start a scope (CallLaws).
+-- Laws of the bytes of a scope (ListingLaws) and of the exported calls that start a scope (ExportedLaws).
 mod ListingLaws
-mod CallLaws
+mod ExportedLaws

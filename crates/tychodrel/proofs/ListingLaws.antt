@@ -9,7 +9,7 @@ use lib.ListN.{length, getD, drop, replicate}
 use lib.Seq.{sets, sets-eq}
 use borrow.Author.Tests.{eq-eqb, ne-eqb}
 use Rattle.scope.specs.Modules.{Modules}
-use Rattle.scope.specs.Kept.{modulesIn, moduleBy}
+use Rattle.scope.specs.ScopeValue.{modulesIn, moduleBy}
 use Rattle.writer.specs.Bytes.{twoBytes}
 use Rattle.writer.specs.Wrote.{Wrote}
 use Rattle.writer.proofs.Wrote.{wrote-none, wrote-then, wrote-as}
@@ -113,6 +113,8 @@ pub scope-written : {b c : List ℕ} {n o p : ℕ} (ms ns : Modules) → n ≡ l
     Wrote (replicate 770 0) 0 (twoBytes n) b o → Wrote b o (modulesBytes ns) c p → c ≡ scopeBytes ms
 unfolding listed scopeBytes
 scope-written {b} {c} {n} {o} {p} ms ns e h f x y =
-    let w : Wrote (replicate 770 0) 0 (listed ms) c p = wrote-as (wrote-then x y) (ap (λ (k : ℕ). twoBytes k ++ modulesBytes ns) e ∙ ap (λ (k : Modules). twoBytes (length ms) ++ modulesBytes k) f) in
+    let w : Wrote (replicate 770 0) 0 (listed ms) c p =
+    wrote-as (wrote-then x y) (ap (λ (k : ℕ). twoBytes k ++ modulesBytes ns) e ∙ ap (λ (k : Modules). twoBytes (length ms) ++ modulesBytes k) f)
+    in
     let g = listed-size ms in
     w .bytes (omega arith) ∙ zeros-behind (listed ms) (omega arith)

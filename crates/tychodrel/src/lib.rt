@@ -26,10 +26,10 @@ ghost use mathlib.Core.List.{[]};
 ghost use mathlib.Core.Option.{some};
 ghost use lib.ListN.{length};
 ghost use Rattle.detection.specs.Detection.{detect};
-ghost use Rattle.metadata.specs.Kept.{metadataOf};
+ghost use Rattle.metadata.specs.MetadataValue.{metadataOf};
 ghost use Rattle.metadata.specs.Calls.{decodeCall, encodeAnswer, encodeOut};
 ghost use Rattle.scope.specs.Modules.{filesIn, requestAll};
-ghost use Rattle.scope.specs.Kept.{modulesOf, requested};
+ghost use Rattle.scope.specs.ScopeValue.{modulesOf, requested};
 ghost use Rattle.extraction_rules.specs.Call.{extraction};
 ghost use Rattle.extraction.specs.Answer.{lentAs, roomIn};
 ghost use Rattle.resolving_rules.specs.Call.{resolving};
@@ -154,7 +154,11 @@ pub extern "C" fn tychodrel_extract(
     out: &mut [u8],
     records: &mut [u8],
 ) -> u64
-    ensures { λ r. ⌜ Leaves (extractCall (now (files .entry)) (lentAs file config (now (externals .entry)) (now (table .entry)) (now (tree .entry))) (roomIn (now (work .entry)) (now (out .entry)) (now (records .entry)))) r (now (scope .exit)) (now (work .exit)) (now (out .exit)) (now (records .exit)) ⌝ }
+    ensures { λ r.
+        ⌜ Leaves
+        (extractCall (now (files .entry)) (lentAs file config (now (externals .entry)) (now (table .entry)) (now (tree .entry)))
+        (roomIn (now (work .entry)) (now (out .entry)) (now (records .entry)))) r (now (scope .exit)) (now (work .exit)) (now (out .exit))
+        (now (records .exit)) ⌝ }
 {
     let requested = request_files(files);
     let entry = requested.scope;
@@ -194,7 +198,11 @@ fn extract_in(
     out: &mut [u8],
     records: &mut [u8],
 ) -> u64
-    ensures { λ r. ⌜ Leaves (extraction (lentAs (file .0) config (now (externals .entry)) (now (table .entry)) (now (tree .entry))) (roomIn (now (work .entry)) (now (out .entry)) (now (records .entry))) (modulesOf entry)) r (now (scope .exit)) (now (work .exit)) (now (out .exit)) (now (records .exit)) ⌝ }
+    ensures { λ r.
+        ⌜ Leaves
+        (extraction (lentAs (file .0) config (now (externals .entry)) (now (table .entry)) (now (tree .entry)))
+        (roomIn (now (work .entry)) (now (out .entry)) (now (records .entry))) (modulesOf entry)) r (now (scope .exit)) (now (work .exit))
+        (now (out .exit)) (now (records .exit)) ⌝ }
 {
     let r = extract_import_info(
         entry,
@@ -222,7 +230,9 @@ pub extern "C" fn tychodrel_resolve(
     scope: &mut [u8; 770],
     list: &mut [u8],
 ) -> u64
-    ensures { λ r. ⌜ LeavesList (resolveCall (now (files .entry)) (recordsAs (now (table .entry)) (now (records .entry))) (length (now (list .entry)))) r (now (scope .exit)) (now (list .exit)) ⌝ }
+    ensures { λ r.
+        ⌜ LeavesList (resolveCall (now (files .entry)) (recordsAs (now (table .entry)) (now (records .entry))) (length (now (list .entry)))) r
+        (now (scope .exit)) (now (list .exit)) ⌝ }
 {
     let requested = request_files(files);
     let entry = requested.scope;

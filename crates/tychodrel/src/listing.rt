@@ -5,7 +5,7 @@ use writer::put_u16;
 ghost use mathlib.Core.Path.{_≡_};
 ghost use Prim.Native.Nat.{_*_, _%_, _≤_};
 ghost use lib.ListN.{length};
-ghost use Rattle.scope.specs.Kept.{modulesOf, modulesIn};
+ghost use Rattle.scope.specs.ScopeValue.{modulesOf, modulesIn};
 ghost use Rattle.writer.specs.Wrote.{Wrote};
 ghost use Rattle.tychodrel.specs.Answer.{modulesBytes, scopeBytes};
 

@@ -10,16 +10,16 @@ use Rattle.scope.specs.declared.id.ModuleId.{ModuleId}
 use Rattle.writer.specs.Wrote.{Wrote}
 use Rattle.writer.proofs.Wrote.{wrote-then, wrote-as}
 use Rattle.tree.specs.Tree.{Field, Fields, none, encode}
-use Rattle.lent.specs.Outcome.{Outcome, done, onto}
+use Rattle.inputs.specs.Outcome.{Outcome, done, onto}
 use Rattle.extraction_rules.specs.State.{Record, State, Setting, Act, setCollected}
 use Rattle.extraction_rules.specs.First.{bindings, withCallee, markRequired, collect, addLazy, require, requireLazily}
-use Rattle.kept.specs.Kept.{At, place-limit, Shows}
-use Rattle.kept.specs.Does.{Tells, ActsAt, Collects, Gave}
-use Rattle.kept.specs.declared.Place.{Place}
-use Rattle.kept.specs.declared.Place.the-variants.{Index, NoRoom}
-use Rattle.kept.specs.declared.Room.{Room}
-use Rattle.kept.specs.declared.Room.the-variants.{Made as Fits, Full}
-use Rattle.kept.proofs.NamespaceLaws.{extend-none}
+use Rattle.state.specs.Cells.{At, place-limit, Shows}
+use Rattle.state.specs.Does.{Tells, ActsAt, Collects, Gave}
+use Rattle.state.specs.declared.Place.{Place}
+use Rattle.state.specs.declared.Place.the-variants.{Index, NoRoom}
+use Rattle.state.specs.declared.Room.{Room}
+use Rattle.state.specs.declared.Room.the-variants.{Made as Fits, Full}
+use Rattle.state.proofs.NamespaceLaws.{extend-none}
 use Rattle.expressions.specs.Require.{Requires, CalleeSet}
 use Rattle.expressions.specs.declared.require.Required.{Required}
 use Rattle.expressions.specs.declared.require.Required.the-variants.{Marked, Unresolved, TooMany}
@@ -57,7 +57,8 @@ module _ (l : List ℕ) (at : ℕ) (out : List ℕ) {t : List ℕ} {b : Bool} (d
   recorded-as : {x : At} (c : Bool) → not b ≡ not c → (s : State) → Shows x t s →
       recorded l at s ≡ cond c (collect (record { literal = l; specifiers = none }) at) (addLazy (record { literal = l; specifiers = none }) at) s
   recorded-as c e s w =
-      ap (λ (z : Bool). cond z (collect (record { literal = l; specifiers = none }) at) (addLazy (record { literal = l; specifiers = none }) at) s) (sym (d .is s w) ∙ sym (Bool·not-not b) ∙ ap not e ∙ Bool·not-not c)
+      ap (λ (z : Bool). cond z (collect (record { literal = l; specifiers = none }) at) (addLazy (record { literal = l; specifiers = none }) at) s)
+      (sym (d .is s w) ∙ sym (Bool·not-not b) ∙ ap not e ∙ Bool·not-not c)
 
   pub record-lazy : {t' : List ℕ} {p : ℕ} {k : Step} → not b ≡ true →
       Steps (λ _. []) (λ x u. none ≡ x 0) (addLazy (record { literal = l; specifiers = none }) at) t out p t' out k →

@@ -14,8 +14,8 @@ use Rattle.tree.specs.Layout.{same}
 use Rattle.tree.specs.Tree.{Field, field, Fields, none, more, tagOf, fixedOf, size}
 use Rattle.tree.proofs.WidthLaws.{plain-width}
 use Rattle.tree.specs.declared.grammar.Value.the-variants.{Id}
-use Rattle.lent.specs.Lists.{find, mapped}
-use Rattle.lent.specs.Fields.{has}
+use Rattle.inputs.specs.Lists.{find, mapped}
+use Rattle.inputs.specs.Fields.{has}
 use Rattle.extraction_rules.specs.State.{Imported, Usage, State, Pass, first, second, Setting}
 use Rattle.extraction_rules.specs.First.{importedAs, required}
 use Rattle.extraction_rules.specs.Second.{usagesOf}
@@ -24,7 +24,7 @@ use Rattle.extraction_rules.proofs.OutcomeLaws.{After, after-bind}
 use Rattle.extraction_rules.proofs.ValueLaws.{after-any, required-call}
 use Rattle.extraction_rules.proofs.AlikeLaws.{RegularAll}
 use Rattle.extraction_rules.proofs.ShapeLaws.{Shaped, ShapedAll, name-width}
-use Rattle.kept.specs.Kept.{At, imports, tableOf, importedOf, Shows}
+use Rattle.state.specs.Cells.{At, imports, tableOf, importedOf, Shows}
 use Rattle.expressions.specs.After.{identOf, asIdent, becomes, identAfter, memberAfter}
 use Rattle.expressions.proofs.IdentLaws.{walk-ident}
 use Rattle.walking.specs.Walking.{Called}

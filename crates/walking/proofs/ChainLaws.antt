@@ -7,8 +7,8 @@ use mathlib.Core.Option.{Option, none as nothing, some}
 use lib.Dec.{eqb}
 use borrow.Author.Tests.{eqb-true}
 use Rattle.tree.specs.Tree.{Field, field, Fields, none, more, tagOf, fixedOf, size}
-use Rattle.lent.specs.Outcome.{Outcome, done, refused, onto}
-use Rattle.lent.specs.Fields.{has, inside}
+use Rattle.inputs.specs.Outcome.{Outcome, done, refused, onto}
+use Rattle.inputs.specs.Fields.{has, inside}
 use Rattle.extraction_rules.specs.State.{Usage, State, Pass, second, Setting}
 use Rattle.extraction_rules.specs.First.{importedAs, onIdent}
 use Rattle.extraction_rules.specs.Second.{usagesOf, asProperty, rewritten}
@@ -126,7 +126,8 @@ module _ (e : Setting) (two : e .pass ≡ second) where
           subst (λ (l : Fields). walk (field 0x63 x (more c (more q l))) e object p s ≡ done (field 0x60 i none, s)) (sym last)
           (chain-63 x c q object p s j i (o (inside p x) s j k) (w .1 .0) h)
 
-  ident-at-once : (t : ℕ) (x : List ℕ) (cs : Fields) (object : Bool) (p : ℕ) (s : State) (i : List ℕ) → Regular (field t x cs) → ObjectWalks cs → identAfter (field t x cs) second s ≡ some i →
+  ident-at-once : (t : ℕ) (x : List ℕ) (cs : Fields) (object : Bool) (p : ℕ) (s : State) (i : List ℕ) → Regular (field t x cs) → ObjectWalks cs →
+      identAfter (field t x cs) second s ≡ some i →
       walk (field t x cs) e object p s ≡ done (field 0x60 i none, s)
   unfolding identAfter
   ident-at-once t x cs object p s i w o h = go (eqb t 0x63) refl (eqb t 0x60) refl h

@@ -21,8 +21,8 @@ use Rattle.tree.proofs.StandingLaws.{row-more, row-none, tree-upto, tree-short}
 use Rattle.tree.proofs.WidthLaws.{tree-bare}
 use Rattle.tree.proofs.TreeLaws.{encodes-more}
 use Rattle.writer.proofs.Wrote.{wrote-as}
-use Rattle.lent.specs.Outcome.{Outcome, done, refused, onto}
-use Rattle.lent.specs.Fields.{inside}
+use Rattle.inputs.specs.Outcome.{Outcome, done, refused, onto}
+use Rattle.inputs.specs.Fields.{inside}
 use Rattle.extraction_rules.specs.State.{State, Pass, first, second, Setting}
 use Rattle.extraction_rules.specs.First.{idFrom, required, withCallee, bindings, requireLazily, declarator}
 use Rattle.extraction_rules.specs.Walk.{afterExpression, walk, walkAll}
@@ -31,8 +31,8 @@ use Rattle.extraction_rules.proofs.ValueLaws.{after-any, first-expression}
 use Rattle.extraction_rules.proofs.ExactLaws.{id-width}
 use Rattle.extraction_rules.proofs.AlikeLaws.{Regular}
 use Rattle.extraction_rules.proofs.ShapeLaws.{Shaped, ShapedAll}
-use Rattle.kept.specs.Kept.{Good, idOf}
-use Rattle.kept.specs.Does.{Tells}
+use Rattle.state.specs.Cells.{Good, idOf}
+use Rattle.state.specs.Does.{Tells}
 use Rattle.expressions.specs.After.{requiredAfter}
 use Rattle.expressions.proofs.RequiredLaws.{none-after, walk-required}
 use Rattle.expressions.proofs.BindingLaws.{walk-binds}
@@ -47,7 +47,7 @@ use Rattle.walking.specs.Walking.{placeIn, Reads, FieldSteps, RowSteps, 
 use Rattle.walking.proofs.TagLaws.{walk-65, second-65}
 use Rattle.walking.proofs.RowLaws.{all-more, all-none}
 use Rattle.walking.proofs.CalledLaws.{FourBytes, four-shown, walked-called}
-use Rattle.walking.proofs.CallLaws.{sound-shaped}
+use Rattle.walking.proofs.CallWalkLaws.{sound-shaped}
 
 -- ---- A walked initialiser that meets the require conditions is a call with a callee of six bytes
 
@@ -66,13 +66,15 @@ module _ (e : Setting) where
       first-expression e IfCalled first refl (field 0x65 [] ds) object p u (h, λ n l w. λ m z. callee-called n (field 0x65 [] ds) (h l w))
   expression-called second ds object p u h = subst (λ (m : Outcome (Field × State)). After m (λ g v. IfCalled g)) (sym (second-65 e [] ds object p u)) h
 
-  walk-called-65 : (cs : Fields) (object : Bool) (p : ℕ) (u : State) → FourBytes u → Regular (field 0x65 [] cs) → Shaped (field 0x65 [] cs) → After (walk (field 0x65 [] cs) e object p u) (λ g v. IfCalled g)
+  walk-called-65 : (cs : Fields) (object : Bool) (p : ℕ) (u : State) → FourBytes u → Regular (field 0x65 [] cs) → Shaped (field 0x65 [] cs) →
+      After (walk (field 0x65 [] cs) e object p u) (λ g v. IfCalled g)
   walk-called-65 cs object p u f w g =
       subst (λ (m : Outcome (Field × State)). After m (λ g v. IfCalled g)) (sym (walk-65 e [] cs object p u))
       (after-bind (walkAll cs e object (inside p []) u) _ (λ ds v. IfCalled (field 0x65 [] ds)) _ (walked-called e cs _ object (inside p []) u f (w .1) (g .1)) λ ds v k.
       expression-called (e .pass) ds object p v k)
 
-  walk-called : (i : Field) (object : Bool) (p : ℕ) (u : State) → FourBytes u → Regular i → Shaped i → (tagOf i ≡ 0x65 → fixedOf i ≡ []) → After (walk i e object p u) (λ g v. IfCalled g)
+  walk-called : (i : Field) (object : Bool) (p : ℕ) (u : State) → FourBytes u → Regular i → Shaped i → (tagOf i ≡ 0x65 → fixedOf i ≡ []) →
+      After (walk i e object p u) (λ g v. IfCalled g)
   walk-called (field t x cs) object p u f w g b = go (eqb t 0x65) refl
     where
       go : (a : Bool) → eqb t 0x65 ≡ a → After (walk (field t x cs) e object p u) (λ g v. IfCalled g)
@@ -137,7 +139,8 @@ module _ (c : CodeSetting) (e : Setting) (object : Bool) (s : List ℕ) (bytes :
         ap (λ (ds : Fields). initialised e q ds p (r .1)) (h .2)
         ∙ ap (λ (l : Option (List ℕ)). onto (requireLazily l e q (h .0) p (r .1)) (λ j. done (more (j .0) (h .1), j .1))) (h .3) ∙ ap (λ (ds : Fields). done (ds, r .1)) (sym (h .2))
 
-    pub behind-plain : {t out t' out' : List ℕ} {o : ℕ} {k : Step} → Tells (requiredAfter e (treeAt s at stop)) t nothing → RowSteps c s at end (walkAll (rowAt s at end) e object at) t out o t' out' k →
+    pub behind-plain : {t out t' out' : List ℕ} {o : ℕ} {k : Step} → Tells (requiredAfter e (treeAt s at stop)) t nothing →
+        RowSteps c s at end (walkAll (rowAt s at end) e object at) t out o t' out' k →
         Steps encodes (Behind c s at end place q) (behind e object s at end p q) t out o t' out' k
     behind-plain n m =
         steps-by (behind e object s at end p q) m (λ y u w k. (
@@ -185,7 +188,8 @@ module _ (c : CodeSetting) (e : Setting) (object : Bool) (s : List ℕ) (bytes :
               ∙ ap (λ (b : Outcome (Field × State)). onto b (λ j. done (more (j .0) (f .1), j .1))) (a .turned j i z (d .state) (d .shows) (k .2) (f .0));
         }
       where
-        joined : (u : State) (ds : Fields) (v : State) (i : Field) (rest : Fields) → walkAll (rowAt s at end) e object at u ≡ done (ds, v) → ds ≡ more i rest → required e i ≡ some (idOf n) →
+        joined : (u : State) (ds : Fields) (v : State) (i : Field) (rest : Fields) → walkAll (rowAt s at end) e object at u ≡ done (ds, v) →
+            ds ≡ more i rest → required e i ≡ some (idOf n) →
             behind e object s at end p q u ≡ onto (requireLazily (some (idOf n)) e q i p v) (λ j. done (more (j .0) rest, j .1))
         joined u ds v i rest h z l =
             ap (λ (b : Outcome (Fields × State)). onto b (λ b. initialised e q (b .0) p (b .1))) h ∙ ap (λ (fs : Fields). initialised e q fs p v) z ∙ initialised-more e q i rest p v
@@ -198,7 +202,9 @@ unfolding declarator initialised
 declarator-more e q none p u = refl
 declarator-more e q (more i rest) p u = go (requireLazily (required e i) e q i p u)
   where
-    go : (m : Outcome (Field × State)) → onto {B = Fields × State} m (λ j. done (more q (more (j .0) rest), j .1)) ≡ onto (onto {B = Fields × State} m (λ j. done (more (j .0) rest, j .1))) (λ b. done (more q (b .0), b .1))
+    go : (m : Outcome (Field × State)) →
+        onto {B = Fields × State} m (λ j. done (more q (more (j .0) rest), j .1)) ≡ onto
+        (onto {B = Fields × State} m (λ j. done (more (j .0) rest, j .1))) (λ b. done (more q (b .0), b .1))
     go (done j) = refl
     go (refused n k) = refl
 
@@ -249,5 +255,6 @@ module _ (c : CodeSetting) (e : Setting) (object : Bool) (s : List ℕ) (bytes :
         RowSteps c s at end (declared e object s at end p) t out o t1 out1 (Refused v r)
     declared-turned one =
         steps-as (declared e object s at end p)
-        (steps-turned encode encodes encodes more encodes-more (λ y u. SoundAll s at end × Reads y (c .second) s) (λ q. behind e object s stop end p q) one (λ y u w. (soundAll-first le (w .0) x, w .1)))
+        (steps-turned encode encodes encodes more encodes-more (λ y u. SoundAll s at end × Reads y (c .second) s)
+        (λ q. behind e object s stop end p q) one (λ y u w. (soundAll-first le (w .0) x, w .1)))
         (λ y u w. (w, split-here (w .0) u))

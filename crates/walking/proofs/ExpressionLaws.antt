@@ -15,15 +15,15 @@ use Rattle.tree.proofs.StandingLaws.{tree-upto}
 use Rattle.tree.proofs.WidthLaws.{plain-ends, tree-bare}
 use Rattle.tree.specs.declared.grammar.Value.the-variants.{Id}
 use Rattle.writer.specs.Wrote.{Wrote}
-use Rattle.lent.specs.Outcome.{Outcome, done, refused, onto}
-use Rattle.lent.specs.Fields.{inside}
+use Rattle.inputs.specs.Outcome.{Outcome, done, refused, onto}
+use Rattle.inputs.specs.Fields.{inside}
 use Rattle.extraction_rules.specs.State.{State, Pass, first, second, Setting}
 use Rattle.extraction_rules.specs.First.{forceId, onIdent, usage}
 use Rattle.extraction_rules.specs.Walk.{afterExpression, walk, walkMember, walkTarget}
 use Rattle.extraction_rules.proofs.OutcomeLaws.{After}
 use Rattle.extraction_rules.proofs.AlikeLaws.{Regular}
-use Rattle.kept.specs.Kept.{Good, idOf}
-use Rattle.kept.specs.Does.{Turns, Tells}
+use Rattle.state.specs.Cells.{Good, idOf}
+use Rattle.state.specs.Does.{Turns, Tells}
 use Rattle.expressions.specs.After.{identAfter}
 use Rattle.steps.specs.declared.Setting.{Setting as CodeSetting}
 use Rattle.steps.specs.declared.Step.{Step}
@@ -97,7 +97,8 @@ module _ (c : CodeSetting) (e : Setting) (object : Bool) (s : List ℕ) (at stop
       ))
 
   -- in the first pass usage follows
-  walk-used : e .pass ≡ first → Sound s at stop → (u : State) → walk (treeAt s at stop) e object at u ≡ thenOf (walkTarget (treeAt s at stop) e at) (usage (onIdent (treeAt s at stop)) e at) u
+  walk-used : e .pass ≡ first → Sound s at stop → (u : State) →
+      walk (treeAt s at stop) e object at u ≡ thenOf (walkTarget (treeAt s at stop) e at) (usage (onIdent (treeAt s at stop)) e at) u
   walk-used one w u =
       let z = tree-bare 0x63 refl s at stop h q in
       let r = subst Regular z (w .regular) in

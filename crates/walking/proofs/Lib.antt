@@ -6,7 +6,7 @@ pub mod ChainLaws
 pub mod UsedLaws
 pub mod ExpressionLaws
 pub mod CalledLaws
-pub mod CallLaws
+pub mod CallWalkLaws
 pub mod DeclaratorLaws
 pub mod AmendLaws
 pub mod PlainLaws

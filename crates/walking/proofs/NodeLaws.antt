@@ -12,14 +12,14 @@ use Rattle.tree.specs.Access.{fixedAt}
 use Rattle.tree.specs.Standing.{treeAt, rowAt}
 use Rattle.tree.proofs.AccessLaws.{upto-in}
 use Rattle.tree.proofs.StandingLaws.{tree-upto}
-use Rattle.lent.specs.Outcome.{Outcome, done, refused, onto}
-use Rattle.lent.specs.Fields.{inside}
+use Rattle.inputs.specs.Outcome.{Outcome, done, refused, onto}
+use Rattle.inputs.specs.Fields.{inside}
 use Rattle.extraction_rules.specs.State.{State, Setting, Act, setTop}
 use Rattle.extraction_rules.specs.First.{exportSpecifier, declarator}
 use Rattle.extraction_rules.specs.Walk.{walk, walkAll, walkMember, walkAssignment, walkTarget}
 use Rattle.extraction_rules.proofs.AlikeLaws.{Regular}
-use Rattle.kept.specs.Kept.{Good}
-use Rattle.kept.specs.Does.{Turns}
+use Rattle.state.specs.Cells.{Good}
+use Rattle.state.specs.Does.{Turns}
 use Rattle.steps.specs.declared.Setting.{Setting as CodeSetting}
 use Rattle.steps.specs.declared.Step.{Step}
 use Rattle.steps.specs.Step.{Steps, withParts}
@@ -56,7 +56,8 @@ module _ (c : CodeSetting) (e : Setting) (object : Bool) (s : List ℕ) (at from
   tagged n q u = walked u ∙ ap (λ (m : ℕ). walk (field m fixedBytes (rowAt s from stop)) e object at u) q
 
   module _ {t out t' out' : List ℕ} {o : ℕ} {k : Step} where
-    pub node-plain : (getD s at 0 ≡ 0x23 → ⊥) → (getD s at 0 ≡ 0x42 → ⊥) → (getD s at 0 ≡ 0x45 → ⊥) → (getD s at 0 ≡ 0x60 → ⊥) → (getD s at 0 ≡ 0x63 → ⊥) → (getD s at 0 ≡ 0x64 → ⊥) → (getD s at 0 ≡ 0x65 → ⊥) → (getD s at 0 ≡ 0x66 → ⊥) →
+    pub node-plain : (getD s at 0 ≡ 0x23 → ⊥) → (getD s at 0 ≡ 0x42 → ⊥) → (getD s at 0 ≡ 0x45 → ⊥) → (getD s at 0 ≡ 0x60 → ⊥) →
+        (getD s at 0 ≡ 0x63 → ⊥) → (getD s at 0 ≡ 0x64 → ⊥) → (getD s at 0 ≡ 0x65 → ⊥) → (getD s at 0 ≡ 0x66 → ⊥) →
         NodeSteps c s from stop (withParts (getD s at 0) fixedBytes (walkAll (rowAt s from stop) e object from)) t out o t' out' k →
         FieldSteps c s at stop (walk (treeAt s at stop) e object at) t out o t' out' k
     node-plain b d f g i j l n m =

@@ -15,8 +15,8 @@ use Rattle.tree.proofs.WidthLaws.{plain-upto}
 use Rattle.writer.specs.Wrote.{Wrote}
 use Rattle.extraction_rules.specs.First.{forceId}
 use Rattle.extraction_rules.specs.Walk.{walk}
-use Rattle.kept.specs.Kept.{Good, idOf, Shows}
-use Rattle.kept.specs.Does.{Turns}
+use Rattle.state.specs.Cells.{Good, idOf, Shows}
+use Rattle.state.specs.Does.{Turns}
 use Rattle.steps.specs.declared.Setting.{Setting as CodeSetting}
 use Rattle.steps.specs.declared.Step.the-variants.{Done}
 use Rattle.steps.specs.Step.{passOf}

@@ -13,10 +13,10 @@ use Rattle.tree.specs.Standing.{treeAt, rowAt}
 use Rattle.tree.proofs.AccessLaws.{extent-upto}
 use Rattle.tree.proofs.StandingLaws.{row-more, row-none}
 use Rattle.tree.proofs.TreeLaws.{encodes-none, encodes-more}
-use Rattle.lent.specs.Outcome.{done}
+use Rattle.inputs.specs.Outcome.{done}
 use Rattle.extraction_rules.specs.State.{State, Setting, Act}
 use Rattle.extraction_rules.specs.Walk.{walk, walkAll, walkMember, walkAssignment, walkTarget}
-use Rattle.kept.specs.Kept.{Good}
+use Rattle.state.specs.Cells.{Good}
 use Rattle.steps.specs.declared.Setting.{Setting as CodeSetting}
 use Rattle.steps.specs.declared.Why.{Why}
 use Rattle.steps.specs.declared.Step.{Step}
@@ -105,7 +105,8 @@ pub record Going (c : CodeSetting) (e : Setting) (b : Bool) (s : List ℕ) (from
 pub going-start : {c : CodeSetting} {e : Setting} {b : Bool} {s : List ℕ} {from end : ℕ} {t out : List ℕ} {o : ℕ} → Good t → from ≤ end → Going c e b s from end t out o t out from o
 going-start g le = record { good = g; kept = refl; size = refl; after = omega arith; inside = le; rest = λ t' out' k m. m }
 
-module _ {c : CodeSetting} {e : Setting} {b : Bool} {s : List ℕ} {from end : ℕ} {t₀ out₀ t out : List ℕ} {o at to : ℕ} (bytes : Bytes s) (g : Going c e b s from end t₀ out₀ o t out at to) where
+module _ {c : CodeSetting} {e : Setting} {b : Bool} {s : List ℕ} {from end : ℕ} {t₀ out₀ t out : List ℕ} {o at to : ℕ} (bytes : Bytes s)
+    (g : Going c e b s from end t₀ out₀ o t out at to) where
   pub going-over : extentAt s at end ≡ Short → RowSteps c s from end (walkAll (rowAt s from end) e b from) t₀ out₀ o t out (Done to)
   going-over x = g .rest t out (Done to) (row-over c e bytes (g .inside) (λ fs p. walkAll fs e b p) (all-none e b) x (g .good))
 

@@ -7,8 +7,8 @@ use mathlib.Core.List.{List}
 use borrow.Author.Tests.{ne-eqb}
 use Rattle.tree.specs.Tree.{field, Fields, none}
 use Rattle.tree.specs.Grammar.{within, expressionTag}
-use Rattle.lent.specs.Outcome.{Outcome, done, refused, onto}
-use Rattle.lent.specs.Fields.{inside}
+use Rattle.inputs.specs.Outcome.{Outcome, done, refused, onto}
+use Rattle.inputs.specs.Fields.{inside}
 use Rattle.extraction_rules.specs.State.{State, Pass, first, second, Setting, setTop}
 use Rattle.extraction_rules.specs.First.{forceId, onIdent, usage, required, require, exportSpecifier, declarator}
 use Rattle.extraction_rules.specs.Second.{rewritten}
@@ -52,7 +52,8 @@ by-parts e t x cs object p s v q h =
 -- ---- Each tag
 
 module _ (e : Setting) (x : List ℕ) (cs : Fields) (object : Bool) (p : ℕ) (s : State) where
-  pub walk-plain : (t : ℕ) → (t ≡ 0x10 → ⊥) → (t ≡ 0x23 → ⊥) → (t ≡ 0x42 → ⊥) → (t ≡ 0x45 → ⊥) → (t ≡ 0x60 → ⊥) → (t ≡ 0x63 → ⊥) → (t ≡ 0x64 → ⊥) → (t ≡ 0x65 → ⊥) → (t ≡ 0x66 → ⊥) →
+  pub walk-plain : (t : ℕ) → (t ≡ 0x10 → ⊥) → (t ≡ 0x23 → ⊥) → (t ≡ 0x42 → ⊥) → (t ≡ 0x45 → ⊥) → (t ≡ 0x60 → ⊥) → (t ≡ 0x63 → ⊥) → (t ≡ 0x64 → ⊥) →
+      (t ≡ 0x65 → ⊥) → (t ≡ 0x66 → ⊥) →
       walk (field t x cs) e object p s ≡ withParts t x (walkAll cs e object (inside p x)) s
   walk-plain t i j k b a m u c g =
       by-parts e t x cs object p s children (parts-children t i j m u g) (λ ds u. plain-after e t x ds object p u i j k a m c)
@@ -66,11 +67,17 @@ module _ (e : Setting) (x : List ℕ) (cs : Fields) (object : Bool) (p : ℕ) (s
   -- '64: only a 71, clear'
   pub walk-64 : walk (field 0x64 x cs) e object p s ≡ withParts 0x64 x (walkAll cs e false (inside p x)) s
   unfolding partsFor
-  walk-64 = by-parts e 0x64 x cs object p s super refl (λ ds u. plain-after e 0x64 x ds object p u (λ z. omega arith) (λ z. omega arith) (λ z. omega arith) (λ z. omega arith) (λ z. omega arith) (λ z. omega arith))
+  walk-64 =
+      by-parts e 0x64 x cs object p s super refl
+      (λ ds u. plain-after e 0x64 x ds object p u (λ z. omega arith) (λ z. omega arith) (λ z. omega arith) (λ z. omega arith) (λ z. omega arith)
+      (λ z. omega arith))
 
   pub walk-66 : walk (field 0x66 x cs) e object p s ≡ withParts 0x66 x (walkAssignment cs e object (inside p x)) s
   unfolding partsFor
-  walk-66 = by-parts e 0x66 x cs object p s assignment refl (λ ds u. plain-after e 0x66 x ds object p u (λ z. omega arith) (λ z. omega arith) (λ z. omega arith) (λ z. omega arith) (λ z. omega arith) (λ z. omega arith))
+  walk-66 =
+      by-parts e 0x66 x cs object p s assignment refl
+      (λ ds u. plain-after e 0x66 x ds object p u (λ z. omega arith) (λ z. omega arith) (λ z. omega arith) (λ z. omega arith) (λ z. omega arith)
+      (λ z. omega arith))
 
   pub walk-23 : walk (field 0x23 x cs) e object p s ≡ exportSpecifier e x p s
   unfolding walk partsFor ruleFor within after

@@ -10,7 +10,7 @@ use lib.Dec.{eqb}
 use borrow.Author.Tests.{eqb-true, eqb-false, eq-eqb, ne-eqb}
 use Rattle.tree.specs.Layout.{valueOf}
 use Rattle.tree.specs.Tree.{Field, field, Fields, none, more, tagOf, fixedOf, size}
-use Rattle.lent.specs.Outcome.{Outcome, done, refused, onto}
+use Rattle.inputs.specs.Outcome.{Outcome, done, refused, onto}
 use Rattle.extraction_rules.specs.State.{Record, State, first, Setting}
 use Rattle.extraction_rules.specs.First.{importedAs, onIdent, usedRecord, moduleFor, useProperty, useFrom, useImported, usage}
 use Rattle.extraction_rules.specs.Walk.{walk, walkAll, walkMember}
@@ -24,13 +24,15 @@ use Rattle.expressions.proofs.IdentLaws.{walk-60, Membered, member-walk}
 abbrev Like : Field → Field → Type 0
 Like q r = (tagOf r ≡ tagOf q) × (tagOf q ≡ 0x70 → r ≡ q)
 
-property-like : (n : Option ℕ) (i : List ℕ) (q r : Field) (at p : ℕ) (s : State) → Like q r → (tagOf q ≡ 0x70) ⊎ (tagOf q ≡ 0x72) → useProperty n i r at p s ≡ useProperty n i q at p s
+property-like : (n : Option ℕ) (i : List ℕ) (q r : Field) (at p : ℕ) (s : State) → Like q r → (tagOf q ≡ 0x70) ⊎ (tagOf q ≡ 0x72) →
+    useProperty n i r at p s ≡ useProperty n i q at p s
 unfolding useProperty
 property-like nothing i q r at p s l t = refl
 property-like (some n) i q r at p s l (inl k) = ap (λ (f : Field). useProperty (some n) i f at p s) (l .1 k)
 property-like (some n) i q r at p s l (inr k) = rw (eq-eqb (tagOf r) 0x72 (l .0 ∙ k), eq-eqb (tagOf q) 0x72 k) refl
 
-from-like : (o : Option Record) (e : Setting) (i : List ℕ) (q r : Field) (at p : ℕ) (s : State) → Like q r → (tagOf q ≡ 0x70) ⊎ (tagOf q ≡ 0x72) → useFrom o e i r at p s ≡ useFrom o e i q at p s
+from-like : (o : Option Record) (e : Setting) (i : List ℕ) (q r : Field) (at p : ℕ) (s : State) → Like q r → (tagOf q ≡ 0x70) ⊎ (tagOf q ≡ 0x72) →
+    useFrom o e i r at p s ≡ useFrom o e i q at p s
 unfolding useFrom
 from-like nothing e i q r at p s l t = refl
 from-like (some c) e i q r at p s l t = go (moduleFor e (valueOf (c .literal)) p s)
@@ -92,5 +94,8 @@ module _ (e : Setting) (one : e .pass ≡ first) where
 
   pub usage-walked : (x : List ℕ) (cs : Fields) (at p : ℕ) (s : State) → Two cs → RegularAll cs →
       After (walkMember cs e p s) (λ ds v. (u : State) → usage (onIdent (field 0x63 x ds)) e at u ≡ usage (onIdent (field 0x63 x cs)) e at u)
-  usage-walked x cs at p s m w = subst (λ (l : Fields). After (walkMember l e p s) (λ ds v. (u : State) → usage (onIdent (field 0x63 x ds)) e at u ≡ usage (onIdent (field 0x63 x l)) e at u)) (sym (m .2))
+  usage-walked x cs at p s m w =
+      subst
+      (λ (l : Fields). After (walkMember l e p s)
+      (λ ds v. (u : State) → usage (onIdent (field 0x63 x ds)) e at u ≡ usage (onIdent (field 0x63 x l)) e at u)) (sym (m .2))
       (two-walked x (m .0) (m .1) at p s (m .3) (subst RegularAll (m .2) w))

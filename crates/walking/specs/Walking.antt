@@ -7,12 +7,12 @@ use lib.ListN.{length}
 use Rattle.writer.specs.Wrote.{Wrote}
 use Rattle.tree.specs.Tree.{Field, field, Fields, none, more, encode, encodes}
 use Rattle.tree.specs.Standing.{treeAt, rowAt}
-use Rattle.lent.specs.Table.{atomsIn, rowsIn}
-use Rattle.lent.specs.Outcome.{refused, onto}
+use Rattle.inputs.specs.Table.{atomsIn, rowsIn}
+use Rattle.inputs.specs.Outcome.{refused, onto}
 use Rattle.extraction_rules.specs.State.{State, Setting, Act, _>>=_, give}
 use Rattle.extraction_rules.specs.First.{bindings, required, collect, addLazy, requireLazily, declarator}
 use Rattle.extraction_rules.specs.Walk.{walkAll}
-use Rattle.kept.specs.Kept.{At, Good, Shows}
+use Rattle.state.specs.Cells.{At, Good, Shows}
 use Rattle.steps.specs.declared.Setting.{Setting as CodeSetting}
 use Rattle.steps.specs.declared.Why.{Why}
 use Rattle.steps.specs.declared.Step.{Step}

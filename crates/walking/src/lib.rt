@@ -14,7 +14,7 @@ ghost use Rattle.tree.specs.Standing.{treeAt, rowAt};
 ghost use Rattle.tree.specs.declared.layout.Reach.the-variants.{Upto};
 ghost use Rattle.extraction_rules.specs.First.{collect as collect-rule, addLazy, require as require-rule, requireLazily, bindings, onIdent, usage as usage-rule};
 ghost use Rattle.extraction_rules.specs.Walk.{walk as walk-rule, walkAll, walkMember, walkAssignment, walkTarget};
-ghost use Rattle.kept.specs.Kept.{id-limit, place-limit, Good, idOf};
+ghost use Rattle.state.specs.Cells.{id-limit, place-limit, Good, idOf};
 ghost use Rattle.steps.specs.Step.{Sound, Steps, withParts};
 ghost use Rattle.walking.specs.Walking.{set, recorded, placeIn, FieldSteps, RowSteps, NodeSteps, Amends, Behind, behind, declared};
 use expressions::ident::ident_after;
@@ -25,15 +25,15 @@ use expressions::require::required_at;
 use expressions::require::set_callee;
 use expressions::usages::usage;
 use imports::export::export_specifier;
-use kept::Place;
-use kept::Room;
-use kept::forced::force_id;
-use kept::ident::id_at;
-use kept::ident::put_ident;
-use kept::records::collect;
-use kept::rest::add_lazy;
-use kept::rest::is_top;
-use kept::rest::set_top;
+use state::Place;
+use state::Room;
+use state::forced::force_id;
+use state::ident::id_at;
+use state::ident::put_ident;
+use state::records::collect;
+use state::rest::add_lazy;
+use state::rest::is_top;
+use state::rest::set_top;
 use steps::Effect;
 use steps::Ident;
 use steps::Setting;
@@ -62,7 +62,10 @@ pub fn walk(
     o: usize,
 ) -> Step
     requires { ⌜ (at + 3 ≤ stop) × (stop ≤ length (now s)) × Good (now t) ⌝ }
-    ensures { λ k. ⌜ FieldSteps e (now (s .entry)) at stop (walk-rule (treeAt (now (s .entry)) at stop) (set e (now (externals .entry)) (now (table .entry))) object at) (now (t .entry)) (now (out .entry)) o (now (t .exit)) (now (out .exit)) k ⌝ }
+    ensures { λ k.
+        ⌜ FieldSteps e (now (s .entry)) at stop
+        (walk-rule (treeAt (now (s .entry)) at stop) (set e (now (externals .entry)) (now (table .entry))) object at) (now (t .entry))
+        (now (out .entry)) o (now (t .exit)) (now (out .exit)) k ⌝ }
 {
     let tag = s[at];
     let Reach::Upto(from) = fixed(s, tag, at + 3, stop) else {
@@ -101,7 +104,11 @@ fn node(
     o: usize,
 ) -> Step
     requires { ⌜ (at + 3 ≤ from) × (from ≤ stop) × (stop ≤ length (now s)) × Good (now t) ⌝ }
-    ensures { λ k. ⌜ NodeSteps e (now (s .entry)) from stop (withParts (getD (now (s .entry)) at 0) (slice (at + 3) from (now (s .entry))) (walkAll (rowAt (now (s .entry)) from stop) (set e (now (externals .entry)) (now (table .entry))) object from)) (now (t .entry)) (now (out .entry)) o (now (t .exit)) (now (out .exit)) k ⌝ }
+    ensures { λ k.
+        ⌜ NodeSteps e (now (s .entry)) from stop
+        (withParts (getD (now (s .entry)) at 0) (slice (at + 3) from (now (s .entry)))
+        (walkAll (rowAt (now (s .entry)) from stop) (set e (now (externals .entry)) (now (table .entry))) object from)) (now (t .entry))
+        (now (out .entry)) o (now (t .exit)) (now (out .exit)) k ⌝ }
 {
     let content = begin_field(s, at, from, out, o);
     let r = parts(s, from, stop, object, e, externals, table, t, out, content);
@@ -122,7 +129,10 @@ fn parts(
     o: usize,
 ) -> Step
     requires { ⌜ (from ≤ end) × (end ≤ length (now s)) × Good (now t) ⌝ }
-    ensures { λ k. ⌜ RowSteps e (now (s .entry)) from end (walkAll (rowAt (now (s .entry)) from end) (set e (now (externals .entry)) (now (table .entry))) object from) (now (t .entry)) (now (out .entry)) o (now (t .exit)) (now (out .exit)) k ⌝ }
+    ensures { λ k.
+        ⌜ RowSteps e (now (s .entry)) from end
+        (walkAll (rowAt (now (s .entry)) from end) (set e (now (externals .entry)) (now (table .entry))) object from) (now (t .entry))
+        (now (out .entry)) o (now (t .exit)) (now (out .exit)) k ⌝ }
 {
     let mut at = from;
     let mut to = o;
@@ -154,8 +164,12 @@ fn block(
     out: &mut [u8],
     o: usize,
 ) -> Step
-    requires { ⌜ (getD (now s) at 0 ≡ 0x45) × (at + 3 ≤ from) × (from ≤ stop) × (stop ≤ length (now s)) × (fixedAt (now s) (getD (now s) at 0) (at + 3) stop ≡ Upto from) × Good (now t) ⌝ }
-    ensures { λ k. ⌜ FieldSteps e (now (s .entry)) at stop (walk-rule (treeAt (now (s .entry)) at stop) (set e (now (externals .entry)) (now (table .entry))) object at) (now (t .entry)) (now (out .entry)) o (now (t .exit)) (now (out .exit)) k ⌝ }
+    requires { ⌜ (getD (now s) at 0 ≡ 0x45) × (at + 3 ≤ from) × (from ≤ stop) × (stop ≤ length (now s))
+        × (fixedAt (now s) (getD (now s) at 0) (at + 3) stop ≡ Upto from) × Good (now t) ⌝ }
+    ensures { λ k.
+        ⌜ FieldSteps e (now (s .entry)) at stop
+        (walk-rule (treeAt (now (s .entry)) at stop) (set e (now (externals .entry)) (now (table .entry))) object at) (now (t .entry))
+        (now (out .entry)) o (now (t .exit)) (now (out .exit)) k ⌝ }
 {
     set_top(t, false);
     node(s, at, from, stop, object, e, externals, table, t, out, o)
@@ -175,7 +189,10 @@ fn ident(
     o: usize,
 ) -> Step
     requires { ⌜ (getD (now s) at 0 ≡ 0x60) × (at + 9 ≤ stop) × (stop ≤ length (now s)) × Good (now t) ⌝ }
-    ensures { λ k. ⌜ FieldSteps e (now (s .entry)) at stop (walk-rule (treeAt (now (s .entry)) at stop) (set e (now (externals .entry)) (now (table .entry))) object at) (now (t .entry)) (now (out .entry)) o (now (t .exit)) (now (out .exit)) k ⌝ }
+    ensures { λ k.
+        ⌜ FieldSteps e (now (s .entry)) at stop
+        (walk-rule (treeAt (now (s .entry)) at stop) (set e (now (externals .entry)) (now (table .entry))) object at) (now (t .entry))
+        (now (out .entry)) o (now (t .exit)) (now (out .exit)) k ⌝ }
 {
     let id = id_at(s, at + 3);
     if e.second {
@@ -202,7 +219,10 @@ fn member(
     o: usize,
 ) -> Step
     requires { ⌜ (getD (now s) at 0 ≡ 0x63) × (at + 3 ≤ stop) × (stop ≤ length (now s)) × Good (now t) ⌝ }
-    ensures { λ k. ⌜ FieldSteps e (now (s .entry)) at stop (walk-rule (treeAt (now (s .entry)) at stop) (set e (now (externals .entry)) (now (table .entry))) object at) (now (t .entry)) (now (out .entry)) o (now (t .exit)) (now (out .exit)) k ⌝ }
+    ensures { λ k.
+        ⌜ FieldSteps e (now (s .entry)) at stop
+        (walk-rule (treeAt (now (s .entry)) at stop) (set e (now (externals .entry)) (now (table .entry))) object at) (now (t .entry))
+        (now (out .entry)) o (now (t .exit)) (now (out .exit)) k ⌝ }
 {
     if e.second {
         return match ident_after(s, at, stop, true, t) {
@@ -232,7 +252,10 @@ fn target(
     o: usize,
 ) -> Step
     requires { ⌜ (at + 3 ≤ stop) × (stop ≤ length (now s)) × Good (now t) ⌝ }
-    ensures { λ k. ⌜ FieldSteps e (now (s .entry)) at stop (walkTarget (treeAt (now (s .entry)) at stop) (set e (now (externals .entry)) (now (table .entry))) at) (now (t .entry)) (now (out .entry)) o (now (t .exit)) (now (out .exit)) k ⌝ }
+    ensures { λ k.
+        ⌜ FieldSteps e (now (s .entry)) at stop
+        (walkTarget (treeAt (now (s .entry)) at stop) (set e (now (externals .entry)) (now (table .entry))) at) (now (t .entry)) (now (out .entry)) o
+        (now (t .exit)) (now (out .exit)) k ⌝ }
 {
     let Reach::Upto(from) = fixed(s, s[at], at + 3, stop) else {
         return Step::Done(o);
@@ -255,7 +278,10 @@ fn member_parts(
     o: usize,
 ) -> Step
     requires { ⌜ (from ≤ end) × (end ≤ length (now s)) × Good (now t) ⌝ }
-    ensures { λ k. ⌜ RowSteps e (now (s .entry)) from end (walkMember (rowAt (now (s .entry)) from end) (set e (now (externals .entry)) (now (table .entry))) from) (now (t .entry)) (now (out .entry)) o (now (t .exit)) (now (out .exit)) k ⌝ }
+    ensures { λ k.
+        ⌜ RowSteps e (now (s .entry)) from end
+        (walkMember (rowAt (now (s .entry)) from end) (set e (now (externals .entry)) (now (table .entry))) from) (now (t .entry)) (now (out .entry))
+        o (now (t .exit)) (now (out .exit)) k ⌝ }
 {
     let Reach::Upto(stop) = extent(s, from, end) else {
         return Step::Done(o);
@@ -280,7 +306,10 @@ fn call(
     o: usize,
 ) -> Step
     requires { ⌜ (getD (now s) at 0 ≡ 0x65) × (at + 3 ≤ stop) × (stop ≤ length (now s)) × Good (now t) ⌝ }
-    ensures { λ k. ⌜ FieldSteps e (now (s .entry)) at stop (walk-rule (treeAt (now (s .entry)) at stop) (set e (now (externals .entry)) (now (table .entry))) object at) (now (t .entry)) (now (out .entry)) o (now (t .exit)) (now (out .exit)) k ⌝ }
+    ensures { λ k.
+        ⌜ FieldSteps e (now (s .entry)) at stop
+        (walk-rule (treeAt (now (s .entry)) at stop) (set e (now (externals .entry)) (now (table .entry))) object at) (now (t .entry))
+        (now (out .entry)) o (now (t .exit)) (now (out .exit)) k ⌝ }
 {
     if e.second {
         return node(s, at, at + 3, stop, object, e, externals, table, t, out, o);
@@ -309,7 +338,11 @@ fn assignment(
     o: usize,
 ) -> Step
     requires { ⌜ (at + 3 ≤ from) × (from ≤ stop) × (stop ≤ length (now s)) × Good (now t) ⌝ }
-    ensures { λ k. ⌜ NodeSteps e (now (s .entry)) from stop (withParts (getD (now (s .entry)) at 0) (slice (at + 3) from (now (s .entry))) (walkAssignment (rowAt (now (s .entry)) from stop) (set e (now (externals .entry)) (now (table .entry))) object from)) (now (t .entry)) (now (out .entry)) o (now (t .exit)) (now (out .exit)) k ⌝ }
+    ensures { λ k.
+        ⌜ NodeSteps e (now (s .entry)) from stop
+        (withParts (getD (now (s .entry)) at 0) (slice (at + 3) from (now (s .entry)))
+        (walkAssignment (rowAt (now (s .entry)) from stop) (set e (now (externals .entry)) (now (table .entry))) object from)) (now (t .entry))
+        (now (out .entry)) o (now (t .exit)) (now (out .exit)) k ⌝ }
 {
     let content = begin_field(s, at, from, out, o);
     let r = assignment_parts(s, from, stop, object, e, externals, table, t, out, content);
@@ -330,7 +363,10 @@ fn assignment_parts(
     o: usize,
 ) -> Step
     requires { ⌜ (from ≤ end) × (end ≤ length (now s)) × Good (now t) ⌝ }
-    ensures { λ k. ⌜ RowSteps e (now (s .entry)) from end (walkAssignment (rowAt (now (s .entry)) from end) (set e (now (externals .entry)) (now (table .entry))) object from) (now (t .entry)) (now (out .entry)) o (now (t .exit)) (now (out .exit)) k ⌝ }
+    ensures { λ k.
+        ⌜ RowSteps e (now (s .entry)) from end
+        (walkAssignment (rowAt (now (s .entry)) from end) (set e (now (externals .entry)) (now (table .entry))) object from) (now (t .entry))
+        (now (out .entry)) o (now (t .exit)) (now (out .exit)) k ⌝ }
 {
     let Reach::Upto(stop) = extent(s, from, end) else {
         return Step::Done(o);
@@ -356,7 +392,11 @@ fn declarator(
     o: usize,
 ) -> Step
     requires { ⌜ (at + 3 ≤ from) × (from ≤ stop) × (stop ≤ length (now s)) × Good (now t) ⌝ }
-    ensures { λ k. ⌜ NodeSteps e (now (s .entry)) from stop (withParts (getD (now (s .entry)) at 0) (slice (at + 3) from (now (s .entry))) (declared (set e (now (externals .entry)) (now (table .entry))) object (now (s .entry)) from stop at)) (now (t .entry)) (now (out .entry)) o (now (t .exit)) (now (out .exit)) k ⌝ }
+    ensures { λ k.
+        ⌜ NodeSteps e (now (s .entry)) from stop
+        (withParts (getD (now (s .entry)) at 0) (slice (at + 3) from (now (s .entry)))
+        (declared (set e (now (externals .entry)) (now (table .entry))) object (now (s .entry)) from stop at)) (now (t .entry)) (now (out .entry)) o
+        (now (t .exit)) (now (out .exit)) k ⌝ }
 {
     let content = begin_field(s, at, from, out, o);
     let r = declarator_parts(
@@ -390,7 +430,9 @@ fn declarator_parts(
     o: usize,
 ) -> Step
     requires { ⌜ (at + 3 ≤ from) × (from ≤ end) × (end ≤ length (now s)) × Good (now t) ⌝ }
-    ensures { λ k. ⌜ RowSteps e (now (s .entry)) from end (declared (set e (now (externals .entry)) (now (table .entry))) object (now (s .entry)) from end at) (now (t .entry)) (now (out .entry)) o (now (t .exit)) (now (out .exit)) k ⌝ }
+    ensures { λ k.
+        ⌜ RowSteps e (now (s .entry)) from end (declared (set e (now (externals .entry)) (now (table .entry))) object (now (s .entry)) from end at)
+        (now (t .entry)) (now (out .entry)) o (now (t .exit)) (now (out .exit)) k ⌝ }
 {
     let Reach::Upto(stop) = extent(s, from, end) else {
         return Step::Done(o);
@@ -430,7 +472,10 @@ fn initialiser(
     o: usize,
 ) -> Step
     requires { ⌜ (from ≤ end) × (end ≤ length (now s)) × Good (now t) ⌝ }
-    ensures { λ k. ⌜ ((q : Field) → Steps encodes (Behind e (now (s .entry)) from end (placeIn (e .second) pattern) q) (behind (set e (now (externals .entry)) (now (table .entry))) object (now (s .entry)) from end at q) (now (t .entry)) (now (out .entry)) o (now (t .exit)) (now (out .exit)) k) ⌝ }
+    ensures { λ k. ⌜ ((q : Field) →
+        Steps encodes (Behind e (now (s .entry)) from end (placeIn (e .second) pattern) q)
+        (behind (set e (now (externals .entry)) (now (table .entry))) object (now (s .entry)) from end at q) (now (t .entry)) (now (out .entry)) o
+        (now (t .exit)) (now (out .exit)) k) ⌝ }
 {
     let Reach::Upto(stop) = extent(s, from, end) else {
         return Step::Done(o);
@@ -457,7 +502,9 @@ fn require(
     p: usize,
 ) -> Step
     requires { ⌜ Good (now t) × (literal < id-limit) ⌝ }
-    ensures { λ k. ⌜ Amends (λ x. x 0 ≡ Fields.none) (λ f. require-rule (some (idOf literal)) (set e (now (externals .entry)) (now (table .entry))) f at) o p (now (t .entry)) (now (out .entry)) (now (t .exit)) (now (out .exit)) k ⌝ }
+    ensures { λ k.
+        ⌜ Amends (λ x. x 0 ≡ Fields.none) (λ f. require-rule (some (idOf literal)) (set e (now (externals .entry)) (now (table .entry))) f at) o p
+        (now (t .entry)) (now (out .entry)) (now (t .exit)) (now (out .exit)) k ⌝ }
 {
     match mark_required(literal, table, t) {
         Required::Marked(n) => {
@@ -486,7 +533,9 @@ fn make_record(literal: u64, at: usize, t: &mut [u64], p: usize) -> Step
 // A lazy record whose pattern stands at a place.
 fn make_lazy(literal: u64, place: u64, at: usize, t: &mut [u64], p: usize) -> Step
     requires { ⌜ Good (now t) × (literal < id-limit) × (place < place-limit) ⌝ }
-    ensures { λ k. ⌜ ((out : List ℕ) (fs : Fields) → Steps (λ _. []) (λ x u. fs ≡ x place) (addLazy (record { literal = idOf literal; specifiers = fs }) at) (now (t .entry)) out p (now (t .exit)) out k) ⌝ }
+    ensures { λ k. ⌜ ((out : List ℕ) (fs : Fields) →
+        Steps (λ _. []) (λ x u. fs ≡ x place) (addLazy (record { literal = idOf literal; specifiers = fs }) at) (now (t .entry)) out p (now (t .exit))
+        out k) ⌝ }
 {
     match add_lazy(t, literal, place) {
         Room::Made => Step::Done(p),
@@ -519,7 +568,10 @@ fn require_lazily(
     p: usize,
 ) -> Step
     requires { ⌜ Good (now t) × (literal < id-limit) ⌝ }
-    ensures { λ k. ⌜ ((q : Field) → Amends (λ x. bindings q ≡ x (placeIn (e .second) pattern)) (λ f. requireLazily (some (idOf literal)) (set e (now (externals .entry)) (now (table .entry))) q f at) o p (now (t .entry)) (now (out .entry)) (now (t .exit)) (now (out .exit)) k) ⌝ }
+    ensures { λ k. ⌜ ((q : Field) →
+        Amends (λ x. bindings q ≡ x (placeIn (e .second) pattern))
+        (λ f. requireLazily (some (idOf literal)) (set e (now (externals .entry)) (now (table .entry))) q f at) o p (now (t .entry))
+        (now (out .entry)) (now (t .exit)) (now (out .exit)) k) ⌝ }
 {
     let place = place_of(pattern, e.second);
     match mark_required(literal, table, t) {

@@ -20,13 +20,22 @@ returns : tie.Need-returns
 returns c = search needs
 
 sub-word : tie.Need-sub-word
-sub-word c = let w = subst (SpanIn 0 (length (c .before .before .before .before .before .args .s .now))) (c .before .a .given .1) (c .before .before .before .field .ensures .1) in omega arith
+sub-word c =
+    let c3 = c .before .before .before in
+    let c5 = c3 .before .before in
+    let w = subst (SpanIn 0 (length (c5 .args .s .now))) (c .before .a .given .1) (c3 .field .ensures .1) in omega arith
 
 part-word-start : tie.Need-part-word-start
-part-word-start c = let w = subst (SpanIn 0 (length (c .before .before .before .before .before .args .s .now))) (c .before .a .given .1) (c .before .before .before .field .ensures .1) in omega arith
+part-word-start c =
+    let c3 = c .before .before .before in
+    let c5 = c3 .before .before in
+    let w = subst (SpanIn 0 (length (c5 .args .s .now))) (c .before .a .given .1) (c3 .field .ensures .1) in omega arith
 
 part-word-end : tie.Need-part-word-end
-part-word-end c = let w = subst (SpanIn 0 (length (c .before .before .before .before .before .args .s .now))) (c .before .a .given .1) (c .before .before .before .field .ensures .1) in omega arith
+part-word-end c =
+    let c3 = c .before .before .before in
+    let c5 = c3 .before .before in
+    let w = subst (SpanIn 0 (length (c5 .args .s .now))) (c .before .a .given .1) (c3 .field .ensures .1) in omega arith
 
 slice-aggregate-same : tie.Need-slice-aggregate-same
 slice-aggregate-same c = search needs

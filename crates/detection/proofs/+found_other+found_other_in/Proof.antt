@@ -81,24 +81,34 @@ found-other-returns t c =
 found-other-other-here-requires : (t : ℕ) → found-other-lts.Need-other-here-requires (found-other-knows t) (found-other-at t) found-other.Post
 found-other-other-here-requires t c κs =
     let a = c .before .before .before .before .before .before .args in
-    let i = upto-in (a .s .now) _ (a .at + 3) (a .stop) (c .before .before .before .before .before .before .pre .1 .0) (sym (c .before .before .before .fixed .ensures) ∙ c .before .from .given .1) in
+    let i =
+    upto-in (a .s .now) _ (a .at + 3) (a .stop) (c .before .before .before .before .before .before .pre .1 .0)
+    (sym (c .before .before .before .fixed .ensures) ∙ c .before .from .given .1) in
     omega arith
 
 found-other-found-other-in-requires : (t : ℕ) → found-other-lts.Need-found-other-in-requires (found-other-knows t) (found-other-at t) found-other.Post
 found-other-found-other-in-requires t c κs =
     let a = c .before .before .before .before .before .before .before .before .args in
-    let i = upto-in (a .s .now) _ (a .at + 3) (a .stop) (c .before .before .before .before .before .before .before .before .pre .1 .0) (sym (c .before .before .before .before .before .fixed .ensures) ∙ c .before .before .before .from .given .1) in
+    let i =
+    upto-in (a .s .now) _ (a .at + 3) (a .stop) (c .before .before .before .before .before .before .before .before .pre .1 .0)
+    (sym (c .before .before .before .before .before .fixed .ensures) ∙ c .before .before .before .from .given .1) in
     omega arith
 
 found-other-returns-2 : (t : ℕ) → found-other-lts.Need-returns-2 (found-other-knows t) (found-other-at t) found-other.Post
 found-other-returns-2 t c =
     let a = c .before .before .before .before .before .before .before .before .args in
-    sym (found-upto (a .s .now) (a .at) (a .stop) _ (sym (c .before .before .before .before .before .fixed .ensures) ∙ c .before .before .before .from .given .1) ∙ rw (sym (c .before .other-here .ensures) ∙ c .if1 .taken))
+    sym (found-upto (a .s .now) (a .at) (a .stop) _
+    (sym (c .before .before .before .before .before .fixed .ensures) ∙ c .before .before .before .from .given .1)
+    ∙ rw (sym (c .before .other-here .ensures) ∙ c .if1 .taken))
 
 found-other-returns-3 : (t : ℕ) → found-other-lts.Need-returns-3 (found-other-knows t) (found-other-at t) found-other.Post
 found-other-returns-3 t c =
     let a = c .before .before .before .before .before .before .before .before .before .args in
-    c .found-other-in .ensures ∙ sym (found-upto (a .s .now) (a .at) (a .stop) _ (sym (c .before .before .before .before .before .before .fixed .ensures) ∙ c .before .before .before .before .from .given .1) ∙ rw (sym (c .before .before .other-here .ensures) ∙ c .before .if1 .left))
+    c .found-other-in .ensures
+    ∙
+    sym (found-upto (a .s .now) (a .at) (a .stop) _
+    (sym (c .before .before .before .before .before .before .fixed .ensures) ∙ c .before .before .before .before .from .given .1)
+    ∙ rw (sym (c .before .before .other-here .ensures) ∙ c .before .if1 .left))
 
 abbrev found-other-in-Inv-loop : found-other-in-lts.InvT-loop
 found-other-in-Inv-loop s from end at₀ at = (from ≤ at) × (at ≤ end) × (foundOtherIn (rowAt s from end) ≡ foundOtherIn (rowAt s at end))
@@ -124,7 +134,9 @@ found-other-in-returns t c =
     let l = c .before .before .before .loop in
     sym (l .inv .2 ∙ found-none (a .s .now) (l .at) (a .end) (l .inv .1) (sym (c .before .before .extent .ensures) ∙ c .enum-told .given .1))
 
-found-other-in-found-other-requires : (t : ℕ) → found-other-in-lts.Need-found-other-requires (found-other-in-knows t) (found-other-in-at t) found-other-in.Post found-other-in-Inv-loop found-other-in-μ-loop
+found-other-in-found-other-requires : (t : ℕ) →
+    found-other-in-lts.Need-found-other-requires (found-other-in-knows t) (found-other-in-at t) found-other-in.Post found-other-in-Inv-loop
+    found-other-in-μ-loop
 found-other-in-found-other-requires t c κs =
     let a = c .before .before .before .before .before .before .args in
     let l = c .before .before .before .before .loop in

@@ -65,8 +65,13 @@ loop-again c =
     let a = c .before .before .before .before .before .before .before .before .args in
     let l = c .before .before .before .before .before .before .loop in
     let x = sym (c .before .before .before .before .before .extent .ensures) ∙ c .before .before .before .stop .given .1 in
-    let i = extent-upto (a .s .now) (l .at) (a .end) (l .inv .1) x in
-    (omega arith, omega arith, l .inv .2 ∙ forced-more (a .s .now) (l .at) (a .end) _ (l .inv .1) (l .inv .3) x ∙ rw (within-below 0x10 0x14 _ (c .if1 .taken)), accepted-next (a .s .now) (l .at) (a .end) _ (l .inv .1) (l .inv .3) x .1)
+    let i = extent-upto (a .s .now) (l .at) (a .end) (l .inv .1) x in (
+      omega arith,
+      omega arith,
+      l .inv .2 ∙ forced-more (a .s .now) (l .at) (a .end) _ (l .inv .1) (l .inv .3) x
+          ∙ rw (within-below 0x10 0x14 _ (c .if1 .taken)),
+      accepted-next (a .s .now) (l .at) (a .end) _ (l .inv .1) (l .inv .3) x .1,
+    )
 
 loop-less-2 : tie.Need-loop-less-2 Inv-loop μ-loop
 loop-less-2 c =
@@ -81,8 +86,14 @@ loop-again-2 c =
     let a = c .before .before .before .before .before .before .before .before .before .args in
     let l = c .before .before .before .before .before .before .before .loop in
     let x = sym (c .before .before .before .before .before .before .extent .ensures) ∙ c .before .before .before .before .stop .given .1 in
-    let i = extent-upto (a .s .now) (l .at) (a .end) (l .inv .1) x in
-    (omega arith, omega arith, l .inv .2 ∙ forced-more (a .s .now) (l .at) (a .end) _ (l .inv .1) (l .inv .3) x ∙ rw (within-above 0x10 0x14 _ (c .before .if1 .left) (c .if2 .left)), accepted-next (a .s .now) (l .at) (a .end) _ (l .inv .1) (l .inv .3) x .1)
+    let i = extent-upto (a .s .now) (l .at) (a .end) (l .inv .1) x in (
+      omega arith,
+      omega arith,
+      l .inv .2 ∙ forced-more (a .s .now) (l .at) (a .end) _ (l .inv .1) (l .inv .3) x
+          ∙ rw (within-above 0x10 0x14 _ (c .before .if1 .left) (c .if2 .left)),
+      accepted-next (a .s .now) (l .at) (a .end) _ (l .inv .1) (l .inv .3) x
+          .1,
+    )
 
 pub forced-es6-spec : {M : Type 1} → statement M
 forced-es6-spec =

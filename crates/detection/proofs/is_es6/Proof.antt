@@ -30,7 +30,10 @@ enum-known-why c = search needs
 returns-2 : tie.Need-returns-2
 returns-2 c =
     let a = c .before .before .before .before .before .before .args in
-    ap answers (c .items-es6 .ensures) ∙ sym (detect-read (a .config) (a .tree .now) (c .before .before .before .before .if1 .left) (sym (c .before .before .before .read-tree .ensures) ∙ c .before .enum-told .given .1))
+    ap answers (c .items-es6 .ensures)
+    ∙
+    sym (detect-read (a .config) (a .tree .now) (c .before .before .before .before .if1 .left)
+    (sym (c .before .before .before .read-tree .ensures) ∙ c .before .enum-told .given .1))
 
 returns-3 : tie.Need-returns-3
 returns-3 c =

@@ -27,7 +27,10 @@ enum-told-3 : tie.Need-enum-told-3
 enum-told-3 c = search needs
 
 returns : tie.Need-returns
-returns c = c .is-module-or-exports .ensures ∙ sym (member-here _ (c .before .before .before .before .before .match .keys1) (sym (c .before .before .before .before .first-ident .ensures) ∙ c .before .before .name .given .1))
+returns c =
+    let c4 = c .before .before .before .before in
+    let c5 = c4 .before in
+    c .is-module-or-exports .ensures ∙ sym (member-here _ (c5 .match .keys1) (sym (c4 .first-ident .ensures) ∙ c .before .before .name .given .1))
 
 returns-2 : tie.Need-returns-2
 returns-2 c = sym (member-here _ (c .before .before .before .match .keys1) (sym (c .before .before .first-ident .ensures) ∙ c .enum-told .given .1))

@@ -4,12 +4,14 @@ use Rattle.extraction.proofs.bad_lists.Statement.{statement}
 use Rattle.extraction.proofs.bad_lists.Tie as tie
 use Rattle.extraction.proofs.bad_lists.Reads as reads
 use Rattle.extraction.proofs.bad_lists.Lts as lts
-use Rattle.lent.proofs.bad_externals.Reads as bad-externals-reads
-use Rattle.lent.proofs.bad_table.Reads as bad-table-reads
+use Rattle.inputs.proofs.bad_externals.Reads as bad-externals-reads
+use Rattle.inputs.proofs.bad_table.Reads as bad-table-reads
 
 -- src/lib.rt:113:9
 returns : tie.Need-returns
-returns c = bad-long (c .before .before .before .before .args .externals .now) (c .before .before .before .before .args .table .now) (c .before .before .before .before .args .tree .now) (c .if1 .taken)
+returns c =
+    let c4 = c .before .before .before .before in
+    bad-long (c4 .args .externals .now) (c4 .args .table .now) (c4 .args .tree .now) (c .if1 .taken)
 
 -- src/lib.rt:115:8
 bad-externals-requires : tie.Need-bad-externals-requires
@@ -17,7 +19,9 @@ bad-externals-requires c κs = search needs
 
 -- src/lib.rt:116:9
 returns-2 : tie.Need-returns-2
-returns-2 c = bad-first (c .before .before .before .before .before .before .args .externals .now) (c .before .before .before .before .before .before .args .table .now) (c .before .before .before .before .before .before .args .tree .now) (c .before .before .if1 .left) (c .before .bad-externals .ensures) (c .if2 .taken)
+returns-2 c =
+    let c6 = c .before .before .before .before .before .before in
+    bad-first (c6 .args .externals .now) (c6 .args .table .now) (c6 .args .tree .now) (c .before .before .if1 .left) (c .before .bad-externals .ensures) (c .if2 .taken)
 
 -- src/lib.rt:118:5
 bad-table-requires : tie.Need-bad-table-requires
@@ -25,7 +29,10 @@ bad-table-requires c κs = search needs
 
 -- src/lib.rt:109:1
 returns-3 : tie.Need-returns-3
-returns-3 c = bad-second (c .before .before .before .before .before .before .before .args .externals .now) (c .before .before .before .before .before .before .before .args .table .now) (c .before .before .before .before .before .before .before .args .tree .now) (c .before .before .before .if1 .left) (c .before .before .bad-externals .ensures) (c .before .if2 .left) (c .bad-table .ensures)
+returns-3 c =
+    let c3 = c .before .before .before in
+    let c7 = c3 .before .before .before .before in
+    bad-second (c7 .args .externals .now) (c7 .args .table .now) (c7 .args .tree .now) (c3 .if1 .left) (c .before .before .bad-externals .ensures) (c .before .if2 .left) (c .bad-table .ensures)
 
 pub bad-lists-spec : {M : Type 1} → statement M
 bad-lists-spec =

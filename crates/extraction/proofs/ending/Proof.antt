@@ -7,7 +7,7 @@ use Rattle.extraction.proofs.ending.Statement.{statement}
 use Rattle.extraction.proofs.ending.Tie as tie
 use Rattle.extraction.proofs.ending.Reads as reads
 use Rattle.extraction.proofs.ending.Lts as lts
-use Rattle.recording.proofs.put_records.Reads as put-records-reads
+use Rattle.records.proofs.put_records.Reads as put-records-reads
 use Rattle.writer.proofs.finish.Reads as finish-reads
 
 -- src/lib.rt:281:8
@@ -44,7 +44,13 @@ same-length-2 c = search needs
 
 -- src/lib.rt:270:1
 returns : tie.Need-returns
-returns c = closes-full (c .before .before .before .before .before .before .before .before .before .before .before .before .before .before .before .before .before .before .before .before .before .args .tree .now) (c .before .before .before .before .before .before .before .before .before .before .before .before .before .before .before .before .before .before .before .before .before .args .work .now) (c .before .before .before .before .before .before .before .before .before .before .before .before .before .before .finish .ensures) (c .before .before .before .before .before .before .before .before .before .before .before .if1 .taken) (c .before .before .before .before .before .before .before .put-records .ensures) (c .before .before .before .finish2 .ensures) (c .if2 .taken)
+returns c =
+    let c3 = c .before .before .before in
+    let c7 = c3 .before .before .before .before in
+    let c11 = c7 .before .before .before .before in
+    let c14 = c11 .before .before .before in
+    let c21 = c14 .before .before .before .before .before .before .before in
+    closes-full (c21 .args .tree .now) (c21 .args .work .now) (c14 .finish .ensures) (c11 .if1 .taken) (c7 .put-records .ensures) (c3 .finish2 .ensures) (c .if2 .taken)
 
 -- src/lib.rt:270:1
 same-length-3 : tie.Need-same-length-3
@@ -56,7 +62,13 @@ same-length-4 c = search needs
 
 -- src/lib.rt:270:1
 returns-2 : tie.Need-returns-2
-returns-2 c = closes-long (c .before .before .before .before .before .before .before .before .before .before .before .before .before .before .before .before .before .before .before .before .before .args .tree .now) (c .before .before .before .before .before .before .before .before .before .before .before .before .before .before .before .before .before .before .before .before .before .args .work .now) (c .before .before .before .before .before .before .before .before .before .before .before .before .before .before .finish .ensures) (c .before .before .before .before .before .before .before .before .before .before .before .if1 .taken) (c .before .before .before .before .before .before .before .put-records .ensures) (c .before .before .before .finish2 .ensures) (c .if2 .left)
+returns-2 c =
+    let c3 = c .before .before .before in
+    let c7 = c3 .before .before .before .before in
+    let c11 = c7 .before .before .before .before in
+    let c14 = c11 .before .before .before in
+    let c21 = c14 .before .before .before .before .before .before .before in
+    closes-long (c21 .args .tree .now) (c21 .args .work .now) (c14 .finish .ensures) (c11 .if1 .taken) (c7 .put-records .ensures) (c3 .finish2 .ensures) (c .if2 .left)
 
 -- src/lib.rt:270:1
 same-length-5 : tie.Need-same-length-5

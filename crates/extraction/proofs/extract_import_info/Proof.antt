@@ -8,8 +8,8 @@ use Rattle.extraction.proofs.extract_import_info.Tie as tie
 use Rattle.extraction.proofs.extract_import_info.Reads as reads
 use Rattle.extraction.proofs.extract_import_info.Lts as lts
 use Rattle.extraction.proofs.lists.Reads as lists-reads
-use Rattle.kept.proofs.modules.load.Reads as load-reads
-use Rattle.kept.proofs.modules.scope_of.Reads as scope-of-reads
+use Rattle.state.proofs.modules.load.Reads as load-reads
+use Rattle.state.proofs.modules.scope_of.Reads as scope-of-reads
 use Rattle.writer.proofs.clear.Reads as clear-reads
 
 -- src/lib.rt:82:10
@@ -66,7 +66,14 @@ same-length-3 c = search needs
 
 -- src/lib.rt:68:1
 returns : tie.Need-returns
-returns c = left-accepted (lentAs (c .before .before .before .before .before .before .before .before .before .before .before .before .before .before .before .before .before .before .before .before .before .before .before .before .before .args .file .0) (c .before .before .before .before .before .before .before .before .before .before .before .before .before .before .before .before .before .before .before .before .before .before .before .before .before .args .config) (c .before .before .before .before .before .before .before .before .before .before .before .before .before .before .before .before .before .before .before .before .before .before .before .before .before .args .externals .now) (c .before .before .before .before .before .before .before .before .before .before .before .before .before .before .before .before .before .before .before .before .before .before .before .before .before .args .table .now) (c .before .before .before .before .before .before .before .before .before .before .before .before .before .before .before .before .before .before .before .before .before .before .before .before .before .args .tree .now)) (c .before .before .before .before .before .before .before .before .before .before .before .before .before .before .before .before .before .before .before .before .before .before .before .before .before .args .scope) (c .before .before .before .before .before .before .before .before .before .before .before .before .before .before .before .before .before .load .ensures) (c .before .before .before .before .before .before .before .before .before .before .before .lists .ensures) (λ i. c .before .before .before .before .before .before .before .before .before .before .before .before .before .before .before .before .before .before .before .before .before .before .shared-slice-known3 .given i .fits) (c .scope-of .result) (c .before .before .enum-told .given .1) (c .scope-of .ensures)
+returns c =
+    let c11 = c .before .before .before .before .before .before .before .before .before .before .before in
+    let c17 = c11 .before .before .before .before .before .before in
+    let c22 = c17 .before .before .before .before .before in
+    let c25 = c22 .before .before .before in
+    left-accepted (lentAs (c25 .args .file .0) (c25 .args .config) (c25 .args .externals .now) (c25 .args .table .now) (c25 .args .tree .now))
+    (c25 .args .scope) (c17 .load .ensures) (c11 .lists .ensures) (λ i. c22 .shared-slice-known3 .given i .fits) (c .scope-of .result)
+    (c .before .before .enum-told .given .1) (c .scope-of .ensures)
 
 -- src/lib.rt:68:1
 same-length-4 : tie.Need-same-length-4
@@ -82,7 +89,35 @@ same-length-6 c = search needs
 
 -- src/lib.rt:68:1
 returns-2 : tie.Need-returns-2
-returns-2 c = left-refused (lentAs (c .before .before .before .before .before .before .before .before .before .before .before .before .before .before .before .before .before .before .before .before .before .before .before .before .before .before .before .before .before .before .before .before .before .before .args .file .0) (c .before .before .before .before .before .before .before .before .before .before .before .before .before .before .before .before .before .before .before .before .before .before .before .before .before .before .before .before .before .before .before .before .before .before .args .config) (c .before .before .before .before .before .before .before .before .before .before .before .before .before .before .before .before .before .before .before .before .before .before .before .before .before .before .before .before .before .before .before .before .before .before .args .externals .now) (c .before .before .before .before .before .before .before .before .before .before .before .before .before .before .before .before .before .before .before .before .before .before .before .before .before .before .before .before .before .before .before .before .before .before .args .table .now) (c .before .before .before .before .before .before .before .before .before .before .before .before .before .before .before .before .before .before .before .before .before .before .before .before .before .before .before .before .before .before .before .before .before .before .args .tree .now)) (c .before .before .before .before .before .before .before .before .before .before .before .before .before .before .before .before .before .before .before .before .before .before .before .before .before .before .before .before .before .before .before .before .before .before .args .scope) (c .before .before .before .before .before .before .before .before .before .before .before .before .before .before .before .before .before .before .before .before .before .before .before .before .before .before .load .ensures) (c .before .before .before .before .before .before .before .before .before .before .before .before .before .before .before .before .before .before .before .before .lists .ensures) (λ i. c .before .before .before .before .before .before .before .before .before .before .before .before .before .before .before .before .before .before .before .before .before .before .before .before .before .before .before .before .before .before .before .shared-slice-known3 .given i .fits) (λ h. ⊎-elim (λ w. omega arith) (λ v. ⊎-elim (λ w. omega arith) (λ v2. ⊎-elim (λ w. omega arith) (λ v3. ⊎-elim (λ w. omega arith) (λ w. omega arith) v3) v2) v) (rw h at (c .before .before .before .before .before .before .before .before .before .before .before .before .match .keys2))) (c .before .before .before .before .before .before .before .before .before .before .clear .ensures) (c .before .before .before .before .before .before .clear2 .ensures) (c .before .before .clear3 .ensures) (omega arith) (omega arith) (omega arith)
+returns-2 c =
+    left-refused
+    (lentAs
+    (c .before .before .before .before .before .before .before .before .before .before .before .before .before .before .before .before .before .before
+    .before .before .before .before .before .before .before .before .before .before .before .before .before .before .before .before .args .file .0)
+    (c .before .before .before .before .before .before .before .before .before .before .before .before .before .before .before .before .before .before
+    .before .before .before .before .before .before .before .before .before .before .before .before .before .before .before .before .args .config)
+    (c .before .before .before .before .before .before .before .before .before .before .before .before .before .before .before .before .before .before
+    .before .before .before .before .before .before .before .before .before .before .before .before .before .before .before .before .args .externals
+    .now)
+    (c .before .before .before .before .before .before .before .before .before .before .before .before .before .before .before .before .before .before
+    .before .before .before .before .before .before .before .before .before .before .before .before .before .before .before .before .args .table .now)
+    (c .before .before .before .before .before .before .before .before .before .before .before .before .before .before .before .before .before .before
+    .before .before .before .before .before .before .before .before .before .before .before .before .before .before .before .before .args .tree .now))
+    (c .before .before .before .before .before .before .before .before .before .before .before .before .before .before .before .before .before .before
+    .before .before .before .before .before .before .before .before .before .before .before .before .before .before .before .before .args .scope)
+    (c .before .before .before .before .before .before .before .before .before .before .before .before .before .before .before .before .before .before
+    .before .before .before .before .before .before .before .before .load .ensures)
+    (c .before .before .before .before .before .before .before .before .before .before .before .before .before .before .before .before .before .before
+    .before .before .lists .ensures)
+    (λ i. c .before .before .before .before .before .before .before .before .before .before .before .before .before .before .before .before .before
+    .before .before .before .before .before .before .before .before .before .before .before .before .before .before .shared-slice-known3 .given i
+    .fits)
+    (λ h. ⊎-elim (λ w. omega arith)
+    (λ v. ⊎-elim (λ w. omega arith) (λ v2. ⊎-elim (λ w. omega arith) (λ v3. ⊎-elim (λ w. omega arith) (λ w. omega arith) v3) v2) v)
+    (rw h at (c .before .before .before .before .before .before .before .before .before .before .before .before .match .keys2)))
+    (c .before .before .before .before .before .before .before .before .before .before .clear .ensures)
+    (c .before .before .before .before .before .before .clear2 .ensures) (c .before .before .clear3 .ensures) (omega arith) (omega arith)
+    (omega arith)
 
 pub extract-import-info-spec : {M : Type 1} → statement M
 extract-import-info-spec =

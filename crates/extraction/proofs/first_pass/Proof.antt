@@ -61,7 +61,15 @@ same-length-4 c = search needs
 
 -- src/lib.rt:171:1
 returns : tie.Need-returns
-returns c = once-ends (c .before .before .before .before .before .before .before .before .before .before .before .before .before .before .before .before .before .before .before .before .before .before .before .before .before .before .before .before .before .before .before .before .before .before .args .own) (c .before .before .before .before .before .before .before .before .before .before .before .before .before .before .before .before .before .before .before .before .before .before .before .before .before .before .before .before .before .before .before .before .before .before .args .config) (c .before .before .before .before .before .before .before .before .before .before .before .before .before .before .before .before .before .before .before .before .before .before .before .before .before .before .before .before .before .before .before .before .before .before .args .externals .now) (c .before .before .before .before .before .before .before .before .before .before .before .before .before .before .before .before .before .before .before .before .before .before .before .before .before .before .before .before .before .before .before .before .before .before .args .table .now) (c .before .before .before .before .before .before .before .before .before .before .before .before .before .before .before .before .before .before .before .before .before .before .before .before .before .before .before .before .before .before .before .before .before .before .args .tree .now) (c .before .before .before .before .before .before .before .before .before .before .before .before .before .before .before .before .before .before .before .before .before .before .before .before .pass .ensures) (c .before .before .before .before .before .before .before .before .before .before .before .before .before .before .before .before .before .before .n .given .1) (c .before .before .before .before .before .before .before .before .before .before .before .before .before .before .before .finish .ensures) (c .before .before .before .before .before .before .before .before .before .before .before .before .if1 .taken) (c .before .before .before .before .before .before .second-pass .ensures)
+returns c =
+    let c6 = c .before .before .before .before .before .before in
+    let c12 = c6 .before .before .before .before .before .before in
+    let c15 = c12 .before .before .before in
+    let c18 = c15 .before .before .before in
+    let c24 = c18 .before .before .before .before .before .before in
+    let c34 = c24 .before .before .before .before .before .before .before .before .before .before in
+    once-ends (c34 .args .own) (c34 .args .config) (c34 .args .externals .now) (c34 .args .table .now) (c34 .args .tree .now) (c24 .pass .ensures)
+    (c18 .n .given .1) (c15 .finish .ensures) (c12 .if1 .taken) (c6 .second-pass .ensures)
 
 -- src/lib.rt:171:1
 same-length-5 : tie.Need-same-length-5
@@ -73,7 +81,13 @@ same-length-6 c = search needs
 
 -- src/lib.rt:171:1
 returns-2 : tie.Need-returns-2
-returns-2 c = once-short (c .before .before .before .before .before .before .before .before .before .before .before .before .before .before .before .before .before .before .before .before .before .before .args .own) (c .before .before .before .before .before .before .before .before .before .before .before .before .before .before .before .before .before .before .before .before .before .before .args .config) (c .before .before .before .before .before .before .before .before .before .before .before .before .before .before .before .before .before .before .before .before .before .before .args .externals .now) (c .before .before .before .before .before .before .before .before .before .before .before .before .before .before .before .before .before .before .before .before .before .before .args .table .now) (c .before .before .before .before .before .before .before .before .before .before .before .before .before .before .before .before .before .before .before .before .before .before .args .tree .now) (c .before .before .before .before .before .before .before .before .before .before .before .before .pass .ensures) (c .before .before .before .before .before .before .n .given .1) (c .before .before .before .finish .ensures) (c .if1 .left)
+returns-2 c =
+    let c3 = c .before .before .before in
+    let c6 = c3 .before .before .before in
+    let c12 = c6 .before .before .before .before .before .before in
+    let c22 = c12 .before .before .before .before .before .before .before .before .before .before in
+    once-short (c22 .args .own) (c22 .args .config) (c22 .args .externals .now) (c22 .args .table .now) (c22 .args .tree .now) (c12 .pass .ensures)
+    (c6 .n .given .1) (c3 .finish .ensures) (c .if1 .left)
 
 -- src/lib.rt:171:1
 same-length-7 : tie.Need-same-length-7
@@ -85,7 +99,10 @@ same-length-8 c = search needs
 
 -- src/lib.rt:171:1
 returns-3 : tie.Need-returns-3
-returns-3 c = once-refused (c .before .before .before .before .before .before .before .before .before .before .before .before .before .before .before .before .before .args .own) (c .before .before .before .before .before .before .before .before .before .before .before .before .before .before .before .before .before .args .config) (c .before .before .before .before .before .before .before .before .before .before .before .before .before .before .before .before .before .args .externals .now) (c .before .before .before .before .before .before .before .before .before .before .before .before .before .before .before .before .before .args .table .now) (c .before .before .before .before .before .before .before .before .before .before .before .before .before .before .before .before .before .args .tree .now) (c .before .before .before .before .before .before .before .pass .ensures) (c .before .why .given .1)
+returns-3 c =
+    let c7 = c .before .before .before .before .before .before .before in
+    let c17 = c7 .before .before .before .before .before .before .before .before .before .before in
+    once-refused (c17 .args .own) (c17 .args .config) (c17 .args .externals .now) (c17 .args .table .now) (c17 .args .tree .now) (c7 .pass .ensures) (c .before .why .given .1)
 
 pub first-pass-spec : {M : Type 1} → statement M
 first-pass-spec =

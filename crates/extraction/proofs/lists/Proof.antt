@@ -6,7 +6,7 @@ use Rattle.extraction.proofs.lists.Reads as reads
 use Rattle.extraction.proofs.lists.Lts as lts
 use Rattle.extraction.proofs.bad_lists.Reads as bad-lists-reads
 use Rattle.extraction.proofs.own_file.Reads as own-file-reads
-use Rattle.lent.proofs.names_twice.Reads as names-twice-reads
+use Rattle.inputs.proofs.names_twice.Reads as names-twice-reads
 use Rattle.tree.proofs.read.read_tree.Reads as read-tree-reads
 
 -- src/lib.rt:136:8
@@ -15,7 +15,9 @@ bad-lists-requires c κs = search needs
 
 -- src/lib.rt:137:9
 returns : tie.Need-returns
-returns c = lists-bad (c .before .before .before .before .before .before .before .before .before .args .file .0) (c .before .before .before .before .before .before .before .before .before .args .config) (c .before .before .before .before .before .before .before .before .before .args .externals .now) (c .before .before .before .before .before .before .before .before .before .args .table .now) (c .before .before .before .before .before .before .before .before .before .args .tree .now) (c .before .bad-lists .ensures) (c .before .before .before .before .before .before .before .before .before .pre) (c .if1 .taken)
+returns c =
+    let c9 = c .before .before .before .before .before .before .before .before .before in
+    lists-bad (c9 .args .file .0) (c9 .args .config) (c9 .args .externals .now) (c9 .args .table .now) (c9 .args .tree .now) (c .before .bad-lists .ensures) (c9 .pre) (c .if1 .taken)
 
 -- src/lib.rt:139:8
 names-twice-requires : tie.Need-names-twice-requires
@@ -23,7 +25,11 @@ names-twice-requires c κs = search needs
 
 -- src/lib.rt:140:9
 returns-2 : tie.Need-returns-2
-returns-2 c = lists-twice (c .before .before .before .before .before .before .before .before .before .before .before .args .file .0) (c .before .before .before .before .before .before .before .before .before .before .before .args .config) (c .before .before .before .before .before .before .before .before .before .before .before .args .externals .now) (c .before .before .before .before .before .before .before .before .before .before .before .args .table .now) (c .before .before .before .before .before .before .before .before .before .before .before .args .tree .now) (c .before .before .before .bad-lists .ensures) (c .before .names-twice .ensures) (c .before .before .before .before .before .before .before .before .before .before .before .pre) (c .before .before .if1 .left) (c .if2 .taken)
+returns-2 c =
+    let c3 = c .before .before .before in
+    let c11 = c3 .before .before .before .before .before .before .before .before in
+    lists-twice (c11 .args .file .0) (c11 .args .config) (c11 .args .externals .now) (c11 .args .table .now) (c11 .args .tree .now)
+    (c3 .bad-lists .ensures) (c .before .names-twice .ensures) (c11 .pre) (c .before .before .if1 .left) (c .if2 .taken)
 
 -- src/lib.rt:142:11
 read-tree-requires : tie.Need-read-tree-requires
@@ -59,11 +65,31 @@ same-length-4 c = search needs
 
 -- src/lib.rt:122:1
 returns-3 : tie.Need-returns-3
-returns-3 c = lists-read (c .before .before .before .before .before .before .before .before .before .before .before .before .before .before .before .before .before .before .before .before .before .before .before .before .before .before .before .args .file .0) (c .before .before .before .before .before .before .before .before .before .before .before .before .before .before .before .before .before .before .before .before .before .before .before .before .before .before .before .args .config) (c .before .before .before .before .before .before .before .before .before .before .before .before .before .before .before .before .before .before .before .before .before .before .before .before .before .before .before .args .externals .now) (c .before .before .before .before .before .before .before .before .before .before .before .before .before .before .before .before .before .before .before .before .before .before .before .before .before .before .before .args .table .now) (c .before .before .before .before .before .before .before .before .before .before .before .before .before .before .before .before .before .before .before .before .before .before .before .before .before .before .before .args .tree .now) (c .before .before .before .before .before .before .before .before .before .before .before .before .before .before .before .before .before .before .before .bad-lists .ensures) (c .before .before .before .before .before .before .before .before .before .before .before .before .before .before .before .before .before .names-twice .ensures) (c .before .before .before .before .before .before .before .before .before .before .before .before .before .before .before .before .before .before .if1 .left) (c .before .before .before .before .before .before .before .before .before .before .before .before .before .before .before .before .if2 .left) (c .before .before .before .before .before .before .before .before .before .before .before .before .before .before .before .read-tree .ensures) (c .before .before .before .before .before .before .before .before .before .before .before .before .before .enum-told .given .1) (c .before .before .before .before .before .before .before .before .own-file .ensures)
+returns-3 c =
+    let c8 = c .before .before .before .before .before .before .before .before in
+    let c13 = c8 .before .before .before .before .before in
+    let c15 = c13 .before .before in
+    let c16 = c15 .before in
+    let c17 = c16 .before in
+    let c18 = c17 .before in
+    let c19 = c18 .before in
+    let c27 = c19 .before .before .before .before .before .before .before .before in
+    lists-read (c27 .args .file .0) (c27 .args .config) (c27 .args .externals .now) (c27 .args .table .now) (c27 .args .tree .now)
+    (c19 .bad-lists .ensures) (c17 .names-twice .ensures) (c18 .if1 .left) (c16 .if2 .left) (c15 .read-tree .ensures) (c13 .enum-told .given .1)
+    (c8 .own-file .ensures)
 
 -- src/lib.rt:122:1
 returns-4 : tie.Need-returns-4
-returns-4 c = lists-unread (c .before .before .before .before .before .before .before .before .before .before .before .before .before .before .before .args .file .0) (c .before .before .before .before .before .before .before .before .before .before .before .before .before .before .before .args .config) (c .before .before .before .before .before .before .before .before .before .before .before .before .before .before .before .args .externals .now) (c .before .before .before .before .before .before .before .before .before .before .before .before .before .before .before .args .table .now) (c .before .before .before .before .before .before .before .before .before .before .before .before .before .before .before .args .tree .now) (c .before .before .before .before .before .before .before .bad-lists .ensures) (c .before .before .before .before .before .names-twice .ensures) (c .before .before .before .before .before .before .before .before .before .before .before .before .before .before .before .pre) (c .before .before .before .before .before .before .if1 .left) (c .before .before .before .before .if2 .left) (c .before .before .before .read-tree .ensures) (c .before .why .given .1)
+returns-4 c =
+    let c3 = c .before .before .before in
+    let c4 = c3 .before in
+    let c5 = c4 .before in
+    let c6 = c5 .before in
+    let c7 = c6 .before in
+    let c15 = c7 .before .before .before .before .before .before .before .before in
+    lists-unread (c15 .args .file .0) (c15 .args .config) (c15 .args .externals .now) (c15 .args .table .now) (c15 .args .tree .now)
+    (c7 .bad-lists .ensures) (c5 .names-twice .ensures) (c15 .pre) (c6 .if1 .left) (c4 .if2 .left) (c3 .read-tree .ensures)
+    (c .before .why .given .1)
 
 pub lists-spec : {M : Type 1} → statement M
 lists-spec =

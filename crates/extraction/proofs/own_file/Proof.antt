@@ -5,7 +5,7 @@ use Rattle.extraction.proofs.own_file.Tie as tie
 use Rattle.extraction.proofs.own_file.Reads as reads
 use Rattle.extraction.proofs.own_file.Lts as lts
 use Rattle.extraction.proofs.first_pass.Reads as first-pass-reads
-use Rattle.kept.proofs.modules.request.Reads as request-reads
+use Rattle.state.proofs.modules.request.Reads as request-reads
 
 -- src/lib.rt:163:11
 request-requires : tie.Need-request-requires
@@ -45,7 +45,13 @@ same-length-4 c = search needs
 
 -- src/lib.rt:149:1
 returns : tie.Need-returns
-returns c = own-numbered (c .before .before .before .before .before .before .before .before .before .before .before .before .before .before .before .before .before .before .before .before .before .before .before .before .before .before .before .args .file .0) (c .before .before .before .before .before .before .before .before .before .before .before .before .before .before .before .before .before .before .before .before .before .before .before .before .before .before .before .args .config) (c .before .before .before .before .before .before .before .before .before .before .before .before .before .before .before .before .before .before .before .before .before .before .before .before .before .before .before .args .externals .now) (c .before .before .before .before .before .before .before .before .before .before .before .before .before .before .before .before .before .before .before .before .before .before .before .before .before .before .before .args .table .now) (c .before .before .before .before .before .before .before .before .before .before .before .before .before .before .before .before .before .before .before .before .before .before .before .before .before .before .before .args .tree .now) (c .before .before .before .before .before .before .before .before .before .before .before .before .before .before .before .before .before .before .request .ensures) (c .before .before .before .before .before .before .before .before .before .before .before .before .before .before .own .given .0 .0) (c .before .before .before .before .before .before .before .before .before .before .before .before .before .before .own .given .1) (c .before .before .before .before .before .before .before .before .first-pass .ensures)
+returns c =
+    let c8 = c .before .before .before .before .before .before .before .before in
+    let c14 = c8 .before .before .before .before .before .before in
+    let c18 = c14 .before .before .before .before in
+    let c27 = c18 .before .before .before .before .before .before .before .before .before in
+    own-numbered (c27 .args .file .0) (c27 .args .config) (c27 .args .externals .now) (c27 .args .table .now) (c27 .args .tree .now)
+    (c18 .request .ensures) (c14 .own .given .0 .0) (c14 .own .given .1) (c8 .first-pass .ensures)
 
 -- src/lib.rt:149:1
 same-length-5 : tie.Need-same-length-5
@@ -53,7 +59,10 @@ same-length-5 c = search needs
 
 -- src/lib.rt:149:1
 returns-2 : tie.Need-returns-2
-returns-2 c = own-unresolved (c .before .before .before .before .before .before .before .before .before .before .before .before .before .args .file .0) (c .before .before .before .before .before .before .before .before .before .before .before .before .before .args .config) (c .before .before .before .before .before .before .before .before .before .before .before .before .before .args .externals .now) (c .before .before .before .before .before .before .before .before .before .before .before .before .before .args .table .now) (c .before .before .before .before .before .before .before .before .before .before .before .before .before .args .tree .now) (c .before .before .before .before .request .ensures) (c .enum-told .given .1)
+returns-2 c =
+    let c4 = c .before .before .before .before in
+    let c13 = c4 .before .before .before .before .before .before .before .before .before in
+    own-unresolved (c13 .args .file .0) (c13 .args .config) (c13 .args .externals .now) (c13 .args .table .now) (c13 .args .tree .now) (c4 .request .ensures) (c .enum-told .given .1)
 
 -- src/lib.rt:149:1
 same-length-6 : tie.Need-same-length-6
@@ -61,7 +70,10 @@ same-length-6 c = search needs
 
 -- src/lib.rt:149:1
 returns-3 : tie.Need-returns-3
-returns-3 c = own-full (c .before .before .before .before .before .before .before .before .before .before .before .before .before .args .file .0) (c .before .before .before .before .before .before .before .before .before .before .before .before .before .args .config) (c .before .before .before .before .before .before .before .before .before .before .before .before .before .args .externals .now) (c .before .before .before .before .before .before .before .before .before .before .before .before .before .args .table .now) (c .before .before .before .before .before .before .before .before .before .before .before .before .before .args .tree .now) (c .before .before .before .before .request .ensures) (c .enum-told2 .given .1)
+returns-3 c =
+    let c4 = c .before .before .before .before in
+    let c13 = c4 .before .before .before .before .before .before .before .before .before in
+    own-full (c13 .args .file .0) (c13 .args .config) (c13 .args .externals .now) (c13 .args .table .now) (c13 .args .tree .now) (c4 .request .ensures) (c .enum-told2 .given .1)
 
 pub own-file-spec : {M : Type 1} → statement M
 own-file-spec =

@@ -50,7 +50,15 @@ same-length-3 c = search needs
 
 -- src/lib.rt:211:1
 returns : tie.Need-returns
-returns c = again-ends (c .before .before .before .before .before .before .before .before .before .before .before .before .before .before .before .before .before .before .before .before .before .before .before .before .before .before .before .before .before .before .before .args .own) (c .before .before .before .before .before .before .before .before .before .before .before .before .before .before .before .before .before .before .before .before .before .before .before .before .before .before .before .before .before .before .before .args .config) (c .before .before .before .before .before .before .before .before .before .before .before .before .before .before .before .before .before .before .before .before .before .before .before .before .before .before .before .before .before .before .before .args .externals .now) (c .before .before .before .before .before .before .before .before .before .before .before .before .before .before .before .before .before .before .before .before .before .before .before .before .before .before .before .before .before .before .before .args .table .now) (c .before .before .before .before .before .before .before .before .before .before .before .before .before .before .before .before .before .before .before .before .before .before .before .before .before .before .before .before .before .before .before .args .tree .now) (c .before .before .before .before .before .before .before .before .before .before .before .before .before .before .before .before .before .before .before .before .before .pass .ensures) (c .before .before .before .before .before .before .before .before .before .before .before .before .before .before .before .n .given .1) (c .before .before .before .before .before .before .before .before .before .before .before .before .wrap .ensures) (c .before .before .before .before .before .before .before .before .enum-told .given .1) (c .before .before .before .before .ending .ensures)
+returns c =
+    let c4 = c .before .before .before .before in
+    let c8 = c4 .before .before .before .before in
+    let c12 = c8 .before .before .before .before in
+    let c15 = c12 .before .before .before in
+    let c21 = c15 .before .before .before .before .before .before in
+    let c31 = c21 .before .before .before .before .before .before .before .before .before .before in
+    again-ends (c31 .args .own) (c31 .args .config) (c31 .args .externals .now) (c31 .args .table .now) (c31 .args .tree .now) (c21 .pass .ensures)
+    (c15 .n .given .1) (c12 .wrap .ensures) (c8 .enum-told .given .1) (c4 .ending .ensures)
 
 -- src/lib.rt:211:1
 same-length-4 : tie.Need-same-length-4
@@ -62,7 +70,13 @@ same-length-5 c = search needs
 
 -- src/lib.rt:211:1
 returns-2 : tie.Need-returns-2
-returns-2 c = again-wrap-refused (c .before .before .before .before .before .before .before .before .before .before .before .before .before .before .before .before .before .before .before .before .before .before .before .before .args .own) (c .before .before .before .before .before .before .before .before .before .before .before .before .before .before .before .before .before .before .before .before .before .before .before .before .args .config) (c .before .before .before .before .before .before .before .before .before .before .before .before .before .before .before .before .before .before .before .before .before .before .before .before .args .externals .now) (c .before .before .before .before .before .before .before .before .before .before .before .before .before .before .before .before .before .before .before .before .before .before .before .before .args .table .now) (c .before .before .before .before .before .before .before .before .before .before .before .before .before .before .before .before .before .before .before .before .before .before .before .before .args .tree .now) (c .before .before .before .before .before .before .before .before .before .before .before .before .before .before .pass .ensures) (c .before .before .before .before .before .before .before .before .n .given .1) (c .before .before .before .before .before .wrap .ensures) (c .before .why .given .1)
+returns-2 c =
+    let c5 = c .before .before .before .before .before in
+    let c8 = c5 .before .before .before in
+    let c14 = c8 .before .before .before .before .before .before in
+    let c24 = c14 .before .before .before .before .before .before .before .before .before .before in
+    again-wrap-refused (c24 .args .own) (c24 .args .config) (c24 .args .externals .now) (c24 .args .table .now) (c24 .args .tree .now)
+    (c14 .pass .ensures) (c8 .n .given .1) (c5 .wrap .ensures) (c .before .why .given .1)
 
 -- src/lib.rt:211:1
 same-length-6 : tie.Need-same-length-6
@@ -74,7 +88,10 @@ same-length-7 c = search needs
 
 -- src/lib.rt:211:1
 returns-3 : tie.Need-returns-3
-returns-3 c = again-pass-refused (c .before .before .before .before .before .before .before .before .before .before .before .before .before .before .before .before .before .args .own) (c .before .before .before .before .before .before .before .before .before .before .before .before .before .before .before .before .before .args .config) (c .before .before .before .before .before .before .before .before .before .before .before .before .before .before .before .before .before .args .externals .now) (c .before .before .before .before .before .before .before .before .before .before .before .before .before .before .before .before .before .args .table .now) (c .before .before .before .before .before .before .before .before .before .before .before .before .before .before .before .before .before .args .tree .now) (c .before .before .before .before .before .before .before .pass .ensures) (c .before .why2 .given .1)
+returns-3 c =
+    let c7 = c .before .before .before .before .before .before .before in
+    let c17 = c7 .before .before .before .before .before .before .before .before .before .before in
+    again-pass-refused (c17 .args .own) (c17 .args .config) (c17 .args .externals .now) (c17 .args .table .now) (c17 .args .tree .now) (c7 .pass .ensures) (c .before .why2 .given .1)
 
 pub second-pass-spec : {M : Type 1} → statement M
 second-pass-spec =

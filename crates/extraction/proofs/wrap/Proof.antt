@@ -10,8 +10,8 @@ use Rattle.extraction.proofs.wrap.Tie as tie
 use Rattle.extraction.proofs.wrap.Reads as reads
 use Rattle.extraction.proofs.wrap.Lts as lts
 use Rattle.extraction.proofs.wrap_source.Reads as wrap-source-reads
-use Rattle.kept.proofs.forced.count_forced.Reads as count-forced-reads
-use Rattle.kept.proofs.forced.forced_at.Reads as forced-at-reads
+use Rattle.state.proofs.forced.count_forced.Reads as count-forced-reads
+use Rattle.state.proofs.forced.forced_at.Reads as forced-at-reads
 
 abbrev Inv-loop : tie.InvT-loop
 Inv-loop table t₀ i₀ t i = Wrapping table t₀ i t × (length t ≡ length t₀)
@@ -41,15 +41,23 @@ enum-told c = search needs
 
 -- src/lib.rt:247:29
 add-i : tie.Need-add-i Inv-loop μ-loop
-add-i c = let b = forces-most (c .before .before .before .before .before .before .before .before .before .before .before .loop .inv .0 .good) in omega arith
+add-i c =
+    let c11 = c .before .before .before .before .before .before .before .before .before .before .before in
+    let b = forces-most (c11 .loop .inv .0 .good) in omega arith
 
 -- src/lib.rt:245:5
 loop-less : tie.Need-loop-less Inv-loop μ-loop
-loop-less c = let b = forces-most (c .before .before .before .before .before .before .before .before .before .before .before .loop .inv .0 .good) in omega arith
+loop-less c =
+    let c11 = c .before .before .before .before .before .before .before .before .before .before .before in
+    let b = forces-most (c11 .loop .inv .0 .good) in omega arith
 
 -- src/lib.rt:245:5
 loop-again : tie.Need-loop-again Inv-loop μ-loop
-loop-again c = (wrapping-next (c .before .before .before .before .before .before .forced-at .result .0) (c .before .before .before .before .before .before .before .before .before .before .before .loop .inv .0) (c .before .before .before .before .before .before .forced-at .ensures) (c .before .before .before .before .wrap-source .ensures) (c .enum-told .given .1), omega arith)
+loop-again c =
+    let c4 = c .before .before .before .before in
+    let c6 = c4 .before .before in
+    let c11 = c6 .before .before .before .before .before in
+    (wrapping-next (c6 .forced-at .result .0) (c11 .loop .inv .0) (c6 .forced-at .ensures) (c4 .wrap-source .ensures) (c .enum-told .given .1), omega arith)
 
 -- src/lib.rt:248:29
 enum-known-why : tie.Need-enum-known-why Inv-loop μ-loop
@@ -61,7 +69,11 @@ same-length c = omega arith
 
 -- src/lib.rt:248:44
 returns : tie.Need-returns Inv-loop μ-loop
-returns c = wrapping-turned (c .before .before .before .before .before .before .before .forced-at .result .0) (c .before .before .before .before .before .before .before .before .before .before .before .before .loop .inv .0) (c .before .before .before .before .before .before .before .forced-at .ensures) (c .before .before .before .before .before .wrap-source .ensures) (c .before .why .given .1)
+returns c =
+    let c5 = c .before .before .before .before .before in
+    let c7 = c5 .before .before in
+    let c12 = c7 .before .before .before .before .before in
+    wrapping-turned (c7 .forced-at .result .0) (c12 .loop .inv .0) (c7 .forced-at .ensures) (c5 .wrap-source .ensures) (c .before .why .given .1)
 
 -- src/lib.rt:240:1
 same-length-2 : tie.Need-same-length-2 Inv-loop μ-loop

@@ -4,8 +4,8 @@ use Rattle.extraction.proofs.wrap_source.Statement.{statement}
 use Rattle.extraction.proofs.wrap_source.Tie as tie
 use Rattle.extraction.proofs.wrap_source.Reads as reads
 use Rattle.extraction.proofs.wrap_source.Lts as lts
-use Rattle.kept.proofs.modules.mark_wrapping.Reads as mark-wrapping-reads
-use Rattle.kept.proofs.modules.module_for.Reads as module-for-reads
+use Rattle.state.proofs.modules.mark_wrapping.Reads as mark-wrapping-reads
+use Rattle.state.proofs.modules.module_for.Reads as module-for-reads
 
 -- src/lib.rt:259:11
 module-for-requires : tie.Need-module-for-requires
@@ -33,7 +33,11 @@ same-length c = search needs
 
 -- src/lib.rt:255:1
 returns : tie.Need-returns
-returns c = source-marked (c .before .before .before .before .before .before .before .before .before .before .before .before .before .args .table .now) (c .before .before .before .before .before .before .before .before .before .before .before .before .before .args .source) (c .before .before .before .before .before .id .given .0 .0) (c .before .before .before .before .before .before .before .before .before .module-for .ensures) (c .before .before .before .before .before .id .given .1) (c .before .before .mark-wrapping .ensures)
+returns c =
+    let c5 = c .before .before .before .before .before in
+    let c9 = c5 .before .before .before .before in
+    let c13 = c9 .before .before .before .before in
+    source-marked (c13 .args .table .now) (c13 .args .source) (c5 .id .given .0 .0) (c9 .module-for .ensures) (c5 .id .given .1) (c .before .before .mark-wrapping .ensures)
 
 -- src/lib.rt:255:1
 same-length-2 : tie.Need-same-length-2
@@ -41,7 +45,10 @@ same-length-2 c = search needs
 
 -- src/lib.rt:255:1
 returns-2 : tie.Need-returns-2
-returns-2 c = source-unresolved (c .before .before .before .before .before .before .before .before .args .table .now) (c .before .before .before .before .before .before .before .before .args .source) (c .before .before .before .before .module-for .ensures) (c .enum-told .given .1)
+returns-2 c =
+    let c4 = c .before .before .before .before in
+    let c8 = c4 .before .before .before .before in
+    source-unresolved (c8 .args .table .now) (c8 .args .source) (c4 .module-for .ensures) (c .enum-told .given .1)
 
 -- src/lib.rt:255:1
 same-length-3 : tie.Need-same-length-3
@@ -49,7 +56,10 @@ same-length-3 c = search needs
 
 -- src/lib.rt:255:1
 returns-3 : tie.Need-returns-3
-returns-3 c = source-full (c .before .before .before .before .before .before .before .before .args .table .now) (c .before .before .before .before .before .before .before .before .args .source) (c .before .before .before .before .module-for .ensures) (c .enum-told2 .given .1)
+returns-3 c =
+    let c4 = c .before .before .before .before in
+    let c8 = c4 .before .before .before .before in
+    source-full (c8 .args .table .now) (c8 .args .source) (c4 .module-for .ensures) (c .enum-told2 .given .1)
 
 pub wrap-source-spec : {M : Type 1} → statement M
 wrap-source-spec =

@@ -2,7 +2,7 @@
 use mathlib.Core.Path.{sym, ap, _∙_}
 use native.Mathlib.Omega.{arith}
 use borrow.Author.Tests.{not-true, not-false}
-use Rattle.metadata.specs.Kept.{numberBy}
+use Rattle.metadata.specs.MetadataValue.{numberBy}
 use Rattle.metadata.proofs.DecodeLaws.{context-told, context-untold}
 use borrow.Author.Needs.{needs}
 use Rattle.metadata.proofs.context_in.Statement.{statement}
@@ -39,13 +39,17 @@ enum-told c = search needs
 returns-2 : tie.Need-returns-2
 returns-2 c =
     let a = c .before .before .before .before .before .before .before .before .args in
-    let w = context-told (a .s .now) (a .from) (a .end) (c .before .before .before .before .before .before .before .before .pre .1) (sym (c .before .before .before .before .before .starts-with .ensures) ∙ not-false _ (c .before .before .before .before .if1 .left)) in
+    let w =
+    context-told (a .s .now) (a .from) (a .end) (c .before .before .before .before .before .before .before .before .pre .1)
+    (sym (c .before .before .before .before .before .starts-with .ensures) ∙ not-false _ (c .before .before .before .before .if1 .left)) in
     sym (ap numberBy (c .before .n .given .1)) ∙ c .before .before .before .parse .ensures ∙ sym (w .1)
 
 returns-3 : tie.Need-returns-3
 returns-3 c =
     let a = c .before .before .before .before .before .before .before .args in
-    let w = context-told (a .s .now) (a .from) (a .end) (c .before .before .before .before .before .before .before .pre .1) (sym (c .before .before .before .before .starts-with .ensures) ∙ not-false _ (c .before .before .before .if1 .left)) in
+    let w =
+    context-told (a .s .now) (a .from) (a .end) (c .before .before .before .before .before .before .before .pre .1)
+    (sym (c .before .before .before .before .starts-with .ensures) ∙ not-false _ (c .before .before .before .if1 .left)) in
     sym (ap numberBy (c .enum-told .given .1)) ∙ c .before .before .parse .ensures ∙ sym (w .1)
 
 pub context-in-spec : {M : Type 1} → statement M

@@ -24,7 +24,11 @@ same-length : tie.Need-same-length
 same-length c = search needs
 
 returns : tie.Need-returns
-returns c = wrote-as (wrote-field (c .before .before .before .before .before .before .before .before .before .before .before .before .before .before .before .open-field .ensures) (wrote-then (c .before .before .before .before .before .before .before .before .before .before .put-all .ensures) (c .before .before .before .before .before .before .put-decimal .ensures)) (c .before .before .close-field .ensures)) (context-bytes _)
+returns c =
+    let c6 = c .before .before .before .before .before .before in
+    let c10 = c6 .before .before .before .before in
+    let c15 = c10 .before .before .before .before .before in
+    wrote-as (wrote-field (c15 .open-field .ensures) (wrote-then (c10 .put-all .ensures) (c6 .put-decimal .ensures)) (c .before .before .close-field .ensures)) (context-bytes _)
 
 pub put-context-spec : {M : Type 1} → statement M
 put-context-spec =

@@ -23,7 +23,12 @@ same-length c = search needs
 
 returns : tie.Need-returns
 unfolding injectedAttribute
-returns c = wrote-as (wrote-field (c .before .before .before .before .before .before .before .before .before .before .before .open-field .ensures) (c .before .before .before .before .before .before .put-all .ensures) (c .before .before .close-field .ensures)) (injected-bytes (c .before .before .before .before .before .before .before .before .before .before .before .before .before .before .before .args .injected) (c .before .before .before .before .before .before .before .before .before .before .before .before .before .if1 .taken))
+returns c =
+    let c6 = c .before .before .before .before .before .before in
+    let c11 = c6 .before .before .before .before .before in
+    let c13 = c11 .before .before in
+    let c15 = c13 .before .before in
+    wrote-as (wrote-field (c11 .open-field .ensures) (c6 .put-all .ensures) (c .before .before .close-field .ensures)) (injected-bytes (c15 .args .injected) (c13 .if1 .taken))
 
 returns-2 : tie.Need-returns-2
 returns-2 c = wrote-as wrote-none (injected-none (c .before .before .args .injected) (c .if1 .left))

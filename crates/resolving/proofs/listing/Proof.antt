@@ -1,5 +1,5 @@
 -- `resolving::listing` meets its contract.
-use Rattle.scope.specs.Kept.{modulesOf}
+use Rattle.scope.specs.ScopeValue.{modulesOf}
 use Rattle.resolving.proofs.AnswerLaws.{list-turned, list-fits, list-long}
 use borrow.Author.Needs.{needs}
 use Rattle.resolving.proofs.listing.Statement.{statement}
@@ -29,19 +29,33 @@ same-length : tie.Need-same-length
 same-length c = search needs
 
 returns : tie.Need-returns
-returns c = list-fits (c .before .before .before .before .before .before .before .before .before .before .before .before .before .before .before .args .table .now) (c .before .before .before .before .before .before .before .before .before .before .before .before .before .before .before .args .records .now) (modulesOf (c .before .before .before .before .before .before .before .before .before .before .before .before .before .before .before .args .scope)) (c .before .before .before .before .before .before .before .before .before .before .put-list .ensures) (c .before .before .before .before .before .before .n .given .1) (c .before .before .before .finish .ensures) (c .if1 .taken)
+returns c =
+    let c3 = c .before .before .before in
+    let c6 = c3 .before .before .before in
+    let c10 = c6 .before .before .before .before in
+    let c15 = c10 .before .before .before .before .before in
+    list-fits (c15 .args .table .now) (c15 .args .records .now) (modulesOf (c15 .args .scope)) (c10 .put-list .ensures) (c6 .n .given .1) (c3 .finish .ensures) (c .if1 .taken)
 
 same-length-2 : tie.Need-same-length-2
 same-length-2 c = search needs
 
 returns-2 : tie.Need-returns-2
-returns-2 c = list-long (c .before .before .before .before .before .before .before .before .before .before .before .before .before .before .before .args .table .now) (c .before .before .before .before .before .before .before .before .before .before .before .before .before .before .before .args .records .now) (modulesOf (c .before .before .before .before .before .before .before .before .before .before .before .before .before .before .before .args .scope)) (c .before .before .before .before .before .before .before .before .before .before .put-list .ensures) (c .before .before .before .before .before .before .n .given .1) (c .before .before .before .finish .ensures) (c .if1 .left)
+returns-2 c =
+    let c3 = c .before .before .before in
+    let c6 = c3 .before .before .before in
+    let c10 = c6 .before .before .before .before in
+    let c15 = c10 .before .before .before .before .before in
+    list-long (c15 .args .table .now) (c15 .args .records .now) (modulesOf (c15 .args .scope)) (c10 .put-list .ensures) (c6 .n .given .1) (c3 .finish .ensures) (c .if1 .left)
 
 same-length-3 : tie.Need-same-length-3
 same-length-3 c = search needs
 
 returns-3 : tie.Need-returns-3
-returns-3 c = list-turned (c .before .before .before .before .before .before .before .before .before .before .before .before .before .before .args .table .now) (c .before .before .before .before .before .before .before .before .before .before .before .before .before .before .args .records .now) (modulesOf (c .before .before .before .before .before .before .before .before .before .before .before .before .before .before .args .scope)) (c .before .before .before .before .before .before .before .before .before .put-list .ensures) (c .before .before .before .before .before .why .given .1) (c .before .before .clear .ensures)
+returns-3 c =
+    let c5 = c .before .before .before .before .before in
+    let c9 = c5 .before .before .before .before in
+    let c14 = c9 .before .before .before .before .before in
+    list-turned (c14 .args .table .now) (c14 .args .records .now) (modulesOf (c14 .args .scope)) (c9 .put-list .ensures) (c5 .why .given .1) (c .before .before .clear .ensures)
 
 pub listing-spec : {M : Type 1} → statement M
 listing-spec =

@@ -5,21 +5,26 @@ use Rattle.resolving.proofs.lists.Statement.{statement}
 use Rattle.resolving.proofs.lists.Tie as tie
 use Rattle.resolving.proofs.lists.Reads as reads
 use Rattle.resolving.proofs.lists.Lts as lts
-use Rattle.lent.proofs.bad_table.Reads as bad-table-reads
-use Rattle.lent.proofs.names_twice.Reads as names-twice-reads
+use Rattle.inputs.proofs.bad_table.Reads as bad-table-reads
+use Rattle.inputs.proofs.names_twice.Reads as names-twice-reads
 use Rattle.tree.proofs.read.read_tree.Reads as read-tree-reads
 
 bad-table-requires : tie.Need-bad-table-requires
 bad-table-requires c κs = search needs
 
 returns : tie.Need-returns
-returns c = tested-bad (c .before .before .before .before .args .table .now) (c .before .before .before .before .args .records .now) (c .before .bad-table .ensures) (c .if1 .taken)
+returns c =
+    let c4 = c .before .before .before .before in
+    tested-bad (c4 .args .table .now) (c4 .args .records .now) (c .before .bad-table .ensures) (c .if1 .taken)
 
 names-twice-requires : tie.Need-names-twice-requires
 names-twice-requires c κs = search needs
 
 returns-2 : tie.Need-returns-2
-returns-2 c = tested-twice (c .before .before .before .before .before .before .args .table .now) (c .before .before .before .before .before .before .args .records .now) (c .before .before .before .bad-table .ensures) (c .before .names-twice .ensures) (c .before .before .if1 .left) (c .if2 .taken)
+returns-2 c =
+    let c3 = c .before .before .before in
+    let c6 = c3 .before .before .before in
+    tested-twice (c6 .args .table .now) (c6 .args .records .now) (c3 .bad-table .ensures) (c .before .names-twice .ensures) (c .before .before .if1 .left) (c .if2 .taken)
 
 read-tree-requires : tie.Need-read-tree-requires
 read-tree-requires c κs = search needs
@@ -31,10 +36,25 @@ enum-known-why : tie.Need-enum-known-why
 enum-known-why c = search needs
 
 returns-3 : tie.Need-returns-3
-returns-3 c = tested-read (c .before .before .before .before .before .before .before .before .before .args .table .now) (c .before .before .before .before .before .before .before .before .before .args .records .now) (c .before .before .before .before .before .before .bad-table .ensures) (c .before .before .before .before .names-twice .ensures) (c .before .before .read-tree .ensures) (c .before .before .before .before .before .if1 .left) (c .before .before .before .if2 .left) (c .enum-told .given .1)
+returns-3 c =
+    let c3 = c .before .before .before in
+    let c4 = c3 .before in
+    let c5 = c4 .before in
+    let c6 = c5 .before in
+    let c9 = c6 .before .before .before in
+    tested-read (c9 .args .table .now) (c9 .args .records .now) (c6 .bad-table .ensures) (c4 .names-twice .ensures)
+    (c .before .before .read-tree .ensures) (c5 .if1 .left) (c3 .if2 .left) (c .enum-told .given .1)
 
 returns-4 : tie.Need-returns-4
-returns-4 c = tested-unread (c .before .before .before .before .before .before .before .before .before .before .args .table .now) (c .before .before .before .before .before .before .before .before .before .before .args .records .now) (c .before .before .before .before .before .before .before .bad-table .ensures) (c .before .before .before .before .before .names-twice .ensures) (c .before .before .before .read-tree .ensures) (c .before .before .before .before .before .before .if1 .left) (c .before .before .before .before .if2 .left) (c .before .why .given .1)
+returns-4 c =
+    let c3 = c .before .before .before in
+    let c4 = c3 .before in
+    let c5 = c4 .before in
+    let c6 = c5 .before in
+    let c7 = c6 .before in
+    let c10 = c7 .before .before .before in
+    tested-unread (c10 .args .table .now) (c10 .args .records .now) (c7 .bad-table .ensures) (c5 .names-twice .ensures) (c3 .read-tree .ensures)
+    (c6 .if1 .left) (c4 .if2 .left) (c .before .why .given .1)
 
 pub lists-spec : {M : Type 1} → statement M
 lists-spec =

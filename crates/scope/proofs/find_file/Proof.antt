@@ -4,7 +4,7 @@ use Prim.Native.Nat.{_≤_, _-_}
 use native.Mathlib.Omega.{arith}
 use lib.ListN.{take, drop}
 use Rattle.scope.specs.Modules.{placeOf}
-use Rattle.scope.proofs.KeptLaws.{shifted, shifted-none, place-passed, place-here, place-end}
+use Rattle.scope.proofs.ScopeValueLaws.{shifted, shifted-none, place-passed, place-here, place-end}
 use Rattle.scope.proofs.find_file.Statement.{statement}
 use Rattle.scope.proofs.find_file.Tie as tie
 
@@ -24,7 +24,10 @@ element-copy-out-if1 : tie.Need-element-copy-out-if1 Inv-loop μ-loop
 element-copy-out-if1 c = omega arith
 
 returns : tie.Need-returns Inv-loop μ-loop
-returns c = sym (c .before .before .before .loop .inv .0 ∙ place-here (c .before .before .before .before .args .file) (c .before .before .before .before .args .n) (c .before .before .before .loop .i) (c .before .before .before .before .args .files .now) (c .before .before .loop-test .taken) (c .before .before .before .before .pre .1) (c .if1 .taken))
+returns c =
+    let c3 = c .before .before .before in
+    let c4 = c3 .before in
+    sym (c3 .loop .inv .0 ∙ place-here (c4 .args .file) (c4 .args .n) (c3 .loop .i) (c4 .args .files .now) (c .before .before .loop-test .taken) (c4 .pre .1) (c .if1 .taken))
 
 add-i : tie.Need-add-i Inv-loop μ-loop
 add-i c = omega arith
@@ -33,7 +36,10 @@ loop-less : tie.Need-loop-less Inv-loop μ-loop
 loop-less c = omega arith
 
 loop-again : tie.Need-loop-again Inv-loop μ-loop
-loop-again c = (c .before .before .before .loop .inv .0 ∙ place-passed (c .before .before .before .before .args .file) (c .before .before .before .before .args .n) (c .before .before .before .loop .i) (c .before .before .before .before .args .files .now) (c .before .before .loop-test .taken) (c .before .before .before .before .pre .1) (c .if1 .left), omega arith)
+loop-again c =
+    let c3 = c .before .before .before in
+    let c4 = c3 .before in
+    (c3 .loop .inv .0 ∙ place-passed (c4 .args .file) (c4 .args .n) (c3 .loop .i) (c4 .args .files .now) (c .before .before .loop-test .taken) (c4 .pre .1) (c .if1 .left), omega arith)
 
 returns-2 : tie.Need-returns-2 Inv-loop μ-loop
 returns-2 c = sym (c .before .loop .inv .0 ∙ place-end (c .before .before .args .file) (c .before .before .args .n) (c .before .loop .i) (c .before .before .args .files .now) (omega arith))

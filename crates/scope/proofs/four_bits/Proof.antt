@@ -1,6 +1,6 @@
 -- `scope::four_bits` meets its contract.
 use mathlib.Core.Path.{refl}
-use Rattle.scope.proofs.KeptLaws.{bits-back}
+use Rattle.scope.proofs.ScopeValueLaws.{bits-back}
 use borrow.Author.Needs.{needs}
 use Rattle.scope.proofs.four_bits.Statement.{statement}
 use Rattle.scope.proofs.four_bits.Tie as tie
@@ -36,7 +36,13 @@ add-result-3 : tie.Need-add-result-3
 add-result-3 c = search needs
 
 returns : tie.Need-returns
-returns c = bits-back (c .before .before .before .before .args .a) (c .before .before .before .before .args .b) (c .before .before .before .before .args .c) (c .before .before .before .before .args .d) (c .before .before .before .as-bit .result) (c .before .before .as-bit2 .result) (c .before .as-bit3 .result) (c .as-bit4 .result) _ (c .before .before .before .as-bit .ensures .0) (c .before .before .before .as-bit .ensures .1) (c .before .before .as-bit2 .ensures .0) (c .before .before .as-bit2 .ensures .1) (c .before .as-bit3 .ensures .0) (c .before .as-bit3 .ensures .1) (c .as-bit4 .ensures .0) (c .as-bit4 .ensures .1) refl
+returns c =
+    let c3 = c .before .before .before in
+    let c4 = c3 .before in
+    bits-back (c4 .args .a) (c4 .args .b) (c4 .args .c) (c4 .args .d) (c3 .as-bit .result) (c .before .before .as-bit2 .result)
+    (c .before .as-bit3 .result) (c .as-bit4 .result) _ (c3 .as-bit .ensures .0) (c3 .as-bit .ensures .1) (c .before .before .as-bit2 .ensures .0)
+    (c .before .before .as-bit2 .ensures .1) (c .before .as-bit3 .ensures .0) (c .before .as-bit3 .ensures .1) (c .as-bit4 .ensures .0)
+    (c .as-bit4 .ensures .1) refl
 
 pub four-bits-spec : {M : Type 1} → statement M
 four-bits-spec =

@@ -32,7 +32,15 @@ shared-slice-read-k : tie.Need-shared-slice-read-k Inv-loop μ-loop
 shared-slice-read-k c = let e = c .before .before .before .before .before .pre .ends in omega arith
 
 returns : tie.Need-returns Inv-loop μ-loop
-returns c = sym (found-start (c .before .before .before .before .before .before .before .args .lo) (c .before .before .before .before .before .before .before .args .hi) (c .before .before .before .before .before .before .before .args .b) (c .before .before .before .before .before .count-of .result) (c .before .before .before .before .before .before .before .args .t .now) (c .before .before .before .before .before .count-of .ensures .0) ∙ c .before .before .before .before .loop .inv .0 ∙ found-here (c .before .before .before .before .before .before .before .args .lo) (c .before .before .before .before .before .before .before .args .hi) (c .before .before .before .before .before .count-of .result) (c .before .before .before .before .loop .i) (c .before .before .before .before .before .before .before .args .b .base) (c .before .before .before .before .before .before .before .args .t .now) (c .before .before .before .loop-test .taken) (c .before .if1 .taken) (c .if2 .taken))
+returns c =
+    let c3 = c .before .before .before in
+    let c4 = c3 .before in
+    let c5 = c4 .before in
+    let c7 = c5 .before .before in
+    sym (found-start (c7 .args .lo) (c7 .args .hi) (c7 .args .b) (c5 .count-of .result) (c7 .args .t .now) (c5 .count-of .ensures .0)
+    ∙ c4 .loop .inv .0
+    ∙ found-here (c7 .args .lo) (c7 .args .hi) (c5 .count-of .result) (c4 .loop .i) (c7 .args .b .base) (c7 .args .t .now) (c3 .loop-test .taken)
+    (c .before .if1 .taken) (c .if2 .taken))
 
 add-i : tie.Need-add-i Inv-loop μ-loop
 add-i c = let e = c .before .before .before .before .before .before .pre .ends in omega arith
@@ -41,10 +49,26 @@ loop-less : tie.Need-loop-less Inv-loop μ-loop
 loop-less c = let e = c .before .before .before .before .before .before .pre .ends in omega arith
 
 loop-again : tie.Need-loop-again Inv-loop μ-loop
-loop-again c = (c .before .before .before .loop .inv .0 ∙ ⊎-elim (λ w. found-high (c .before .before .before .before .before .before .args .lo) (c .before .before .before .before .before .before .args .hi) (c .before .before .before .before .count-of .result) (c .before .before .before .loop .i) (c .before .before .before .before .before .before .args .b .base) (c .before .before .before .before .before .before .args .t .now) (c .before .before .loop-test .taken) (w .0 .taken) (w .1 .left)) (λ w. found-low (c .before .before .before .before .before .before .args .lo) (c .before .before .before .before .before .before .args .hi) (c .before .before .before .before .count-of .result) (c .before .before .before .loop .i) (c .before .before .before .before .before .before .args .b .base) (c .before .before .before .before .before .before .args .t .now) (c .before .before .loop-test .taken) (w .left)) (c .if1 .came), omega arith)
+loop-again c =
+    let c3 = c .before .before .before in
+    let c4 = c3 .before in
+    let c6 = c4 .before .before in (
+      c3 .loop .inv .0
+          ∙ ⊎-elim
+          (λ w. found-high (c6 .args .lo) (c6 .args .hi) (c4 .count-of .result) (c3 .loop .i) (c6 .args .b .base) (c6 .args .t .now)
+          (c .before .before .loop-test .taken) (w .0 .taken) (w .1 .left))
+          (λ w. found-low (c6 .args .lo) (c6 .args .hi) (c4 .count-of .result) (c3 .loop .i) (c6 .args .b .base) (c6 .args .t .now)
+          (c .before .before .loop-test .taken) (w .left)) (c .if1 .came),
+      omega arith,
+    )
 
 returns-2 : tie.Need-returns-2 Inv-loop μ-loop
-returns-2 c = sym (found-start (c .before .before .before .before .args .lo) (c .before .before .before .before .args .hi) (c .before .before .before .before .args .b) (c .before .before .count-of .result) (c .before .before .before .before .args .t .now) (c .before .before .count-of .ensures .0) ∙ c .before .loop .inv .0 ∙ found-end (c .before .before .before .before .args .lo) (c .before .before .before .before .args .hi) (c .before .before .count-of .result) (c .before .loop .i) (c .before .before .before .before .args .b .base) (c .before .before .before .before .args .t .now) (omega arith))
+returns-2 c =
+    let c4 = c .before .before .before .before in
+    sym (found-start (c4 .args .lo) (c4 .args .hi) (c4 .args .b) (c .before .before .count-of .result) (c4 .args .t .now)
+    (c .before .before .count-of .ensures .0) ∙ c .before .loop .inv .0
+    ∙ found-end (c4 .args .lo) (c4 .args .hi) (c .before .before .count-of .result) (c .before .loop .i) (c4 .args .b .base) (c4 .args .t .now)
+    (omega arith))
 
 pub find-spec : {M : Type 1} → statement M
 find-spec =

@@ -12,7 +12,9 @@ find-requires : tie.Need-find-requires
 find-requires c κs = search needs
 
 returns : tie.Need-returns
-returns c = c .find .ensures ∙ found-value (c .before .before .before .args .lo) (c .before .before .before .args .hi) (c .before .before .before .args .b) _ (c .before .before .before .args .t .now) refl refl
+returns c =
+    let c3 = c .before .before .before in
+    c .find .ensures ∙ found-value (c3 .args .lo) (c3 .args .hi) (c3 .args .b) _ (c3 .args .t .now) refl refl
 
 pub find-value-spec : {M : Type 1} → statement M
 find-value-spec = tie.close (tie.spec add-base find-requires returns)

@@ -54,19 +54,47 @@ lesser-of-requires : tie.Need-lesser-of-requires Inv-loop μ-loop
 lesser-of-requires c κs = search needs
 
 loop-less : tie.Need-loop-less Inv-loop μ-loop
-loop-less c = let e = c .before .before .before .before .before .before .before .before .pre .ends in omega arith
+loop-less c =
+    let c8 = c .before .before .before .before .before .before .before .before in
+    let e = c8 .pre .ends in omega arith
 
 loop-again : tie.Need-loop-again Inv-loop μ-loop
-loop-again c = (c .lesser-of .ensures ∙ ap (lesser _) (c .before .before .before .before .before .loop .inv .0 ∙ back (c .before .before .before .before .before .before .before .before .args .key) (c .before .before .before .before .before .before .count-of .result) (c .before .before .before .before .before .loop .i) (c .before .before .before .before .before .before .before .before .args .b .base) (c .before .before .before .before .before .before .before .before .args .t .now) (c .before .before .before .before .loop-test .taken)) ∙ sym (least-here (c .before .before .before .before .before .before .before .before .args .key) (c .before .before .before .before .before .before .count-of .result) (c .before .before .before .before .before .loop .i - 1) (c .before .before .before .before .before .before .before .before .args .b .base) (c .before .before .before .before .before .before .before .before .args .t .now) (omega arith) (c .before .before .if1 .taken)), omega arith)
+loop-again c =
+    let c4 = c .before .before .before .before in
+    let c5 = c4 .before in
+    let c6 = c5 .before in
+    let c8 = c6 .before .before in (
+      c .lesser-of .ensures
+          ∙ ap (lesser _)
+          (c5 .loop .inv .0 ∙ back (c8 .args .key) (c6 .count-of .result) (c5 .loop .i) (c8 .args .b .base) (c8 .args .t .now) (c4 .loop-test .taken))
+          ∙
+          sym (least-here (c8 .args .key) (c6 .count-of .result) (c5 .loop .i - 1) (c8 .args .b .base) (c8 .args .t .now) (omega arith)
+          (c .before .before .if1 .taken)),
+      omega arith,
+    )
 
 loop-less-2 : tie.Need-loop-less-2 Inv-loop μ-loop
 loop-less-2 c = let e = c .before .before .before .before .before .before .pre .ends in omega arith
 
 loop-again-2 : tie.Need-loop-again-2 Inv-loop μ-loop
-loop-again-2 c = (c .before .before .before .loop .inv .0 ∙ back (c .before .before .before .before .before .before .args .key) (c .before .before .before .before .count-of .result) (c .before .before .before .loop .i) (c .before .before .before .before .before .before .args .b .base) (c .before .before .before .before .before .before .args .t .now) (c .before .before .loop-test .taken) ∙ sym (least-other (c .before .before .before .before .before .before .args .key) (c .before .before .before .before .count-of .result) (c .before .before .before .loop .i - 1) (c .before .before .before .before .before .before .args .b .base) (c .before .before .before .before .before .before .args .t .now) (omega arith) (c .if1 .left)), omega arith)
+loop-again-2 c =
+    let c3 = c .before .before .before in
+    let c4 = c3 .before in
+    let c6 = c4 .before .before in (
+      c3 .loop .inv .0
+          ∙ back (c6 .args .key) (c4 .count-of .result) (c3 .loop .i) (c6 .args .b .base) (c6 .args .t .now) (c .before .before .loop-test .taken)
+          ∙
+          sym (least-other (c6 .args .key) (c4 .count-of .result) (c3 .loop .i - 1) (c6 .args .b .base) (c6 .args .t .now) (omega arith)
+          (c .if1 .left)),
+      omega arith,
+    )
 
 returns : tie.Need-returns Inv-loop μ-loop
-returns c = c .before .loop .inv .0 ∙ least-end (c .before .before .before .before .args .key) (c .before .before .count-of .result) (c .before .loop .i) (c .before .before .before .before .args .b) (c .before .before .before .before .args .t .now) (omega arith) (c .before .before .count-of .ensures .0)
+returns c =
+    let c4 = c .before .before .before .before in
+    c .before .loop .inv .0
+    ∙ least-end (c4 .args .key) (c .before .before .count-of .result) (c .before .loop .i) (c4 .args .b) (c4 .args .t .now) (omega arith)
+    (c .before .before .count-of .ensures .0)
 
 pub least-value-spec : {M : Type 1} → statement M
 least-value-spec =

@@ -34,7 +34,9 @@ mul-t-4 : tie.Need-mul-t-4
 mul-t-4 c = search needs
 
 slice-write-t-2 : tie.Need-slice-write-t-2
-slice-write-t-2 c = let e = c .before .before .before .pre .0 .ends in let h = c .before .before .before .pre .0 .cell in let l = c .before .before .before .pre .1 in simp length-set (omega arith)
+slice-write-t-2 c =
+    let c3 = c .before .before .before in
+    let e = c3 .pre .0 .ends in let h = c3 .pre .0 .cell in let l = c3 .pre .1 in simp length-set (omega arith)
 
 add-t-4 : tie.Need-add-t-4
 add-t-4 c = search needs
@@ -43,13 +45,17 @@ mul-t-5 : tie.Need-mul-t-5
 mul-t-5 c = search needs
 
 slice-write-t-3 : tie.Need-slice-write-t-3
-slice-write-t-3 c = let e = c .before .before .before .pre .0 .ends in let h = c .before .before .before .pre .0 .cell in let l = c .before .before .before .pre .1 in simp length-set (omega arith)
+slice-write-t-3 c =
+    let c3 = c .before .before .before in
+    let e = c3 .pre .0 .ends in let h = c3 .pre .0 .cell in let l = c3 .pre .1 in simp length-set (omega arith)
 
 same-length : tie.Need-same-length
 same-length c = search needs
 
 returns : tie.Need-returns
-returns c = let l = c .before .before .before .pre .1 in row-pushed (c .before .before .before .args .b) (c .before .before .before .args .t .now) (c .count-of .result) (c .before .before .before .args .key) (c .before .before .before .args .value) (c .before .before .before .pre .0) (c .count-of .ensures .0) (omega arith)
+returns c =
+    let c3 = c .before .before .before in
+    let l = c3 .pre .1 in row-pushed (c3 .args .b) (c3 .args .t .now) (c .count-of .result) (c3 .args .key) (c3 .args .value) (c3 .pre .0) (c .count-of .ensures .0) (omega arith)
 
 pub push-spec : {M : Type 1} → statement M
 push-spec =

@@ -1,5 +1,5 @@
 -- `tychodrel::extract_in` meets its contract.
-use Rattle.tychodrel.proofs.CallLaws.{leaves-extracted}
+use Rattle.tychodrel.proofs.ExportedLaws.{leaves-extracted}
 use borrow.Author.Needs.{needs}
 use Rattle.tychodrel.proofs.extract_in.Statement.{statement}
 use Rattle.tychodrel.proofs.extract_in.Tie as tie
@@ -23,7 +23,9 @@ same-length-3 : tie.Need-same-length-3
 same-length-3 c = search needs
 
 returns : tie.Need-returns
-returns c = leaves-extracted (c .before .before .before .before .before .before .before .before .before .extract-import-info .result) (c .before .before .before .before .before .before .before .before .before .extract-import-info .ensures) (c .before .scope-bytes .ensures) (c .extract-answer .ensures)
+returns c =
+    let c9 = c .before .before .before .before .before .before .before .before .before in
+    leaves-extracted (c9 .extract-import-info .result) (c9 .extract-import-info .ensures) (c .before .scope-bytes .ensures) (c .extract-answer .ensures)
 
 pub extract-in-spec : {M : Type 1} → statement M
 extract-in-spec =

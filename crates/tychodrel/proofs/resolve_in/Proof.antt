@@ -1,5 +1,5 @@
 -- `tychodrel::resolve_in` meets its contract.
-use Rattle.tychodrel.proofs.CallLaws.{leaves-resolved}
+use Rattle.tychodrel.proofs.ExportedLaws.{leaves-resolved}
 use borrow.Author.Needs.{needs}
 use Rattle.tychodrel.proofs.resolve_in.Statement.{statement}
 use Rattle.tychodrel.proofs.resolve_in.Tie as tie
@@ -17,7 +17,9 @@ same-length : tie.Need-same-length
 same-length c = search needs
 
 returns : tie.Need-returns
-returns c = leaves-resolved (c .before .before .before .before .before .resolve-imports .result) (c .before .before .before .before .before .resolve-imports .ensures) (c .before .scope-bytes .ensures) (c .resolve-answer .ensures)
+returns c =
+    let c5 = c .before .before .before .before .before in
+    leaves-resolved (c5 .resolve-imports .result) (c5 .resolve-imports .ensures) (c .before .scope-bytes .ensures) (c .resolve-answer .ensures)
 
 pub resolve-in-spec : {M : Type 1} → statement M
 resolve-in-spec =

@@ -33,7 +33,9 @@ returns c = (
 
 returns-2 : tie.Need-returns-2
 returns-2 c = (
-  rw (c .before .number-of .ensures) at (c .pack .ensures) ∙ sym (ap (λ (r : Decoded). decodeAnswerOf (decoded r)) (c .before .before .before .before .why .given .1)) ∙ ap decodeAnswerOf (c .before .before .before .before .before .before .decode .ensures),
+  rw (c .before .number-of .ensures) at (c .pack .ensures)
+      ∙ sym (ap (λ (r : Decoded). decodeAnswerOf (decoded r)) (c .before .before .before .before .why .given .1))
+      ∙ ap decodeAnswerOf (c .before .before .before .before .before .before .decode .ensures),
   sym (ap (λ (r : Decoded). metadataBytes (decoded r)) (c .before .before .before .before .why .given .1)) ∙ ap metadataBytes (c .before .before .before .before .before .before .decode .ensures),
 )
 

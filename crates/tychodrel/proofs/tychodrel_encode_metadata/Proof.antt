@@ -18,7 +18,10 @@ same-length : tie.Need-same-length
 same-length c = search needs
 
 returns : tie.Need-returns
-returns c = (rw (← c .before .before .before .before .before .metadata-given .ensures) (c .encoded-answer .ensures ∙ ap encodeAnswerOf (c .before .before .before .encode .ensures .answer)), rw (← c .before .before .before .before .before .metadata-given .ensures) (c .before .before .before .encode .ensures .buffer))
+returns c =
+    let c3 = c .before .before .before in
+    let c5 = c3 .before .before in
+    (rw (← c5 .metadata-given .ensures) (c .encoded-answer .ensures ∙ ap encodeAnswerOf (c3 .encode .ensures .answer)), rw (← c5 .metadata-given .ensures) (c3 .encode .ensures .buffer))
 
 pub tychodrel-encode-metadata-spec : {M : Type 1} → statement M
 tychodrel-encode-metadata-spec =

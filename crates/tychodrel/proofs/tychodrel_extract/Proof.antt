@@ -1,5 +1,5 @@
 -- `tychodrel::tychodrel_extract` meets its contract.
-use Rattle.tychodrel.proofs.CallLaws.{extract-given, extract-refused}
+use Rattle.tychodrel.proofs.ExportedLaws.{extract-given, extract-refused}
 use borrow.Author.Needs.{needs}
 use Rattle.tychodrel.proofs.tychodrel_extract.Statement.{statement}
 use Rattle.tychodrel.proofs.tychodrel_extract.Tie as tie
@@ -38,7 +38,12 @@ same-length-3 : tie.Need-same-length-3
 same-length-3 c = search needs
 
 returns : tie.Need-returns
-returns c = extract-given (c .before .before .before .before .before .before .before .before .before .before .before .before .before .before .request-files .result) (c .before .before .before .before .before .before .before .before .before .before .before .before .before .before .before .before .before .before .before .before .before .before .args .files .now) _ _ (c .before .before .before .before .before .before .before .before .before .before .before .before .before .before .request-files .ensures) (c .before .before .before .before .before .before .before .before .before .before .before .enum-told .given .1) (c .before .before .before .before .before .before .extract-in .ensures)
+returns c =
+    let c6 = c .before .before .before .before .before .before in
+    let c11 = c6 .before .before .before .before .before in
+    let c14 = c11 .before .before .before in
+    let c22 = c14 .before .before .before .before .before .before .before .before in
+    extract-given (c14 .request-files .result) (c22 .args .files .now) _ _ (c14 .request-files .ensures) (c11 .enum-told .given .1) (c6 .extract-in .ensures)
 
 same-length-4 : tie.Need-same-length-4
 same-length-4 c = search needs
@@ -50,7 +55,16 @@ same-length-6 : tie.Need-same-length-6
 same-length-6 c = search needs
 
 returns-2 : tie.Need-returns-2
-returns-2 c = extract-refused (c .before .before .before .before .before .before .before .before .before .before .before .before .before .before .before .before .before .request-files .result) (c .before .before .before .before .before .before .before .before .before .before .before .before .before .before .before .before .before .before .before .before .before .before .before .before .before .args .files .now) _ (c .before .before .before .before .before .before .before .before .before .before .before .before .before .before .before .before .before .before .before .before .before .before .before .before .before .args .work .now) (c .before .before .before .before .before .before .before .before .before .before .before .before .before .before .before .before .before .before .before .before .before .before .before .before .before .args .out .now) (c .before .before .before .before .before .before .before .before .before .before .before .before .before .before .before .before .before .before .before .before .before .before .before .before .before .args .records .now) (c .before .before .before .before .before .before .before .before .before .before .before .before .before .before .before .before .before .request-files .ensures) (c .before .before .before .before .before .before .before .before .before .before .before .before .before .before .enum-told2 .given .1) (c .refuse-files .ensures) (c .before .before .before .before .before .before .before .before .before .before .before .before .clear .ensures) (c .before .before .before .before .before .before .before .before .clear2 .ensures) (c .before .before .before .before .clear3 .ensures)
+returns-2 c =
+    let c4 = c .before .before .before .before in
+    let c8 = c4 .before .before .before .before in
+    let c12 = c8 .before .before .before .before in
+    let c14 = c12 .before .before in
+    let c17 = c14 .before .before .before in
+    let c25 = c17 .before .before .before .before .before .before .before .before in
+    extract-refused (c17 .request-files .result) (c25 .args .files .now) _ (c25 .args .work .now) (c25 .args .out .now) (c25 .args .records .now)
+    (c17 .request-files .ensures) (c14 .enum-told2 .given .1) (c .refuse-files .ensures) (c12 .clear .ensures) (c8 .clear2 .ensures)
+    (c4 .clear3 .ensures)
 
 pub tychodrel-extract-spec : {M : Type 1} → statement M
 tychodrel-extract-spec =

@@ -1,5 +1,5 @@
 -- `tychodrel::tychodrel_resolve` meets its contract.
-use Rattle.tychodrel.proofs.CallLaws.{resolve-given, resolve-refused}
+use Rattle.tychodrel.proofs.ExportedLaws.{resolve-given, resolve-refused}
 use borrow.Author.Needs.{needs}
 use Rattle.tychodrel.proofs.tychodrel_resolve.Statement.{statement}
 use Rattle.tychodrel.proofs.tychodrel_resolve.Tie as tie
@@ -26,13 +26,22 @@ same-length : tie.Need-same-length
 same-length c = search needs
 
 returns : tie.Need-returns
-returns c = resolve-given (c .before .before .before .before .before .before .before .before .request-files .result) (c .before .before .before .before .before .before .before .before .before .before .before .before .before .args .files .now) _ _ (c .before .before .before .before .before .before .before .before .request-files .ensures) (c .before .before .before .before .before .enum-told .given .1) (c .before .before .resolve-in .ensures)
+returns c =
+    let c5 = c .before .before .before .before .before in
+    let c8 = c5 .before .before .before in
+    let c13 = c8 .before .before .before .before .before in
+    resolve-given (c8 .request-files .result) (c13 .args .files .now) _ _ (c8 .request-files .ensures) (c5 .enum-told .given .1) (c .before .before .resolve-in .ensures)
 
 same-length-2 : tie.Need-same-length-2
 same-length-2 c = search needs
 
 returns-2 : tie.Need-returns-2
-returns-2 c = resolve-refused (c .before .before .before .before .before .before .before .before .before .request-files .result) (c .before .before .before .before .before .before .before .before .before .before .before .before .before .before .args .files .now) _ (c .before .before .before .before .before .before .before .before .before .before .before .before .before .before .args .list .now) (c .before .before .before .before .before .before .before .before .before .request-files .ensures) (c .before .before .before .before .before .before .enum-told2 .given .1) (c .refuse-files .ensures) (c .before .before .before .before .clear .ensures)
+returns-2 c =
+    let c4 = c .before .before .before .before in
+    let c6 = c4 .before .before in
+    let c9 = c6 .before .before .before in
+    let c14 = c9 .before .before .before .before .before in
+    resolve-refused (c9 .request-files .result) (c14 .args .files .now) _ (c14 .args .list .now) (c9 .request-files .ensures) (c6 .enum-told2 .given .1) (c .refuse-files .ensures) (c4 .clear .ensures)
 
 pub tychodrel-resolve-spec : {M : Type 1} → statement M
 tychodrel-resolve-spec =

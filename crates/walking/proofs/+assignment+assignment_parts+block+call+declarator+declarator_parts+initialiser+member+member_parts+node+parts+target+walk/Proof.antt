@@ -9,7 +9,7 @@ use mathlib.Core.Path.{_≡_}
 use Rattle.tree.specs.declared.layout.Reach.the-variants.{Upto}
 use Rattle.tree.specs.Access.{fixedAt}
 use Rattle.tree.proofs.AccessLaws.{extent-upto, upto-in}
-use Rattle.lent.specs.Table.{atomsIn, rowsIn}
+use Rattle.inputs.specs.Table.{atomsIn, rowsIn}
 use Rattle.extraction_rules.specs.Walk.{walk as walk-rule, walkMember, walkAssignment, walkTarget}
 use Rattle.expressions.specs.Require.{literalBy}
 use Rattle.steps.specs.Step.{passOf, identBy}
@@ -18,7 +18,7 @@ use Rattle.walking.specs.Walking.{set, placeIn}
 use Rattle.walking.proofs.RowLaws.{member-more, assignment-more, member-none, assignment-none, row-over, row-then, row-turned, Going, going-start, going-over, going-more, going-turned}
 use Rattle.walking.proofs.NodeLaws.{walk-short, node-plain, node-64, node-66, node-45, node-42, node-target, node-23}
 use Rattle.walking.proofs.ExpressionLaws.{tells-as, member-ident, member-other, member-used, member-turned}
-use Rattle.walking.proofs.CallLaws.{call-second, call-plain, call-turned, call-required}
+use Rattle.walking.proofs.CallWalkLaws.{call-second, call-plain, call-turned, call-required}
 use Rattle.walking.proofs.DeclaratorLaws.{behind-over, behind-plain, behind-turned, behind-required, declared-over, declared-then, declared-turned}
 use Prim.Native.Nat.{ℕ, _<_}
 use borrow.Fn.Kinds.{In}
@@ -66,8 +66,8 @@ use Rattle.expressions.proofs.ident.ident_after.Reads as ident-after-reads
 use Rattle.expressions.proofs.require.required_at.Reads as required-at-reads
 use Rattle.expressions.proofs.usages.usage.Reads as usage-reads
 use Rattle.imports.proofs.export.export_specifier.Reads as export-specifier-reads
-use Rattle.kept.proofs.ident.put_ident.Reads as put-ident-reads
-use Rattle.kept.proofs.rest.set_top.Reads as set-top-reads
+use Rattle.state.proofs.ident.put_ident.Reads as put-ident-reads
+use Rattle.state.proofs.rest.set_top.Reads as set-top-reads
 use Rattle.steps.proofs.begin_field.Reads as begin-field-reads
 use Rattle.steps.proofs.end_field.Reads as end-field-reads
 use Rattle.tree.proofs.access.extent.Reads as extent-reads
@@ -270,13 +270,34 @@ abbrev target-knows : ℕ → target-lts.Claims
 target-knows t = (fixed-reads.Asked, fixed-reads.Learnt, begin-field-reads.Asked, begin-field-reads.Learnt, member-parts-below t, member-parts.Post, end-field-reads.Asked, end-field-reads.Learnt)
 
 abbrev walk-knows : ℕ → walk-lts.Claims
-walk-knows t = (fixed-reads.Asked, fixed-reads.Learnt, export-specifier-reads.Asked, export-specifier-reads.Learnt, declarator-below t, declarator.Post, block-below t, block.Post, ident-reads.Asked, ident-reads.Learnt, member-below t, member.Post, node-below t, node.Post, call-below t, call.Post, assignment-below t, assignment.Post)
+walk-knows t = (
+  fixed-reads.Asked,
+  fixed-reads.Learnt,
+  export-specifier-reads.Asked,
+  export-specifier-reads.Learnt,
+  declarator-below t,
+  declarator.Post,
+  block-below t,
+  block.Post,
+  ident-reads.Asked,
+  ident-reads.Learnt,
+  member-below t,
+  member.Post,
+  node-below t,
+  node.Post,
+  call-below t,
+  call.Post,
+  assignment-below t,
+  assignment.Post,
+)
 
 assignment-begin-field-requires : (t : ℕ) → assignment-lts.Need-begin-field-requires (assignment-knows t) (assignment-at t) assignment.Post
 assignment-begin-field-requires t c κs = omega arith
 
 assignment-assignment-parts-requires : (t : ℕ) → assignment-lts.Need-assignment-parts-requires (assignment-knows t) (assignment-at t) assignment.Post
-assignment-assignment-parts-requires t c κs = (omega arith, (omega arith, omega arith, c .before .before .before .before .before .before .before .before .before .before .before .pre .1 .3))
+assignment-assignment-parts-requires t c κs =
+    let c11 = c .before .before .before .before .before .before .before .before .before .before .before in
+    (omega arith, (omega arith, omega arith, c11 .pre .1 .3))
 
 assignment-end-field-requires : (t : ℕ) → assignment-lts.Need-end-field-requires (assignment-knows t) (assignment-at t) assignment.Post
 assignment-end-field-requires t c κs = search needs
@@ -288,7 +309,10 @@ assignment-same-length-2 : (t : ℕ) → assignment-lts.Need-same-length-2 (assi
 assignment-same-length-2 t c = omega arith
 
 assignment-returns : (t : ℕ) → assignment-lts.Need-returns (assignment-knows t) (assignment-at t) assignment.Post
-assignment-returns t c = steps-field (c .before .before .before .before .before .before .before .before .assignment-parts .result) (c .before .before .before .before .before .before .before .before .before .before .before .before .before .begin-field .ensures) (c .before .before .before .before .before .before .before .before .assignment-parts .ensures) (c .before .before .end-field .ensures)
+assignment-returns t c =
+    let c8 = c .before .before .before .before .before .before .before .before in
+    let c13 = c8 .before .before .before .before .before in
+    steps-field (c8 .assignment-parts .result) (c13 .begin-field .ensures) (c8 .assignment-parts .ensures) (c .before .before .end-field .ensures)
 
 assignment-parts-extent-requires : (t : ℕ) → assignment-parts-lts.Need-extent-requires (assignment-parts-knows t) (assignment-parts-at t) assignment-parts.Post
 assignment-parts-extent-requires t c κs = omega arith
@@ -300,16 +324,33 @@ assignment-parts-enum-told : (t : ℕ) → assignment-parts-lts.Need-enum-told (
 assignment-parts-enum-told t c = search needs
 
 assignment-parts-returns : (t : ℕ) → assignment-parts-lts.Need-returns (assignment-parts-knows t) (assignment-parts-at t) assignment-parts.Post
-assignment-parts-returns t c = row-over (c .before .before .before .before .before .before .before .before .args .e) (set (c .before .before .before .before .before .before .before .before .args .e) (c .before .before .before .before .before .before .before .before .args .externals .now) (c .before .before .before .before .before .before .before .before .args .table .now)) (λ i. omega (arith, c .before .before .before .before .before .before .before .shared-slice-known .given i)) (c .before .before .before .before .before .before .before .before .pre .1 .0) (λ fs p. walkAssignment fs (set (c .before .before .before .before .before .before .before .before .args .e) (c .before .before .before .before .before .before .before .before .args .externals .now) (c .before .before .before .before .before .before .before .before .args .table .now)) (c .before .before .before .before .before .before .before .before .args .object) p) (assignment-none (set (c .before .before .before .before .before .before .before .before .args .e) (c .before .before .before .before .before .before .before .before .args .externals .now) (c .before .before .before .before .before .before .before .before .args .table .now)) (c .before .before .before .before .before .before .before .before .args .object)) (sym (c .before .before .extent .ensures) ∙ c .enum-told .given .1) (c .before .before .before .before .before .before .before .before .pre .1 .2)
+assignment-parts-returns t c =
+    let c7 = c .before .before .before .before .before .before .before in
+    let c8 = c7 .before in
+    row-over (c8 .args .e) (set (c8 .args .e) (c8 .args .externals .now) (c8 .args .table .now)) (λ i. omega (arith, c7 .shared-slice-known .given i))
+    (c8 .pre .1 .0) (λ fs p. walkAssignment fs (set (c8 .args .e) (c8 .args .externals .now) (c8 .args .table .now)) (c8 .args .object) p)
+    (assignment-none (set (c8 .args .e) (c8 .args .externals .now) (c8 .args .table .now)) (c8 .args .object))
+    (sym (c .before .before .extent .ensures) ∙ c .enum-told .given .1) (c8 .pre .1 .2)
 
 assignment-parts-target-requires : (t : ℕ) → assignment-parts-lts.Need-target-requires (assignment-parts-knows t) (assignment-parts-at t) assignment-parts.Post
-assignment-parts-target-requires t c κs = let i = extent-upto (c .before .before .before .before .before .before .before .before .before .before .before .args .s .now) (c .before .before .before .before .before .before .before .before .before .before .before .args .from) (c .before .before .before .before .before .before .before .before .before .before .before .args .end) (c .before .before .before .before .before .before .before .before .before .before .before .pre .1 .0) (sym (c .before .before .before .before .before .extent .ensures) ∙ c .before .before .before .stop .given .1) in (omega arith, (omega arith, omega arith, c .before .before .before .before .before .before .before .before .before .before .before .pre .1 .2))
+assignment-parts-target-requires t c κs =
+    let c3 = c .before .before .before in
+    let c5 = c3 .before .before in
+    let c11 = c5 .before .before .before .before .before .before in
+    let i = extent-upto (c11 .args .s .now) (c11 .args .from) (c11 .args .end) (c11 .pre .1 .0) (sym (c5 .extent .ensures) ∙ c3 .stop .given .1) in
+    (omega arith, (omega arith, omega arith, c11 .pre .1 .2))
 
 assignment-parts-enum-known-p : (t : ℕ) → assignment-parts-lts.Need-enum-known-p (assignment-parts-knows t) (assignment-parts-at t) assignment-parts.Post
 assignment-parts-enum-known-p t c = search needs
 
 assignment-parts-parts-requires : (t : ℕ) → assignment-parts-lts.Need-parts-requires (assignment-parts-knows t) (assignment-parts-at t) assignment-parts.Post
-assignment-parts-parts-requires t c κs = let i = extent-upto (c .before .before .before .before .before .before .before .before .before .before .before .before .before .before .before .before .before .before .before .before .before .args .s .now) (c .before .before .before .before .before .before .before .before .before .before .before .before .before .before .before .before .before .before .before .before .before .args .from) (c .before .before .before .before .before .before .before .before .before .before .before .before .before .before .before .before .before .before .before .before .before .args .end) (c .before .before .before .before .before .before .before .before .before .before .before .before .before .before .before .before .before .before .before .before .before .pre .1 .0) (sym (c .before .before .before .before .before .before .before .before .before .before .before .before .before .before .before .extent .ensures) ∙ c .before .before .before .before .before .before .before .before .before .before .before .before .before .stop .given .1) in (omega arith, (omega arith, omega arith, c .before .before .before .before .before .before .before .before .before .target .ensures .good))
+assignment-parts-parts-requires t c κs =
+    let c9 = c .before .before .before .before .before .before .before .before .before in
+    let c13 = c9 .before .before .before .before in
+    let c15 = c13 .before .before in
+    let c21 = c15 .before .before .before .before .before .before in
+    let i = extent-upto (c21 .args .s .now) (c21 .args .from) (c21 .args .end) (c21 .pre .1 .0) (sym (c15 .extent .ensures) ∙ c13 .stop .given .1) in
+    (omega arith, (omega arith, omega arith, c9 .target .ensures .good))
 
 assignment-parts-enum-known-why : (t : ℕ) → assignment-parts-lts.Need-enum-known-why (assignment-parts-knows t) (assignment-parts-at t) assignment-parts.Post
 assignment-parts-enum-known-why t c = search needs
@@ -321,7 +362,20 @@ assignment-parts-same-length-2 : (t : ℕ) → assignment-parts-lts.Need-same-le
 assignment-parts-same-length-2 t c = omega arith
 
 assignment-parts-returns-2 : (t : ℕ) → assignment-parts-lts.Need-returns-2 (assignment-parts-knows t) (assignment-parts-at t) assignment-parts.Post
-assignment-parts-returns-2 t c = row-then (c .before .before .before .before .before .before .before .before .before .before .before .before .before .before .before .before .before .before .before .before .before .before .before .before .before .before .args .e) (set (c .before .before .before .before .before .before .before .before .before .before .before .before .before .before .before .before .before .before .before .before .before .before .before .before .before .before .args .e) (c .before .before .before .before .before .before .before .before .before .before .before .before .before .before .before .before .before .before .before .before .before .before .before .before .before .before .args .externals .now) (c .before .before .before .before .before .before .before .before .before .before .before .before .before .before .before .before .before .before .before .before .before .before .before .before .before .before .args .table .now)) (λ i. omega (arith, c .before .before .before .before .before .before .before .before .before .before .before .before .before .before .before .before .before .before .before .before .before .before .before .before .before .shared-slice-known .given i)) (c .before .before .before .before .before .before .before .before .before .before .before .before .before .before .before .before .before .before .before .before .before .before .before .before .before .before .pre .1 .0) (sym (c .before .before .before .before .before .before .before .before .before .before .before .before .before .before .before .before .before .before .before .before .extent .ensures) ∙ c .before .before .before .before .before .before .before .before .before .before .before .before .before .before .before .before .before .before .stop .given .1) (λ fs p. walkAssignment fs (set (c .before .before .before .before .before .before .before .before .before .before .before .before .before .before .before .before .before .before .before .before .before .before .before .before .before .before .args .e) (c .before .before .before .before .before .before .before .before .before .before .before .before .before .before .before .before .before .before .before .before .before .before .before .before .before .before .args .externals .now) (c .before .before .before .before .before .before .before .before .before .before .before .before .before .before .before .before .before .before .before .before .before .before .before .before .before .before .args .table .now)) (c .before .before .before .before .before .before .before .before .before .before .before .before .before .before .before .before .before .before .before .before .before .before .before .before .before .before .args .object) p) (λ f p. walkTarget f (set (c .before .before .before .before .before .before .before .before .before .before .before .before .before .before .before .before .before .before .before .before .before .before .before .before .before .before .args .e) (c .before .before .before .before .before .before .before .before .before .before .before .before .before .before .before .before .before .before .before .before .before .before .before .before .before .before .args .externals .now) (c .before .before .before .before .before .before .before .before .before .before .before .before .before .before .before .before .before .before .before .before .before .before .before .before .before .before .args .table .now)) p) (c .before .before .before .before .before .before .before .before .before .before .before .before .before .before .before .before .before .before .before .before .before .before .before .before .before .before .args .object) (assignment-more (set (c .before .before .before .before .before .before .before .before .before .before .before .before .before .before .before .before .before .before .before .before .before .before .before .before .before .before .args .e) (c .before .before .before .before .before .before .before .before .before .before .before .before .before .before .before .before .before .before .before .before .before .before .before .before .before .before .args .externals .now) (c .before .before .before .before .before .before .before .before .before .before .before .before .before .before .before .before .before .before .before .before .before .before .before .before .before .before .args .table .now)) (c .before .before .before .before .before .before .before .before .before .before .before .before .before .before .before .before .before .before .before .before .before .before .before .before .before .before .args .object)) (steps-is (c .before .before .before .before .before .before .before .before .before .before .before .before .before .before .target .ensures) (c .before .before .before .before .before .before .before .before .p .given .1)) (c .before .before .before .before .parts .ensures)
+assignment-parts-returns-2 t c =
+    let c4 = c .before .before .before .before in
+    let c8 = c4 .before .before .before .before in
+    let c14 = c8 .before .before .before .before .before .before in
+    let c18 = c14 .before .before .before .before in
+    let c20 = c18 .before .before in
+    let c25 = c20 .before .before .before .before .before in
+    let c26 = c25 .before in
+    row-then (c26 .args .e) (set (c26 .args .e) (c26 .args .externals .now) (c26 .args .table .now))
+    (λ i. omega (arith, c25 .shared-slice-known .given i)) (c26 .pre .1 .0) (sym (c20 .extent .ensures) ∙ c18 .stop .given .1)
+    (λ fs p. walkAssignment fs (set (c26 .args .e) (c26 .args .externals .now) (c26 .args .table .now)) (c26 .args .object) p)
+    (λ f p. walkTarget f (set (c26 .args .e) (c26 .args .externals .now) (c26 .args .table .now)) p) (c26 .args .object)
+    (assignment-more (set (c26 .args .e) (c26 .args .externals .now) (c26 .args .table .now)) (c26 .args .object))
+    (steps-is (c14 .target .ensures) (c8 .p .given .1)) (c4 .parts .ensures)
 
 assignment-parts-same-length-3 : (t : ℕ) → assignment-parts-lts.Need-same-length-3 (assignment-parts-knows t) (assignment-parts-at t) assignment-parts.Post
 assignment-parts-same-length-3 t c = omega arith
@@ -330,7 +384,18 @@ assignment-parts-same-length-4 : (t : ℕ) → assignment-parts-lts.Need-same-le
 assignment-parts-same-length-4 t c = omega arith
 
 assignment-parts-returns-3 : (t : ℕ) → assignment-parts-lts.Need-returns-3 (assignment-parts-knows t) (assignment-parts-at t) assignment-parts.Post
-assignment-parts-returns-3 t c = row-turned (c .before .before .before .before .before .before .before .before .before .before .before .before .before .before .before .before .before .before .before .args .e) (set (c .before .before .before .before .before .before .before .before .before .before .before .before .before .before .before .before .before .before .before .args .e) (c .before .before .before .before .before .before .before .before .before .before .before .before .before .before .before .before .before .before .before .args .externals .now) (c .before .before .before .before .before .before .before .before .before .before .before .before .before .before .before .before .before .before .before .args .table .now)) (λ i. omega (arith, c .before .before .before .before .before .before .before .before .before .before .before .before .before .before .before .before .before .before .shared-slice-known .given i)) (c .before .before .before .before .before .before .before .before .before .before .before .before .before .before .before .before .before .before .before .pre .1 .0) (sym (c .before .before .before .before .before .before .before .before .before .before .before .before .before .extent .ensures) ∙ c .before .before .before .before .before .before .before .before .before .before .before .stop .given .1) (λ fs p. walkAssignment fs (set (c .before .before .before .before .before .before .before .before .before .before .before .before .before .before .before .before .before .before .before .args .e) (c .before .before .before .before .before .before .before .before .before .before .before .before .before .before .before .before .before .before .before .args .externals .now) (c .before .before .before .before .before .before .before .before .before .before .before .before .before .before .before .before .before .before .before .args .table .now)) (c .before .before .before .before .before .before .before .before .before .before .before .before .before .before .before .before .before .before .before .args .object) p) (λ f p. walkTarget f (set (c .before .before .before .before .before .before .before .before .before .before .before .before .before .before .before .before .before .before .before .args .e) (c .before .before .before .before .before .before .before .before .before .before .before .before .before .before .before .before .before .before .before .args .externals .now) (c .before .before .before .before .before .before .before .before .before .before .before .before .before .before .before .before .before .before .before .args .table .now)) p) (c .before .before .before .before .before .before .before .before .before .before .before .before .before .before .before .before .before .before .before .args .object) (assignment-more (set (c .before .before .before .before .before .before .before .before .before .before .before .before .before .before .before .before .before .before .before .args .e) (c .before .before .before .before .before .before .before .before .before .before .before .before .before .before .before .before .before .before .before .args .externals .now) (c .before .before .before .before .before .before .before .before .before .before .before .before .before .before .before .before .before .before .before .args .table .now)) (c .before .before .before .before .before .before .before .before .before .before .before .before .before .before .before .before .before .before .before .args .object)) (steps-is (c .before .before .before .before .before .before .before .target .ensures) (c .before .why .given .1))
+assignment-parts-returns-3 t c =
+    let c7 = c .before .before .before .before .before .before .before in
+    let c11 = c7 .before .before .before .before in
+    let c13 = c11 .before .before in
+    let c18 = c13 .before .before .before .before .before in
+    let c19 = c18 .before in
+    row-turned (c19 .args .e) (set (c19 .args .e) (c19 .args .externals .now) (c19 .args .table .now))
+    (λ i. omega (arith, c18 .shared-slice-known .given i)) (c19 .pre .1 .0) (sym (c13 .extent .ensures) ∙ c11 .stop .given .1)
+    (λ fs p. walkAssignment fs (set (c19 .args .e) (c19 .args .externals .now) (c19 .args .table .now)) (c19 .args .object) p)
+    (λ f p. walkTarget f (set (c19 .args .e) (c19 .args .externals .now) (c19 .args .table .now)) p) (c19 .args .object)
+    (assignment-more (set (c19 .args .e) (c19 .args .externals .now) (c19 .args .table .now)) (c19 .args .object))
+    (steps-is (c7 .target .ensures) (c .before .why .given .1))
 
 block-set-top-requires : (t : ℕ) → block-lts.Need-set-top-requires (block-knows t) (block-at t) block.Post
 block-set-top-requires t c κs = c .before .before .before .before .before .before .pre .1 .5
@@ -345,13 +410,21 @@ block-same-length-2 : (t : ℕ) → block-lts.Need-same-length-2 (block-knows t)
 block-same-length-2 t c = omega arith
 
 block-returns : (t : ℕ) → block-lts.Need-returns (block-knows t) (block-at t) block.Post
-block-returns t c = node-45 (c .before .before .before .before .before .before .before .before .before .before .before .before .before .before .before .before .args .e) (set (c .before .before .before .before .before .before .before .before .before .before .before .before .before .before .before .before .args .e) (c .before .before .before .before .before .before .before .before .before .before .before .before .before .before .before .before .args .externals .now) (c .before .before .before .before .before .before .before .before .before .before .before .before .before .before .before .before .args .table .now)) (c .before .before .before .before .before .before .before .before .before .before .before .before .before .before .before .before .args .object) (c .before .before .before .before .before .before .before .before .before .before .before .before .before .before .before .before .args .s .now) (c .before .before .before .before .before .before .before .before .before .before .before .before .before .before .before .before .args .at) (c .before .before .before .before .before .before .before .before .before .before .before .before .before .before .before .before .args .from) (c .before .before .before .before .before .before .before .before .before .before .before .before .before .before .before .before .args .stop) (omega arith) (c .before .before .before .before .before .before .before .before .before .before .before .before .before .before .before .before .pre .1 .3) (c .before .before .before .before .before .before .before .before .before .before .before .before .before .before .before .before .pre .1 .4) (c .before .before .before .before .before .before .before .before .before .before .before .before .before .before .before .before .pre .1 .0) (c .before .before .before .before .before .before .before .before .before .set-top .ensures) (c .before .before .before .before .node .ensures)
+block-returns t c =
+    let c4 = c .before .before .before .before in
+    let c9 = c4 .before .before .before .before .before in
+    let c16 = c9 .before .before .before .before .before .before .before in
+    node-45 (c16 .args .e) (set (c16 .args .e) (c16 .args .externals .now) (c16 .args .table .now)) (c16 .args .object) (c16 .args .s .now)
+    (c16 .args .at) (c16 .args .from) (c16 .args .stop) (omega arith) (c16 .pre .1 .3) (c16 .pre .1 .4) (c16 .pre .1 .0) (c9 .set-top .ensures)
+    (c4 .node .ensures)
 
 call-add-node : (t : ℕ) → call-lts.Need-add-node (call-knows t) (call-at t) call.Post
 call-add-node t c = omega arith
 
 call-node-requires : (t : ℕ) → call-lts.Need-node-requires (call-knows t) (call-at t) call.Post
-call-node-requires t c κs = (omega arith, (omega arith, omega arith, omega arith, c .before .before .before .before .before .before .before .before .pre .1 .3))
+call-node-requires t c κs =
+    let c8 = c .before .before .before .before .before .before .before .before in
+    (omega arith, (omega arith, omega arith, omega arith, c8 .pre .1 .3))
 
 call-same-length : (t : ℕ) → call-lts.Need-same-length (call-knows t) (call-at t) call.Post
 call-same-length t c = omega arith
@@ -360,7 +433,14 @@ call-same-length-2 : (t : ℕ) → call-lts.Need-same-length-2 (call-knows t) (c
 call-same-length-2 t c = omega arith
 
 call-returns : (t : ℕ) → call-lts.Need-returns (call-knows t) (call-at t) call.Post
-call-returns t c = call-second (c .before .before .before .before .before .before .before .before .before .before .before .before .before .args .e) (set (c .before .before .before .before .before .before .before .before .before .before .before .before .before .args .e) (c .before .before .before .before .before .before .before .before .before .before .before .before .before .args .externals .now) (c .before .before .before .before .before .before .before .before .before .before .before .before .before .args .table .now)) (c .before .before .before .before .before .before .before .before .before .before .before .before .before .args .object) (c .before .before .before .before .before .before .before .before .before .before .before .before .before .args .s .now) (λ i. omega (arith, c .before .before .before .before .before .before .before .before .before .before .before .before .shared-slice-known .given i)) (c .before .before .before .before .before .before .before .before .before .before .before .before .before .args .at) (c .before .before .before .before .before .before .before .before .before .before .before .before .before .args .stop) (c .before .before .before .before .before .before .before .before .before .before .before .before .before .pre .1 .1) (c .before .before .before .before .before .before .before .before .before .before .before .before .before .pre .1 .0) (ap passOf (c .before .before .before .before .before .before .before .if1 .taken)) (c .before .before .before .before .node .ensures)
+call-returns t c =
+    let c4 = c .before .before .before .before in
+    let c7 = c4 .before .before .before in
+    let c12 = c7 .before .before .before .before .before in
+    let c13 = c12 .before in
+    call-second (c13 .args .e) (set (c13 .args .e) (c13 .args .externals .now) (c13 .args .table .now)) (c13 .args .object) (c13 .args .s .now)
+    (λ i. omega (arith, c12 .shared-slice-known .given i)) (c13 .args .at) (c13 .args .stop) (c13 .pre .1 .1) (c13 .pre .1 .0)
+    (ap passOf (c7 .if1 .taken)) (c4 .node .ensures)
 
 call-required-at-requires : (t : ℕ) → call-lts.Need-required-at-requires (call-knows t) (call-at t) call.Post
 call-required-at-requires t c κs = (omega arith, omega arith, c .before .before .before .before .before .before .before .pre .1 .3)
@@ -375,7 +455,9 @@ call-add-node-2 : (t : ℕ) → call-lts.Need-add-node-2 (call-knows t) (call-at
 call-add-node-2 t c = omega arith
 
 call-node-requires-2 : (t : ℕ) → call-lts.Need-node-requires-2 (call-knows t) (call-at t) call.Post
-call-node-requires-2 t c κs = (omega arith, (omega arith, omega arith, omega arith, c .before .before .before .before .before .before .before .before .before .before .before .before .pre .1 .3))
+call-node-requires-2 t c κs =
+    let c12 = c .before .before .before .before .before .before .before .before .before .before .before .before in
+    (omega arith, (omega arith, omega arith, omega arith, c12 .pre .1 .3))
 
 call-same-length-3 : (t : ℕ) → call-lts.Need-same-length-3 (call-knows t) (call-at t) call.Post
 call-same-length-3 t c = omega arith
@@ -384,19 +466,35 @@ call-same-length-4 : (t : ℕ) → call-lts.Need-same-length-4 (call-knows t) (c
 call-same-length-4 t c = omega arith
 
 call-returns-2 : (t : ℕ) → call-lts.Need-returns-2 (call-knows t) (call-at t) call.Post
-call-returns-2 t c = call-plain (c .before .before .before .before .before .before .before .before .before .before .before .before .before .before .before .before .before .args .e) (set (c .before .before .before .before .before .before .before .before .before .before .before .before .before .before .before .before .before .args .e) (c .before .before .before .before .before .before .before .before .before .before .before .before .before .before .before .before .before .args .externals .now) (c .before .before .before .before .before .before .before .before .before .before .before .before .before .before .before .before .before .args .table .now)) (c .before .before .before .before .before .before .before .before .before .before .before .before .before .before .before .before .before .args .object) (c .before .before .before .before .before .before .before .before .before .before .before .before .before .before .before .before .before .args .s .now) (λ i. omega (arith, c .before .before .before .before .before .before .before .before .before .before .before .before .before .before .before .before .shared-slice-known .given i)) (c .before .before .before .before .before .before .before .before .before .before .before .before .before .before .before .before .before .args .at) (c .before .before .before .before .before .before .before .before .before .before .before .before .before .before .before .before .before .args .stop) (c .before .before .before .before .before .before .before .before .before .before .before .before .before .before .before .before .before .pre .1 .1) (c .before .before .before .before .before .before .before .before .before .before .before .before .before .before .before .before .before .pre .1 .0) (ap passOf (c .before .before .before .before .before .before .before .before .before .before .before .if1 .left)) (tells-as (c .before .before .before .before .before .before .before .before .before .required-at .ensures .1 (rowsIn (c .before .before .before .before .before .before .before .before .before .before .before .before .before .before .before .before .before .args .table .now))) (ap literalBy (c .before .before .before .before .before .before .before .enum-told .given .1))) (c .before .before .before .before .node2 .ensures)
+call-returns-2 t c =
+    let c4 = c .before .before .before .before in
+    let c7 = c4 .before .before .before in
+    let c9 = c7 .before .before in
+    let c11 = c9 .before .before in
+    let c16 = c11 .before .before .before .before .before in
+    let c17 = c16 .before in
+    call-plain (c17 .args .e) (set (c17 .args .e) (c17 .args .externals .now) (c17 .args .table .now)) (c17 .args .object) (c17 .args .s .now)
+    (λ i. omega (arith, c16 .shared-slice-known .given i)) (c17 .args .at) (c17 .args .stop) (c17 .pre .1 .1) (c17 .pre .1 .0)
+    (ap passOf (c11 .if1 .left))
+    (tells-as (c9 .required-at .ensures .1 (rowsIn (c17 .args .table .now))) (ap literalBy (c7 .enum-told .given .1))) (c4 .node2 .ensures)
 
 call-add-node-3 : (t : ℕ) → call-lts.Need-add-node-3 (call-knows t) (call-at t) call.Post
 call-add-node-3 t c = omega arith
 
 call-node-requires-3 : (t : ℕ) → call-lts.Need-node-requires-3 (call-knows t) (call-at t) call.Post
-call-node-requires-3 t c κs = (omega arith, (omega arith, omega arith, omega arith, c .before .before .before .before .before .before .before .before .before .before .before .before .before .pre .1 .3))
+call-node-requires-3 t c κs =
+    let c13 = c .before .before .before .before .before .before .before .before .before .before .before .before .before in
+    (omega arith, (omega arith, omega arith, omega arith, c13 .pre .1 .3))
 
 call-enum-known-p : (t : ℕ) → call-lts.Need-enum-known-p (call-knows t) (call-at t) call.Post
 call-enum-known-p t c = search needs
 
 call-require-requires : (t : ℕ) → call-lts.Need-require-requires (call-knows t) (call-at t) call.Post
-call-require-requires t c κs = (c .before .before .before .before .before .before .before .before .before .node3 .ensures .good, c .before .before .before .before .before .before .before .before .before .before .before .before .before .before .before .required-at .ensures .0 (c .before .before .before .before .before .before .before .before .before .before .before .before .before .literal .given .0 .0) (c .before .before .before .before .before .before .before .before .before .before .before .before .before .literal .given .1))
+call-require-requires t c κs =
+    let c9 = c .before .before .before .before .before .before .before .before .before in
+    let c13 = c9 .before .before .before .before in
+    let c15 = c13 .before .before in
+    (c9 .node3 .ensures .good, c15 .required-at .ensures .0 (c13 .literal .given .0 .0) (c13 .literal .given .1))
 
 call-enum-known-why : (t : ℕ) → call-lts.Need-enum-known-why (call-knows t) (call-at t) call.Post
 call-enum-known-why t c = search needs
@@ -408,7 +506,20 @@ call-same-length-6 : (t : ℕ) → call-lts.Need-same-length-6 (call-knows t) (c
 call-same-length-6 t c = omega arith
 
 call-returns-3 : (t : ℕ) → call-lts.Need-returns-3 (call-knows t) (call-at t) call.Post
-call-returns-3 t c = call-required (c .before .before .before .before .before .before .before .before .before .before .before .before .before .before .before .before .before .before .before .before .before .before .before .before .before .before .before .before .args .e) (set (c .before .before .before .before .before .before .before .before .before .before .before .before .before .before .before .before .before .before .before .before .before .before .before .before .before .before .before .before .args .e) (c .before .before .before .before .before .before .before .before .before .before .before .before .before .before .before .before .before .before .before .before .before .before .before .before .before .before .before .before .args .externals .now) (c .before .before .before .before .before .before .before .before .before .before .before .before .before .before .before .before .before .before .before .before .before .before .before .before .before .before .before .before .args .table .now)) (c .before .before .before .before .before .before .before .before .before .before .before .before .before .before .before .before .before .before .before .before .before .before .before .before .before .before .before .before .args .object) (c .before .before .before .before .before .before .before .before .before .before .before .before .before .before .before .before .before .before .before .before .before .before .before .before .before .before .before .before .args .s .now) (λ i. omega (arith, c .before .before .before .before .before .before .before .before .before .before .before .before .before .before .before .before .before .before .before .before .before .before .before .before .before .before .before .shared-slice-known .given i)) (c .before .before .before .before .before .before .before .before .before .before .before .before .before .before .before .before .before .before .before .before .before .before .before .before .before .before .before .before .args .at) (c .before .before .before .before .before .before .before .before .before .before .before .before .before .before .before .before .before .before .before .before .before .before .before .before .before .before .before .before .args .stop) (c .before .before .before .before .before .before .before .before .before .before .before .before .before .before .before .before .before .before .before .before .before .before .before .before .before .before .before .before .pre .1 .1) (c .before .before .before .before .before .before .before .before .before .before .before .before .before .before .before .before .before .before .before .before .before .before .before .before .before .before .before .before .pre .1 .0) (ap passOf (c .before .before .before .before .before .before .before .before .before .before .before .before .before .before .before .before .before .before .before .before .before .before .if1 .left)) (c .before .before .before .before .before .before .before .before .before .before .before .before .before .before .before .before .before .before .literal .given .0 .0) (tells-as (c .before .before .before .before .before .before .before .before .before .before .before .before .before .before .before .before .before .before .before .before .required-at .ensures .1 (rowsIn (c .before .before .before .before .before .before .before .before .before .before .before .before .before .before .before .before .before .before .before .before .before .before .before .before .before .before .before .before .args .table .now))) (ap literalBy (c .before .before .before .before .before .before .before .before .before .before .before .before .before .before .before .before .before .before .literal .given .1))) (steps-is (c .before .before .before .before .before .before .before .before .before .before .before .before .before .before .node3 .ensures) (c .before .before .before .before .before .before .before .before .p .given .1)) (c .before .before .before .before .require .ensures) (λ x r. r .nothing)
+call-returns-3 t c =
+    let c4 = c .before .before .before .before in
+    let c8 = c4 .before .before .before .before in
+    let c14 = c8 .before .before .before .before .before .before in
+    let c18 = c14 .before .before .before .before in
+    let c20 = c18 .before .before in
+    let c22 = c20 .before .before in
+    let c27 = c22 .before .before .before .before .before in
+    let c28 = c27 .before in
+    call-required (c28 .args .e) (set (c28 .args .e) (c28 .args .externals .now) (c28 .args .table .now)) (c28 .args .object) (c28 .args .s .now)
+    (λ i. omega (arith, c27 .shared-slice-known .given i)) (c28 .args .at) (c28 .args .stop) (c28 .pre .1 .1) (c28 .pre .1 .0)
+    (ap passOf (c22 .if1 .left)) (c18 .literal .given .0 .0)
+    (tells-as (c20 .required-at .ensures .1 (rowsIn (c28 .args .table .now))) (ap literalBy (c18 .literal .given .1)))
+    (steps-is (c14 .node3 .ensures) (c8 .p .given .1)) (c4 .require .ensures) (λ x r. r .nothing)
 
 call-same-length-7 : (t : ℕ) → call-lts.Need-same-length-7 (call-knows t) (call-at t) call.Post
 call-same-length-7 t c = omega arith
@@ -417,13 +528,22 @@ call-same-length-8 : (t : ℕ) → call-lts.Need-same-length-8 (call-knows t) (c
 call-same-length-8 t c = omega arith
 
 call-returns-4 : (t : ℕ) → call-lts.Need-returns-4 (call-knows t) (call-at t) call.Post
-call-returns-4 t c = call-turned (c .before .before .before .before .before .before .before .before .before .before .before .before .before .before .before .before .before .before .before .before .before .args .e) (set (c .before .before .before .before .before .before .before .before .before .before .before .before .before .before .before .before .before .before .before .before .before .args .e) (c .before .before .before .before .before .before .before .before .before .before .before .before .before .before .before .before .before .before .before .before .before .args .externals .now) (c .before .before .before .before .before .before .before .before .before .before .before .before .before .before .before .before .before .before .before .before .before .args .table .now)) (c .before .before .before .before .before .before .before .before .before .before .before .before .before .before .before .before .before .before .before .before .before .args .object) (c .before .before .before .before .before .before .before .before .before .before .before .before .before .before .before .before .before .before .before .before .before .args .s .now) (λ i. omega (arith, c .before .before .before .before .before .before .before .before .before .before .before .before .before .before .before .before .before .before .before .before .shared-slice-known .given i)) (c .before .before .before .before .before .before .before .before .before .before .before .before .before .before .before .before .before .before .before .before .before .args .at) (c .before .before .before .before .before .before .before .before .before .before .before .before .before .before .before .before .before .before .before .before .before .args .stop) (c .before .before .before .before .before .before .before .before .before .before .before .before .before .before .before .before .before .before .before .before .before .pre .1 .1) (c .before .before .before .before .before .before .before .before .before .before .before .before .before .before .before .before .before .before .before .before .before .pre .1 .0) (ap passOf (c .before .before .before .before .before .before .before .before .before .before .before .before .before .before .before .if1 .left)) (steps-is (c .before .before .before .before .before .before .before .node3 .ensures) (c .before .why .given .1))
+call-returns-4 t c =
+    let c7 = c .before .before .before .before .before .before .before in
+    let c15 = c7 .before .before .before .before .before .before .before .before in
+    let c20 = c15 .before .before .before .before .before in
+    let c21 = c20 .before in
+    call-turned (c21 .args .e) (set (c21 .args .e) (c21 .args .externals .now) (c21 .args .table .now)) (c21 .args .object) (c21 .args .s .now)
+    (λ i. omega (arith, c20 .shared-slice-known .given i)) (c21 .args .at) (c21 .args .stop) (c21 .pre .1 .1) (c21 .pre .1 .0)
+    (ap passOf (c15 .if1 .left)) (steps-is (c7 .node3 .ensures) (c .before .why .given .1))
 
 declarator-begin-field-requires : (t : ℕ) → declarator-lts.Need-begin-field-requires (declarator-knows t) (declarator-at t) declarator.Post
 declarator-begin-field-requires t c κs = omega arith
 
 declarator-declarator-parts-requires : (t : ℕ) → declarator-lts.Need-declarator-parts-requires (declarator-knows t) (declarator-at t) declarator.Post
-declarator-declarator-parts-requires t c κs = (omega arith, (omega arith, omega arith, omega arith, c .before .before .before .before .before .before .before .before .before .before .before .pre .1 .3))
+declarator-declarator-parts-requires t c κs =
+    let c11 = c .before .before .before .before .before .before .before .before .before .before .before in
+    (omega arith, (omega arith, omega arith, omega arith, c11 .pre .1 .3))
 
 declarator-end-field-requires : (t : ℕ) → declarator-lts.Need-end-field-requires (declarator-knows t) (declarator-at t) declarator.Post
 declarator-end-field-requires t c κs = search needs
@@ -435,7 +555,10 @@ declarator-same-length-2 : (t : ℕ) → declarator-lts.Need-same-length-2 (decl
 declarator-same-length-2 t c = omega arith
 
 declarator-returns : (t : ℕ) → declarator-lts.Need-returns (declarator-knows t) (declarator-at t) declarator.Post
-declarator-returns t c = steps-field (c .before .before .before .before .before .before .before .before .declarator-parts .result) (c .before .before .before .before .before .before .before .before .before .before .before .before .before .begin-field .ensures) (c .before .before .before .before .before .before .before .before .declarator-parts .ensures) (c .before .before .end-field .ensures)
+declarator-returns t c =
+    let c8 = c .before .before .before .before .before .before .before .before in
+    let c13 = c8 .before .before .before .before .before in
+    steps-field (c8 .declarator-parts .result) (c13 .begin-field .ensures) (c8 .declarator-parts .ensures) (c .before .before .end-field .ensures)
 
 declarator-parts-extent-requires : (t : ℕ) → declarator-parts-lts.Need-extent-requires (declarator-parts-knows t) (declarator-parts-at t) declarator-parts.Post
 declarator-parts-extent-requires t c κs = omega arith
@@ -447,16 +570,32 @@ declarator-parts-enum-told : (t : ℕ) → declarator-parts-lts.Need-enum-told (
 declarator-parts-enum-told t c = search needs
 
 declarator-parts-returns : (t : ℕ) → declarator-parts-lts.Need-returns (declarator-parts-knows t) (declarator-parts-at t) declarator-parts.Post
-declarator-parts-returns t c = declared-over (c .before .before .before .before .before .before .before .before .args .e) (set (c .before .before .before .before .before .before .before .before .args .e) (c .before .before .before .before .before .before .before .before .args .externals .now) (c .before .before .before .before .before .before .before .before .args .table .now)) (c .before .before .before .before .before .before .before .before .args .object) (c .before .before .before .before .before .before .before .before .args .s .now) (λ i. omega (arith, c .before .before .before .before .before .before .before .shared-slice-known .given i)) (c .before .before .before .before .before .before .before .before .args .from) (c .before .before .before .before .before .before .before .before .args .end) (c .before .before .before .before .before .before .before .before .args .at) (c .before .before .before .before .before .before .before .before .pre .1 .1) (sym (c .before .before .extent .ensures) ∙ c .enum-told .given .1) (c .before .before .before .before .before .before .before .before .pre .1 .3)
+declarator-parts-returns t c =
+    let c7 = c .before .before .before .before .before .before .before in
+    let c8 = c7 .before in
+    declared-over (c8 .args .e) (set (c8 .args .e) (c8 .args .externals .now) (c8 .args .table .now)) (c8 .args .object) (c8 .args .s .now)
+    (λ i. omega (arith, c7 .shared-slice-known .given i)) (c8 .args .from) (c8 .args .end) (c8 .args .at) (c8 .pre .1 .1)
+    (sym (c .before .before .extent .ensures) ∙ c .enum-told .given .1) (c8 .pre .1 .3)
 
 declarator-parts-walk-requires : (t : ℕ) → declarator-parts-lts.Need-walk-requires (declarator-parts-knows t) (declarator-parts-at t) declarator-parts.Post
-declarator-parts-walk-requires t c κs = let i = extent-upto (c .before .before .before .before .before .before .before .before .before .before .before .args .s .now) (c .before .before .before .before .before .before .before .before .before .before .before .args .from) (c .before .before .before .before .before .before .before .before .before .before .before .args .end) (c .before .before .before .before .before .before .before .before .before .before .before .pre .1 .1) (sym (c .before .before .before .before .before .extent .ensures) ∙ c .before .before .before .stop .given .1) in (omega arith, (omega arith, omega arith, c .before .before .before .before .before .before .before .before .before .before .before .pre .1 .3))
+declarator-parts-walk-requires t c κs =
+    let c3 = c .before .before .before in
+    let c5 = c3 .before .before in
+    let c11 = c5 .before .before .before .before .before .before in
+    let i = extent-upto (c11 .args .s .now) (c11 .args .from) (c11 .args .end) (c11 .pre .1 .1) (sym (c5 .extent .ensures) ∙ c3 .stop .given .1) in
+    (omega arith, (omega arith, omega arith, c11 .pre .1 .3))
 
 declarator-parts-enum-known-p : (t : ℕ) → declarator-parts-lts.Need-enum-known-p (declarator-parts-knows t) (declarator-parts-at t) declarator-parts.Post
 declarator-parts-enum-known-p t c = search needs
 
 declarator-parts-initialiser-requires : (t : ℕ) → declarator-parts-lts.Need-initialiser-requires (declarator-parts-knows t) (declarator-parts-at t) declarator-parts.Post
-declarator-parts-initialiser-requires t c κs = let i = extent-upto (c .before .before .before .before .before .before .before .before .before .before .before .before .before .before .before .before .before .before .before .before .before .args .s .now) (c .before .before .before .before .before .before .before .before .before .before .before .before .before .before .before .before .before .before .before .before .before .args .from) (c .before .before .before .before .before .before .before .before .before .before .before .before .before .before .before .before .before .before .before .before .before .args .end) (c .before .before .before .before .before .before .before .before .before .before .before .before .before .before .before .before .before .before .before .before .before .pre .1 .1) (sym (c .before .before .before .before .before .before .before .before .before .before .before .before .before .before .before .extent .ensures) ∙ c .before .before .before .before .before .before .before .before .before .before .before .before .before .stop .given .1) in (omega arith, (omega arith, omega arith, c .before .before .before .before .before .before .before .before .before .walk .ensures .good))
+declarator-parts-initialiser-requires t c κs =
+    let c9 = c .before .before .before .before .before .before .before .before .before in
+    let c13 = c9 .before .before .before .before in
+    let c15 = c13 .before .before in
+    let c21 = c15 .before .before .before .before .before .before in
+    let i = extent-upto (c21 .args .s .now) (c21 .args .from) (c21 .args .end) (c21 .pre .1 .1) (sym (c15 .extent .ensures) ∙ c13 .stop .given .1) in
+    (omega arith, (omega arith, omega arith, c9 .walk .ensures .good))
 
 declarator-parts-enum-known-why : (t : ℕ) → declarator-parts-lts.Need-enum-known-why (declarator-parts-knows t) (declarator-parts-at t) declarator-parts.Post
 declarator-parts-enum-known-why t c = search needs
@@ -468,7 +607,18 @@ declarator-parts-same-length-2 : (t : ℕ) → declarator-parts-lts.Need-same-le
 declarator-parts-same-length-2 t c = omega arith
 
 declarator-parts-returns-2 : (t : ℕ) → declarator-parts-lts.Need-returns-2 (declarator-parts-knows t) (declarator-parts-at t) declarator-parts.Post
-declarator-parts-returns-2 t c = declared-then (c .before .before .before .before .before .before .before .before .before .before .before .before .before .before .before .before .before .before .before .before .before .before .before .before .before .before .args .e) (set (c .before .before .before .before .before .before .before .before .before .before .before .before .before .before .before .before .before .before .before .before .before .before .before .before .before .before .args .e) (c .before .before .before .before .before .before .before .before .before .before .before .before .before .before .before .before .before .before .before .before .before .before .before .before .before .before .args .externals .now) (c .before .before .before .before .before .before .before .before .before .before .before .before .before .before .before .before .before .before .before .before .before .before .before .before .before .before .args .table .now)) (c .before .before .before .before .before .before .before .before .before .before .before .before .before .before .before .before .before .before .before .before .before .before .before .before .before .before .args .object) (c .before .before .before .before .before .before .before .before .before .before .before .before .before .before .before .before .before .before .before .before .before .before .before .before .before .before .args .s .now) (λ i. omega (arith, c .before .before .before .before .before .before .before .before .before .before .before .before .before .before .before .before .before .before .before .before .before .before .before .before .before .shared-slice-known .given i)) (c .before .before .before .before .before .before .before .before .before .before .before .before .before .before .before .before .before .before .before .before .before .before .before .before .before .before .args .from) (c .before .before .before .before .before .before .before .before .before .before .before .before .before .before .before .before .before .before .before .before .before .before .before .before .before .before .args .end) (c .before .before .before .before .before .before .before .before .before .before .before .before .before .before .before .before .before .before .before .before .before .before .before .before .before .before .args .at) (c .before .before .before .before .before .before .before .before .before .before .before .before .before .before .before .before .before .before .before .before .before .before .before .before .before .before .pre .1 .1) (c .before .before .before .before .before .before .before .before .before .before .before .before .before .before .before .before .before .before .stop .given .0 .0) (sym (c .before .before .before .before .before .before .before .before .before .before .before .before .before .before .before .before .before .before .before .before .extent .ensures) ∙ c .before .before .before .before .before .before .before .before .before .before .before .before .before .before .before .before .before .before .stop .given .1) (omega (arith, c .before .before .before .before .before .before .before .before .before .before .before .before .before .before .before .before .before .before .before .before .before .before .before .before .before .before .pre .1 .0)) (steps-is (c .before .before .before .before .before .before .before .before .before .before .before .before .before .before .walk .ensures) (c .before .before .before .before .before .before .before .before .p .given .1)) (c .before .before .before .before .initialiser .ensures)
+declarator-parts-returns-2 t c =
+    let c4 = c .before .before .before .before in
+    let c8 = c4 .before .before .before .before in
+    let c14 = c8 .before .before .before .before .before .before in
+    let c18 = c14 .before .before .before .before in
+    let c20 = c18 .before .before in
+    let c25 = c20 .before .before .before .before .before in
+    let c26 = c25 .before in
+    declared-then (c26 .args .e) (set (c26 .args .e) (c26 .args .externals .now) (c26 .args .table .now)) (c26 .args .object) (c26 .args .s .now)
+    (λ i. omega (arith, c25 .shared-slice-known .given i)) (c26 .args .from) (c26 .args .end) (c26 .args .at) (c26 .pre .1 .1)
+    (c18 .stop .given .0 .0) (sym (c20 .extent .ensures) ∙ c18 .stop .given .1) (omega (arith, c26 .pre .1 .0))
+    (steps-is (c14 .walk .ensures) (c8 .p .given .1)) (c4 .initialiser .ensures)
 
 declarator-parts-same-length-3 : (t : ℕ) → declarator-parts-lts.Need-same-length-3 (declarator-parts-knows t) (declarator-parts-at t) declarator-parts.Post
 declarator-parts-same-length-3 t c = omega arith
@@ -477,7 +627,15 @@ declarator-parts-same-length-4 : (t : ℕ) → declarator-parts-lts.Need-same-le
 declarator-parts-same-length-4 t c = omega arith
 
 declarator-parts-returns-3 : (t : ℕ) → declarator-parts-lts.Need-returns-3 (declarator-parts-knows t) (declarator-parts-at t) declarator-parts.Post
-declarator-parts-returns-3 t c = declared-turned (c .before .before .before .before .before .before .before .before .before .before .before .before .before .before .before .before .before .before .before .args .e) (set (c .before .before .before .before .before .before .before .before .before .before .before .before .before .before .before .before .before .before .before .args .e) (c .before .before .before .before .before .before .before .before .before .before .before .before .before .before .before .before .before .before .before .args .externals .now) (c .before .before .before .before .before .before .before .before .before .before .before .before .before .before .before .before .before .before .before .args .table .now)) (c .before .before .before .before .before .before .before .before .before .before .before .before .before .before .before .before .before .before .before .args .object) (c .before .before .before .before .before .before .before .before .before .before .before .before .before .before .before .before .before .before .before .args .s .now) (λ i. omega (arith, c .before .before .before .before .before .before .before .before .before .before .before .before .before .before .before .before .before .before .shared-slice-known .given i)) (c .before .before .before .before .before .before .before .before .before .before .before .before .before .before .before .before .before .before .before .args .from) (c .before .before .before .before .before .before .before .before .before .before .before .before .before .before .before .before .before .before .before .args .end) (c .before .before .before .before .before .before .before .before .before .before .before .before .before .before .before .before .before .before .before .args .at) (c .before .before .before .before .before .before .before .before .before .before .before .before .before .before .before .before .before .before .before .pre .1 .1) (c .before .before .before .before .before .before .before .before .before .before .before .stop .given .0 .0) (sym (c .before .before .before .before .before .before .before .before .before .before .before .before .before .extent .ensures) ∙ c .before .before .before .before .before .before .before .before .before .before .before .stop .given .1) (steps-is (c .before .before .before .before .before .before .before .walk .ensures) (c .before .why .given .1))
+declarator-parts-returns-3 t c =
+    let c7 = c .before .before .before .before .before .before .before in
+    let c11 = c7 .before .before .before .before in
+    let c13 = c11 .before .before in
+    let c18 = c13 .before .before .before .before .before in
+    let c19 = c18 .before in
+    declared-turned (c19 .args .e) (set (c19 .args .e) (c19 .args .externals .now) (c19 .args .table .now)) (c19 .args .object) (c19 .args .s .now)
+    (λ i. omega (arith, c18 .shared-slice-known .given i)) (c19 .args .from) (c19 .args .end) (c19 .args .at) (c19 .pre .1 .1)
+    (c11 .stop .given .0 .0) (sym (c13 .extent .ensures) ∙ c11 .stop .given .1) (steps-is (c7 .walk .ensures) (c .before .why .given .1))
 
 initialiser-extent-requires : (t : ℕ) → initialiser-lts.Need-extent-requires (initialiser-knows t) (initialiser-at t) initialiser.Post
 initialiser-extent-requires t c κs = omega arith
@@ -489,10 +647,21 @@ initialiser-enum-told : (t : ℕ) → initialiser-lts.Need-enum-told (initialise
 initialiser-enum-told t c = search needs
 
 initialiser-returns : (t : ℕ) → initialiser-lts.Need-returns (initialiser-knows t) (initialiser-at t) initialiser.Post
-initialiser-returns t c = λ q. behind-over (c .before .before .before .before .before .before .before .before .args .e) (set (c .before .before .before .before .before .before .before .before .args .e) (c .before .before .before .before .before .before .before .before .args .externals .now) (c .before .before .before .before .before .before .before .before .args .table .now)) (c .before .before .before .before .before .before .before .before .args .object) (c .before .before .before .before .before .before .before .before .args .s .now) (λ i. omega (arith, c .before .before .before .before .before .before .before .shared-slice-known .given i)) (c .before .before .before .before .before .before .before .before .args .from) (c .before .before .before .before .before .before .before .before .args .end) (c .before .before .before .before .before .before .before .before .args .at) (placeIn (c .before .before .before .before .before .before .before .before .args .e .second) (c .before .before .before .before .before .before .before .before .args .pattern)) (c .before .before .before .before .before .before .before .before .pre .1 .0) q (sym (c .before .before .extent .ensures) ∙ c .enum-told .given .1) (c .before .before .before .before .before .before .before .before .pre .1 .2)
+initialiser-returns t c =
+    let c7 = c .before .before .before .before .before .before .before in
+    let c8 = c7 .before in
+    λ q. behind-over (c8 .args .e) (set (c8 .args .e) (c8 .args .externals .now) (c8 .args .table .now)) (c8 .args .object) (c8 .args .s .now)
+    (λ i. omega (arith, c7 .shared-slice-known .given i)) (c8 .args .from) (c8 .args .end) (c8 .args .at)
+    (placeIn (c8 .args .e .second) (c8 .args .pattern)) (c8 .pre .1 .0) q (sym (c .before .before .extent .ensures) ∙ c .enum-told .given .1)
+    (c8 .pre .1 .2)
 
 initialiser-required-at-requires : (t : ℕ) → initialiser-lts.Need-required-at-requires (initialiser-knows t) (initialiser-at t) initialiser.Post
-initialiser-required-at-requires t c κs = let i = extent-upto (c .before .before .before .before .before .before .before .before .before .before .args .s .now) (c .before .before .before .before .before .before .before .before .before .before .args .from) (c .before .before .before .before .before .before .before .before .before .before .args .end) (c .before .before .before .before .before .before .before .before .before .before .pre .1 .0) (sym (c .before .before .before .before .extent .ensures) ∙ c .before .before .stop .given .1) in (omega arith, omega arith, c .before .before .before .before .before .before .before .before .before .before .pre .1 .2)
+initialiser-required-at-requires t c κs =
+    let c4 = c .before .before .before .before in
+    let c10 = c4 .before .before .before .before .before .before in
+    let i =
+    extent-upto (c10 .args .s .now) (c10 .args .from) (c10 .args .end) (c10 .pre .1 .0)
+    (sym (c4 .extent .ensures) ∙ c .before .before .stop .given .1) in (omega arith, omega arith, c10 .pre .1 .2)
 
 initialiser-enum-known-literal : (t : ℕ) → initialiser-lts.Need-enum-known-literal (initialiser-knows t) (initialiser-at t) initialiser.Post
 initialiser-enum-known-literal t c = search needs
@@ -501,7 +670,9 @@ initialiser-enum-told-2 : (t : ℕ) → initialiser-lts.Need-enum-told-2 (initia
 initialiser-enum-told-2 t c = search needs
 
 initialiser-parts-requires : (t : ℕ) → initialiser-lts.Need-parts-requires (initialiser-knows t) (initialiser-at t) initialiser.Post
-initialiser-parts-requires t c κs = (omega arith, (omega arith, omega arith, c .before .before .before .before .before .before .before .before .before .before .before .before .before .before .before .pre .1 .2))
+initialiser-parts-requires t c κs =
+    let c15 = c .before .before .before .before .before .before .before .before .before .before .before .before .before .before .before in
+    (omega arith, (omega arith, omega arith, c15 .pre .1 .2))
 
 initialiser-same-length : (t : ℕ) → initialiser-lts.Need-same-length (initialiser-knows t) (initialiser-at t) initialiser.Post
 initialiser-same-length t c = omega arith
@@ -510,16 +681,34 @@ initialiser-same-length-2 : (t : ℕ) → initialiser-lts.Need-same-length-2 (in
 initialiser-same-length-2 t c = omega arith
 
 initialiser-returns-2 : (t : ℕ) → initialiser-lts.Need-returns-2 (initialiser-knows t) (initialiser-at t) initialiser.Post
-initialiser-returns-2 t c = λ q. behind-plain (c .before .before .before .before .before .before .before .before .before .before .before .before .before .before .before .before .before .before .before .before .args .e) (set (c .before .before .before .before .before .before .before .before .before .before .before .before .before .before .before .before .before .before .before .before .args .e) (c .before .before .before .before .before .before .before .before .before .before .before .before .before .before .before .before .before .before .before .before .args .externals .now) (c .before .before .before .before .before .before .before .before .before .before .before .before .before .before .before .before .before .before .before .before .args .table .now)) (c .before .before .before .before .before .before .before .before .before .before .before .before .before .before .before .before .before .before .before .before .args .object) (c .before .before .before .before .before .before .before .before .before .before .before .before .before .before .before .before .before .before .before .before .args .s .now) (λ i. omega (arith, c .before .before .before .before .before .before .before .before .before .before .before .before .before .before .before .before .before .before .before .shared-slice-known .given i)) (c .before .before .before .before .before .before .before .before .before .before .before .before .before .before .before .before .before .before .before .before .args .from) (c .before .before .before .before .before .before .before .before .before .before .before .before .before .before .before .before .before .before .before .before .args .end) (c .before .before .before .before .before .before .before .before .before .before .before .before .before .before .before .before .before .before .before .before .args .at) (placeIn (c .before .before .before .before .before .before .before .before .before .before .before .before .before .before .before .before .before .before .before .before .args .e .second) (c .before .before .before .before .before .before .before .before .before .before .before .before .before .before .before .before .before .before .before .before .args .pattern)) (c .before .before .before .before .before .before .before .before .before .before .before .before .before .before .before .before .before .before .before .before .pre .1 .0) q (c .before .before .before .before .before .before .before .before .before .before .before .before .stop .given .0 .0) (sym (c .before .before .before .before .before .before .before .before .before .before .before .before .before .before .extent .ensures) ∙ c .before .before .before .before .before .before .before .before .before .before .before .before .stop .given .1) (tells-as (c .before .before .before .before .before .before .before .before .before .required-at .ensures .1 (rowsIn (c .before .before .before .before .before .before .before .before .before .before .before .before .before .before .before .before .before .before .before .before .args .table .now))) (ap literalBy (c .before .before .before .before .before .before .before .enum-told2 .given .1))) (c .before .before .before .before .parts .ensures)
+initialiser-returns-2 t c =
+    let c4 = c .before .before .before .before in
+    let c7 = c4 .before .before .before in
+    let c9 = c7 .before .before in
+    let c12 = c9 .before .before .before in
+    let c14 = c12 .before .before in
+    let c19 = c14 .before .before .before .before .before in
+    let c20 = c19 .before in
+    λ q. behind-plain (c20 .args .e) (set (c20 .args .e) (c20 .args .externals .now) (c20 .args .table .now)) (c20 .args .object) (c20 .args .s .now)
+    (λ i. omega (arith, c19 .shared-slice-known .given i)) (c20 .args .from) (c20 .args .end) (c20 .args .at)
+    (placeIn (c20 .args .e .second) (c20 .args .pattern)) (c20 .pre .1 .0) q (c12 .stop .given .0 .0)
+    (sym (c14 .extent .ensures) ∙ c12 .stop .given .1)
+    (tells-as (c9 .required-at .ensures .1 (rowsIn (c20 .args .table .now))) (ap literalBy (c7 .enum-told2 .given .1))) (c4 .parts .ensures)
 
 initialiser-parts-requires-2 : (t : ℕ) → initialiser-lts.Need-parts-requires-2 (initialiser-knows t) (initialiser-at t) initialiser.Post
-initialiser-parts-requires-2 t c κs = (omega arith, (omega arith, omega arith, c .before .before .before .before .before .before .before .before .before .before .before .before .before .before .before .before .pre .1 .2))
+initialiser-parts-requires-2 t c κs =
+    let c16 = c .before .before .before .before .before .before .before .before .before .before .before .before .before .before .before .before in
+    (omega arith, (omega arith, omega arith, c16 .pre .1 .2))
 
 initialiser-enum-known-p : (t : ℕ) → initialiser-lts.Need-enum-known-p (initialiser-knows t) (initialiser-at t) initialiser.Post
 initialiser-enum-known-p t c = search needs
 
 initialiser-require-lazily-requires : (t : ℕ) → initialiser-lts.Need-require-lazily-requires (initialiser-knows t) (initialiser-at t) initialiser.Post
-initialiser-require-lazily-requires t c κs = (c .before .before .before .before .before .before .before .before .before .parts2 .ensures .good, c .before .before .before .before .before .before .before .before .before .before .before .before .before .before .before .required-at .ensures .0 (c .before .before .before .before .before .before .before .before .before .before .before .before .before .literal .given .0 .0) (c .before .before .before .before .before .before .before .before .before .before .before .before .before .literal .given .1))
+initialiser-require-lazily-requires t c κs =
+    let c9 = c .before .before .before .before .before .before .before .before .before in
+    let c13 = c9 .before .before .before .before in
+    let c15 = c13 .before .before in
+    (c9 .parts2 .ensures .good, c15 .required-at .ensures .0 (c13 .literal .given .0 .0) (c13 .literal .given .1))
 
 initialiser-enum-known-why : (t : ℕ) → initialiser-lts.Need-enum-known-why (initialiser-knows t) (initialiser-at t) initialiser.Post
 initialiser-enum-known-why t c = search needs
@@ -531,7 +720,22 @@ initialiser-same-length-4 : (t : ℕ) → initialiser-lts.Need-same-length-4 (in
 initialiser-same-length-4 t c = omega arith
 
 initialiser-returns-3 : (t : ℕ) → initialiser-lts.Need-returns-3 (initialiser-knows t) (initialiser-at t) initialiser.Post
-initialiser-returns-3 t c = λ q. behind-required (c .before .before .before .before .before .before .before .before .before .before .before .before .before .before .before .before .before .before .before .before .before .before .before .before .before .before .before .before .before .before .before .args .e) (set (c .before .before .before .before .before .before .before .before .before .before .before .before .before .before .before .before .before .before .before .before .before .before .before .before .before .before .before .before .before .before .before .args .e) (c .before .before .before .before .before .before .before .before .before .before .before .before .before .before .before .before .before .before .before .before .before .before .before .before .before .before .before .before .before .before .before .args .externals .now) (c .before .before .before .before .before .before .before .before .before .before .before .before .before .before .before .before .before .before .before .before .before .before .before .before .before .before .before .before .before .before .before .args .table .now)) (c .before .before .before .before .before .before .before .before .before .before .before .before .before .before .before .before .before .before .before .before .before .before .before .before .before .before .before .before .before .before .before .args .object) (c .before .before .before .before .before .before .before .before .before .before .before .before .before .before .before .before .before .before .before .before .before .before .before .before .before .before .before .before .before .before .before .args .s .now) (λ i. omega (arith, c .before .before .before .before .before .before .before .before .before .before .before .before .before .before .before .before .before .before .before .before .before .before .before .before .before .before .before .before .before .before .shared-slice-known .given i)) (c .before .before .before .before .before .before .before .before .before .before .before .before .before .before .before .before .before .before .before .before .before .before .before .before .before .before .before .before .before .before .before .args .from) (c .before .before .before .before .before .before .before .before .before .before .before .before .before .before .before .before .before .before .before .before .before .before .before .before .before .before .before .before .before .before .before .args .end) (c .before .before .before .before .before .before .before .before .before .before .before .before .before .before .before .before .before .before .before .before .before .before .before .before .before .before .before .before .before .before .before .args .at) (placeIn (c .before .before .before .before .before .before .before .before .before .before .before .before .before .before .before .before .before .before .before .before .before .before .before .before .before .before .before .before .before .before .before .args .e .second) (c .before .before .before .before .before .before .before .before .before .before .before .before .before .before .before .before .before .before .before .before .before .before .before .before .before .before .before .before .before .before .before .args .pattern)) (c .before .before .before .before .before .before .before .before .before .before .before .before .before .before .before .before .before .before .before .before .before .before .before .before .before .before .before .before .before .before .before .pre .1 .0) q (c .before .before .before .before .before .before .before .before .before .before .before .before .before .before .before .before .before .before .before .before .before .before .before .stop .given .0 .0) (sym (c .before .before .before .before .before .before .before .before .before .before .before .before .before .before .before .before .before .before .before .before .before .before .before .before .before .extent .ensures) ∙ c .before .before .before .before .before .before .before .before .before .before .before .before .before .before .before .before .before .before .before .before .before .before .before .stop .given .1) (c .before .before .before .before .before .before .before .before .before .before .before .before .before .before .before .before .before .before .literal .given .0 .0) (tells-as (c .before .before .before .before .before .before .before .before .before .before .before .before .before .before .before .before .before .before .before .before .required-at .ensures .1 (rowsIn (c .before .before .before .before .before .before .before .before .before .before .before .before .before .before .before .before .before .before .before .before .before .before .before .before .before .before .before .before .before .before .before .args .table .now))) (ap literalBy (c .before .before .before .before .before .before .before .before .before .before .before .before .before .before .before .before .before .before .literal .given .1))) (steps-is (c .before .before .before .before .before .before .before .before .before .before .before .before .before .before .parts2 .ensures) (c .before .before .before .before .before .before .before .before .p .given .1)) (c .before .before .before .before .require-lazily .ensures q)
+initialiser-returns-3 t c =
+    let c4 = c .before .before .before .before in
+    let c8 = c4 .before .before .before .before in
+    let c14 = c8 .before .before .before .before .before .before in
+    let c18 = c14 .before .before .before .before in
+    let c20 = c18 .before .before in
+    let c23 = c20 .before .before .before in
+    let c25 = c23 .before .before in
+    let c30 = c25 .before .before .before .before .before in
+    let c31 = c30 .before in
+    λ q. behind-required (c31 .args .e) (set (c31 .args .e) (c31 .args .externals .now) (c31 .args .table .now)) (c31 .args .object)
+    (c31 .args .s .now) (λ i. omega (arith, c30 .shared-slice-known .given i)) (c31 .args .from) (c31 .args .end) (c31 .args .at)
+    (placeIn (c31 .args .e .second) (c31 .args .pattern)) (c31 .pre .1 .0) q (c23 .stop .given .0 .0)
+    (sym (c25 .extent .ensures) ∙ c23 .stop .given .1) (c18 .literal .given .0 .0)
+    (tells-as (c20 .required-at .ensures .1 (rowsIn (c31 .args .table .now))) (ap literalBy (c18 .literal .given .1)))
+    (steps-is (c14 .parts2 .ensures) (c8 .p .given .1)) (c4 .require-lazily .ensures q)
 
 initialiser-same-length-5 : (t : ℕ) → initialiser-lts.Need-same-length-5 (initialiser-knows t) (initialiser-at t) initialiser.Post
 initialiser-same-length-5 t c = omega arith
@@ -540,7 +744,16 @@ initialiser-same-length-6 : (t : ℕ) → initialiser-lts.Need-same-length-6 (in
 initialiser-same-length-6 t c = omega arith
 
 initialiser-returns-4 : (t : ℕ) → initialiser-lts.Need-returns-4 (initialiser-knows t) (initialiser-at t) initialiser.Post
-initialiser-returns-4 t c = λ q. behind-turned (c .before .before .before .before .before .before .before .before .before .before .before .before .before .before .before .before .before .before .before .before .before .before .before .before .args .e) (set (c .before .before .before .before .before .before .before .before .before .before .before .before .before .before .before .before .before .before .before .before .before .before .before .before .args .e) (c .before .before .before .before .before .before .before .before .before .before .before .before .before .before .before .before .before .before .before .before .before .before .before .before .args .externals .now) (c .before .before .before .before .before .before .before .before .before .before .before .before .before .before .before .before .before .before .before .before .before .before .before .before .args .table .now)) (c .before .before .before .before .before .before .before .before .before .before .before .before .before .before .before .before .before .before .before .before .before .before .before .before .args .object) (c .before .before .before .before .before .before .before .before .before .before .before .before .before .before .before .before .before .before .before .before .before .before .before .before .args .s .now) (λ i. omega (arith, c .before .before .before .before .before .before .before .before .before .before .before .before .before .before .before .before .before .before .before .before .before .before .before .shared-slice-known .given i)) (c .before .before .before .before .before .before .before .before .before .before .before .before .before .before .before .before .before .before .before .before .before .before .before .before .args .from) (c .before .before .before .before .before .before .before .before .before .before .before .before .before .before .before .before .before .before .before .before .before .before .before .before .args .end) (c .before .before .before .before .before .before .before .before .before .before .before .before .before .before .before .before .before .before .before .before .before .before .before .before .args .at) (placeIn (c .before .before .before .before .before .before .before .before .before .before .before .before .before .before .before .before .before .before .before .before .before .before .before .before .args .e .second) (c .before .before .before .before .before .before .before .before .before .before .before .before .before .before .before .before .before .before .before .before .before .before .before .before .args .pattern)) (c .before .before .before .before .before .before .before .before .before .before .before .before .before .before .before .before .before .before .before .before .before .before .before .before .pre .1 .0) q (c .before .before .before .before .before .before .before .before .before .before .before .before .before .before .before .before .stop .given .0 .0) (sym (c .before .before .before .before .before .before .before .before .before .before .before .before .before .before .before .before .before .before .extent .ensures) ∙ c .before .before .before .before .before .before .before .before .before .before .before .before .before .before .before .before .stop .given .1) (steps-is (c .before .before .before .before .before .before .before .parts2 .ensures) (c .before .why .given .1))
+initialiser-returns-4 t c =
+    let c7 = c .before .before .before .before .before .before .before in
+    let c16 = c7 .before .before .before .before .before .before .before .before .before in
+    let c18 = c16 .before .before in
+    let c23 = c18 .before .before .before .before .before in
+    let c24 = c23 .before in
+    λ q. behind-turned (c24 .args .e) (set (c24 .args .e) (c24 .args .externals .now) (c24 .args .table .now)) (c24 .args .object) (c24 .args .s .now)
+    (λ i. omega (arith, c23 .shared-slice-known .given i)) (c24 .args .from) (c24 .args .end) (c24 .args .at)
+    (placeIn (c24 .args .e .second) (c24 .args .pattern)) (c24 .pre .1 .0) q (c16 .stop .given .0 .0)
+    (sym (c18 .extent .ensures) ∙ c16 .stop .given .1) (steps-is (c7 .parts2 .ensures) (c .before .why .given .1))
 
 member-ident-after-requires : (t : ℕ) → member-lts.Need-ident-after-requires (member-knows t) (member-at t) member.Post
 member-ident-after-requires t c κs = (omega arith, omega arith, c .before .before .before .before .before .before .before .pre .1 .3)
@@ -549,13 +762,17 @@ member-enum-known-id : (t : ℕ) → member-lts.Need-enum-known-id (member-knows
 member-enum-known-id t c = search needs
 
 member-put-ident-requires : (t : ℕ) → member-lts.Need-put-ident-requires (member-knows t) (member-at t) member.Post
-member-put-ident-requires t c κs = c .before .before .before .before .ident-after .ensures .0 (c .before .before .id .given .0 .0) (c .before .before .id .given .1)
+member-put-ident-requires t c κs =
+    let c4 = c .before .before .before .before in
+    c4 .ident-after .ensures .0 (c .before .before .id .given .0 .0) (c .before .before .id .given .1)
 
 member-enum-told : (t : ℕ) → member-lts.Need-enum-told (member-knows t) (member-at t) member.Post
 member-enum-told t c = search needs
 
 member-target-requires : (t : ℕ) → member-lts.Need-target-requires (member-knows t) (member-at t) member.Post
-member-target-requires t c κs = (omega arith, (omega arith, omega arith, c .before .before .before .before .before .before .before .before .before .before .before .before .pre .1 .3))
+member-target-requires t c κs =
+    let c12 = c .before .before .before .before .before .before .before .before .before .before .before .before in
+    (omega arith, (omega arith, omega arith, c12 .pre .1 .3))
 
 member-same-length : (t : ℕ) → member-lts.Need-same-length (member-knows t) (member-at t) member.Post
 member-same-length t c = omega arith
@@ -564,7 +781,14 @@ member-same-length-2 : (t : ℕ) → member-lts.Need-same-length-2 (member-knows
 member-same-length-2 t c = omega arith
 
 member-returns : (t : ℕ) → member-lts.Need-returns (member-knows t) (member-at t) member.Post
-member-returns t c = member-ident (c .before .before .before .before .before .before .before .before .before .before .before .before .before .before .before .args .e) (set (c .before .before .before .before .before .before .before .before .before .before .before .before .before .before .before .args .e) (c .before .before .before .before .before .before .before .before .before .before .before .before .before .before .before .args .externals .now) (c .before .before .before .before .before .before .before .before .before .before .before .before .before .before .before .args .table .now)) (c .before .before .before .before .before .before .before .before .before .before .before .before .before .before .before .args .s .now) (c .before .before .before .before .before .before .before .before .before .before .before .before .before .before .before .args .at) (c .before .before .before .before .before .before .before .before .before .before .before .before .before .before .before .args .stop) (c .before .before .before .before .before .before .before .before .before .before .before .before .before .before .before .args .object) (c .before .before .before .before .before .id .given .0 .0) (c .before .before .before .before .before .before .before .before .before .before .before .before .before .before .before .pre .1 .3) (ap passOf (c .before .before .before .before .before .before .before .before .before .if1 .taken)) (tells-as (c .before .before .before .before .before .before .before .ident-after .ensures .1) (ap identBy (c .before .before .before .before .before .id .given .1))) (c .before .before .put-ident .ensures)
+member-returns t c =
+    let c5 = c .before .before .before .before .before in
+    let c7 = c5 .before .before in
+    let c9 = c7 .before .before in
+    let c15 = c9 .before .before .before .before .before .before in
+    member-ident (c15 .args .e) (set (c15 .args .e) (c15 .args .externals .now) (c15 .args .table .now)) (c15 .args .s .now) (c15 .args .at)
+    (c15 .args .stop) (c15 .args .object) (c5 .id .given .0 .0) (c15 .pre .1 .3) (ap passOf (c9 .if1 .taken))
+    (tells-as (c7 .ident-after .ensures .1) (ap identBy (c5 .id .given .1))) (c .before .before .put-ident .ensures)
 
 member-same-length-3 : (t : ℕ) → member-lts.Need-same-length-3 (member-knows t) (member-at t) member.Post
 member-same-length-3 t c = omega arith
@@ -573,16 +797,29 @@ member-same-length-4 : (t : ℕ) → member-lts.Need-same-length-4 (member-knows
 member-same-length-4 t c = omega arith
 
 member-returns-2 : (t : ℕ) → member-lts.Need-returns-2 (member-knows t) (member-at t) member.Post
-member-returns-2 t c = member-other (c .before .before .before .before .before .before .before .before .before .before .before .before .before .before .before .before .before .args .e) (set (c .before .before .before .before .before .before .before .before .before .before .before .before .before .before .before .before .before .args .e) (c .before .before .before .before .before .before .before .before .before .before .before .before .before .before .before .before .before .args .externals .now) (c .before .before .before .before .before .before .before .before .before .before .before .before .before .before .before .before .before .args .table .now)) (c .before .before .before .before .before .before .before .before .before .before .before .before .before .before .before .before .before .args .object) (c .before .before .before .before .before .before .before .before .before .before .before .before .before .before .before .before .before .args .s .now) (c .before .before .before .before .before .before .before .before .before .before .before .before .before .before .before .before .before .args .at) (c .before .before .before .before .before .before .before .before .before .before .before .before .before .before .before .before .before .args .stop) (c .before .before .before .before .before .before .before .before .before .before .before .before .before .before .before .before .before .pre .1 .1) (c .before .before .before .before .before .before .before .before .before .before .before .before .before .before .before .before .before .pre .1 .0) (ap passOf (c .before .before .before .before .before .before .before .before .before .before .before .if1 .taken)) (tells-as (c .before .before .before .before .before .before .before .before .before .ident-after .ensures .1) (ap identBy (c .before .before .before .before .before .before .before .enum-told .given .1))) (c .before .before .before .before .target .ensures)
+member-returns-2 t c =
+    let c4 = c .before .before .before .before in
+    let c7 = c4 .before .before .before in
+    let c9 = c7 .before .before in
+    let c11 = c9 .before .before in
+    let c17 = c11 .before .before .before .before .before .before in
+    member-other (c17 .args .e) (set (c17 .args .e) (c17 .args .externals .now) (c17 .args .table .now)) (c17 .args .object) (c17 .args .s .now)
+    (c17 .args .at) (c17 .args .stop) (c17 .pre .1 .1) (c17 .pre .1 .0) (ap passOf (c11 .if1 .taken))
+    (tells-as (c9 .ident-after .ensures .1) (ap identBy (c7 .enum-told .given .1))) (c4 .target .ensures)
 
 member-target-requires-2 : (t : ℕ) → member-lts.Need-target-requires-2 (member-knows t) (member-at t) member.Post
-member-target-requires-2 t c κs = (omega arith, (omega arith, omega arith, c .before .before .before .before .before .before .before .before .pre .1 .3))
+member-target-requires-2 t c κs =
+    let c8 = c .before .before .before .before .before .before .before .before in
+    (omega arith, (omega arith, omega arith, c8 .pre .1 .3))
 
 member-enum-known-p : (t : ℕ) → member-lts.Need-enum-known-p (member-knows t) (member-at t) member.Post
 member-enum-known-p t c = search needs
 
 member-usage-requires : (t : ℕ) → member-lts.Need-usage-requires (member-knows t) (member-at t) member.Post
-member-usage-requires t c κs = (omega arith, omega arith, c .before .before .before .before .before .before .before .before .before .before .before .before .before .before .before .before .before .pre .1 .0, c .before .before .before .before .before .before .before .before .target2 .ensures .good)
+member-usage-requires t c κs =
+    let c8 = c .before .before .before .before .before .before .before .before in
+    let c17 = c8 .before .before .before .before .before .before .before .before .before in
+    (omega arith, omega arith, c17 .pre .1 .0, c8 .target2 .ensures .good)
 
 member-enum-told-2 : (t : ℕ) → member-lts.Need-enum-told-2 (member-knows t) (member-at t) member.Post
 member-enum-told-2 t c = search needs
@@ -600,7 +837,16 @@ member-same-length-6 : (t : ℕ) → member-lts.Need-same-length-6 (member-knows
 member-same-length-6 t c = omega arith
 
 member-returns-3 : (t : ℕ) → member-lts.Need-returns-3 (member-knows t) (member-at t) member.Post
-member-returns-3 t c = member-used (c .before .before .before .before .before .before .before .before .before .before .before .before .before .before .before .before .before .before .before .before .before .before .args .e) (set (c .before .before .before .before .before .before .before .before .before .before .before .before .before .before .before .before .before .before .before .before .before .before .args .e) (c .before .before .before .before .before .before .before .before .before .before .before .before .before .before .before .before .before .before .before .before .before .before .args .externals .now) (c .before .before .before .before .before .before .before .before .before .before .before .before .before .before .before .before .before .before .before .before .before .before .args .table .now)) (c .before .before .before .before .before .before .before .before .before .before .before .before .before .before .before .before .before .before .before .before .before .before .args .object) (c .before .before .before .before .before .before .before .before .before .before .before .before .before .before .before .before .before .before .before .before .before .before .args .s .now) (c .before .before .before .before .before .before .before .before .before .before .before .before .before .before .before .before .before .before .before .before .before .before .args .at) (c .before .before .before .before .before .before .before .before .before .before .before .before .before .before .before .before .before .before .before .before .before .before .args .stop) (c .before .before .before .before .before .before .before .before .before .before .before .before .before .before .before .before .before .before .before .before .before .before .pre .1 .1) (c .before .before .before .before .before .before .before .before .before .before .before .before .before .before .before .before .before .before .before .before .before .before .pre .1 .0) (ap passOf (c .before .before .before .before .before .before .before .before .before .before .before .before .before .before .before .before .if1 .left)) (steps-is (c .before .before .before .before .before .before .before .before .before .before .before .before .before .target2 .ensures) (c .before .before .before .before .before .before .before .p .given .1)) (effects-fine (c .before .before .before .before .usage .ensures (atomsIn (c .before .before .before .before .before .before .before .before .before .before .before .before .before .before .before .before .before .before .before .before .before .before .args .externals .now))) (c .enum-told2 .given .1))
+member-returns-3 t c =
+    let c4 = c .before .before .before .before in
+    let c7 = c4 .before .before .before in
+    let c13 = c7 .before .before .before .before .before .before in
+    let c16 = c13 .before .before .before in
+    let c22 = c16 .before .before .before .before .before .before in
+    member-used (c22 .args .e) (set (c22 .args .e) (c22 .args .externals .now) (c22 .args .table .now)) (c22 .args .object) (c22 .args .s .now)
+    (c22 .args .at) (c22 .args .stop) (c22 .pre .1 .1) (c22 .pre .1 .0) (ap passOf (c16 .if1 .left))
+    (steps-is (c13 .target2 .ensures) (c7 .p .given .1))
+    (effects-fine (c4 .usage .ensures (atomsIn (c22 .args .externals .now))) (c .enum-told2 .given .1))
 
 member-same-length-7 : (t : ℕ) → member-lts.Need-same-length-7 (member-knows t) (member-at t) member.Post
 member-same-length-7 t c = omega arith
@@ -609,7 +855,16 @@ member-same-length-8 : (t : ℕ) → member-lts.Need-same-length-8 (member-knows
 member-same-length-8 t c = omega arith
 
 member-returns-4 : (t : ℕ) → member-lts.Need-returns-4 (member-knows t) (member-at t) member.Post
-member-returns-4 t c = member-used (c .before .before .before .before .before .before .before .before .before .before .before .before .before .before .before .before .before .before .before .before .before .before .before .args .e) (set (c .before .before .before .before .before .before .before .before .before .before .before .before .before .before .before .before .before .before .before .before .before .before .before .args .e) (c .before .before .before .before .before .before .before .before .before .before .before .before .before .before .before .before .before .before .before .before .before .before .before .args .externals .now) (c .before .before .before .before .before .before .before .before .before .before .before .before .before .before .before .before .before .before .before .before .before .before .before .args .table .now)) (c .before .before .before .before .before .before .before .before .before .before .before .before .before .before .before .before .before .before .before .before .before .before .before .args .object) (c .before .before .before .before .before .before .before .before .before .before .before .before .before .before .before .before .before .before .before .before .before .before .before .args .s .now) (c .before .before .before .before .before .before .before .before .before .before .before .before .before .before .before .before .before .before .before .before .before .before .before .args .at) (c .before .before .before .before .before .before .before .before .before .before .before .before .before .before .before .before .before .before .before .before .before .before .before .args .stop) (c .before .before .before .before .before .before .before .before .before .before .before .before .before .before .before .before .before .before .before .before .before .before .before .pre .1 .1) (c .before .before .before .before .before .before .before .before .before .before .before .before .before .before .before .before .before .before .before .before .before .before .before .pre .1 .0) (ap passOf (c .before .before .before .before .before .before .before .before .before .before .before .before .before .before .before .before .before .if1 .left)) (steps-is (c .before .before .before .before .before .before .before .before .before .before .before .before .before .before .target2 .ensures) (c .before .before .before .before .before .before .before .before .p .given .1)) (effects-turned (c .before .before .before .before .before .usage .ensures (atomsIn (c .before .before .before .before .before .before .before .before .before .before .before .before .before .before .before .before .before .before .before .before .before .before .before .args .externals .now))) (c .before .why .given .1))
+member-returns-4 t c =
+    let c5 = c .before .before .before .before .before in
+    let c8 = c5 .before .before .before in
+    let c14 = c8 .before .before .before .before .before .before in
+    let c17 = c14 .before .before .before in
+    let c23 = c17 .before .before .before .before .before .before in
+    member-used (c23 .args .e) (set (c23 .args .e) (c23 .args .externals .now) (c23 .args .table .now)) (c23 .args .object) (c23 .args .s .now)
+    (c23 .args .at) (c23 .args .stop) (c23 .pre .1 .1) (c23 .pre .1 .0) (ap passOf (c17 .if1 .left))
+    (steps-is (c14 .target2 .ensures) (c8 .p .given .1))
+    (effects-turned (c5 .usage .ensures (atomsIn (c23 .args .externals .now))) (c .before .why .given .1))
 
 member-same-length-9 : (t : ℕ) → member-lts.Need-same-length-9 (member-knows t) (member-at t) member.Post
 member-same-length-9 t c = omega arith
@@ -618,7 +873,13 @@ member-same-length-10 : (t : ℕ) → member-lts.Need-same-length-10 (member-kno
 member-same-length-10 t c = omega arith
 
 member-returns-5 : (t : ℕ) → member-lts.Need-returns-5 (member-knows t) (member-at t) member.Post
-member-returns-5 t c = member-turned (c .before .before .before .before .before .before .before .before .before .before .before .before .before .before .before .before .args .e) (set (c .before .before .before .before .before .before .before .before .before .before .before .before .before .before .before .before .args .e) (c .before .before .before .before .before .before .before .before .before .before .before .before .before .before .before .before .args .externals .now) (c .before .before .before .before .before .before .before .before .before .before .before .before .before .before .before .before .args .table .now)) (c .before .before .before .before .before .before .before .before .before .before .before .before .before .before .before .before .args .object) (c .before .before .before .before .before .before .before .before .before .before .before .before .before .before .before .before .args .s .now) (c .before .before .before .before .before .before .before .before .before .before .before .before .before .before .before .before .args .at) (c .before .before .before .before .before .before .before .before .before .before .before .before .before .before .before .before .args .stop) (c .before .before .before .before .before .before .before .before .before .before .before .before .before .before .before .before .pre .1 .1) (c .before .before .before .before .before .before .before .before .before .before .before .before .before .before .before .before .pre .1 .0) (ap passOf (c .before .before .before .before .before .before .before .before .before .before .if1 .left)) (steps-is (c .before .before .before .before .before .before .before .target2 .ensures) (c .before .why2 .given .1))
+member-returns-5 t c =
+    let c7 = c .before .before .before .before .before .before .before in
+    let c10 = c7 .before .before .before in
+    let c16 = c10 .before .before .before .before .before .before in
+    member-turned (c16 .args .e) (set (c16 .args .e) (c16 .args .externals .now) (c16 .args .table .now)) (c16 .args .object) (c16 .args .s .now)
+    (c16 .args .at) (c16 .args .stop) (c16 .pre .1 .1) (c16 .pre .1 .0) (ap passOf (c10 .if1 .left))
+    (steps-is (c7 .target2 .ensures) (c .before .why2 .given .1))
 
 member-parts-extent-requires : (t : ℕ) → member-parts-lts.Need-extent-requires (member-parts-knows t) (member-parts-at t) member-parts.Post
 member-parts-extent-requires t c κs = omega arith
@@ -630,16 +891,33 @@ member-parts-enum-told : (t : ℕ) → member-parts-lts.Need-enum-told (member-p
 member-parts-enum-told t c = search needs
 
 member-parts-returns : (t : ℕ) → member-parts-lts.Need-returns (member-parts-knows t) (member-parts-at t) member-parts.Post
-member-parts-returns t c = row-over (c .before .before .before .before .before .before .before .before .args .e) (set (c .before .before .before .before .before .before .before .before .args .e) (c .before .before .before .before .before .before .before .before .args .externals .now) (c .before .before .before .before .before .before .before .before .args .table .now)) (λ i. omega (arith, c .before .before .before .before .before .before .before .shared-slice-known .given i)) (c .before .before .before .before .before .before .before .before .pre .1 .0) (λ fs p. walkMember fs (set (c .before .before .before .before .before .before .before .before .args .e) (c .before .before .before .before .before .before .before .before .args .externals .now) (c .before .before .before .before .before .before .before .before .args .table .now)) p) (member-none (set (c .before .before .before .before .before .before .before .before .args .e) (c .before .before .before .before .before .before .before .before .args .externals .now) (c .before .before .before .before .before .before .before .before .args .table .now))) (sym (c .before .before .extent .ensures) ∙ c .enum-told .given .1) (c .before .before .before .before .before .before .before .before .pre .1 .2)
+member-parts-returns t c =
+    let c7 = c .before .before .before .before .before .before .before in
+    let c8 = c7 .before in
+    row-over (c8 .args .e) (set (c8 .args .e) (c8 .args .externals .now) (c8 .args .table .now)) (λ i. omega (arith, c7 .shared-slice-known .given i))
+    (c8 .pre .1 .0) (λ fs p. walkMember fs (set (c8 .args .e) (c8 .args .externals .now) (c8 .args .table .now)) p)
+    (member-none (set (c8 .args .e) (c8 .args .externals .now) (c8 .args .table .now)))
+    (sym (c .before .before .extent .ensures) ∙ c .enum-told .given .1) (c8 .pre .1 .2)
 
 member-parts-walk-requires : (t : ℕ) → member-parts-lts.Need-walk-requires (member-parts-knows t) (member-parts-at t) member-parts.Post
-member-parts-walk-requires t c κs = let i = extent-upto (c .before .before .before .before .before .before .before .before .before .before .before .args .s .now) (c .before .before .before .before .before .before .before .before .before .before .before .args .from) (c .before .before .before .before .before .before .before .before .before .before .before .args .end) (c .before .before .before .before .before .before .before .before .before .before .before .pre .1 .0) (sym (c .before .before .before .before .before .extent .ensures) ∙ c .before .before .before .stop .given .1) in (omega arith, (omega arith, omega arith, c .before .before .before .before .before .before .before .before .before .before .before .pre .1 .2))
+member-parts-walk-requires t c κs =
+    let c3 = c .before .before .before in
+    let c5 = c3 .before .before in
+    let c11 = c5 .before .before .before .before .before .before in
+    let i = extent-upto (c11 .args .s .now) (c11 .args .from) (c11 .args .end) (c11 .pre .1 .0) (sym (c5 .extent .ensures) ∙ c3 .stop .given .1) in
+    (omega arith, (omega arith, omega arith, c11 .pre .1 .2))
 
 member-parts-enum-known-p : (t : ℕ) → member-parts-lts.Need-enum-known-p (member-parts-knows t) (member-parts-at t) member-parts.Post
 member-parts-enum-known-p t c = search needs
 
 member-parts-parts-requires : (t : ℕ) → member-parts-lts.Need-parts-requires (member-parts-knows t) (member-parts-at t) member-parts.Post
-member-parts-parts-requires t c κs = let i = extent-upto (c .before .before .before .before .before .before .before .before .before .before .before .before .before .before .before .before .before .before .before .before .before .args .s .now) (c .before .before .before .before .before .before .before .before .before .before .before .before .before .before .before .before .before .before .before .before .before .args .from) (c .before .before .before .before .before .before .before .before .before .before .before .before .before .before .before .before .before .before .before .before .before .args .end) (c .before .before .before .before .before .before .before .before .before .before .before .before .before .before .before .before .before .before .before .before .before .pre .1 .0) (sym (c .before .before .before .before .before .before .before .before .before .before .before .before .before .before .before .extent .ensures) ∙ c .before .before .before .before .before .before .before .before .before .before .before .before .before .stop .given .1) in (omega arith, (omega arith, omega arith, c .before .before .before .before .before .before .before .before .before .walk .ensures .good))
+member-parts-parts-requires t c κs =
+    let c9 = c .before .before .before .before .before .before .before .before .before in
+    let c13 = c9 .before .before .before .before in
+    let c15 = c13 .before .before in
+    let c21 = c15 .before .before .before .before .before .before in
+    let i = extent-upto (c21 .args .s .now) (c21 .args .from) (c21 .args .end) (c21 .pre .1 .0) (sym (c15 .extent .ensures) ∙ c13 .stop .given .1) in
+    (omega arith, (omega arith, omega arith, c9 .walk .ensures .good))
 
 member-parts-enum-known-why : (t : ℕ) → member-parts-lts.Need-enum-known-why (member-parts-knows t) (member-parts-at t) member-parts.Post
 member-parts-enum-known-why t c = search needs
@@ -651,7 +929,20 @@ member-parts-same-length-2 : (t : ℕ) → member-parts-lts.Need-same-length-2 (
 member-parts-same-length-2 t c = omega arith
 
 member-parts-returns-2 : (t : ℕ) → member-parts-lts.Need-returns-2 (member-parts-knows t) (member-parts-at t) member-parts.Post
-member-parts-returns-2 t c = row-then (c .before .before .before .before .before .before .before .before .before .before .before .before .before .before .before .before .before .before .before .before .before .before .before .before .before .before .args .e) (set (c .before .before .before .before .before .before .before .before .before .before .before .before .before .before .before .before .before .before .before .before .before .before .before .before .before .before .args .e) (c .before .before .before .before .before .before .before .before .before .before .before .before .before .before .before .before .before .before .before .before .before .before .before .before .before .before .args .externals .now) (c .before .before .before .before .before .before .before .before .before .before .before .before .before .before .before .before .before .before .before .before .before .before .before .before .before .before .args .table .now)) (λ i. omega (arith, c .before .before .before .before .before .before .before .before .before .before .before .before .before .before .before .before .before .before .before .before .before .before .before .before .before .shared-slice-known .given i)) (c .before .before .before .before .before .before .before .before .before .before .before .before .before .before .before .before .before .before .before .before .before .before .before .before .before .before .pre .1 .0) (sym (c .before .before .before .before .before .before .before .before .before .before .before .before .before .before .before .before .before .before .before .before .extent .ensures) ∙ c .before .before .before .before .before .before .before .before .before .before .before .before .before .before .before .before .before .before .stop .given .1) (λ fs p. walkMember fs (set (c .before .before .before .before .before .before .before .before .before .before .before .before .before .before .before .before .before .before .before .before .before .before .before .before .before .before .args .e) (c .before .before .before .before .before .before .before .before .before .before .before .before .before .before .before .before .before .before .before .before .before .before .before .before .before .before .args .externals .now) (c .before .before .before .before .before .before .before .before .before .before .before .before .before .before .before .before .before .before .before .before .before .before .before .before .before .before .args .table .now)) p) (λ f p. walk-rule f (set (c .before .before .before .before .before .before .before .before .before .before .before .before .before .before .before .before .before .before .before .before .before .before .before .before .before .before .args .e) (c .before .before .before .before .before .before .before .before .before .before .before .before .before .before .before .before .before .before .before .before .before .before .before .before .before .before .args .externals .now) (c .before .before .before .before .before .before .before .before .before .before .before .before .before .before .before .before .before .before .before .before .before .before .before .before .before .before .args .table .now)) true p) false (member-more (set (c .before .before .before .before .before .before .before .before .before .before .before .before .before .before .before .before .before .before .before .before .before .before .before .before .before .before .args .e) (c .before .before .before .before .before .before .before .before .before .before .before .before .before .before .before .before .before .before .before .before .before .before .before .before .before .before .args .externals .now) (c .before .before .before .before .before .before .before .before .before .before .before .before .before .before .before .before .before .before .before .before .before .before .before .before .before .before .args .table .now))) (steps-is (c .before .before .before .before .before .before .before .before .before .before .before .before .before .before .walk .ensures) (c .before .before .before .before .before .before .before .before .p .given .1)) (c .before .before .before .before .parts .ensures)
+member-parts-returns-2 t c =
+    let c4 = c .before .before .before .before in
+    let c8 = c4 .before .before .before .before in
+    let c14 = c8 .before .before .before .before .before .before in
+    let c18 = c14 .before .before .before .before in
+    let c20 = c18 .before .before in
+    let c25 = c20 .before .before .before .before .before in
+    let c26 = c25 .before in
+    row-then (c26 .args .e) (set (c26 .args .e) (c26 .args .externals .now) (c26 .args .table .now))
+    (λ i. omega (arith, c25 .shared-slice-known .given i)) (c26 .pre .1 .0) (sym (c20 .extent .ensures) ∙ c18 .stop .given .1)
+    (λ fs p. walkMember fs (set (c26 .args .e) (c26 .args .externals .now) (c26 .args .table .now)) p)
+    (λ f p. walk-rule f (set (c26 .args .e) (c26 .args .externals .now) (c26 .args .table .now)) true p) false
+    (member-more (set (c26 .args .e) (c26 .args .externals .now) (c26 .args .table .now))) (steps-is (c14 .walk .ensures) (c8 .p .given .1))
+    (c4 .parts .ensures)
 
 member-parts-same-length-3 : (t : ℕ) → member-parts-lts.Need-same-length-3 (member-parts-knows t) (member-parts-at t) member-parts.Post
 member-parts-same-length-3 t c = omega arith
@@ -660,13 +951,26 @@ member-parts-same-length-4 : (t : ℕ) → member-parts-lts.Need-same-length-4 (
 member-parts-same-length-4 t c = omega arith
 
 member-parts-returns-3 : (t : ℕ) → member-parts-lts.Need-returns-3 (member-parts-knows t) (member-parts-at t) member-parts.Post
-member-parts-returns-3 t c = row-turned (c .before .before .before .before .before .before .before .before .before .before .before .before .before .before .before .before .before .before .before .args .e) (set (c .before .before .before .before .before .before .before .before .before .before .before .before .before .before .before .before .before .before .before .args .e) (c .before .before .before .before .before .before .before .before .before .before .before .before .before .before .before .before .before .before .before .args .externals .now) (c .before .before .before .before .before .before .before .before .before .before .before .before .before .before .before .before .before .before .before .args .table .now)) (λ i. omega (arith, c .before .before .before .before .before .before .before .before .before .before .before .before .before .before .before .before .before .before .shared-slice-known .given i)) (c .before .before .before .before .before .before .before .before .before .before .before .before .before .before .before .before .before .before .before .pre .1 .0) (sym (c .before .before .before .before .before .before .before .before .before .before .before .before .before .extent .ensures) ∙ c .before .before .before .before .before .before .before .before .before .before .before .stop .given .1) (λ fs p. walkMember fs (set (c .before .before .before .before .before .before .before .before .before .before .before .before .before .before .before .before .before .before .before .args .e) (c .before .before .before .before .before .before .before .before .before .before .before .before .before .before .before .before .before .before .before .args .externals .now) (c .before .before .before .before .before .before .before .before .before .before .before .before .before .before .before .before .before .before .before .args .table .now)) p) (λ f p. walk-rule f (set (c .before .before .before .before .before .before .before .before .before .before .before .before .before .before .before .before .before .before .before .args .e) (c .before .before .before .before .before .before .before .before .before .before .before .before .before .before .before .before .before .before .before .args .externals .now) (c .before .before .before .before .before .before .before .before .before .before .before .before .before .before .before .before .before .before .before .args .table .now)) true p) false (member-more (set (c .before .before .before .before .before .before .before .before .before .before .before .before .before .before .before .before .before .before .before .args .e) (c .before .before .before .before .before .before .before .before .before .before .before .before .before .before .before .before .before .before .before .args .externals .now) (c .before .before .before .before .before .before .before .before .before .before .before .before .before .before .before .before .before .before .before .args .table .now))) (steps-is (c .before .before .before .before .before .before .before .walk .ensures) (c .before .why .given .1))
+member-parts-returns-3 t c =
+    let c7 = c .before .before .before .before .before .before .before in
+    let c11 = c7 .before .before .before .before in
+    let c13 = c11 .before .before in
+    let c18 = c13 .before .before .before .before .before in
+    let c19 = c18 .before in
+    row-turned (c19 .args .e) (set (c19 .args .e) (c19 .args .externals .now) (c19 .args .table .now))
+    (λ i. omega (arith, c18 .shared-slice-known .given i)) (c19 .pre .1 .0) (sym (c13 .extent .ensures) ∙ c11 .stop .given .1)
+    (λ fs p. walkMember fs (set (c19 .args .e) (c19 .args .externals .now) (c19 .args .table .now)) p)
+    (λ f p. walk-rule f (set (c19 .args .e) (c19 .args .externals .now) (c19 .args .table .now)) true p) false
+    (member-more (set (c19 .args .e) (c19 .args .externals .now) (c19 .args .table .now)))
+    (steps-is (c7 .walk .ensures) (c .before .why .given .1))
 
 node-begin-field-requires : (t : ℕ) → node-lts.Need-begin-field-requires (node-knows t) (node-at t) node.Post
 node-begin-field-requires t c κs = omega arith
 
 node-parts-requires : (t : ℕ) → node-lts.Need-parts-requires (node-knows t) (node-at t) node.Post
-node-parts-requires t c κs = (omega arith, (omega arith, omega arith, c .before .before .before .before .before .before .before .before .before .before .before .pre .1 .3))
+node-parts-requires t c κs =
+    let c11 = c .before .before .before .before .before .before .before .before .before .before .before in
+    (omega arith, (omega arith, omega arith, c11 .pre .1 .3))
 
 node-end-field-requires : (t : ℕ) → node-lts.Need-end-field-requires (node-knows t) (node-at t) node.Post
 node-end-field-requires t c κs = search needs
@@ -678,7 +982,10 @@ node-same-length-2 : (t : ℕ) → node-lts.Need-same-length-2 (node-knows t) (n
 node-same-length-2 t c = omega arith
 
 node-returns : (t : ℕ) → node-lts.Need-returns (node-knows t) (node-at t) node.Post
-node-returns t c = steps-field (c .before .before .before .before .before .before .before .before .parts .result) (c .before .before .before .before .before .before .before .before .before .before .before .before .before .begin-field .ensures) (c .before .before .before .before .before .before .before .before .parts .ensures) (c .before .before .end-field .ensures)
+node-returns t c =
+    let c8 = c .before .before .before .before .before .before .before .before in
+    let c13 = c8 .before .before .before .before .before in
+    steps-field (c8 .parts .result) (c13 .begin-field .ensures) (c8 .parts .ensures) (c .before .before .end-field .ensures)
 
 abbrev parts-Inv-loop : parts-lts.InvT-loop
 parts-Inv-loop s from end object e externals table t₀ out₀ o at₀ to₀ t out at to = Going e (set e externals table) object s from end t₀ out₀ o t out at to
@@ -687,7 +994,9 @@ abbrev parts-μ-loop : parts-lts.MeasureT-loop
 parts-μ-loop s from end object e externals table t₀ out₀ o at₀ to₀ t out at to = end - at
 
 parts-loop-holds : (t : ℕ) → parts-lts.Need-loop-holds (parts-knows t) (parts-at t) parts.Post parts-Inv-loop parts-μ-loop
-parts-loop-holds t c = going-start (c .before .before .before .before .before .pre .1 .2) (c .before .before .before .before .before .pre .1 .0)
+parts-loop-holds t c =
+    let c5 = c .before .before .before .before .before in
+    going-start (c5 .pre .1 .2) (c5 .pre .1 .0)
 
 parts-extent-requires : (t : ℕ) → parts-lts.Need-extent-requires (parts-knows t) (parts-at t) parts.Post parts-Inv-loop parts-μ-loop
 parts-extent-requires t c κs = (c .loop .inv .inside, c .before .before .before .before .before .before .pre .1 .1)
@@ -705,19 +1014,48 @@ parts-same-length-2 : (t : ℕ) → parts-lts.Need-same-length-2 (parts-knows t)
 parts-same-length-2 t c = omega arith
 
 parts-returns : (t : ℕ) → parts-lts.Need-returns (parts-knows t) (parts-at t) parts.Post parts-Inv-loop parts-μ-loop
-parts-returns t c = going-over (λ i. omega (arith, c .before .before .before .before .before .before .before .before .shared-slice-known .given i)) (c .before .before .before .loop .inv) (sym (c .before .before .extent .ensures) ∙ c .enum-told .given .1)
+parts-returns t c =
+    let c3 = c .before .before .before in
+    let c8 = c3 .before .before .before .before .before in
+    going-over (λ i. omega (arith, c8 .shared-slice-known .given i)) (c3 .loop .inv) (sym (c .before .before .extent .ensures) ∙ c .enum-told .given .1)
 
 parts-walk-requires : (t : ℕ) → parts-lts.Need-walk-requires (parts-knows t) (parts-at t) parts.Post parts-Inv-loop parts-μ-loop
-parts-walk-requires t c κs = let i = extent-upto (c .before .before .before .before .before .before .before .before .before .before .before .before .args .s .now) (c .before .before .before .before .before .before .loop .at) (c .before .before .before .before .before .before .before .before .before .before .before .before .args .end) (c .before .before .before .before .before .before .loop .inv .inside) (sym (c .before .before .before .before .before .extent .ensures) ∙ c .before .before .before .stop .given .1) in let a = c .before .before .before .before .before .before .loop .inv .after in (omega arith, (omega arith, omega arith, c .before .before .before .before .before .before .loop .inv .good))
+parts-walk-requires t c κs =
+    let c3 = c .before .before .before in
+    let c5 = c3 .before .before in
+    let c6 = c5 .before in
+    let c12 = c6 .before .before .before .before .before .before in
+    let i =
+    extent-upto (c12 .args .s .now) (c6 .loop .at) (c12 .args .end) (c6 .loop .inv .inside) (sym (c5 .extent .ensures) ∙ c3 .stop .given .1) in
+    let a = c6 .loop .inv .after in (omega arith, (omega arith, omega arith, c6 .loop .inv .good))
 
 parts-enum-known-p : (t : ℕ) → parts-lts.Need-enum-known-p (parts-knows t) (parts-at t) parts.Post parts-Inv-loop parts-μ-loop
 parts-enum-known-p t c = search needs
 
 parts-loop-less : (t : ℕ) → parts-lts.Need-loop-less (parts-knows t) (parts-at t) parts.Post parts-Inv-loop parts-μ-loop
-parts-loop-less t c = let i = extent-upto (c .before .before .before .before .before .before .before .before .before .before .before .before .before .before .before .before .before .before .before .before .args .s .now) (c .before .before .before .before .before .before .before .before .before .before .before .before .before .before .loop .at) (c .before .before .before .before .before .before .before .before .before .before .before .before .before .before .before .before .before .before .before .before .args .end) (c .before .before .before .before .before .before .before .before .before .before .before .before .before .before .loop .inv .inside) (sym (c .before .before .before .before .before .before .before .before .before .before .before .before .before .extent .ensures) ∙ c .before .before .before .before .before .before .before .before .before .before .before .stop .given .1) in omega arith
+parts-loop-less t c =
+    let c11 = c .before .before .before .before .before .before .before .before .before .before .before in
+    let c13 = c11 .before .before in
+    let c14 = c13 .before in
+    let c20 = c14 .before .before .before .before .before .before in
+    let i = extent-upto (c20 .args .s .now) (c14 .loop .at) (c20 .args .end) (c14 .loop .inv .inside) (sym (c13 .extent .ensures) ∙ c11 .stop .given .1) in omega arith
 
 parts-loop-again : (t : ℕ) → parts-lts.Need-loop-again (parts-knows t) (parts-at t) parts.Post parts-Inv-loop parts-μ-loop
-parts-loop-again t c = going-more (λ i. omega (arith, c .before .before .before .before .before .before .before .before .before .before .before .before .before .before .before .before .before .before .before .shared-slice-known .given i)) (c .before .before .before .before .before .before .before .before .before .before .before .before .before .before .loop .inv) (sym (c .before .before .before .before .before .before .before .before .before .before .before .before .before .extent .ensures) ∙ c .before .before .before .before .before .before .before .before .before .before .before .stop .given .1) (c .before .before .before .before .before .before .before .walk .ensures) (c .before .p .given .1) (omega arith)
+parts-loop-again t c =
+    going-more
+    (λ i.
+    omega (
+      arith,
+      c .before .before .before .before .before .before .before .before .before .before .before .before .before .before .before
+          .before .before .before .before .shared-slice-known .given i,
+    ))
+    (c .before .before .before .before .before .before .before .before .before .before .before .before .before .before .loop .inv)
+    (sym
+    (c .before .before .before .before .before .before .before .before .before .before .before .before .before .extent .ensures)
+    ∙ c .before .before .before .before .before .before .before .before .before .before .before .stop .given .1)
+    (c .before .before .before .before .before .before .before .walk .ensures)
+    (c .before .p .given .1)
+    (omega arith)
 
 parts-enum-known-why : (t : ℕ) → parts-lts.Need-enum-known-why (parts-knows t) (parts-at t) parts.Post parts-Inv-loop parts-μ-loop
 parts-enum-known-why t c = search needs
@@ -729,7 +1067,13 @@ parts-same-length-4 : (t : ℕ) → parts-lts.Need-same-length-4 (parts-knows t)
 parts-same-length-4 t c = omega arith
 
 parts-returns-2 : (t : ℕ) → parts-lts.Need-returns-2 (parts-knows t) (parts-at t) parts.Post parts-Inv-loop parts-μ-loop
-parts-returns-2 t c = going-turned (λ i. omega (arith, c .before .before .before .before .before .before .before .before .before .before .before .before .before .before .before .before .before .before .before .shared-slice-known .given i)) (c .before .before .before .before .before .before .before .before .before .before .before .before .before .before .loop .inv) (sym (c .before .before .before .before .before .before .before .before .before .before .before .before .before .extent .ensures) ∙ c .before .before .before .before .before .before .before .before .before .before .before .stop .given .1) (c .before .before .before .before .before .before .before .walk .ensures) (c .before .why .given .1)
+parts-returns-2 t c =
+    let c7 = c .before .before .before .before .before .before .before in
+    let c11 = c7 .before .before .before .before in
+    let c13 = c11 .before .before in
+    let c14 = c13 .before in
+    let c19 = c14 .before .before .before .before .before in
+    going-turned (λ i. omega (arith, c19 .shared-slice-known .given i)) (c14 .loop .inv) (sym (c13 .extent .ensures) ∙ c11 .stop .given .1) (c7 .walk .ensures) (c .before .why .given .1)
 
 target-shared-slice-read-fixed : (t : ℕ) → target-lts.Need-shared-slice-read-fixed (target-knows t) (target-at t) target.Post
 target-shared-slice-read-fixed t c = omega arith
@@ -747,13 +1091,26 @@ target-enum-told : (t : ℕ) → target-lts.Need-enum-told (target-knows t) (tar
 target-enum-told t c = search needs
 
 target-returns : (t : ℕ) → target-lts.Need-returns (target-knows t) (target-at t) target.Post
-target-returns t c = walk-short (c .before .before .before .before .before .before .before .before .before .args .e) _ _ (c .before .before .before .before .before .before .before .before .before .pre .1 .2) (sym (c .before .before .fixed .ensures) ∙ c .enum-told .given .1)
+target-returns t c =
+    let c9 = c .before .before .before .before .before .before .before .before .before in
+    walk-short (c9 .args .e) _ _ (c9 .pre .1 .2) (sym (c .before .before .fixed .ensures) ∙ c .enum-told .given .1)
 
 target-begin-field-requires : (t : ℕ) → target-lts.Need-begin-field-requires (target-knows t) (target-at t) target.Post
-target-begin-field-requires t c κs = let i = upto-in (c .before .before .before .before .before .before .before .before .before .before .before .args .s .now) (getD (c .before .before .before .before .before .before .before .before .before .before .before .args .s .now) (c .before .before .before .before .before .before .before .before .before .before .before .args .at) 0) (c .before .before .before .before .before .before .before .before .before .before .before .args .at + 3) (c .before .before .before .before .before .before .before .before .before .before .before .args .stop) (c .before .before .before .before .before .before .before .before .before .before .before .pre .1 .0) (sym (c .before .before .before .before .fixed .ensures) ∙ c .before .before .from .given .1) in omega arith
+target-begin-field-requires t c κs =
+    let c4 = c .before .before .before .before in
+    let c11 = c4 .before .before .before .before .before .before .before in
+    let i =
+    upto-in (c11 .args .s .now) (getD (c11 .args .s .now) (c11 .args .at) 0) (c11 .args .at + 3) (c11 .args .stop) (c11 .pre .1 .0)
+    (sym (c4 .fixed .ensures) ∙ c .before .before .from .given .1) in omega arith
 
 target-member-parts-requires : (t : ℕ) → target-lts.Need-member-parts-requires (target-knows t) (target-at t) target.Post
-target-member-parts-requires t c κs = let i = upto-in (c .before .before .before .before .before .before .before .before .before .before .before .before .before .before .before .before .args .s .now) (getD (c .before .before .before .before .before .before .before .before .before .before .before .before .before .before .before .before .args .s .now) (c .before .before .before .before .before .before .before .before .before .before .before .before .before .before .before .before .args .at) 0) (c .before .before .before .before .before .before .before .before .before .before .before .before .before .before .before .before .args .at + 3) (c .before .before .before .before .before .before .before .before .before .before .before .before .before .before .before .before .args .stop) (c .before .before .before .before .before .before .before .before .before .before .before .before .before .before .before .before .pre .1 .0) (sym (c .before .before .before .before .before .before .before .before .before .fixed .ensures) ∙ c .before .before .before .before .before .before .before .from .given .1) in (omega arith, (omega arith, omega arith, c .before .before .before .before .before .before .before .before .before .before .before .before .before .before .before .before .pre .1 .2))
+target-member-parts-requires t c κs =
+    let c7 = c .before .before .before .before .before .before .before in
+    let c9 = c7 .before .before in
+    let c16 = c9 .before .before .before .before .before .before .before in
+    let i =
+    upto-in (c16 .args .s .now) (getD (c16 .args .s .now) (c16 .args .at) 0) (c16 .args .at + 3) (c16 .args .stop) (c16 .pre .1 .0)
+    (sym (c9 .fixed .ensures) ∙ c7 .from .given .1) in (omega arith, (omega arith, omega arith, c16 .pre .1 .2))
 
 target-end-field-requires : (t : ℕ) → target-lts.Need-end-field-requires (target-knows t) (target-at t) target.Post
 target-end-field-requires t c κs = search needs
@@ -765,7 +1122,15 @@ target-same-length-2 : (t : ℕ) → target-lts.Need-same-length-2 (target-knows
 target-same-length-2 t c = omega arith
 
 target-returns-2 : (t : ℕ) → target-lts.Need-returns-2 (target-knows t) (target-at t) target.Post
-target-returns-2 t c = node-target (c .before .before .before .before .before .before .before .before .before .before .before .before .before .before .before .before .before .before .before .before .before .before .before .before .before .args .e) (set (c .before .before .before .before .before .before .before .before .before .before .before .before .before .before .before .before .before .before .before .before .before .before .before .before .before .args .e) (c .before .before .before .before .before .before .before .before .before .before .before .before .before .before .before .before .before .before .before .before .before .before .before .before .before .args .externals .now) (c .before .before .before .before .before .before .before .before .before .before .before .before .before .before .before .before .before .before .before .before .before .before .before .before .before .args .table .now)) false (c .before .before .before .before .before .before .before .before .before .before .before .before .before .before .before .before .before .before .before .before .before .before .before .before .before .args .s .now) (c .before .before .before .before .before .before .before .before .before .before .before .before .before .before .before .before .before .before .before .before .before .before .before .before .before .args .at) (c .before .before .before .before .before .before .before .before .before .before .before .before .before .before .before .before .from .given .0 .0) (c .before .before .before .before .before .before .before .before .before .before .before .before .before .before .before .before .before .before .before .before .before .before .before .before .before .args .stop) (c .before .before .before .before .before .before .before .before .before .before .before .before .before .before .before .before .before .before .before .before .before .before .before .before .before .pre .1 .0) (c .before .before .before .before .before .before .before .before .before .before .before .before .before .before .before .before .before .before .before .before .before .before .before .before .before .pre .1 .1) (sym (c .before .before .before .before .before .before .before .before .before .before .before .before .before .before .before .before .before .before .fixed .ensures) ∙ c .before .before .before .before .before .before .before .before .before .before .before .before .before .before .before .before .from .given .1) (steps-field (c .before .before .before .before .before .before .before .before .member-parts .result) (c .before .before .before .before .before .before .before .before .before .before .before .before .before .begin-field .ensures) (c .before .before .before .before .before .before .before .before .member-parts .ensures) (c .before .before .end-field .ensures))
+target-returns-2 t c =
+    let c8 = c .before .before .before .before .before .before .before .before in
+    let c13 = c8 .before .before .before .before .before in
+    let c16 = c13 .before .before .before in
+    let c18 = c16 .before .before in
+    let c25 = c18 .before .before .before .before .before .before .before in
+    node-target (c25 .args .e) (set (c25 .args .e) (c25 .args .externals .now) (c25 .args .table .now)) false (c25 .args .s .now) (c25 .args .at)
+    (c16 .from .given .0 .0) (c25 .args .stop) (c25 .pre .1 .0) (c25 .pre .1 .1) (sym (c18 .fixed .ensures) ∙ c16 .from .given .1)
+    (steps-field (c8 .member-parts .result) (c13 .begin-field .ensures) (c8 .member-parts .ensures) (c .before .before .end-field .ensures))
 
 walk-shared-slice-read-tag : (t : ℕ) → walk-lts.Need-shared-slice-read-tag (walk-knows t) (walk-at t) walk.Post
 walk-shared-slice-read-tag t c = omega arith
@@ -783,43 +1148,120 @@ walk-enum-told : (t : ℕ) → walk-lts.Need-enum-told (walk-knows t) (walk-at t
 walk-enum-told t c = search needs
 
 walk-returns : (t : ℕ) → walk-lts.Need-returns (walk-knows t) (walk-at t) walk.Post
-walk-returns t c = walk-short (c .before .before .before .before .before .before .before .before .before .args .e) _ _ (c .before .before .before .before .before .before .before .before .before .pre .1 .2) (sym (c .before .before .fixed .ensures) ∙ c .enum-told .given .1)
+walk-returns t c =
+    let c9 = c .before .before .before .before .before .before .before .before .before in
+    walk-short (c9 .args .e) _ _ (c9 .pre .1 .2) (sym (c .before .before .fixed .ensures) ∙ c .enum-told .given .1)
 
 walk-export-specifier-requires : (t : ℕ) → walk-lts.Need-export-specifier-requires (walk-knows t) (walk-at t) walk.Post
-walk-export-specifier-requires t c κs = (omega arith, omega arith, c .before .before .match2 .keys1, subst (λ (n : ℕ). fixedAt (c .before .before .before .before .before .before .before .before .before .before .before .before .before .args .s .now) n (c .before .before .before .before .before .before .before .before .before .before .before .before .before .args .at + 3) (c .before .before .before .before .before .before .before .before .before .before .before .before .before .args .stop) ≡ Upto (c .before .before .before .before .from .given .0 .0)) (c .before .before .match2 .keys1) (sym (c .before .before .before .before .before .before .fixed .ensures) ∙ c .before .before .before .before .from .given .1), c .before .before .before .before .before .before .before .before .before .before .before .before .before .pre .1 .2)
+walk-export-specifier-requires t c κs =
+    let c4 = c .before .before .before .before in
+    let c6 = c4 .before .before in
+    let c13 = c6 .before .before .before .before .before .before .before in (
+      omega arith,
+      omega arith,
+      c .before .before .match2 .keys1,
+      subst
+          (λ (n : ℕ). fixedAt (c13 .args .s .now) n (c13 .args .at + 3) (c13 .args .stop) ≡ Upto (c4 .from .given .0 .0))
+          (c .before .before .match2 .keys1) (sym (c6 .fixed .ensures) ∙ c4 .from .given .1),
+      c13 .pre .1 .2,
+    )
 
 walk-declarator-requires : (t : ℕ) → walk-lts.Need-declarator-requires (walk-knows t) (walk-at t) walk.Post
-walk-declarator-requires t c κs = let i = upto-in (c .before .before .before .before .before .before .before .before .before .before .before .before .before .args .s .now) (getD (c .before .before .before .before .before .before .before .before .before .before .before .before .before .args .s .now) (c .before .before .before .before .before .before .before .before .before .before .before .before .before .args .at) 0) (c .before .before .before .before .before .before .before .before .before .before .before .before .before .args .at + 3) (c .before .before .before .before .before .before .before .before .before .before .before .before .before .args .stop) (c .before .before .before .before .before .before .before .before .before .before .before .before .before .pre .1 .0) (sym (c .before .before .before .before .before .before .fixed .ensures) ∙ c .before .before .before .before .from .given .1) in (omega arith, (omega arith, omega arith, omega arith, c .before .before .before .before .before .before .before .before .before .before .before .before .before .pre .1 .2))
+walk-declarator-requires t c κs =
+    let c4 = c .before .before .before .before in
+    let c6 = c4 .before .before in
+    let c13 = c6 .before .before .before .before .before .before .before in
+    let i =
+    upto-in (c13 .args .s .now) (getD (c13 .args .s .now) (c13 .args .at) 0) (c13 .args .at + 3) (c13 .args .stop) (c13 .pre .1 .0)
+    (sym (c6 .fixed .ensures) ∙ c4 .from .given .1) in (omega arith, (omega arith, omega arith, omega arith, c13 .pre .1 .2))
 
 walk-block-requires : (t : ℕ) → walk-lts.Need-block-requires (walk-knows t) (walk-at t) walk.Post
-walk-block-requires t c κs = let i = upto-in (c .before .before .before .before .before .before .before .before .before .before .before .before .before .args .s .now) (getD (c .before .before .before .before .before .before .before .before .before .before .before .before .before .args .s .now) (c .before .before .before .before .before .before .before .before .before .before .before .before .before .args .at) 0) (c .before .before .before .before .before .before .before .before .before .before .before .before .before .args .at + 3) (c .before .before .before .before .before .before .before .before .before .before .before .before .before .args .stop) (c .before .before .before .before .before .before .before .before .before .before .before .before .before .pre .1 .0) (sym (c .before .before .before .before .before .before .fixed .ensures) ∙ c .before .before .before .before .from .given .1) in (omega arith, (c .before .before .match2 .keys3, omega arith, omega arith, omega arith, (sym (c .before .before .before .before .before .before .fixed .ensures) ∙ c .before .before .before .before .from .given .1), c .before .before .before .before .before .before .before .before .before .before .before .before .before .pre .1 .2))
+walk-block-requires t c κs =
+    let c4 = c .before .before .before .before in
+    let c6 = c4 .before .before in
+    let c13 = c6 .before .before .before .before .before .before .before in
+    let i =
+    upto-in (c13 .args .s .now) (getD (c13 .args .s .now) (c13 .args .at) 0) (c13 .args .at + 3) (c13 .args .stop) (c13 .pre .1 .0)
+    (sym (c6 .fixed .ensures) ∙ c4 .from .given .1) in (
+      omega arith,
+      (c .before .before .match2 .keys3, omega arith, omega arith, omega arith, (sym (c6 .fixed .ensures) ∙ c4 .from .given .1), c13 .pre .1 .2),
+    )
 
 walk-ident-requires : (t : ℕ) → walk-lts.Need-ident-requires (walk-knows t) (walk-at t) walk.Post
-walk-ident-requires t c κs = let i = upto-in (c .before .before .before .before .before .before .before .before .before .before .before .before .before .args .s .now) (getD (c .before .before .before .before .before .before .before .before .before .before .before .before .before .args .s .now) (c .before .before .before .before .before .before .before .before .before .before .before .before .before .args .at) 0) (c .before .before .before .before .before .before .before .before .before .before .before .before .before .args .at + 3) (c .before .before .before .before .before .before .before .before .before .before .before .before .before .args .stop) (c .before .before .before .before .before .before .before .before .before .before .before .before .before .pre .1 .0) (sym (c .before .before .before .before .before .before .fixed .ensures) ∙ c .before .before .before .before .from .given .1) in let n = plain-ends 0x60 Id refl (c .before .before .before .before .before .before .before .before .before .before .before .before .before .args .s .now) (getD (c .before .before .before .before .before .before .before .before .before .before .before .before .before .args .s .now) (c .before .before .before .before .before .before .before .before .before .before .before .before .before .args .at) 0) (c .before .before .before .before .before .before .before .before .before .before .before .before .before .args .at + 3) (c .before .before .before .before .before .before .before .before .before .before .before .before .before .args .stop) (c .before .before .before .before .from .given .0 .0) (c .before .before .match2 .keys4) (sym (c .before .before .before .before .before .before .fixed .ensures) ∙ c .before .before .before .before .from .given .1) in (c .before .before .match2 .keys4, omega arith, omega arith, c .before .before .before .before .before .before .before .before .before .before .before .before .before .pre .1 .2)
+walk-ident-requires t c κs =
+    let c4 = c .before .before .before .before in
+    let c6 = c4 .before .before in
+    let c13 = c6 .before .before .before .before .before .before .before in
+    let i =
+    upto-in (c13 .args .s .now) (getD (c13 .args .s .now) (c13 .args .at) 0) (c13 .args .at + 3) (c13 .args .stop) (c13 .pre .1 .0)
+    (sym (c6 .fixed .ensures) ∙ c4 .from .given .1) in let n =
+    plain-ends 0x60 Id refl (c13 .args .s .now) (getD (c13 .args .s .now) (c13 .args .at) 0) (c13 .args .at + 3) (c13 .args .stop)
+    (c4 .from .given .0 .0) (c .before .before .match2 .keys4) (sym (c6 .fixed .ensures) ∙ c4 .from .given .1) in
+    (c .before .before .match2 .keys4, omega arith, omega arith, c13 .pre .1 .2)
 
 walk-member-requires : (t : ℕ) → walk-lts.Need-member-requires (walk-knows t) (walk-at t) walk.Post
-walk-member-requires t c κs = (omega arith, (c .before .before .match2 .keys5, omega arith, omega arith, c .before .before .before .before .before .before .before .before .before .before .before .before .before .pre .1 .2))
+walk-member-requires t c κs =
+    let c13 = c .before .before .before .before .before .before .before .before .before .before .before .before .before in
+    (omega arith, (c .before .before .match2 .keys5, omega arith, omega arith, c13 .pre .1 .2))
 
 walk-node-requires : (t : ℕ) → walk-lts.Need-node-requires (walk-knows t) (walk-at t) walk.Post
-walk-node-requires t c κs = let i = upto-in (c .before .before .before .before .before .before .before .before .before .before .before .before .before .args .s .now) (getD (c .before .before .before .before .before .before .before .before .before .before .before .before .before .args .s .now) (c .before .before .before .before .before .before .before .before .before .before .before .before .before .args .at) 0) (c .before .before .before .before .before .before .before .before .before .before .before .before .before .args .at + 3) (c .before .before .before .before .before .before .before .before .before .before .before .before .before .args .stop) (c .before .before .before .before .before .before .before .before .before .before .before .before .before .pre .1 .0) (sym (c .before .before .before .before .before .before .fixed .ensures) ∙ c .before .before .before .before .from .given .1) in (omega arith, (omega arith, omega arith, omega arith, c .before .before .before .before .before .before .before .before .before .before .before .before .before .pre .1 .2))
+walk-node-requires t c κs =
+    let c4 = c .before .before .before .before in
+    let c6 = c4 .before .before in
+    let c13 = c6 .before .before .before .before .before .before .before in
+    let i =
+    upto-in (c13 .args .s .now) (getD (c13 .args .s .now) (c13 .args .at) 0) (c13 .args .at + 3) (c13 .args .stop) (c13 .pre .1 .0)
+    (sym (c6 .fixed .ensures) ∙ c4 .from .given .1) in (omega arith, (omega arith, omega arith, omega arith, c13 .pre .1 .2))
 
 walk-call-requires : (t : ℕ) → walk-lts.Need-call-requires (walk-knows t) (walk-at t) walk.Post
-walk-call-requires t c κs = (omega arith, (c .before .before .match2 .keys7, omega arith, omega arith, c .before .before .before .before .before .before .before .before .before .before .before .before .before .pre .1 .2))
+walk-call-requires t c κs =
+    let c13 = c .before .before .before .before .before .before .before .before .before .before .before .before .before in
+    (omega arith, (c .before .before .match2 .keys7, omega arith, omega arith, c13 .pre .1 .2))
 
 walk-assignment-requires : (t : ℕ) → walk-lts.Need-assignment-requires (walk-knows t) (walk-at t) walk.Post
-walk-assignment-requires t c κs = let i = upto-in (c .before .before .before .before .before .before .before .before .before .before .before .before .before .args .s .now) (getD (c .before .before .before .before .before .before .before .before .before .before .before .before .before .args .s .now) (c .before .before .before .before .before .before .before .before .before .before .before .before .before .args .at) 0) (c .before .before .before .before .before .before .before .before .before .before .before .before .before .args .at + 3) (c .before .before .before .before .before .before .before .before .before .before .before .before .before .args .stop) (c .before .before .before .before .before .before .before .before .before .before .before .before .before .pre .1 .0) (sym (c .before .before .before .before .before .before .fixed .ensures) ∙ c .before .before .before .before .from .given .1) in (omega arith, (omega arith, omega arith, omega arith, c .before .before .before .before .before .before .before .before .before .before .before .before .before .pre .1 .2))
+walk-assignment-requires t c κs =
+    let c4 = c .before .before .before .before in
+    let c6 = c4 .before .before in
+    let c13 = c6 .before .before .before .before .before .before .before in
+    let i =
+    upto-in (c13 .args .s .now) (getD (c13 .args .s .now) (c13 .args .at) 0) (c13 .args .at + 3) (c13 .args .stop) (c13 .pre .1 .0)
+    (sym (c6 .fixed .ensures) ∙ c4 .from .given .1) in (omega arith, (omega arith, omega arith, omega arith, c13 .pre .1 .2))
 
 walk-node-requires-2 : (t : ℕ) → walk-lts.Need-node-requires-2 (walk-knows t) (walk-at t) walk.Post
-walk-node-requires-2 t c κs = let i = upto-in (c .before .before .before .before .before .before .before .before .before .before .before .before .before .before .before .args .s .now) (getD (c .before .before .before .before .before .before .before .before .before .before .before .before .before .before .before .args .s .now) (c .before .before .before .before .before .before .before .before .before .before .before .before .before .before .before .args .at) 0) (c .before .before .before .before .before .before .before .before .before .before .before .before .before .before .before .args .at + 3) (c .before .before .before .before .before .before .before .before .before .before .before .before .before .before .before .args .stop) (c .before .before .before .before .before .before .before .before .before .before .before .before .before .before .before .pre .1 .0) (sym (c .before .before .before .before .before .before .before .before .fixed .ensures) ∙ c .before .before .before .before .before .before .from .given .1) in (omega arith, (omega arith, omega arith, omega arith, c .before .before .before .before .before .before .before .before .before .before .before .before .before .before .before .pre .1 .2))
+walk-node-requires-2 t c κs =
+    let c6 = c .before .before .before .before .before .before in
+    let c8 = c6 .before .before in
+    let c15 = c8 .before .before .before .before .before .before .before in
+    let i =
+    upto-in (c15 .args .s .now) (getD (c15 .args .s .now) (c15 .args .at) 0) (c15 .args .at + 3) (c15 .args .stop) (c15 .pre .1 .0)
+    (sym (c8 .fixed .ensures) ∙ c6 .from .given .1) in (omega arith, (omega arith, omega arith, omega arith, c15 .pre .1 .2))
 
 walk-node-requires-3 : (t : ℕ) → walk-lts.Need-node-requires-3 (walk-knows t) (walk-at t) walk.Post
-walk-node-requires-3 t c κs = let i = upto-in (c .before .before .before .before .before .before .before .before .before .before .before .before .before .before .before .before .before .args .s .now) (getD (c .before .before .before .before .before .before .before .before .before .before .before .before .before .before .before .before .before .args .s .now) (c .before .before .before .before .before .before .before .before .before .before .before .before .before .before .before .before .before .args .at) 0) (c .before .before .before .before .before .before .before .before .before .before .before .before .before .before .before .before .before .args .at + 3) (c .before .before .before .before .before .before .before .before .before .before .before .before .before .before .before .before .before .args .stop) (c .before .before .before .before .before .before .before .before .before .before .before .before .before .before .before .before .before .pre .1 .0) (sym (c .before .before .before .before .before .before .before .before .before .before .fixed .ensures) ∙ c .before .before .before .before .before .before .before .before .from .given .1) in (omega arith, (omega arith, omega arith, omega arith, c .before .before .before .before .before .before .before .before .before .before .before .before .before .before .before .before .before .pre .1 .2))
+walk-node-requires-3 t c κs =
+    let c8 = c .before .before .before .before .before .before .before .before in
+    let c10 = c8 .before .before in
+    let c17 = c10 .before .before .before .before .before .before .before in
+    let i =
+    upto-in (c17 .args .s .now) (getD (c17 .args .s .now) (c17 .args .at) 0) (c17 .args .at + 3) (c17 .args .stop) (c17 .pre .1 .0)
+    (sym (c10 .fixed .ensures) ∙ c8 .from .given .1) in (omega arith, (omega arith, omega arith, omega arith, c17 .pre .1 .2))
 
 walk-node-requires-4 : (t : ℕ) → walk-lts.Need-node-requires-4 (walk-knows t) (walk-at t) walk.Post
-walk-node-requires-4 t c κs = let i = upto-in (c .before .before .before .before .before .before .before .before .before .before .before .before .before .before .before .before .before .before .before .args .s .now) (getD (c .before .before .before .before .before .before .before .before .before .before .before .before .before .before .before .before .before .before .before .args .s .now) (c .before .before .before .before .before .before .before .before .before .before .before .before .before .before .before .before .before .before .before .args .at) 0) (c .before .before .before .before .before .before .before .before .before .before .before .before .before .before .before .before .before .before .before .args .at + 3) (c .before .before .before .before .before .before .before .before .before .before .before .before .before .before .before .before .before .before .before .args .stop) (c .before .before .before .before .before .before .before .before .before .before .before .before .before .before .before .before .before .before .before .pre .1 .0) (sym (c .before .before .before .before .before .before .before .before .before .before .before .before .fixed .ensures) ∙ c .before .before .before .before .before .before .before .before .before .before .from .given .1) in (omega arith, (omega arith, omega arith, omega arith, c .before .before .before .before .before .before .before .before .before .before .before .before .before .before .before .before .before .before .before .pre .1 .2))
+walk-node-requires-4 t c κs =
+    let c10 = c .before .before .before .before .before .before .before .before .before .before in
+    let c12 = c10 .before .before in
+    let c19 = c12 .before .before .before .before .before .before .before in
+    let i =
+    upto-in (c19 .args .s .now) (getD (c19 .args .s .now) (c19 .args .at) 0) (c19 .args .at + 3) (c19 .args .stop) (c19 .pre .1 .0)
+    (sym (c12 .fixed .ensures) ∙ c10 .from .given .1) in (omega arith, (omega arith, omega arith, omega arith, c19 .pre .1 .2))
 
 walk-node-requires-5 : (t : ℕ) → walk-lts.Need-node-requires-5 (walk-knows t) (walk-at t) walk.Post
-walk-node-requires-5 t c κs = let i = upto-in (c .before .before .before .before .before .before .before .before .before .before .before .before .before .before .args .s .now) (getD (c .before .before .before .before .before .before .before .before .before .before .before .before .before .before .args .s .now) (c .before .before .before .before .before .before .before .before .before .before .before .before .before .before .args .at) 0) (c .before .before .before .before .before .before .before .before .before .before .before .before .before .before .args .at + 3) (c .before .before .before .before .before .before .before .before .before .before .before .before .before .before .args .stop) (c .before .before .before .before .before .before .before .before .before .before .before .before .before .before .pre .1 .0) (sym (c .before .before .before .before .before .before .before .fixed .ensures) ∙ c .before .before .before .before .before .from .given .1) in (omega arith, (omega arith, omega arith, omega arith, c .before .before .before .before .before .before .before .before .before .before .before .before .before .before .pre .1 .2))
+walk-node-requires-5 t c κs =
+    let c5 = c .before .before .before .before .before in
+    let c7 = c5 .before .before in
+    let c14 = c7 .before .before .before .before .before .before .before in
+    let i =
+    upto-in (c14 .args .s .now) (getD (c14 .args .s .now) (c14 .args .at) 0) (c14 .args .at + 3) (c14 .args .stop) (c14 .pre .1 .0)
+    (sym (c7 .fixed .ensures) ∙ c5 .from .given .1) in (omega arith, (omega arith, omega arith, omega arith, c14 .pre .1 .2))
 
 walk-same-length : (t : ℕ) → walk-lts.Need-same-length (walk-knows t) (walk-at t) walk.Post
 walk-same-length t c = omega arith
@@ -828,7 +1270,15 @@ walk-same-length-2 : (t : ℕ) → walk-lts.Need-same-length-2 (walk-knows t) (w
 walk-same-length-2 t c = omega arith
 
 walk-returns-2 : (t : ℕ) → walk-lts.Need-returns-2 (walk-knows t) (walk-at t) walk.Post
-walk-returns-2 t c = node-23 (c .before .before .before .before .before .before .before .before .before .before .before .before .before .before .before .before .before .before .args .e) (set (c .before .before .before .before .before .before .before .before .before .before .before .before .before .before .before .before .before .before .args .e) (c .before .before .before .before .before .before .before .before .before .before .before .before .before .before .before .before .before .before .args .externals .now) (c .before .before .before .before .before .before .before .before .before .before .before .before .before .before .before .before .before .before .args .table .now)) (c .before .before .before .before .before .before .before .before .before .before .before .before .before .before .before .before .before .before .args .object) (c .before .before .before .before .before .before .before .before .before .before .before .before .before .before .before .before .before .before .args .s .now) (c .before .before .before .before .before .before .before .before .before .before .before .before .before .before .before .before .before .before .args .at) (c .before .before .before .before .before .before .before .before .before .from .given .0 .0) (c .before .before .before .before .before .before .before .before .before .before .before .before .before .before .before .before .before .before .args .stop) (c .before .before .before .before .before .before .before .before .before .before .before .before .before .before .before .before .before .before .pre .1 .0) (c .before .before .before .before .before .before .before .before .before .before .before .before .before .before .before .before .before .before .pre .1 .1) (sym (c .before .before .before .before .before .before .before .before .before .before .before .fixed .ensures) ∙ c .before .before .before .before .before .before .before .before .before .from .given .1) (c .before .before .before .before .before .before .before .match2 .keys1) (c .before .before .before .before .export-specifier .ensures (atomsIn (c .before .before .before .before .before .before .before .before .before .before .before .before .before .before .before .before .before .before .args .externals .now)) (rowsIn (c .before .before .before .before .before .before .before .before .before .before .before .before .before .before .before .before .before .before .args .table .now)))
+walk-returns-2 t c =
+    let c4 = c .before .before .before .before in
+    let c7 = c4 .before .before .before in
+    let c9 = c7 .before .before in
+    let c11 = c9 .before .before in
+    let c18 = c11 .before .before .before .before .before .before .before in
+    node-23 (c18 .args .e) (set (c18 .args .e) (c18 .args .externals .now) (c18 .args .table .now)) (c18 .args .object) (c18 .args .s .now)
+    (c18 .args .at) (c9 .from .given .0 .0) (c18 .args .stop) (c18 .pre .1 .0) (c18 .pre .1 .1) (sym (c11 .fixed .ensures) ∙ c9 .from .given .1)
+    (c7 .match2 .keys1) (c4 .export-specifier .ensures (atomsIn (c18 .args .externals .now)) (rowsIn (c18 .args .table .now)))
 
 walk-same-length-3 : (t : ℕ) → walk-lts.Need-same-length-3 (walk-knows t) (walk-at t) walk.Post
 walk-same-length-3 t c = omega arith
@@ -837,7 +1287,15 @@ walk-same-length-4 : (t : ℕ) → walk-lts.Need-same-length-4 (walk-knows t) (w
 walk-same-length-4 t c = omega arith
 
 walk-returns-3 : (t : ℕ) → walk-lts.Need-returns-3 (walk-knows t) (walk-at t) walk.Post
-walk-returns-3 t c = node-42 (c .before .before .before .before .before .before .before .before .before .before .before .before .before .before .before .before .before .before .args .e) (set (c .before .before .before .before .before .before .before .before .before .before .before .before .before .before .before .before .before .before .args .e) (c .before .before .before .before .before .before .before .before .before .before .before .before .before .before .before .before .before .before .args .externals .now) (c .before .before .before .before .before .before .before .before .before .before .before .before .before .before .before .before .before .before .args .table .now)) (c .before .before .before .before .before .before .before .before .before .before .before .before .before .before .before .before .before .before .args .object) (c .before .before .before .before .before .before .before .before .before .before .before .before .before .before .before .before .before .before .args .s .now) (c .before .before .before .before .before .before .before .before .before .before .before .before .before .before .before .before .before .before .args .at) (c .before .before .before .before .before .before .before .before .before .from .given .0 .0) (c .before .before .before .before .before .before .before .before .before .before .before .before .before .before .before .before .before .before .args .stop) (c .before .before .before .before .before .before .before .before .before .before .before .before .before .before .before .before .before .before .pre .1 .0) (c .before .before .before .before .before .before .before .before .before .before .before .before .before .before .before .before .before .before .pre .1 .1) (sym (c .before .before .before .before .before .before .before .before .before .before .before .fixed .ensures) ∙ c .before .before .before .before .before .before .before .before .before .from .given .1) (c .before .before .before .before .before .before .before .match2 .keys2) (c .before .before .before .before .declarator .ensures)
+walk-returns-3 t c =
+    let c4 = c .before .before .before .before in
+    let c7 = c4 .before .before .before in
+    let c9 = c7 .before .before in
+    let c11 = c9 .before .before in
+    let c18 = c11 .before .before .before .before .before .before .before in
+    node-42 (c18 .args .e) (set (c18 .args .e) (c18 .args .externals .now) (c18 .args .table .now)) (c18 .args .object) (c18 .args .s .now)
+    (c18 .args .at) (c9 .from .given .0 .0) (c18 .args .stop) (c18 .pre .1 .0) (c18 .pre .1 .1) (sym (c11 .fixed .ensures) ∙ c9 .from .given .1)
+    (c7 .match2 .keys2) (c4 .declarator .ensures)
 
 walk-same-length-5 : (t : ℕ) → walk-lts.Need-same-length-5 (walk-knows t) (walk-at t) walk.Post
 walk-same-length-5 t c = omega arith
@@ -873,7 +1331,15 @@ walk-same-length-12 : (t : ℕ) → walk-lts.Need-same-length-12 (walk-knows t) 
 walk-same-length-12 t c = omega arith
 
 walk-returns-7 : (t : ℕ) → walk-lts.Need-returns-7 (walk-knows t) (walk-at t) walk.Post
-walk-returns-7 t c = node-64 (c .before .before .before .before .before .before .before .before .before .before .before .before .before .before .before .before .before .before .args .e) (set (c .before .before .before .before .before .before .before .before .before .before .before .before .before .before .before .before .before .before .args .e) (c .before .before .before .before .before .before .before .before .before .before .before .before .before .before .before .before .before .before .args .externals .now) (c .before .before .before .before .before .before .before .before .before .before .before .before .before .before .before .before .before .before .args .table .now)) (c .before .before .before .before .before .before .before .before .before .before .before .before .before .before .before .before .before .before .args .object) (c .before .before .before .before .before .before .before .before .before .before .before .before .before .before .before .before .before .before .args .s .now) (c .before .before .before .before .before .before .before .before .before .before .before .before .before .before .before .before .before .before .args .at) (c .before .before .before .before .before .before .before .before .before .from .given .0 .0) (c .before .before .before .before .before .before .before .before .before .before .before .before .before .before .before .before .before .before .args .stop) (c .before .before .before .before .before .before .before .before .before .before .before .before .before .before .before .before .before .before .pre .1 .0) (c .before .before .before .before .before .before .before .before .before .before .before .before .before .before .before .before .before .before .pre .1 .1) (sym (c .before .before .before .before .before .before .before .before .before .before .before .fixed .ensures) ∙ c .before .before .before .before .before .before .before .before .before .from .given .1) (c .before .before .before .before .before .before .before .match2 .keys6) (c .before .before .before .before .node .ensures)
+walk-returns-7 t c =
+    let c4 = c .before .before .before .before in
+    let c7 = c4 .before .before .before in
+    let c9 = c7 .before .before in
+    let c11 = c9 .before .before in
+    let c18 = c11 .before .before .before .before .before .before .before in
+    node-64 (c18 .args .e) (set (c18 .args .e) (c18 .args .externals .now) (c18 .args .table .now)) (c18 .args .object) (c18 .args .s .now)
+    (c18 .args .at) (c9 .from .given .0 .0) (c18 .args .stop) (c18 .pre .1 .0) (c18 .pre .1 .1) (sym (c11 .fixed .ensures) ∙ c9 .from .given .1)
+    (c7 .match2 .keys6) (c4 .node .ensures)
 
 walk-same-length-13 : (t : ℕ) → walk-lts.Need-same-length-13 (walk-knows t) (walk-at t) walk.Post
 walk-same-length-13 t c = omega arith
@@ -891,7 +1357,15 @@ walk-same-length-16 : (t : ℕ) → walk-lts.Need-same-length-16 (walk-knows t) 
 walk-same-length-16 t c = omega arith
 
 walk-returns-9 : (t : ℕ) → walk-lts.Need-returns-9 (walk-knows t) (walk-at t) walk.Post
-walk-returns-9 t c = node-66 (c .before .before .before .before .before .before .before .before .before .before .before .before .before .before .before .before .before .before .args .e) (set (c .before .before .before .before .before .before .before .before .before .before .before .before .before .before .before .before .before .before .args .e) (c .before .before .before .before .before .before .before .before .before .before .before .before .before .before .before .before .before .before .args .externals .now) (c .before .before .before .before .before .before .before .before .before .before .before .before .before .before .before .before .before .before .args .table .now)) (c .before .before .before .before .before .before .before .before .before .before .before .before .before .before .before .before .before .before .args .object) (c .before .before .before .before .before .before .before .before .before .before .before .before .before .before .before .before .before .before .args .s .now) (c .before .before .before .before .before .before .before .before .before .before .before .before .before .before .before .before .before .before .args .at) (c .before .before .before .before .before .before .before .before .before .from .given .0 .0) (c .before .before .before .before .before .before .before .before .before .before .before .before .before .before .before .before .before .before .args .stop) (c .before .before .before .before .before .before .before .before .before .before .before .before .before .before .before .before .before .before .pre .1 .0) (c .before .before .before .before .before .before .before .before .before .before .before .before .before .before .before .before .before .before .pre .1 .1) (sym (c .before .before .before .before .before .before .before .before .before .before .before .fixed .ensures) ∙ c .before .before .before .before .before .before .before .before .before .from .given .1) (c .before .before .before .before .before .before .before .match2 .keys8) (c .before .before .before .before .assignment .ensures)
+walk-returns-9 t c =
+    let c4 = c .before .before .before .before in
+    let c7 = c4 .before .before .before in
+    let c9 = c7 .before .before in
+    let c11 = c9 .before .before in
+    let c18 = c11 .before .before .before .before .before .before .before in
+    node-66 (c18 .args .e) (set (c18 .args .e) (c18 .args .externals .now) (c18 .args .table .now)) (c18 .args .object) (c18 .args .s .now)
+    (c18 .args .at) (c9 .from .given .0 .0) (c18 .args .stop) (c18 .pre .1 .0) (c18 .pre .1 .1) (sym (c11 .fixed .ensures) ∙ c9 .from .given .1)
+    (c7 .match2 .keys8) (c4 .assignment .ensures)
 
 walk-same-length-17 : (t : ℕ) → walk-lts.Need-same-length-17 (walk-knows t) (walk-at t) walk.Post
 walk-same-length-17 t c = omega arith
@@ -900,7 +1374,17 @@ walk-same-length-18 : (t : ℕ) → walk-lts.Need-same-length-18 (walk-knows t) 
 walk-same-length-18 t c = omega arith
 
 walk-returns-10 : (t : ℕ) → walk-lts.Need-returns-10 (walk-knows t) (walk-at t) walk.Post
-walk-returns-10 t c = node-plain (c .before .before .before .before .before .before .before .before .before .before .before .before .before .before .before .before .before .before .before .before .args .e) (set (c .before .before .before .before .before .before .before .before .before .before .before .before .before .before .before .before .before .before .before .before .args .e) (c .before .before .before .before .before .before .before .before .before .before .before .before .before .before .before .before .before .before .before .before .args .externals .now) (c .before .before .before .before .before .before .before .before .before .before .before .before .before .before .before .before .before .before .before .before .args .table .now)) (c .before .before .before .before .before .before .before .before .before .before .before .before .before .before .before .before .before .before .before .before .args .object) (c .before .before .before .before .before .before .before .before .before .before .before .before .before .before .before .before .before .before .before .before .args .s .now) (c .before .before .before .before .before .before .before .before .before .before .before .before .before .before .before .before .before .before .before .before .args .at) (c .before .before .before .before .before .before .before .before .before .before .before .from .given .0 .0) (c .before .before .before .before .before .before .before .before .before .before .before .before .before .before .before .before .before .before .before .before .args .stop) (c .before .before .before .before .before .before .before .before .before .before .before .before .before .before .before .before .before .before .before .before .pre .1 .0) (c .before .before .before .before .before .before .before .before .before .before .before .before .before .before .before .before .before .before .before .before .pre .1 .1) (sym (c .before .before .before .before .before .before .before .before .before .before .before .before .before .fixed .ensures) ∙ c .before .before .before .before .before .before .before .before .before .before .before .from .given .1) (c .before .before .before .before .before .before .before .before .before .match2 .rest .0 .0 .0 .0 .0 .0 .0 .1) (c .before .before .before .before .before .before .before .before .before .match2 .rest .0 .0 .0 .0 .0 .0 .1) (c .before .before .before .before .before .before .before .before .before .match2 .rest .0 .0 .0 .0 .0 .1) (c .before .before .before .before .before .before .before .before .before .match2 .rest .0 .0 .0 .0 .1) (c .before .before .before .before .before .before .before .before .before .match2 .rest .0 .0 .0 .1) (c .before .before .before .before .before .before .before .before .before .match2 .rest .0 .0 .1) (c .before .before .before .before .before .before .before .before .before .match2 .rest .0 .1) (c .before .before .before .before .before .before .before .before .before .match2 .rest .1) (c .before .before .before .before .node2 .ensures)
+walk-returns-10 t c =
+    let c4 = c .before .before .before .before in
+    let c9 = c4 .before .before .before .before .before in
+    let c11 = c9 .before .before in
+    let c13 = c11 .before .before in
+    let c20 = c13 .before .before .before .before .before .before .before in
+    node-plain (c20 .args .e) (set (c20 .args .e) (c20 .args .externals .now) (c20 .args .table .now)) (c20 .args .object) (c20 .args .s .now)
+    (c20 .args .at) (c11 .from .given .0 .0) (c20 .args .stop) (c20 .pre .1 .0) (c20 .pre .1 .1) (sym (c13 .fixed .ensures) ∙ c11 .from .given .1)
+    (c9 .match2 .rest .0 .0 .0 .0 .0 .0 .0 .1) (c9 .match2 .rest .0 .0 .0 .0 .0 .0 .1) (c9 .match2 .rest .0 .0 .0 .0 .0 .1)
+    (c9 .match2 .rest .0 .0 .0 .0 .1) (c9 .match2 .rest .0 .0 .0 .1) (c9 .match2 .rest .0 .0 .1) (c9 .match2 .rest .0 .1) (c9 .match2 .rest .1)
+    (c4 .node2 .ensures)
 
 walk-same-length-19 : (t : ℕ) → walk-lts.Need-same-length-19 (walk-knows t) (walk-at t) walk.Post
 walk-same-length-19 t c = omega arith
@@ -909,7 +1393,17 @@ walk-same-length-20 : (t : ℕ) → walk-lts.Need-same-length-20 (walk-knows t) 
 walk-same-length-20 t c = omega arith
 
 walk-returns-11 : (t : ℕ) → walk-lts.Need-returns-11 (walk-knows t) (walk-at t) walk.Post
-walk-returns-11 t c = node-plain (c .before .before .before .before .before .before .before .before .before .before .before .before .before .before .before .before .before .before .before .before .before .before .args .e) (set (c .before .before .before .before .before .before .before .before .before .before .before .before .before .before .before .before .before .before .before .before .before .before .args .e) (c .before .before .before .before .before .before .before .before .before .before .before .before .before .before .before .before .before .before .before .before .before .before .args .externals .now) (c .before .before .before .before .before .before .before .before .before .before .before .before .before .before .before .before .before .before .before .before .before .before .args .table .now)) (c .before .before .before .before .before .before .before .before .before .before .before .before .before .before .before .before .before .before .before .before .before .before .args .object) (c .before .before .before .before .before .before .before .before .before .before .before .before .before .before .before .before .before .before .before .before .before .before .args .s .now) (c .before .before .before .before .before .before .before .before .before .before .before .before .before .before .before .before .before .before .before .before .before .before .args .at) (c .before .before .before .before .before .before .before .before .before .before .before .before .before .from .given .0 .0) (c .before .before .before .before .before .before .before .before .before .before .before .before .before .before .before .before .before .before .before .before .before .before .args .stop) (c .before .before .before .before .before .before .before .before .before .before .before .before .before .before .before .before .before .before .before .before .before .before .pre .1 .0) (c .before .before .before .before .before .before .before .before .before .before .before .before .before .before .before .before .before .before .before .before .before .before .pre .1 .1) (sym (c .before .before .before .before .before .before .before .before .before .before .before .before .before .before .before .fixed .ensures) ∙ c .before .before .before .before .before .before .before .before .before .before .before .before .before .from .given .1) (c .before .before .before .before .before .before .before .before .before .before .before .match2 .rest .0 .0 .0 .0 .0 .0 .0 .1) (c .before .before .before .before .before .before .before .before .before .before .before .match2 .rest .0 .0 .0 .0 .0 .0 .1) (c .before .before .before .before .before .before .before .before .before .before .before .match2 .rest .0 .0 .0 .0 .0 .1) (c .before .before .before .before .before .before .before .before .before .before .before .match2 .rest .0 .0 .0 .0 .1) (c .before .before .before .before .before .before .before .before .before .before .before .match2 .rest .0 .0 .0 .1) (c .before .before .before .before .before .before .before .before .before .before .before .match2 .rest .0 .0 .1) (c .before .before .before .before .before .before .before .before .before .before .before .match2 .rest .0 .1) (c .before .before .before .before .before .before .before .before .before .before .before .match2 .rest .1) (c .before .before .before .before .node3 .ensures)
+walk-returns-11 t c =
+    let c4 = c .before .before .before .before in
+    let c11 = c4 .before .before .before .before .before .before .before in
+    let c13 = c11 .before .before in
+    let c15 = c13 .before .before in
+    let c22 = c15 .before .before .before .before .before .before .before in
+    node-plain (c22 .args .e) (set (c22 .args .e) (c22 .args .externals .now) (c22 .args .table .now)) (c22 .args .object) (c22 .args .s .now)
+    (c22 .args .at) (c13 .from .given .0 .0) (c22 .args .stop) (c22 .pre .1 .0) (c22 .pre .1 .1) (sym (c15 .fixed .ensures) ∙ c13 .from .given .1)
+    (c11 .match2 .rest .0 .0 .0 .0 .0 .0 .0 .1) (c11 .match2 .rest .0 .0 .0 .0 .0 .0 .1) (c11 .match2 .rest .0 .0 .0 .0 .0 .1)
+    (c11 .match2 .rest .0 .0 .0 .0 .1) (c11 .match2 .rest .0 .0 .0 .1) (c11 .match2 .rest .0 .0 .1) (c11 .match2 .rest .0 .1)
+    (c11 .match2 .rest .1) (c4 .node3 .ensures)
 
 walk-same-length-21 : (t : ℕ) → walk-lts.Need-same-length-21 (walk-knows t) (walk-at t) walk.Post
 walk-same-length-21 t c = omega arith
@@ -918,7 +1412,17 @@ walk-same-length-22 : (t : ℕ) → walk-lts.Need-same-length-22 (walk-knows t) 
 walk-same-length-22 t c = omega arith
 
 walk-returns-12 : (t : ℕ) → walk-lts.Need-returns-12 (walk-knows t) (walk-at t) walk.Post
-walk-returns-12 t c = node-plain (c .before .before .before .before .before .before .before .before .before .before .before .before .before .before .before .before .before .before .before .before .before .before .before .before .args .e) (set (c .before .before .before .before .before .before .before .before .before .before .before .before .before .before .before .before .before .before .before .before .before .before .before .before .args .e) (c .before .before .before .before .before .before .before .before .before .before .before .before .before .before .before .before .before .before .before .before .before .before .before .before .args .externals .now) (c .before .before .before .before .before .before .before .before .before .before .before .before .before .before .before .before .before .before .before .before .before .before .before .before .args .table .now)) (c .before .before .before .before .before .before .before .before .before .before .before .before .before .before .before .before .before .before .before .before .before .before .before .before .args .object) (c .before .before .before .before .before .before .before .before .before .before .before .before .before .before .before .before .before .before .before .before .before .before .before .before .args .s .now) (c .before .before .before .before .before .before .before .before .before .before .before .before .before .before .before .before .before .before .before .before .before .before .before .before .args .at) (c .before .before .before .before .before .before .before .before .before .before .before .before .before .before .before .from .given .0 .0) (c .before .before .before .before .before .before .before .before .before .before .before .before .before .before .before .before .before .before .before .before .before .before .before .before .args .stop) (c .before .before .before .before .before .before .before .before .before .before .before .before .before .before .before .before .before .before .before .before .before .before .before .before .pre .1 .0) (c .before .before .before .before .before .before .before .before .before .before .before .before .before .before .before .before .before .before .before .before .before .before .before .before .pre .1 .1) (sym (c .before .before .before .before .before .before .before .before .before .before .before .before .before .before .before .before .before .fixed .ensures) ∙ c .before .before .before .before .before .before .before .before .before .before .before .before .before .before .before .from .given .1) (c .before .before .before .before .before .before .before .before .before .before .before .before .before .match2 .rest .0 .0 .0 .0 .0 .0 .0 .1) (c .before .before .before .before .before .before .before .before .before .before .before .before .before .match2 .rest .0 .0 .0 .0 .0 .0 .1) (c .before .before .before .before .before .before .before .before .before .before .before .before .before .match2 .rest .0 .0 .0 .0 .0 .1) (c .before .before .before .before .before .before .before .before .before .before .before .before .before .match2 .rest .0 .0 .0 .0 .1) (c .before .before .before .before .before .before .before .before .before .before .before .before .before .match2 .rest .0 .0 .0 .1) (c .before .before .before .before .before .before .before .before .before .before .before .before .before .match2 .rest .0 .0 .1) (c .before .before .before .before .before .before .before .before .before .before .before .before .before .match2 .rest .0 .1) (c .before .before .before .before .before .before .before .before .before .before .before .before .before .match2 .rest .1) (c .before .before .before .before .node4 .ensures)
+walk-returns-12 t c =
+    let c4 = c .before .before .before .before in
+    let c13 = c4 .before .before .before .before .before .before .before .before .before in
+    let c15 = c13 .before .before in
+    let c17 = c15 .before .before in
+    let c24 = c17 .before .before .before .before .before .before .before in
+    node-plain (c24 .args .e) (set (c24 .args .e) (c24 .args .externals .now) (c24 .args .table .now)) (c24 .args .object) (c24 .args .s .now)
+    (c24 .args .at) (c15 .from .given .0 .0) (c24 .args .stop) (c24 .pre .1 .0) (c24 .pre .1 .1) (sym (c17 .fixed .ensures) ∙ c15 .from .given .1)
+    (c13 .match2 .rest .0 .0 .0 .0 .0 .0 .0 .1) (c13 .match2 .rest .0 .0 .0 .0 .0 .0 .1) (c13 .match2 .rest .0 .0 .0 .0 .0 .1)
+    (c13 .match2 .rest .0 .0 .0 .0 .1) (c13 .match2 .rest .0 .0 .0 .1) (c13 .match2 .rest .0 .0 .1) (c13 .match2 .rest .0 .1)
+    (c13 .match2 .rest .1) (c4 .node4 .ensures)
 
 walk-same-length-23 : (t : ℕ) → walk-lts.Need-same-length-23 (walk-knows t) (walk-at t) walk.Post
 walk-same-length-23 t c = omega arith
@@ -927,7 +1431,17 @@ walk-same-length-24 : (t : ℕ) → walk-lts.Need-same-length-24 (walk-knows t) 
 walk-same-length-24 t c = omega arith
 
 walk-returns-13 : (t : ℕ) → walk-lts.Need-returns-13 (walk-knows t) (walk-at t) walk.Post
-walk-returns-13 t c = node-plain (c .before .before .before .before .before .before .before .before .before .before .before .before .before .before .before .before .before .before .before .args .e) (set (c .before .before .before .before .before .before .before .before .before .before .before .before .before .before .before .before .before .before .before .args .e) (c .before .before .before .before .before .before .before .before .before .before .before .before .before .before .before .before .before .before .before .args .externals .now) (c .before .before .before .before .before .before .before .before .before .before .before .before .before .before .before .before .before .before .before .args .table .now)) (c .before .before .before .before .before .before .before .before .before .before .before .before .before .before .before .before .before .before .before .args .object) (c .before .before .before .before .before .before .before .before .before .before .before .before .before .before .before .before .before .before .before .args .s .now) (c .before .before .before .before .before .before .before .before .before .before .before .before .before .before .before .before .before .before .before .args .at) (c .before .before .before .before .before .before .before .before .before .before .from .given .0 .0) (c .before .before .before .before .before .before .before .before .before .before .before .before .before .before .before .before .before .before .before .args .stop) (c .before .before .before .before .before .before .before .before .before .before .before .before .before .before .before .before .before .before .before .pre .1 .0) (c .before .before .before .before .before .before .before .before .before .before .before .before .before .before .before .before .before .before .before .pre .1 .1) (sym (c .before .before .before .before .before .before .before .before .before .before .before .before .fixed .ensures) ∙ c .before .before .before .before .before .before .before .before .before .before .from .given .1) (c .before .before .before .before .before .before .before .before .match2 .rest .0 .0 .0 .0 .0 .0 .0 .1) (c .before .before .before .before .before .before .before .before .match2 .rest .0 .0 .0 .0 .0 .0 .1) (c .before .before .before .before .before .before .before .before .match2 .rest .0 .0 .0 .0 .0 .1) (c .before .before .before .before .before .before .before .before .match2 .rest .0 .0 .0 .0 .1) (c .before .before .before .before .before .before .before .before .match2 .rest .0 .0 .0 .1) (c .before .before .before .before .before .before .before .before .match2 .rest .0 .0 .1) (c .before .before .before .before .before .before .before .before .match2 .rest .0 .1) (c .before .before .before .before .before .before .before .before .match2 .rest .1) (c .before .before .before .before .node5 .ensures)
+walk-returns-13 t c =
+    let c4 = c .before .before .before .before in
+    let c8 = c4 .before .before .before .before in
+    let c10 = c8 .before .before in
+    let c12 = c10 .before .before in
+    let c19 = c12 .before .before .before .before .before .before .before in
+    node-plain (c19 .args .e) (set (c19 .args .e) (c19 .args .externals .now) (c19 .args .table .now)) (c19 .args .object) (c19 .args .s .now)
+    (c19 .args .at) (c10 .from .given .0 .0) (c19 .args .stop) (c19 .pre .1 .0) (c19 .pre .1 .1) (sym (c12 .fixed .ensures) ∙ c10 .from .given .1)
+    (c8 .match2 .rest .0 .0 .0 .0 .0 .0 .0 .1) (c8 .match2 .rest .0 .0 .0 .0 .0 .0 .1) (c8 .match2 .rest .0 .0 .0 .0 .0 .1)
+    (c8 .match2 .rest .0 .0 .0 .0 .1) (c8 .match2 .rest .0 .0 .0 .1) (c8 .match2 .rest .0 .0 .1) (c8 .match2 .rest .0 .1) (c8 .match2 .rest .1)
+    (c4 .node5 .ensures)
 
 pub +assignment+assignment-parts+block+call+declarator+declarator-parts+initialiser+member+member-parts+node+parts+target+walk-spec :
     {M : Type 1} → statement M

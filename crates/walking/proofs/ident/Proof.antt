@@ -4,9 +4,9 @@ use Rattle.walking.proofs.ident.Statement.{statement}
 use Rattle.walking.proofs.ident.Tie as tie
 use Rattle.walking.proofs.ident.Reads as reads
 use Rattle.walking.proofs.ident.Lts as lts
-use Rattle.kept.proofs.forced.force_id.Reads as force-id-reads
-use Rattle.kept.proofs.ident.id_at.Reads as id-at-reads
-use Rattle.kept.proofs.ident.put_ident.Reads as put-ident-reads
+use Rattle.state.proofs.forced.force_id.Reads as force-id-reads
+use Rattle.state.proofs.ident.id_at.Reads as id-at-reads
+use Rattle.state.proofs.ident.put_ident.Reads as put-ident-reads
 
 -- src/walking.rt:176:23
 add-id-at : tie.Need-add-id-at
@@ -26,7 +26,13 @@ same-length c = search needs
 
 -- src/walking.rt:178:9
 returns : tie.Need-returns
-returns c = ident-again (c .before .before .before .before .before .before .before .before .before .before .before .args .e) (c .before .before .before .before .before .before .before .before .before .before .before .args .externals .now) (c .before .before .before .before .before .before .before .before .before .before .before .args .table .now) (c .before .before .before .before .before .before .before .before .before .before .before .args .s .now) (c .before .before .before .before .before .before .before .before .before .before .before .args .at) (c .before .before .before .before .before .before .before .before .before .before .before .args .stop) (c .before .before .before .before .before .before .before .before .before .before .before .args .object) (c .before .before .before .before .before .id-at .result) (c .before .before .before .before .before .before .before .before .before .before .before .pre .0) (c .before .before .before .before .before .before .before .before .before .before .before .pre .1) (c .before .before .before .before .before .id-at .ensures .0) (c .before .before .put-ident .ensures) (c .before .before .before .before .before .before .before .before .before .before .before .pre .3) (c .before .before .before .before .if1 .taken)
+returns c =
+    let c4 = c .before .before .before .before in
+    let c5 = c4 .before in
+    let c11 = c5 .before .before .before .before .before .before in
+    ident-again (c11 .args .e) (c11 .args .externals .now) (c11 .args .table .now) (c11 .args .s .now) (c11 .args .at) (c11 .args .stop)
+    (c11 .args .object) (c5 .id-at .result) (c11 .pre .0) (c11 .pre .1) (c5 .id-at .ensures .0) (c .before .before .put-ident .ensures)
+    (c11 .pre .3) (c4 .if1 .taken)
 
 -- src/walking.rt:181:27
 put-ident-requires-2 : tie.Need-put-ident-requires-2
@@ -38,7 +44,14 @@ same-length-2 c = search needs
 
 -- src/walking.rt:181:9
 returns-2 : tie.Need-returns-2
-returns-2 c = ident-object (c .before .before .before .before .before .before .before .before .before .before .before .before .args .e) (c .before .before .before .before .before .before .before .before .before .before .before .before .args .externals .now) (c .before .before .before .before .before .before .before .before .before .before .before .before .args .table .now) (c .before .before .before .before .before .before .before .before .before .before .before .before .args .s .now) (c .before .before .before .before .before .before .before .before .before .before .before .before .args .at) (c .before .before .before .before .before .before .before .before .before .before .before .before .args .stop) (c .before .before .before .before .before .before .before .before .before .before .before .before .args .object) (c .before .before .before .before .before .before .id-at .result) (c .before .before .before .before .before .before .before .before .before .before .before .before .pre .0) (c .before .before .before .before .before .before .before .before .before .before .before .before .pre .1) (c .before .before .before .before .before .before .id-at .ensures .0) (c .before .before .put-ident2 .ensures) (c .before .before .before .before .before .before .before .before .before .before .before .before .pre .3) (c .before .before .before .before .before .if1 .left) (c .before .before .before .before .if2 .taken)
+returns-2 c =
+    let c4 = c .before .before .before .before in
+    let c5 = c4 .before in
+    let c6 = c5 .before in
+    let c12 = c6 .before .before .before .before .before .before in
+    ident-object (c12 .args .e) (c12 .args .externals .now) (c12 .args .table .now) (c12 .args .s .now) (c12 .args .at) (c12 .args .stop)
+    (c12 .args .object) (c6 .id-at .result) (c12 .pre .0) (c12 .pre .1) (c6 .id-at .ensures .0) (c .before .before .put-ident2 .ensures)
+    (c12 .pre .3) (c5 .if1 .left) (c4 .if2 .taken)
 
 -- src/walking.rt:183:5
 force-id-requires : tie.Need-force-id-requires
@@ -58,7 +71,15 @@ same-length-4 c = search needs
 
 -- src/walking.rt:161:1
 returns-3 : tie.Need-returns-3
-returns-3 c = ident-forced (c .before .before .before .before .before .before .before .before .before .before .before .before .before .before .before .before .args .e) (c .before .before .before .before .before .before .before .before .before .before .before .before .before .before .before .before .args .externals .now) (c .before .before .before .before .before .before .before .before .before .before .before .before .before .before .before .before .args .table .now) (c .before .before .before .before .before .before .before .before .before .before .before .before .before .before .before .before .args .s .now) (c .before .before .before .before .before .before .before .before .before .before .before .before .before .before .before .before .args .at) (c .before .before .before .before .before .before .before .before .before .before .before .before .before .before .before .before .args .stop) (c .before .before .before .before .before .before .before .before .before .before .before .before .before .before .before .before .args .object) (c .before .before .before .before .before .before .before .before .before .before .id-at .result) (c .before .before .before .before .before .before .before .before .before .before .before .before .before .before .before .before .pre .0) (c .before .before .before .before .before .before .before .before .before .before .before .before .before .before .before .before .pre .1) (c .before .before .before .before .before .before .before .before .before .before .id-at .ensures .0) (c .before .before .put-ident3 .ensures) (c .before .before .before .before .before .before .before .before .before .if1 .left) (c .before .before .before .before .before .before .before .before .if2 .left) (c .before .before .before .before .before .before .force-id .ensures)
+returns-3 c =
+    let c6 = c .before .before .before .before .before .before in
+    let c8 = c6 .before .before in
+    let c9 = c8 .before in
+    let c10 = c9 .before in
+    let c16 = c10 .before .before .before .before .before .before in
+    ident-forced (c16 .args .e) (c16 .args .externals .now) (c16 .args .table .now) (c16 .args .s .now) (c16 .args .at) (c16 .args .stop)
+    (c16 .args .object) (c10 .id-at .result) (c16 .pre .0) (c16 .pre .1) (c10 .id-at .ensures .0) (c .before .before .put-ident3 .ensures)
+    (c9 .if1 .left) (c8 .if2 .left) (c6 .force-id .ensures)
 
 pub ident-spec : {M : Type 1} → statement M
 ident-spec =

@@ -1,11 +1,11 @@
-use Rattle.kept.specs.Kept.{idOf}
+use Rattle.state.specs.Cells.{idOf}
 use Rattle.walking.proofs.AmendLaws.{lazy-made, lazy-full}
 use borrow.Author.Needs.{needs}
 use Rattle.walking.proofs.make_lazy.Statement.{statement}
 use Rattle.walking.proofs.make_lazy.Tie as tie
 use Rattle.walking.proofs.make_lazy.Reads as reads
 use Rattle.walking.proofs.make_lazy.Lts as lts
-use Rattle.kept.proofs.rest.add_lazy.Reads as add-lazy-reads
+use Rattle.state.proofs.rest.add_lazy.Reads as add-lazy-reads
 
 -- src/walking.rt:473:11
 add-lazy-requires : tie.Need-add-lazy-requires
@@ -25,7 +25,10 @@ same-length c = search needs
 
 -- src/walking.rt:463:1
 returns : tie.Need-returns
-returns c = λ out fs. lazy-made (idOf (c .before .before .before .before .before .before .before .args .literal)) (c .before .before .before .before .before .before .before .args .at) fs out (c .before .before .before .before .add-lazy .ensures) (c .enum-told .given .1)
+returns c =
+    let c4 = c .before .before .before .before in
+    let c7 = c4 .before .before .before in
+    λ out fs. lazy-made (idOf (c7 .args .literal)) (c7 .args .at) fs out (c4 .add-lazy .ensures) (c .enum-told .given .1)
 
 -- src/walking.rt:463:1
 same-length-2 : tie.Need-same-length-2
@@ -33,7 +36,10 @@ same-length-2 c = search needs
 
 -- src/walking.rt:463:1
 returns-2 : tie.Need-returns-2
-returns-2 c = λ out fs. lazy-full (idOf (c .before .before .before .before .before .before .before .args .literal)) (c .before .before .before .before .before .before .before .args .at) fs out (c .before .before .before .before .add-lazy .ensures) (c .enum-told2 .given .1)
+returns-2 c =
+    let c4 = c .before .before .before .before in
+    let c7 = c4 .before .before .before in
+    λ out fs. lazy-full (idOf (c7 .args .literal)) (c7 .args .at) fs out (c4 .add-lazy .ensures) (c .enum-told2 .given .1)
 
 pub make-lazy-spec : {M : Type 1} → statement M
 make-lazy-spec =

@@ -1,4 +1,4 @@
-use Rattle.kept.specs.Kept.{idOf}
+use Rattle.state.specs.Cells.{idOf}
 use Rattle.tree.specs.Tree.{none}
 use Rattle.walking.proofs.AmendLaws.{record-lazy, record-collected, record-full}
 use borrow.Author.Needs.{needs}
@@ -7,8 +7,8 @@ use Rattle.walking.proofs.make_record.Tie as tie
 use Rattle.walking.proofs.make_record.Reads as reads
 use Rattle.walking.proofs.make_record.Lts as lts
 use Rattle.walking.proofs.make_lazy.Reads as make-lazy-reads
-use Rattle.kept.proofs.records.collect.Reads as collect-reads
-use Rattle.kept.proofs.rest.is_top.Reads as is-top-reads
+use Rattle.state.proofs.records.collect.Reads as collect-reads
+use Rattle.state.proofs.rest.is_top.Reads as is-top-reads
 
 -- src/walking.rt:453:9
 is-top-requires : tie.Need-is-top-requires
@@ -24,7 +24,11 @@ same-length c = search needs
 
 -- src/walking.rt:454:9
 returns : tie.Need-returns
-returns c = λ out. record-lazy (idOf (c .before .before .before .before .before .before .before .before .args .literal)) (c .before .before .before .before .before .before .before .before .args .at) out (c .before .before .before .before .before .is-top .ensures) (c .before .before .before .before .if1 .taken) (c .before .before .make-lazy .ensures out none)
+returns c =
+    let c4 = c .before .before .before .before in
+    let c5 = c4 .before in
+    let c8 = c5 .before .before .before in
+    λ out. record-lazy (idOf (c8 .args .literal)) (c8 .args .at) out (c5 .is-top .ensures) (c4 .if1 .taken) (c .before .before .make-lazy .ensures out none)
 
 -- src/walking.rt:456:11
 collect-requires : tie.Need-collect-requires
@@ -44,7 +48,12 @@ same-length-2 c = search needs
 
 -- src/walking.rt:444:1
 returns-2 : tie.Need-returns-2
-returns-2 c = λ out. record-collected (idOf (c .before .before .before .before .before .before .before .before .before .before .args .literal)) (c .before .before .before .before .before .before .before .before .before .before .args .at) out (c .before .before .before .before .before .before .before .is-top .ensures) (c .before .before .before .before .before .before .if1 .left) (c .before .before .before .before .collect .ensures) (c .enum-told .given .1)
+returns-2 c =
+    let c4 = c .before .before .before .before in
+    let c6 = c4 .before .before in
+    let c7 = c6 .before in
+    let c10 = c7 .before .before .before in
+    λ out. record-collected (idOf (c10 .args .literal)) (c10 .args .at) out (c7 .is-top .ensures) (c6 .if1 .left) (c4 .collect .ensures) (c .enum-told .given .1)
 
 -- src/walking.rt:444:1
 same-length-3 : tie.Need-same-length-3
@@ -52,7 +61,12 @@ same-length-3 c = search needs
 
 -- src/walking.rt:444:1
 returns-3 : tie.Need-returns-3
-returns-3 c = λ out. record-full (idOf (c .before .before .before .before .before .before .before .before .before .before .args .literal)) (c .before .before .before .before .before .before .before .before .before .before .args .at) out (c .before .before .before .before .before .before .before .is-top .ensures) (c .before .before .before .before .before .before .if1 .left) (c .before .before .before .before .collect .ensures) (c .enum-told2 .given .1)
+returns-3 c =
+    let c4 = c .before .before .before .before in
+    let c6 = c4 .before .before in
+    let c7 = c6 .before in
+    let c10 = c7 .before .before .before in
+    λ out. record-full (idOf (c10 .args .literal)) (c10 .args .at) out (c7 .is-top .ensures) (c6 .if1 .left) (c4 .collect .ensures) (c .enum-told2 .given .1)
 
 pub make-record-spec : {M : Type 1} → statement M
 make-record-spec =

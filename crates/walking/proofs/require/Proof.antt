@@ -1,4 +1,4 @@
-use Rattle.kept.specs.Kept.{idOf}
+use Rattle.state.specs.Cells.{idOf}
 use Rattle.walking.specs.Walking.{set}
 use Rattle.walking.proofs.AmendLaws.{require-marked, require-unresolved, require-full}
 use borrow.Author.Needs.{needs}
@@ -48,7 +48,13 @@ same-length-2 c = search needs
 
 -- src/walking.rt:419:1
 returns : tie.Need-returns
-returns c = require-marked (idOf (c .before .before .before .before .before .before .before .before .before .before .before .before .before .before .before .before .before .before .before .args .literal)) (set (c .before .before .before .before .before .before .before .before .before .before .before .before .before .before .before .before .before .before .before .args .e) (c .before .before .before .before .before .before .before .before .before .before .before .before .before .before .before .before .before .before .before .args .externals .now) (c .before .before .before .before .before .before .before .before .before .before .before .before .before .before .before .before .before .before .before .args .table .now)) (c .before .before .before .before .before .before .before .before .before .before .before .before .before .before .before .before .before .before .before .args .at) (c .before .before .before .before .before .before .before .before .before .before .before .before .before .mark-required .ensures) (c .before .before .before .before .before .before .before .before .before .n .given .0 .0) (c .before .before .before .before .before .before .before .before .before .n .given .1) (c .before .before .before .before .before .before .set-callee .ensures) (c .before .before .make-record .ensures _)
+returns c =
+    let c6 = c .before .before .before .before .before .before in
+    let c9 = c6 .before .before .before in
+    let c13 = c9 .before .before .before .before in
+    let c19 = c13 .before .before .before .before .before .before in
+    require-marked (idOf (c19 .args .literal)) (set (c19 .args .e) (c19 .args .externals .now) (c19 .args .table .now)) (c19 .args .at)
+    (c13 .mark-required .ensures) (c9 .n .given .0 .0) (c9 .n .given .1) (c6 .set-callee .ensures) (c .before .before .make-record .ensures _)
 
 -- src/walking.rt:419:1
 same-length-3 : tie.Need-same-length-3
@@ -56,7 +62,12 @@ same-length-3 c = search needs
 
 -- src/walking.rt:419:1
 returns-2 : tie.Need-returns-2
-returns-2 c = require-unresolved (idOf (c .before .before .before .before .before .before .before .before .before .before .before .before .before .before .args .literal)) (set (c .before .before .before .before .before .before .before .before .before .before .before .before .before .before .args .e) (c .before .before .before .before .before .before .before .before .before .before .before .before .before .before .args .externals .now) (c .before .before .before .before .before .before .before .before .before .before .before .before .before .before .args .table .now)) (c .before .before .before .before .before .before .before .before .before .before .before .before .before .before .args .at) (c .before .before .before .before .before .before .before .before .mark-required .ensures) (c .before .before .before .before .enum-told .given .1) (c .before .before .make-record2 .ensures _)
+returns-2 c =
+    let c4 = c .before .before .before .before in
+    let c8 = c4 .before .before .before .before in
+    let c14 = c8 .before .before .before .before .before .before in
+    require-unresolved (idOf (c14 .args .literal)) (set (c14 .args .e) (c14 .args .externals .now) (c14 .args .table .now)) (c14 .args .at)
+    (c8 .mark-required .ensures) (c4 .enum-told .given .1) (c .before .before .make-record2 .ensures _)
 
 -- src/walking.rt:419:1
 same-length-4 : tie.Need-same-length-4
@@ -64,7 +75,10 @@ same-length-4 c = search needs
 
 -- src/walking.rt:419:1
 returns-3 : tie.Need-returns-3
-returns-3 c = require-full (idOf (c .before .before .before .before .before .before .before .before .before .before .args .literal)) (set (c .before .before .before .before .before .before .before .before .before .before .args .e) (c .before .before .before .before .before .before .before .before .before .before .args .externals .now) (c .before .before .before .before .before .before .before .before .before .before .args .table .now)) (c .before .before .before .before .before .before .before .before .before .before .args .at) (c .before .before .before .before .mark-required .ensures) (c .enum-told2 .given .1)
+returns-3 c =
+    let c4 = c .before .before .before .before in
+    let c10 = c4 .before .before .before .before .before .before in
+    require-full (idOf (c10 .args .literal)) (set (c10 .args .e) (c10 .args .externals .now) (c10 .args .table .now)) (c10 .args .at) (c4 .mark-required .ensures) (c .enum-told2 .given .1)
 
 pub require-spec : {M : Type 1} → statement M
 require-spec =

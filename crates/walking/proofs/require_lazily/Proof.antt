@@ -1,5 +1,5 @@
 use Rattle.extraction_rules.specs.First.{bindings}
-use Rattle.kept.specs.Kept.{idOf}
+use Rattle.state.specs.Cells.{idOf}
 use Rattle.walking.specs.Walking.{set}
 use Rattle.walking.proofs.AmendLaws.{lazily-marked, lazily-unresolved, lazily-full}
 use borrow.Author.Needs.{needs}
@@ -54,7 +54,15 @@ same-length-2 c = search needs
 
 -- src/walking.rt:491:1
 returns : tie.Need-returns
-returns c = λ q. lazily-marked (idOf (c .before .before .before .before .before .before .before .before .before .before .before .before .before .before .before .before .before .before .before .before .args .literal)) (set (c .before .before .before .before .before .before .before .before .before .before .before .before .before .before .before .before .before .before .before .before .args .e) (c .before .before .before .before .before .before .before .before .before .before .before .before .before .before .before .before .before .before .before .before .args .externals .now) (c .before .before .before .before .before .before .before .before .before .before .before .before .before .before .before .before .before .before .before .before .args .table .now)) (c .before .before .before .before .before .before .before .before .before .before .before .before .before .before .before .before .before .before .before .before .args .at) q (c .before .before .before .before .before .before .before .before .before .before .before .before .before .mark-required .ensures) (c .before .before .before .before .before .before .before .before .before .before .before .before .before .before .before .place-of .ensures .0) (c .before .before .before .before .before .before .before .before .before .n .given .0 .0) (c .before .before .before .before .before .before .before .before .before .n .given .1) (c .before .before .before .before .before .before .set-callee .ensures) (c .before .before .make-lazy .ensures _ (bindings q))
+returns c =
+    let c6 = c .before .before .before .before .before .before in
+    let c9 = c6 .before .before .before in
+    let c13 = c9 .before .before .before .before in
+    let c15 = c13 .before .before in
+    let c20 = c15 .before .before .before .before .before in
+    λ q. lazily-marked (idOf (c20 .args .literal)) (set (c20 .args .e) (c20 .args .externals .now) (c20 .args .table .now)) (c20 .args .at) q
+    (c13 .mark-required .ensures) (c15 .place-of .ensures .0) (c9 .n .given .0 .0) (c9 .n .given .1) (c6 .set-callee .ensures)
+    (c .before .before .make-lazy .ensures _ (bindings q))
 
 -- src/walking.rt:491:1
 same-length-3 : tie.Need-same-length-3
@@ -62,7 +70,13 @@ same-length-3 c = search needs
 
 -- src/walking.rt:491:1
 returns-2 : tie.Need-returns-2
-returns-2 c = λ q. lazily-unresolved (idOf (c .before .before .before .before .before .before .before .before .before .before .before .before .before .before .before .args .literal)) (set (c .before .before .before .before .before .before .before .before .before .before .before .before .before .before .before .args .e) (c .before .before .before .before .before .before .before .before .before .before .before .before .before .before .before .args .externals .now) (c .before .before .before .before .before .before .before .before .before .before .before .before .before .before .before .args .table .now)) (c .before .before .before .before .before .before .before .before .before .before .before .before .before .before .before .args .at) q (c .before .before .before .before .before .before .before .before .mark-required .ensures) (c .before .before .before .before .before .before .before .before .before .before .place-of .ensures .0) (c .before .before .before .before .enum-told .given .1) (c .before .before .make-lazy2 .ensures _ (bindings q))
+returns-2 c =
+    let c4 = c .before .before .before .before in
+    let c8 = c4 .before .before .before .before in
+    let c10 = c8 .before .before in
+    let c15 = c10 .before .before .before .before .before in
+    λ q. lazily-unresolved (idOf (c15 .args .literal)) (set (c15 .args .e) (c15 .args .externals .now) (c15 .args .table .now)) (c15 .args .at) q
+    (c8 .mark-required .ensures) (c10 .place-of .ensures .0) (c4 .enum-told .given .1) (c .before .before .make-lazy2 .ensures _ (bindings q))
 
 -- src/walking.rt:491:1
 same-length-4 : tie.Need-same-length-4
@@ -70,7 +84,12 @@ same-length-4 c = search needs
 
 -- src/walking.rt:491:1
 returns-3 : tie.Need-returns-3
-returns-3 c = λ q. lazily-full (idOf (c .before .before .before .before .before .before .before .before .before .before .before .args .literal)) (set (c .before .before .before .before .before .before .before .before .before .before .before .args .e) (c .before .before .before .before .before .before .before .before .before .before .before .args .externals .now) (c .before .before .before .before .before .before .before .before .before .before .before .args .table .now)) (c .before .before .before .before .before .before .before .before .before .before .before .args .at) q (c .before .before .before .before .mark-required .ensures) (c .before .before .before .before .before .before .place-of .ensures .0) (c .enum-told2 .given .1)
+returns-3 c =
+    let c4 = c .before .before .before .before in
+    let c6 = c4 .before .before in
+    let c11 = c6 .before .before .before .before .before in
+    λ q. lazily-full (idOf (c11 .args .literal)) (set (c11 .args .e) (c11 .args .externals .now) (c11 .args .table .now)) (c11 .args .at) q
+    (c4 .mark-required .ensures) (c6 .place-of .ensures .0) (c .enum-told2 .given .1)
 
 pub require-lazily-spec : {M : Type 1} → statement M
 require-lazily-spec =

@@ -20,7 +20,9 @@ same-length : tie.Need-same-length
 same-length c = search needs
 
 returns : tie.Need-returns
-returns c = wrote-then (c .before .before .before .before .before .before .put .ensures) (c .before .before .put2 .ensures)
+returns c =
+    let c6 = c .before .before .before .before .before .before in
+    wrote-then (c6 .put .ensures) (c .before .before .put2 .ensures)
 
 pub put-u16-spec : {M : Type 1} → statement M
 put-u16-spec =

@@ -20,7 +20,9 @@ same-length : tie.Need-same-length
 same-length c = search needs
 
 returns : tie.Need-returns
-returns c = wrote-then (c .before .before .before .before .before .before .put-u16 .ensures) (c .before .before .put-u162 .ensures)
+returns c =
+    let c6 = c .before .before .before .before .before .before in
+    wrote-then (c6 .put-u16 .ensures) (c .before .before .put-u162 .ensures)
 
 pub put-u32-spec : {M : Type 1} → statement M
 put-u32-spec =

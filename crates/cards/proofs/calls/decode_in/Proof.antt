@@ -32,7 +32,10 @@ part-decoded-start : tie.Need-part-decoded-start
 part-decoded-start c = search needs
 
 part-decoded-end : tie.Need-part-decoded-end
-part-decoded-end c = let w = subst (BytesIn 0 (length (c .before .before .before .before .before .before .before .before .before .before .args .lent .now))) (c .before .before .n .given .1) (c .before .before .before .before .before .before .rest-at .ensures) in omega (arith, c .before .before .before .before .before .before .rest-at .kept .1 .1 .0)
+part-decoded-end c =
+    let c6 = c .before .before .before .before .before .before in
+    let c10 = c6 .before .before .before .before in
+    let w = subst (BytesIn 0 (length (c10 .args .lent .now))) (c .before .before .n .given .1) (c6 .rest-at .ensures) in omega (arith, c6 .rest-at .kept .1 .1 .0)
 
 decoded-requires : tie.Need-decoded-requires
 decoded-requires c κs = search needs

@@ -26,7 +26,11 @@ returns : tie.Need-returns
 returns c = search needs
 
 extract-lent-requires : tie.Need-extract-lent-requires
-extract-lent-requires c κs = let w = subst (AskedIn (length (c .before .before .before .before .before .before .before .before .before .before .before .before .before .before .before .before .before .args .lent .now))) (c .before .before .before .before .before .before .r .given .1) (c .before .before .before .before .before .before .before .before .before .before .read-request .ensures) in omega (arith, c .before .before .before .before .before .before .before .before .before .before .read-request .kept .1 .0)
+extract-lent-requires c κs =
+    let c6 = c .before .before .before .before .before .before in
+    let c10 = c6 .before .before .before .before in
+    let c17 = c10 .before .before .before .before .before .before .before in
+    let w = subst (AskedIn (length (c17 .args .lent .now))) (c6 .r .given .1) (c10 .read-request .ensures) in omega (arith, c10 .read-request .kept .1 .0)
 
 same-length-2 : tie.Need-same-length-2
 same-length-2 c = search needs

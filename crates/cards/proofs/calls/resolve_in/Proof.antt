@@ -27,7 +27,10 @@ returns : tie.Need-returns
 returns c = search needs
 
 pair-at-requires : tie.Need-pair-at-requires
-pair-at-requires c κs = let u = subst (BytesIn 0 (length (c .before .before .before .before .before .before .before .before .before .before .before .args .lent .now))) (c .before .before .files .given .1) (c .before .before .before .before .before .before .bytes-at .ensures .1) in omega arith
+pair-at-requires c κs =
+    let c6 = c .before .before .before .before .before .before in
+    let c11 = c6 .before .before .before .before .before in
+    let u = subst (BytesIn 0 (length (c11 .args .lent .now))) (c .before .before .files .given .1) (c6 .bytes-at .ensures .1) in omega arith
 
 enum-known-table : tie.Need-enum-known-table
 enum-known-table c = search needs
@@ -51,25 +54,80 @@ part-resolved-start : tie.Need-part-resolved-start
 part-resolved-start c = search needs
 
 part-resolved-end : tie.Need-part-resolved-end
-part-resolved-end c = let u = subst (BytesIn 0 (length (c .before .before .before .before .before .before .before .before .before .before .before .before .before .before .before .before .before .before .args .lent .now))) (c .before .before .before .before .before .before .before .before .before .files .given .1) (c .before .before .before .before .before .before .before .before .before .before .before .before .before .bytes-at .ensures .1) in let w = subst (PairIn (c .before .before .before .before .before .before .before .before .before .files .given .0 .0) _) (c .before .before .table .given .1) (c .before .before .before .before .before .before .pair-at .ensures) in omega (arith, c .before .before .before .before .before .before .pair-at .kept .1 .1 .0, c .before .before .before .before .before .before .before .before .before .before .before .before .before .bytes-at .kept .1 .1 .1 .0)
+part-resolved-end c =
+    let c6 = c .before .before .before .before .before .before in
+    let c9 = c6 .before .before .before in
+    let c13 = c9 .before .before .before .before in
+    let c18 = c13 .before .before .before .before .before in
+    let u = subst (BytesIn 0 (length (c18 .args .lent .now))) (c9 .files .given .1) (c13 .bytes-at .ensures .1) in let w =
+    subst (PairIn (c9 .files .given .0 .0) _) (c .before .before .table .given .1) (c6 .pair-at .ensures) in
+    omega (arith, c6 .pair-at .kept .1 .1 .0, c13 .bytes-at .kept .1 .1 .1 .0)
 
 sub-resolved-2 : tie.Need-sub-resolved-2
-sub-resolved-2 c = let u = subst (BytesIn 0 (length (c .before .before .before .before .before .before .before .before .before .before .before .before .before .before .before .before .before .before .before .args .lent .now))) (c .before .before .before .before .before .before .before .before .before .before .files .given .1) (c .before .before .before .before .before .before .before .before .before .before .before .before .before .before .bytes-at .ensures .1) in let w = subst (PairIn (c .before .before .before .before .before .before .before .before .before .before .files .given .0 .0) _) (c .before .before .before .table .given .1) (c .before .before .before .before .before .before .before .pair-at .ensures) in omega (arith, c .before .before .before .before .before .before .before .pair-at .kept .1 .1 .0, c .before .before .before .before .before .before .before .before .before .before .before .before .before .before .bytes-at .kept .1 .1 .1 .0)
+sub-resolved-2 c =
+    let c3 = c .before .before .before in
+    let c7 = c3 .before .before .before .before in
+    let c10 = c7 .before .before .before in
+    let c14 = c10 .before .before .before .before in
+    let c19 = c14 .before .before .before .before .before in
+    let u = subst (BytesIn 0 (length (c19 .args .lent .now))) (c10 .files .given .1) (c14 .bytes-at .ensures .1) in let w =
+    subst (PairIn (c10 .files .given .0 .0) _) (c3 .table .given .1) (c7 .pair-at .ensures) in
+    omega (arith, c7 .pair-at .kept .1 .1 .0, c14 .bytes-at .kept .1 .1 .1 .0)
 
 part-resolved-start-2 : tie.Need-part-resolved-start-2
-part-resolved-start-2 c = let u = subst (BytesIn 0 (length (c .before .before .before .before .before .before .before .before .before .before .before .before .before .before .before .before .before .before .before .args .lent .now))) (c .before .before .before .before .before .before .before .before .before .before .files .given .1) (c .before .before .before .before .before .before .before .before .before .before .before .before .before .before .bytes-at .ensures .1) in let w = subst (PairIn (c .before .before .before .before .before .before .before .before .before .before .files .given .0 .0) _) (c .before .before .before .table .given .1) (c .before .before .before .before .before .before .before .pair-at .ensures) in omega (arith, c .before .before .before .before .before .before .before .pair-at .kept .1 .1 .0, c .before .before .before .before .before .before .before .before .before .before .before .before .before .before .bytes-at .kept .1 .1 .1 .0)
+part-resolved-start-2 c =
+    let c3 = c .before .before .before in
+    let c7 = c3 .before .before .before .before in
+    let c10 = c7 .before .before .before in
+    let c14 = c10 .before .before .before .before in
+    let c19 = c14 .before .before .before .before .before in
+    let u = subst (BytesIn 0 (length (c19 .args .lent .now))) (c10 .files .given .1) (c14 .bytes-at .ensures .1) in let w =
+    subst (PairIn (c10 .files .given .0 .0) _) (c3 .table .given .1) (c7 .pair-at .ensures) in
+    omega (arith, c7 .pair-at .kept .1 .1 .0, c14 .bytes-at .kept .1 .1 .1 .0)
 
 part-resolved-end-2 : tie.Need-part-resolved-end-2
-part-resolved-end-2 c = let u = subst (BytesIn 0 (length (c .before .before .before .before .before .before .before .before .before .before .before .before .before .before .before .before .before .before .before .args .lent .now))) (c .before .before .before .before .before .before .before .before .before .before .files .given .1) (c .before .before .before .before .before .before .before .before .before .before .before .before .before .before .bytes-at .ensures .1) in let w = subst (PairIn (c .before .before .before .before .before .before .before .before .before .before .files .given .0 .0) _) (c .before .before .before .table .given .1) (c .before .before .before .before .before .before .before .pair-at .ensures) in omega (arith, c .before .before .before .before .before .before .before .pair-at .kept .1 .1 .0, c .before .before .before .before .before .before .before .before .before .before .before .before .before .before .bytes-at .kept .1 .1 .1 .0)
+part-resolved-end-2 c =
+    let c3 = c .before .before .before in
+    let c7 = c3 .before .before .before .before in
+    let c10 = c7 .before .before .before in
+    let c14 = c10 .before .before .before .before in
+    let c19 = c14 .before .before .before .before .before in
+    let u = subst (BytesIn 0 (length (c19 .args .lent .now))) (c10 .files .given .1) (c14 .bytes-at .ensures .1) in let w =
+    subst (PairIn (c10 .files .given .0 .0) _) (c3 .table .given .1) (c7 .pair-at .ensures) in
+    omega (arith, c7 .pair-at .kept .1 .1 .0, c14 .bytes-at .kept .1 .1 .1 .0)
 
 sub-resolved-3 : tie.Need-sub-resolved-3
-sub-resolved-3 c = let u = subst (BytesIn 0 (length (c .before .before .before .before .before .before .before .before .before .before .before .before .before .before .before .before .before .before .before .before .args .lent .now))) (c .before .before .before .before .before .before .before .before .before .before .before .files .given .1) (c .before .before .before .before .before .before .before .before .before .before .before .before .before .before .before .bytes-at .ensures .1) in let w = subst (PairIn (c .before .before .before .before .before .before .before .before .before .before .before .files .given .0 .0) _) (c .before .before .before .before .table .given .1) (c .before .before .before .before .before .before .before .before .pair-at .ensures) in omega (arith, c .before .before .before .before .before .before .before .before .pair-at .kept .1 .1 .0, c .before .before .before .before .before .before .before .before .before .before .before .before .before .before .before .bytes-at .kept .1 .1 .1 .0)
+sub-resolved-3 c =
+    let c4 = c .before .before .before .before in
+    let c8 = c4 .before .before .before .before in
+    let c11 = c8 .before .before .before in
+    let c15 = c11 .before .before .before .before in
+    let c20 = c15 .before .before .before .before .before in
+    let u = subst (BytesIn 0 (length (c20 .args .lent .now))) (c11 .files .given .1) (c15 .bytes-at .ensures .1) in let w =
+    subst (PairIn (c11 .files .given .0 .0) _) (c4 .table .given .1) (c8 .pair-at .ensures) in
+    omega (arith, c8 .pair-at .kept .1 .1 .0, c15 .bytes-at .kept .1 .1 .1 .0)
 
 part-resolved-start-3 : tie.Need-part-resolved-start-3
-part-resolved-start-3 c = let u = subst (BytesIn 0 (length (c .before .before .before .before .before .before .before .before .before .before .before .before .before .before .before .before .before .before .before .before .args .lent .now))) (c .before .before .before .before .before .before .before .before .before .before .before .files .given .1) (c .before .before .before .before .before .before .before .before .before .before .before .before .before .before .before .bytes-at .ensures .1) in let w = subst (PairIn (c .before .before .before .before .before .before .before .before .before .before .before .files .given .0 .0) _) (c .before .before .before .before .table .given .1) (c .before .before .before .before .before .before .before .before .pair-at .ensures) in omega (arith, c .before .before .before .before .before .before .before .before .pair-at .kept .1 .1 .0, c .before .before .before .before .before .before .before .before .before .before .before .before .before .before .before .bytes-at .kept .1 .1 .1 .0)
+part-resolved-start-3 c =
+    let c4 = c .before .before .before .before in
+    let c8 = c4 .before .before .before .before in
+    let c11 = c8 .before .before .before in
+    let c15 = c11 .before .before .before .before in
+    let c20 = c15 .before .before .before .before .before in
+    let u = subst (BytesIn 0 (length (c20 .args .lent .now))) (c11 .files .given .1) (c15 .bytes-at .ensures .1) in let w =
+    subst (PairIn (c11 .files .given .0 .0) _) (c4 .table .given .1) (c8 .pair-at .ensures) in
+    omega (arith, c8 .pair-at .kept .1 .1 .0, c15 .bytes-at .kept .1 .1 .1 .0)
 
 part-resolved-end-3 : tie.Need-part-resolved-end-3
-part-resolved-end-3 c = let u = subst (BytesIn 0 (length (c .before .before .before .before .before .before .before .before .before .before .before .before .before .before .before .before .before .before .before .before .args .lent .now))) (c .before .before .before .before .before .before .before .before .before .before .before .files .given .1) (c .before .before .before .before .before .before .before .before .before .before .before .before .before .before .before .bytes-at .ensures .1) in let w = subst (PairIn (c .before .before .before .before .before .before .before .before .before .before .before .files .given .0 .0) _) (c .before .before .before .before .table .given .1) (c .before .before .before .before .before .before .before .before .pair-at .ensures) in omega (arith, c .before .before .before .before .before .before .before .before .pair-at .kept .1 .1 .0, c .before .before .before .before .before .before .before .before .before .before .before .before .before .before .before .bytes-at .kept .1 .1 .1 .0)
+part-resolved-end-3 c =
+    let c4 = c .before .before .before .before in
+    let c8 = c4 .before .before .before .before in
+    let c11 = c8 .before .before .before in
+    let c15 = c11 .before .before .before .before in
+    let c20 = c15 .before .before .before .before .before in
+    let u = subst (BytesIn 0 (length (c20 .args .lent .now))) (c11 .files .given .1) (c15 .bytes-at .ensures .1) in let w =
+    subst (PairIn (c11 .files .given .0 .0) _) (c4 .table .given .1) (c8 .pair-at .ensures) in
+    omega (arith, c8 .pair-at .kept .1 .1 .0, c15 .bytes-at .kept .1 .1 .1 .0)
 
 resolved-requires : tie.Need-resolved-requires
 resolved-requires c κs = search needs

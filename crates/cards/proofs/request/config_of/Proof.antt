@@ -20,13 +20,22 @@ returns : tie.Need-returns
 returns c = search needs
 
 sub-same : tie.Need-sub-same
-sub-same c = let w = subst (SpanIn 0 (length (c .before .before .before .before .before .args .s .now))) (c .before .a .given .1) (c .before .before .before .field .ensures .1) in omega arith
+sub-same c =
+    let c3 = c .before .before .before in
+    let c5 = c3 .before .before in
+    let w = subst (SpanIn 0 (length (c5 .args .s .now))) (c .before .a .given .1) (c3 .field .ensures .1) in omega arith
 
 part-same-start : tie.Need-part-same-start
-part-same-start c = let w = subst (SpanIn 0 (length (c .before .before .before .before .before .args .s .now))) (c .before .a .given .1) (c .before .before .before .field .ensures .1) in omega arith
+part-same-start c =
+    let c3 = c .before .before .before in
+    let c5 = c3 .before .before in
+    let w = subst (SpanIn 0 (length (c5 .args .s .now))) (c .before .a .given .1) (c3 .field .ensures .1) in omega arith
 
 part-same-end : tie.Need-part-same-end
-part-same-end c = let w = subst (SpanIn 0 (length (c .before .before .before .before .before .args .s .now))) (c .before .a .given .1) (c .before .before .before .field .ensures .1) in omega arith
+part-same-end c =
+    let c3 = c .before .before .before in
+    let c5 = c3 .before .before in
+    let w = subst (SpanIn 0 (length (c5 .args .s .now))) (c .before .a .given .1) (c3 .field .ensures .1) in omega arith
 
 slice-aggregate-same : tie.Need-slice-aggregate-same
 slice-aggregate-same c = search needs
@@ -38,13 +47,25 @@ returns-2 : tie.Need-returns-2
 returns-2 c = search needs
 
 sub-same-2 : tie.Need-sub-same-2
-sub-same-2 c = let w = subst (SpanIn 0 (length (c .before .before .before .before .before .before .before .before .before .args .s .now))) (c .before .before .before .before .before .a .given .1) (c .before .before .before .before .before .before .before .field .ensures .1) in omega arith
+sub-same-2 c =
+    let c5 = c .before .before .before .before .before in
+    let c7 = c5 .before .before in
+    let c9 = c7 .before .before in
+    let w = subst (SpanIn 0 (length (c9 .args .s .now))) (c5 .a .given .1) (c7 .field .ensures .1) in omega arith
 
 part-same-start-2 : tie.Need-part-same-start-2
-part-same-start-2 c = let w = subst (SpanIn 0 (length (c .before .before .before .before .before .before .before .before .before .args .s .now))) (c .before .before .before .before .before .a .given .1) (c .before .before .before .before .before .before .before .field .ensures .1) in omega arith
+part-same-start-2 c =
+    let c5 = c .before .before .before .before .before in
+    let c7 = c5 .before .before in
+    let c9 = c7 .before .before in
+    let w = subst (SpanIn 0 (length (c9 .args .s .now))) (c5 .a .given .1) (c7 .field .ensures .1) in omega arith
 
 part-same-end-2 : tie.Need-part-same-end-2
-part-same-end-2 c = let w = subst (SpanIn 0 (length (c .before .before .before .before .before .before .before .before .before .args .s .now))) (c .before .before .before .before .before .a .given .1) (c .before .before .before .before .before .before .before .field .ensures .1) in omega arith
+part-same-end-2 c =
+    let c5 = c .before .before .before .before .before in
+    let c7 = c5 .before .before in
+    let c9 = c7 .before .before in
+    let w = subst (SpanIn 0 (length (c9 .args .s .now))) (c5 .a .given .1) (c7 .field .ensures .1) in omega arith
 
 slice-aggregate-same-2 : tie.Need-slice-aggregate-same-2
 slice-aggregate-same-2 c = search needs

@@ -43,7 +43,15 @@ loop-less : tie.Need-loop-less Inv-loop μ-loop
 loop-less c = omega arith
 
 loop-again : tie.Need-loop-again Inv-loop μ-loop
-loop-again c = let w = subst (BytesIn (c .before .before .before .before .before .before .before .before .before .loop .o) (length (c .before .before .before .before .before .before .before .before .before .loop .lent))) (c .before .next .given .1) (bytes-in hexed (c .before .before .before .before .before .before .before .before .before .before .before .before .args .s .now) (c .before .before .before .before .before .before .before .before .before .loop .i) (c .before .before .before .before .before .before .before .find .result) (c .before .before .before .before .before .before .before .before .before .loop .lent) (c .before .before .before .before .before .before .before .before .before .loop .o) (c .before .before .before .before .before .read-hex .result) (c .before .before .before .before .before .read-hex .last .1 .1 .1 .0) (c .before .before .before .before .before .read-hex .ensures)) in omega (arith, c .before .before .before .before .before .read-hex .kept .1 .1 .1 .0)
+loop-again c =
+    let c5 = c .before .before .before .before .before in
+    let c7 = c5 .before .before in
+    let c9 = c7 .before .before in
+    let c12 = c9 .before .before .before in
+    let w =
+    subst (BytesIn (c9 .loop .o) (length (c9 .loop .lent))) (c .before .next .given .1)
+    (bytes-in hexed (c12 .args .s .now) (c9 .loop .i) (c7 .find .result) (c9 .loop .lent) (c9 .loop .o) (c5 .read-hex .result)
+    (c5 .read-hex .last .1 .1 .1 .0) (c5 .read-hex .ensures)) in omega (arith, c5 .read-hex .kept .1 .1 .1 .0)
 
 same-length-2 : tie.Need-same-length-2 Inv-loop μ-loop
 same-length-2 c = omega arith

@@ -25,7 +25,9 @@ add-rest-at : tie.Need-add-rest-at
 add-rest-at c = search needs
 
 rest-at-requires : tie.Need-rest-at-requires
-rest-at-requires c κs = let w = subst (BytesIn _ _) (c .before .before .table .given .1) (c .before .before .before .before .before .before .bytes-at .ensures .1) in omega arith
+rest-at-requires c κs =
+    let c6 = c .before .before .before .before .before .before in
+    let w = subst (BytesIn _ _) (c .before .before .table .given .1) (c6 .bytes-at .ensures .1) in omega arith
 
 enum-known-end : tie.Need-enum-known-end
 enum-known-end c = search needs
@@ -43,7 +45,12 @@ same-length-3 : tie.Need-same-length-3
 same-length-3 c = search needs
 
 returns-3 : tie.Need-returns-3
-returns-3 c = let w = subst (BytesIn _ _) (c .before .before .before .before .before .before .before .before .table .given .1) (c .before .before .before .before .before .before .before .before .before .before .before .before .bytes-at .ensures .1) in let v = subst (BytesIn _ _) (c .before .end .given .1) (c .before .before .before .before .before .rest-at .ensures) in omega (arith, c .before .before .before .before .before .before .before .before .before .before .before .before .bytes-at .kept .1 .1 .1 .0)
+returns-3 c =
+    let c5 = c .before .before .before .before .before in
+    let c8 = c5 .before .before .before in
+    let c12 = c8 .before .before .before .before in
+    let w = subst (BytesIn _ _) (c8 .table .given .1) (c12 .bytes-at .ensures .1) in let v =
+    subst (BytesIn _ _) (c .before .end .given .1) (c5 .rest-at .ensures) in omega (arith, c12 .bytes-at .kept .1 .1 .1 .0)
 
 pub pair-at-spec : {M : Type 1} → statement M
 pair-at-spec =

@@ -49,7 +49,10 @@ same-length-2 : tie.Need-same-length-2
 same-length-2 c = search needs
 
 returns-4 : tie.Need-returns-4
-returns-4 c = subst (ListsIn (length (c .before .before .before .before .before .before .before .before .before .before .before .before .before .before .before .before .before .args .lent .now))) (c .before .ends .given .1) (c .before .before .before .before .before .lists-of .ensures)
+returns-4 c =
+    let c5 = c .before .before .before .before .before in
+    let c17 = c5 .before .before .before .before .before .before .before .before .before .before .before .before in
+    subst (ListsIn (length (c17 .args .lent .now))) (c .before .ends .given .1) (c5 .lists-of .ensures)
 
 pub read-request-spec : {M : Type 1} → statement M
 read-request-spec =

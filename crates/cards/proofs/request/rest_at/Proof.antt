@@ -20,7 +20,10 @@ returns : tie.Need-returns
 returns c = search needs
 
 groups-requires : tie.Need-groups-requires
-groups-requires c κs = let w = subst (SpanIn 0 (length (c .before .before .before .before .before .before .before .args .s .now))) (c .before .before .a .given .1) (c .before .before .before .before .field .ensures .1) in omega arith
+groups-requires c κs =
+    let c4 = c .before .before .before .before in
+    let c7 = c4 .before .before .before in
+    let w = subst (SpanIn 0 (length (c7 .args .s .now))) (c .before .before .a .given .1) (c4 .field .ensures .1) in omega arith
 
 same-length : tie.Need-same-length
 same-length c = search needs

@@ -16,7 +16,9 @@ shared-slice-read-tag : tie.Need-shared-slice-read-tag
 shared-slice-read-tag c = search needs
 
 returns : tie.Need-returns
-returns c = argument-other (c .before .before .before .args .s .now) (c .before .before .before .args .at) (c .before .before .before .args .stop) (c .if1 .taken)
+returns c =
+    let c3 = c .before .before .before in
+    argument-other (c3 .args .s .now) (c3 .args .at) (c3 .args .stop) (c .if1 .taken)
 
 add-fixed : tie.Need-add-fixed
 add-fixed c = search needs
@@ -31,28 +33,57 @@ enum-told : tie.Need-enum-told
 enum-told c = search needs
 
 returns-2 : tie.Need-returns-2
-returns-2 c = argument-short (c .before .before .before .before .before .before .args .s .now) (c .before .before .before .before .before .before .args .at) (c .before .before .before .before .before .before .args .stop) (sym (c .before .before .fixed .ensures) ∙ c .enum-told .given .1)
+returns-2 c =
+    let c6 = c .before .before .before .before .before .before in
+    argument-short (c6 .args .s .now) (c6 .args .at) (c6 .args .stop) (sym (c .before .before .fixed .ensures) ∙ c .enum-told .given .1)
 
 add-if2 : tie.Need-add-if2
 add-if2 c = search needs
 
 returns-3 : tie.Need-returns-3
-returns-3 c = let j = upto-in (c .before .before .before .before .before .before .before .before .args .s .now) _ (c .before .before .before .before .before .before .before .before .args .at + 3) _ (c .before .before .before .before .before .before .before .before .pre .0) (sym (c .before .before .before .before .fixed .ensures) ∙ c .before .before .from .given .1) in argument-wide (c .before .before .before .before .before .before .before .before .args .s .now) (c .before .before .before .before .before .before .before .before .args .at) (c .before .before .before .before .before .before .before .before .args .stop) (sym (c .before .before .before .before .fixed .ensures) ∙ c .before .before .from .given .1) (omega arith) (c .if2 .taken)
+returns-3 c =
+    let c4 = c .before .before .before .before in
+    let c8 = c4 .before .before .before .before in
+    let j = upto-in (c8 .args .s .now) _ (c8 .args .at + 3) _ (c8 .pre .0) (sym (c4 .fixed .ensures) ∙ c .before .before .from .given .1) in
+    argument-wide (c8 .args .s .now) (c8 .args .at) (c8 .args .stop) (sym (c4 .fixed .ensures) ∙ c .before .before .from .given .1) (omega arith)
+    (c .if2 .taken)
 
 add-if3 : tie.Need-add-if3
 add-if3 c = search needs
 
 shared-slice-read-if3 : tie.Need-shared-slice-read-if3
-shared-slice-read-if3 c = let j = upto-in (c .before .before .before .before .before .before .before .before .before .args .s .now) _ (c .before .before .before .before .before .before .before .before .before .args .at + 3) _ (c .before .before .before .before .before .before .before .before .before .pre .0) (sym (c .before .before .before .before .before .fixed .ensures) ∙ c .before .before .before .from .given .1) in omega arith
+shared-slice-read-if3 c =
+    let c3 = c .before .before .before in
+    let c5 = c3 .before .before in
+    let c9 = c5 .before .before .before .before in
+    let j = upto-in (c9 .args .s .now) _ (c9 .args .at + 3) _ (c9 .pre .0) (sym (c5 .fixed .ensures) ∙ c3 .from .given .1) in omega arith
 
 returns-4 : tie.Need-returns-4
-returns-4 c = let j = upto-in (c .before .before .before .before .before .before .before .before .before .before .args .s .now) _ (c .before .before .before .before .before .before .before .before .before .before .args .at + 3) _ (c .before .before .before .before .before .before .before .before .before .before .pre .0) (sym (c .before .before .before .before .before .before .fixed .ensures) ∙ c .before .before .before .before .from .given .1) in argument-spread (c .before .before .before .before .before .before .before .before .before .before .args .s .now) (c .before .before .before .before .before .before .before .before .before .before .args .at) (c .before .before .before .before .before .before .before .before .before .before .args .stop) (sym (c .before .before .before .before .before .before .fixed .ensures) ∙ c .before .before .before .before .from .given .1) (omega arith) (c .before .before .if2 .left) (c .if3 .taken)
+returns-4 c =
+    let c4 = c .before .before .before .before in
+    let c6 = c4 .before .before in
+    let c10 = c6 .before .before .before .before in
+    let j = upto-in (c10 .args .s .now) _ (c10 .args .at + 3) _ (c10 .pre .0) (sym (c6 .fixed .ensures) ∙ c4 .from .given .1) in
+    argument-spread (c10 .args .s .now) (c10 .args .at) (c10 .args .stop) (sym (c6 .fixed .ensures) ∙ c4 .from .given .1) (omega arith)
+    (c .before .before .if2 .left) (c .if3 .taken)
 
 literal-at-requires : tie.Need-literal-at-requires
-literal-at-requires c κs = let j = upto-in (c .before .before .before .before .before .before .before .before .before .before .args .s .now) _ (c .before .before .before .before .before .before .before .before .before .before .args .at + 3) _ (c .before .before .before .before .before .before .before .before .before .before .pre .0) (sym (c .before .before .before .before .before .before .fixed .ensures) ∙ c .before .before .before .before .from .given .1) in omega arith
+literal-at-requires c κs =
+    let c4 = c .before .before .before .before in
+    let c6 = c4 .before .before in
+    let c10 = c6 .before .before .before .before in
+    let j = upto-in (c10 .args .s .now) _ (c10 .args .at + 3) _ (c10 .pre .0) (sym (c6 .fixed .ensures) ∙ c4 .from .given .1) in omega arith
 
 returns-5 : tie.Need-returns-5
-returns-5 c = let j = upto-in (c .before .before .before .before .before .before .before .before .before .before .before .args .s .now) _ (c .before .before .before .before .before .before .before .before .before .before .before .args .at + 3) _ (c .before .before .before .before .before .before .before .before .before .before .before .pre .0) (sym (c .before .before .before .before .before .before .before .fixed .ensures) ∙ c .before .before .before .before .before .from .given .1) in argument-plain (c .before .before .before .before .before .before .before .before .before .before .before .args .s .now) (c .before .before .before .before .before .before .before .before .before .before .before .args .at) (c .before .before .before .before .before .before .before .before .before .before .before .args .stop) (sym (c .before .before .before .before .before .before .before .fixed .ensures) ∙ c .before .before .before .before .before .from .given .1) (omega arith) (c .before .before .before .if2 .left) _ (c .before .before .before .before .before .before .before .before .if1 .left) (c .before .if3 .left) (c .literal-at .ensures)
+returns-5 c =
+    let c3 = c .before .before .before in
+    let c5 = c3 .before .before in
+    let c7 = c5 .before .before in
+    let c8 = c7 .before in
+    let c11 = c8 .before .before .before in
+    let j = upto-in (c11 .args .s .now) _ (c11 .args .at + 3) _ (c11 .pre .0) (sym (c7 .fixed .ensures) ∙ c5 .from .given .1) in
+    argument-plain (c11 .args .s .now) (c11 .args .at) (c11 .args .stop) (sym (c7 .fixed .ensures) ∙ c5 .from .given .1) (omega arith)
+    (c3 .if2 .left) _ (c8 .if1 .left) (c .before .if3 .left) (c .literal-at .ensures)
 
 pub argument-at-spec : {M : Type 1} → statement M
 argument-at-spec =

@@ -5,9 +5,9 @@ use Rattle.expressions.proofs.require.mark_required.Statement.{statemen
 use Rattle.expressions.proofs.require.mark_required.Tie as tie
 use Rattle.expressions.proofs.require.mark_required.Reads as reads
 use Rattle.expressions.proofs.require.mark_required.Lts as lts
-use Rattle.kept.proofs.ident.name_of.Reads as name-of-reads
-use Rattle.kept.proofs.modules.mark_cjs.Reads as mark-cjs-reads
-use Rattle.kept.proofs.modules.module_for.Reads as module-for-reads
+use Rattle.state.proofs.ident.name_of.Reads as name-of-reads
+use Rattle.state.proofs.modules.mark_cjs.Reads as mark-cjs-reads
+use Rattle.state.proofs.modules.module_for.Reads as module-for-reads
 
 name-of-requires : tie.Need-name-of-requires
 name-of-requires c κs = search needs
@@ -31,19 +31,32 @@ same-length : tie.Need-same-length
 same-length c = search needs
 
 returns : tie.Need-returns
-returns c = mark-marked (c .before .before .before .before .before .before .before .before .before .before .before .before .before .before .args .literal) (c .before .before .before .before .before .before .before .before .before .before .name-of .ensures) (c .before .before .before .before .before .before .before .before .before .module-for .ensures) (c .before .before .before .before .before .n .given .1) (c .before .before .mark-cjs .ensures)
+returns c =
+    let c5 = c .before .before .before .before .before in
+    let c9 = c5 .before .before .before .before in
+    let c10 = c9 .before in
+    let c14 = c10 .before .before .before .before in
+    mark-marked (c14 .args .literal) (c10 .name-of .ensures) (c9 .module-for .ensures) (c5 .n .given .1) (c .before .before .mark-cjs .ensures)
 
 same-length-2 : tie.Need-same-length-2
 same-length-2 c = search needs
 
 returns-2 : tie.Need-returns-2
-returns-2 c = mark-unresolved (c .before .before .before .before .before .before .before .before .before .args .literal) (c .before .before .before .before .before .name-of .ensures) (c .before .before .before .before .module-for .ensures) (c .enum-told .given .1)
+returns-2 c =
+    let c4 = c .before .before .before .before in
+    let c5 = c4 .before in
+    let c9 = c5 .before .before .before .before in
+    mark-unresolved (c9 .args .literal) (c5 .name-of .ensures) (c4 .module-for .ensures) (c .enum-told .given .1)
 
 same-length-3 : tie.Need-same-length-3
 same-length-3 c = search needs
 
 returns-3 : tie.Need-returns-3
-returns-3 c = mark-full (c .before .before .before .before .before .before .before .before .before .args .literal) (c .before .before .before .before .before .name-of .ensures) (c .before .before .before .before .module-for .ensures) (c .enum-told2 .given .1)
+returns-3 c =
+    let c4 = c .before .before .before .before in
+    let c5 = c4 .before in
+    let c9 = c5 .before .before .before .before in
+    mark-full (c9 .args .literal) (c5 .name-of .ensures) (c4 .module-for .ensures) (c .enum-told2 .given .1)
 
 pub mark-required-spec : {M : Type 1} → statement M
 mark-required-spec =

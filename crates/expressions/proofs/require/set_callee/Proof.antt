@@ -30,7 +30,10 @@ same-length : tie.Need-same-length
 same-length c = search needs
 
 returns-2 : tie.Need-returns-2
-returns-2 c = callee-set (c .before .before .before .before .before .before .before .before .args .n .0) (c .before .before .before .before .before .before .before .before .args .o) (ap (λ (x : SyntaxContext). x .0) (c .before .before .before .export-ctxt .ensures)) (omega arith) (c .before .before .put-u32 .ensures)
+returns-2 c =
+    let c3 = c .before .before .before in
+    let c8 = c3 .before .before .before .before .before in
+    callee-set (c8 .args .n .0) (c8 .args .o) (ap (λ (x : SyntaxContext). x .0) (c3 .export-ctxt .ensures)) (omega arith) (c .before .before .put-u32 .ensures)
 
 returns-3 : tie.Need-returns-3
 returns-3 c = callee-past (c .before .before .before .args .n .0) (c .before .before .before .args .o) (omega arith)

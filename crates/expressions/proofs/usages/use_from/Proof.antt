@@ -1,5 +1,5 @@
 -- `expressions::usages::use_from` meets its contract.
-use Rattle.lent.specs.Table.{rowsIn}
+use Rattle.inputs.specs.Table.{rowsIn}
 use Rattle.tree.specs.Standing.{treeAt}
 use Rattle.steps.specs.Step.{settingOf}
 use Rattle.expressions.proofs.PropertyLaws.{from-none, from-number, from-unresolved, from-full}
@@ -9,8 +9,8 @@ use Rattle.expressions.proofs.usages.use_from.Tie as tie
 use Rattle.expressions.proofs.usages.use_from.Reads as reads
 use Rattle.expressions.proofs.usages.use_from.Lts as lts
 use Rattle.expressions.proofs.usages.use_property.Reads as use-property-reads
-use Rattle.kept.proofs.modules.module_for.Reads as module-for-reads
-use Rattle.kept.proofs.records.used_record.Reads as used-record-reads
+use Rattle.state.proofs.modules.module_for.Reads as module-for-reads
+use Rattle.state.proofs.records.used_record.Reads as used-record-reads
 
 used-record-requires : tie.Need-used-record-requires
 used-record-requires c κs = search needs
@@ -25,7 +25,11 @@ same-length : tie.Need-same-length
 same-length c = search needs
 
 returns : tie.Need-returns
-returns c = λ externals. from-none (settingOf (c .before .before .before .before .before .before .before .before .args .e) externals (rowsIn (c .before .before .before .before .before .before .before .before .args .table .now))) (treeAt (c .before .before .before .before .before .before .before .before .args .s .now) (c .before .before .before .before .before .before .before .before .args .member) (c .before .before .before .before .before .before .before .before .args .end)) (c .before .before .before .before .before .before .before .before .args .at) (c .before .before .before .before .before .before .before .before .args .member) (c .before .before .before .before .before .before .before .before .args .id) (c .before .before .used-record .ensures) (c .before .before .before .before .before .before .before .before .pre .2) (c .enum-told .given .1)
+returns c =
+    let c8 = c .before .before .before .before .before .before .before .before in
+    λ externals. from-none (settingOf (c8 .args .e) externals (rowsIn (c8 .args .table .now)))
+    (treeAt (c8 .args .s .now) (c8 .args .member) (c8 .args .end)) (c8 .args .at) (c8 .args .member) (c8 .args .id)
+    (c .before .before .used-record .ensures) (c8 .pre .2) (c .enum-told .given .1)
 
 module-for-requires : tie.Need-module-for-requires
 module-for-requires c κs = search needs
@@ -46,19 +50,41 @@ same-length-2 : tie.Need-same-length-2
 same-length-2 c = search needs
 
 returns-2 : tie.Need-returns-2
-returns-2 c = λ externals. from-number (settingOf (c .before .before .before .before .before .before .before .before .before .before .before .before .before .before .before .before .before .before .before .before .args .e) externals (rowsIn (c .before .before .before .before .before .before .before .before .before .before .before .before .before .before .before .before .before .before .before .before .args .table .now))) (treeAt (c .before .before .before .before .before .before .before .before .before .before .before .before .before .before .before .before .before .before .before .before .args .s .now) (c .before .before .before .before .before .before .before .before .before .before .before .before .before .before .before .before .before .before .before .before .args .member) (c .before .before .before .before .before .before .before .before .before .before .before .before .before .before .before .before .before .before .before .before .args .end)) (c .before .before .before .before .before .before .before .before .before .before .before .before .before .before .before .before .before .before .before .before .args .at) (c .before .before .before .before .before .before .before .before .before .before .before .before .before .before .before .before .before .before .before .before .args .member) (c .before .before .before .before .before .before .before .before .before .before .before .before .before .before .before .before .before .before .before .before .args .id) (c .before .before .before .before .before .before .before .before .before .before .before .before .before .before .used-record .ensures) (c .before .before .before .before .before .before .before .before .before .before .before .before .source .given .1) (c .before .before .before .before .before .before .before .before .before .module-for .ensures) (c .before .before .before .before .before .n .given .1) (c .before .before .use-property .ensures)
+returns-2 c =
+    let c5 = c .before .before .before .before .before in
+    let c9 = c5 .before .before .before .before in
+    let c12 = c9 .before .before .before in
+    let c14 = c12 .before .before in
+    let c20 = c14 .before .before .before .before .before .before in
+    λ externals. from-number (settingOf (c20 .args .e) externals (rowsIn (c20 .args .table .now)))
+    (treeAt (c20 .args .s .now) (c20 .args .member) (c20 .args .end)) (c20 .args .at) (c20 .args .member) (c20 .args .id)
+    (c14 .used-record .ensures) (c12 .source .given .1) (c9 .module-for .ensures) (c5 .n .given .1) (c .before .before .use-property .ensures)
 
 same-length-3 : tie.Need-same-length-3
 same-length-3 c = search needs
 
 returns-3 : tie.Need-returns-3
-returns-3 c = λ externals. from-unresolved (settingOf (c .before .before .before .before .before .before .before .before .before .before .before .before .before .before .before .args .e) externals (rowsIn (c .before .before .before .before .before .before .before .before .before .before .before .before .before .before .before .args .table .now))) (treeAt (c .before .before .before .before .before .before .before .before .before .before .before .before .before .before .before .args .s .now) (c .before .before .before .before .before .before .before .before .before .before .before .before .before .before .before .args .member) (c .before .before .before .before .before .before .before .before .before .before .before .before .before .before .before .args .end)) (c .before .before .before .before .before .before .before .before .before .before .before .before .before .before .before .args .at) (c .before .before .before .before .before .before .before .before .before .before .before .before .before .before .before .args .member) (c .before .before .before .before .before .before .before .before .before .before .before .before .before .before .before .args .id) (c .before .before .before .before .before .before .before .before .before .used-record .ensures) (c .before .before .before .before .before .before .before .source .given .1) (c .before .before .before .before .module-for .ensures) (c .enum-told2 .given .1)
+returns-3 c =
+    let c4 = c .before .before .before .before in
+    let c7 = c4 .before .before .before in
+    let c9 = c7 .before .before in
+    let c15 = c9 .before .before .before .before .before .before in
+    λ externals. from-unresolved (settingOf (c15 .args .e) externals (rowsIn (c15 .args .table .now)))
+    (treeAt (c15 .args .s .now) (c15 .args .member) (c15 .args .end)) (c15 .args .at) (c15 .args .member) (c15 .args .id)
+    (c9 .used-record .ensures) (c7 .source .given .1) (c4 .module-for .ensures) (c .enum-told2 .given .1)
 
 same-length-4 : tie.Need-same-length-4
 same-length-4 c = search needs
 
 returns-4 : tie.Need-returns-4
-returns-4 c = λ externals. from-full (settingOf (c .before .before .before .before .before .before .before .before .before .before .before .before .before .before .before .args .e) externals (rowsIn (c .before .before .before .before .before .before .before .before .before .before .before .before .before .before .before .args .table .now))) (treeAt (c .before .before .before .before .before .before .before .before .before .before .before .before .before .before .before .args .s .now) (c .before .before .before .before .before .before .before .before .before .before .before .before .before .before .before .args .member) (c .before .before .before .before .before .before .before .before .before .before .before .before .before .before .before .args .end)) (c .before .before .before .before .before .before .before .before .before .before .before .before .before .before .before .args .at) (c .before .before .before .before .before .before .before .before .before .before .before .before .before .before .before .args .member) (c .before .before .before .before .before .before .before .before .before .before .before .before .before .before .before .args .id) (c .before .before .before .before .before .before .before .before .before .used-record .ensures) (c .before .before .before .before .before .before .before .source .given .1) (c .before .before .before .before .module-for .ensures) (c .enum-told3 .given .1)
+returns-4 c =
+    let c4 = c .before .before .before .before in
+    let c7 = c4 .before .before .before in
+    let c9 = c7 .before .before in
+    let c15 = c9 .before .before .before .before .before .before in
+    λ externals. from-full (settingOf (c15 .args .e) externals (rowsIn (c15 .args .table .now)))
+    (treeAt (c15 .args .s .now) (c15 .args .member) (c15 .args .end)) (c15 .args .at) (c15 .args .member) (c15 .args .id)
+    (c9 .used-record .ensures) (c7 .source .given .1) (c4 .module-for .ensures) (c .enum-told3 .given .1)
 
 pub use-from-spec : {M : Type 1} → statement M
 use-from-spec =

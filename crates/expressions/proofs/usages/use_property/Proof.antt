@@ -9,8 +9,8 @@ use Rattle.expressions.proofs.usages.use_property.Statement.{statement}
 use Rattle.expressions.proofs.usages.use_property.Tie as tie
 use Rattle.expressions.proofs.usages.use_property.Reads as reads
 use Rattle.expressions.proofs.usages.use_property.Lts as lts
-use Rattle.kept.proofs.ident.id_from.Reads as id-from-reads
-use Rattle.kept.proofs.imported.add_usage.Reads as add-usage-reads
+use Rattle.state.proofs.ident.id_from.Reads as id-from-reads
+use Rattle.state.proofs.imported.add_usage.Reads as add-usage-reads
 use Rattle.scope.proofs.id.ModuleId.export_ctxt.Reads as export-ctxt-reads
 use Rattle.tree.proofs.access.fixed.Reads as fixed-reads
 use Rattle.tree.proofs.layout.atom_at.Reads as atom-at-reads
@@ -33,19 +33,35 @@ enum-told-2 : tie.Need-enum-told-2
 enum-told-2 c = search needs
 
 returns : tie.Need-returns
-returns c = property-short (c .before .before .before .before .before .before .args .s .now) (c .before .before .before .before .before .before .args .at) (c .before .before .before .before .before .before .args .member) (c .before .before .before .before .before .before .args .end) (c .before .before .before .before .before .before .args .id) (c .before .before .before .before .before .before .args .n) (c .before .before .before .before .before .before .pre .2) (sym (c .before .before .fixed .ensures) ∙ c .enum-told2 .given .1)
+returns c =
+    let c6 = c .before .before .before .before .before .before in
+    property-short (c6 .args .s .now) (c6 .args .at) (c6 .args .member) (c6 .args .end) (c6 .args .id) (c6 .args .n) (c6 .pre .2) (sym (c .before .before .fixed .ensures) ∙ c .enum-told2 .given .1)
 
 returns-2 : tie.Need-returns-2
-returns-2 c = property-private (c .before .before .before .before .before .before .before .args .s .now) (c .before .before .before .before .before .before .before .args .at) (c .before .before .before .before .before .before .before .args .member) (c .before .before .before .before .before .before .before .args .end) (c .before .before .before .before .before .before .before .args .id) (c .before .before .before .before .before .before .before .args .n) (sym (c .before .before .before .fixed .ensures) ∙ c .before .enum-told .given .1) (c .before .before .before .before .before .before .before .pre .2) (c .if1 .taken)
+returns-2 c =
+    let c3 = c .before .before .before in
+    let c7 = c3 .before .before .before .before in
+    property-private (c7 .args .s .now) (c7 .args .at) (c7 .args .member) (c7 .args .end) (c7 .args .id) (c7 .args .n)
+    (sym (c3 .fixed .ensures) ∙ c .before .enum-told .given .1) (c7 .pre .2) (c .if1 .taken)
 
 returns-3 : tie.Need-returns-3
-returns-3 c = property-other (c .before .before .before .before .before .before .before .before .args .s .now) (c .before .before .before .before .before .before .before .before .args .at) (c .before .before .before .before .before .before .before .before .args .member) (c .before .before .before .before .before .before .before .before .args .end) (c .before .before .before .before .before .before .before .before .args .id) (c .before .before .before .before .before .before .before .before .args .n) (sym (c .before .before .before .before .fixed .ensures) ∙ c .before .before .enum-told .given .1) (c .before .before .before .before .before .before .before .before .pre .2) (c .before .if1 .left) (c .if2 .taken)
+returns-3 c =
+    let c4 = c .before .before .before .before in
+    let c8 = c4 .before .before .before .before in
+    property-other (c8 .args .s .now) (c8 .args .at) (c8 .args .member) (c8 .args .end) (c8 .args .id) (c8 .args .n)
+    (sym (c4 .fixed .ensures) ∙ c .before .before .enum-told .given .1) (c8 .pre .2) (c .before .if1 .left) (c .if2 .taken)
 
 add-atom-at : tie.Need-add-atom-at
 add-atom-at c = search needs
 
 atom-at-requires : tie.Need-atom-at-requires
-atom-at-requires c κs = let j = upto-in (c .before .before .before .before .before .before .before .before .args .s .now) _ (c .before .before .before .before .before .before .before .before .args .member + 3) _ (c .before .before .before .before .before .before .before .before .pre .0) (sym (c .before .before .before .before .fixed .ensures) ∙ c .before .before .enum-told .given .1) in let k = plain-ends 0x70 Atom refl (c .before .before .before .before .before .before .before .before .args .s .now) _ (c .before .before .before .before .before .before .before .before .args .member + 3) _ _ (c .if2 .left) (sym (c .before .before .before .before .fixed .ensures) ∙ c .before .before .enum-told .given .1) in omega arith
+atom-at-requires c κs =
+    let c4 = c .before .before .before .before in
+    let c8 = c4 .before .before .before .before in
+    let j = upto-in (c8 .args .s .now) _ (c8 .args .member + 3) _ (c8 .pre .0) (sym (c4 .fixed .ensures) ∙ c .before .before .enum-told .given .1) in
+    let k =
+    plain-ends 0x70 Atom refl (c8 .args .s .now) _ (c8 .args .member + 3) _ _ (c .if2 .left)
+    (sym (c4 .fixed .ensures) ∙ c .before .before .enum-told .given .1) in omega arith
 
 export-ctxt-requires : tie.Need-export-ctxt-requires
 export-ctxt-requires c κs = search needs
@@ -66,13 +82,43 @@ same-length : tie.Need-same-length
 same-length c = search needs
 
 returns-4 : tie.Need-returns-4
-returns-4 c = let j = upto-in (c .before .before .before .before .before .before .before .before .before .before .before .before .before .before .before .before .before .args .s .now) _ (c .before .before .before .before .before .before .before .before .before .before .before .before .before .before .before .before .before .args .member + 3) _ (c .before .before .before .before .before .before .before .before .before .before .before .before .before .before .before .before .before .pre .0) (sym (c .before .before .before .before .before .before .before .before .before .before .before .before .before .fixed .ensures) ∙ c .before .before .before .before .before .before .before .before .before .before .before .enum-told .given .1) in let k = plain-ends 0x70 Atom refl (c .before .before .before .before .before .before .before .before .before .before .before .before .before .before .before .before .before .args .s .now) _ (c .before .before .before .before .before .before .before .before .before .before .before .before .before .before .before .before .before .args .member + 3) _ _ (c .before .before .before .before .before .before .before .before .before .if2 .left) (sym (c .before .before .before .before .before .before .before .before .before .before .before .before .before .fixed .ensures) ∙ c .before .before .before .before .before .before .before .before .before .before .before .enum-told .given .1) in property-made (c .before .before .before .before .before .before .before .before .before .before .before .before .before .before .before .before .before .args .s .now) (c .before .before .before .before .before .before .before .before .before .before .before .before .before .before .before .before .before .args .at) (c .before .before .before .before .before .before .before .before .before .before .before .before .before .before .before .before .before .args .member) (c .before .before .before .before .before .before .before .before .before .before .before .before .before .before .before .before .before .args .end) (c .before .before .before .before .before .before .before .before .before .before .before .before .before .before .before .before .before .args .id) (c .before .before .before .before .before .before .before .before .before .before .before .before .before .before .before .before .before .args .n) (sym (c .before .before .before .before .before .before .before .before .before .before .before .before .before .fixed .ensures) ∙ c .before .before .before .before .before .before .before .before .before .before .before .enum-told .given .1) (λ i. c .before .before .before .before .before .before .before .before .before .before .before .before .before .before .before .before .shared-slice-known .given i .fits) (omega arith) (c .before .before .before .before .before .before .before .before .before .if2 .left) (c .before .before .before .before .before .before .before .before .atom-at .ensures) (c .before .before .before .before .before .before .before .export-ctxt .ensures) (c .before .before .before .before .before .before .id-from .ensures) (c .before .before .before .before .add-usage .ensures) (c .enum-told3 .given .1)
+returns-4 c =
+    let c4 = c .before .before .before .before in
+    let c6 = c4 .before .before in
+    let c7 = c6 .before in
+    let c8 = c7 .before in
+    let c9 = c8 .before in
+    let c11 = c9 .before .before in
+    let c13 = c11 .before .before in
+    let c16 = c13 .before .before .before in
+    let c17 = c16 .before in
+    let j = upto-in (c17 .args .s .now) _ (c17 .args .member + 3) _ (c17 .pre .0) (sym (c13 .fixed .ensures) ∙ c11 .enum-told .given .1) in let k =
+    plain-ends 0x70 Atom refl (c17 .args .s .now) _ (c17 .args .member + 3) _ _ (c9 .if2 .left)
+    (sym (c13 .fixed .ensures) ∙ c11 .enum-told .given .1) in
+    property-made (c17 .args .s .now) (c17 .args .at) (c17 .args .member) (c17 .args .end) (c17 .args .id) (c17 .args .n)
+    (sym (c13 .fixed .ensures) ∙ c11 .enum-told .given .1) (λ i. c16 .shared-slice-known .given i .fits) (omega arith) (c9 .if2 .left)
+    (c8 .atom-at .ensures) (c7 .export-ctxt .ensures) (c6 .id-from .ensures) (c4 .add-usage .ensures) (c .enum-told3 .given .1)
 
 same-length-2 : tie.Need-same-length-2
 same-length-2 c = search needs
 
 returns-5 : tie.Need-returns-5
-returns-5 c = let j = upto-in (c .before .before .before .before .before .before .before .before .before .before .before .before .before .before .before .before .before .args .s .now) _ (c .before .before .before .before .before .before .before .before .before .before .before .before .before .before .before .before .before .args .member + 3) _ (c .before .before .before .before .before .before .before .before .before .before .before .before .before .before .before .before .before .pre .0) (sym (c .before .before .before .before .before .before .before .before .before .before .before .before .before .fixed .ensures) ∙ c .before .before .before .before .before .before .before .before .before .before .before .enum-told .given .1) in let k = plain-ends 0x70 Atom refl (c .before .before .before .before .before .before .before .before .before .before .before .before .before .before .before .before .before .args .s .now) _ (c .before .before .before .before .before .before .before .before .before .before .before .before .before .before .before .before .before .args .member + 3) _ _ (c .before .before .before .before .before .before .before .before .before .if2 .left) (sym (c .before .before .before .before .before .before .before .before .before .before .before .before .before .fixed .ensures) ∙ c .before .before .before .before .before .before .before .before .before .before .before .enum-told .given .1) in property-full (c .before .before .before .before .before .before .before .before .before .before .before .before .before .before .before .before .before .args .s .now) (c .before .before .before .before .before .before .before .before .before .before .before .before .before .before .before .before .before .args .at) (c .before .before .before .before .before .before .before .before .before .before .before .before .before .before .before .before .before .args .member) (c .before .before .before .before .before .before .before .before .before .before .before .before .before .before .before .before .before .args .end) (c .before .before .before .before .before .before .before .before .before .before .before .before .before .before .before .before .before .args .id) (c .before .before .before .before .before .before .before .before .before .before .before .before .before .before .before .before .before .args .n) (sym (c .before .before .before .before .before .before .before .before .before .before .before .before .before .fixed .ensures) ∙ c .before .before .before .before .before .before .before .before .before .before .before .enum-told .given .1) (λ i. c .before .before .before .before .before .before .before .before .before .before .before .before .before .before .before .before .shared-slice-known .given i .fits) (omega arith) (c .before .before .before .before .before .before .before .before .before .if2 .left) (c .before .before .before .before .before .before .before .before .atom-at .ensures) (c .before .before .before .before .before .before .before .export-ctxt .ensures) (c .before .before .before .before .before .before .id-from .ensures) (c .before .before .before .before .add-usage .ensures) (c .enum-told4 .given .1)
+returns-5 c =
+    let c4 = c .before .before .before .before in
+    let c6 = c4 .before .before in
+    let c7 = c6 .before in
+    let c8 = c7 .before in
+    let c9 = c8 .before in
+    let c11 = c9 .before .before in
+    let c13 = c11 .before .before in
+    let c16 = c13 .before .before .before in
+    let c17 = c16 .before in
+    let j = upto-in (c17 .args .s .now) _ (c17 .args .member + 3) _ (c17 .pre .0) (sym (c13 .fixed .ensures) ∙ c11 .enum-told .given .1) in let k =
+    plain-ends 0x70 Atom refl (c17 .args .s .now) _ (c17 .args .member + 3) _ _ (c9 .if2 .left)
+    (sym (c13 .fixed .ensures) ∙ c11 .enum-told .given .1) in
+    property-full (c17 .args .s .now) (c17 .args .at) (c17 .args .member) (c17 .args .end) (c17 .args .id) (c17 .args .n)
+    (sym (c13 .fixed .ensures) ∙ c11 .enum-told .given .1) (λ i. c16 .shared-slice-known .given i .fits) (omega arith) (c9 .if2 .left)
+    (c8 .atom-at .ensures) (c7 .export-ctxt .ensures) (c6 .id-from .ensures) (c4 .add-usage .ensures) (c .enum-told4 .given .1)
 
 pub use-property-spec : {M : Type 1} → statement M
 use-property-spec =

@@ -1,6 +1,6 @@
 use mathlib.Core.Path.{sym, ap, _∙_}
 use native.Mathlib.Omega.{arith}
-use Rattle.lent.specs.Table.{rowsIn}
+use Rattle.inputs.specs.Table.{rowsIn}
 use Rattle.steps.specs.Step.{passOf}
 use Rattle.walking.specs.Walking.{set}
 use Rattle.extraction.proofs.ItemLaws.{import-short, import-one, import-two}
@@ -31,15 +31,28 @@ enum-told c = search needs
 
 -- src/passes.rt:121:9
 returns : tie.Need-returns
-returns c = import-short (c .before .before .before .before .before .before .before .before .args .e) (set (c .before .before .before .before .before .before .before .before .args .e) (c .before .before .before .before .before .before .before .before .args .externals .now) (c .before .before .before .before .before .before .before .before .args .table .now)) (c .before .before .before .before .before .before .before .before .args .s .now) (λ i. omega (arith, c .before .before .before .before .before .before .before .shared-slice-known .given i)) (c .before .before .before .before .before .before .before .before .args .at) (c .before .before .before .before .before .before .before .before .args .stop) (c .before .before .before .before .before .before .before .before .pre .0) (c .before .before .before .before .before .before .before .before .pre .3) (sym (c .before .before .fixed .ensures) ∙ c .enum-told .given .1)
+returns c =
+    let c7 = c .before .before .before .before .before .before .before in
+    let c8 = c7 .before in
+    import-short (c8 .args .e) (set (c8 .args .e) (c8 .args .externals .now) (c8 .args .table .now)) (c8 .args .s .now)
+    (λ i. omega (arith, c7 .shared-slice-known .given i)) (c8 .args .at) (c8 .args .stop) (c8 .pre .0) (c8 .pre .3)
+    (sym (c .before .before .fixed .ensures) ∙ c .enum-told .given .1)
 
 -- src/passes.rt:124:9
 import-second-requires : tie.Need-import-second-requires
-import-second-requires c κs = (omega arith, omega arith, c .before .before .before .before .before .before .before .before .before .before .before .before .pre .0, sym (c .before .before .before .before .before .before .fixed .ensures) ∙ c .before .before .before .before .from .given .1, c .before .before .before .before .before .before .before .before .before .before .before .before .pre .3)
+import-second-requires c κs =
+    let c4 = c .before .before .before .before in
+    let c6 = c4 .before .before in
+    let c12 = c6 .before .before .before .before .before .before in
+    (omega arith, omega arith, c12 .pre .0, sym (c6 .fixed .ensures) ∙ c4 .from .given .1, c12 .pre .3)
 
 -- src/passes.rt:126:9
 import-first-requires : tie.Need-import-first-requires
-import-first-requires c κs = (omega arith, omega arith, c .before .before .before .before .before .before .before .before .before .before .before .before .pre .0, sym (c .before .before .before .before .before .before .fixed .ensures) ∙ c .before .before .before .before .from .given .1, c .before .before .before .before .before .before .before .before .before .before .before .before .pre .3)
+import-first-requires c κs =
+    let c4 = c .before .before .before .before in
+    let c6 = c4 .before .before in
+    let c12 = c6 .before .before .before .before .before .before in
+    (omega arith, omega arith, c12 .pre .0, sym (c6 .fixed .ensures) ∙ c4 .from .given .1, c12 .pre .3)
 
 -- src/passes.rt:106:1
 same-length : tie.Need-same-length
@@ -51,7 +64,14 @@ same-length-2 c = search needs
 
 -- src/passes.rt:106:1
 returns-2 : tie.Need-returns-2
-returns-2 c = import-two (c .before .before .before .before .before .before .before .before .before .before .before .before .before .before .before .before .before .args .e) (set (c .before .before .before .before .before .before .before .before .before .before .before .before .before .before .before .before .before .args .e) (c .before .before .before .before .before .before .before .before .before .before .before .before .before .before .before .before .before .args .externals .now) (c .before .before .before .before .before .before .before .before .before .before .before .before .before .before .before .before .before .args .table .now)) (c .before .before .before .before .before .before .before .before .before .before .before .before .before .before .before .before .before .args .s .now) (λ i. omega (arith, c .before .before .before .before .before .before .before .before .before .before .before .before .before .before .before .before .shared-slice-known .given i)) (c .before .before .before .before .before .before .before .before .before .before .before .before .before .before .before .before .before .args .at) (c .before .before .before .before .before .before .before .before .before .before .before .before .before .before .before .before .before .args .stop) (c .before .before .before .before .before .before .before .if1 .taken) (ap passOf (c .before .before .before .before .before .before .before .if1 .taken)) (c .before .before .before .before .before .before .before .before .before .before .before .before .before .before .before .before .before .pre .0) (c .before .before .before .before .import-second .ensures (rowsIn (c .before .before .before .before .before .before .before .before .before .before .before .before .before .before .before .before .before .args .table .now)))
+returns-2 c =
+    let c4 = c .before .before .before .before in
+    let c7 = c4 .before .before .before in
+    let c16 = c7 .before .before .before .before .before .before .before .before .before in
+    let c17 = c16 .before in
+    import-two (c17 .args .e) (set (c17 .args .e) (c17 .args .externals .now) (c17 .args .table .now)) (c17 .args .s .now)
+    (λ i. omega (arith, c16 .shared-slice-known .given i)) (c17 .args .at) (c17 .args .stop) (c7 .if1 .taken) (ap passOf (c7 .if1 .taken))
+    (c17 .pre .0) (c4 .import-second .ensures (rowsIn (c17 .args .table .now)))
 
 -- src/passes.rt:106:1
 same-length-3 : tie.Need-same-length-3
@@ -63,7 +83,14 @@ same-length-4 c = search needs
 
 -- src/passes.rt:106:1
 returns-3 : tie.Need-returns-3
-returns-3 c = import-one (c .before .before .before .before .before .before .before .before .before .before .before .before .before .before .before .before .before .args .e) (set (c .before .before .before .before .before .before .before .before .before .before .before .before .before .before .before .before .before .args .e) (c .before .before .before .before .before .before .before .before .before .before .before .before .before .before .before .before .before .args .externals .now) (c .before .before .before .before .before .before .before .before .before .before .before .before .before .before .before .before .before .args .table .now)) (c .before .before .before .before .before .before .before .before .before .before .before .before .before .before .before .before .before .args .s .now) (λ i. omega (arith, c .before .before .before .before .before .before .before .before .before .before .before .before .before .before .before .before .shared-slice-known .given i)) (c .before .before .before .before .before .before .before .before .before .before .before .before .before .before .before .before .before .args .at) (c .before .before .before .before .before .before .before .before .before .before .before .before .before .before .before .before .before .args .stop) (c .before .before .before .before .before .before .before .if1 .left) (ap passOf (c .before .before .before .before .before .before .before .if1 .left)) (c .before .before .before .before .before .before .before .before .before .before .before .before .before .before .before .before .before .pre .0) (c .before .before .before .before .import-first .ensures)
+returns-3 c =
+    let c4 = c .before .before .before .before in
+    let c7 = c4 .before .before .before in
+    let c16 = c7 .before .before .before .before .before .before .before .before .before in
+    let c17 = c16 .before in
+    import-one (c17 .args .e) (set (c17 .args .e) (c17 .args .externals .now) (c17 .args .table .now)) (c17 .args .s .now)
+    (λ i. omega (arith, c16 .shared-slice-known .given i)) (c17 .args .at) (c17 .args .stop) (c7 .if1 .left) (ap passOf (c7 .if1 .left))
+    (c17 .pre .0) (c4 .import-first .ensures)
 
 pub import-spec : {M : Type 1} → statement M
 import-spec =

@@ -57,7 +57,11 @@ returns c = search needs
 
 -- src/passes.rt:80:1
 returns-2 : tie.Need-returns-2
-returns-2 c = item-40 (c .before .before .before .before .before .before .before .args .e) (set (c .before .before .before .before .before .before .before .args .e) (c .before .before .before .before .before .before .before .args .externals .now) (c .before .before .before .before .before .before .before .args .table .now)) (c .before .before .before .before .before .before .before .args .s .now) (λ i. omega (arith, c .before .before .before .before .before .before .shared-slice-known .given i)) (c .before .before .before .before .before .before .before .args .at) (c .before .before .before .before .before .before .before .args .stop) (c .match .keys2) (c .before .before .before .before .before .before .before .pre .2)
+returns-2 c =
+    let c6 = c .before .before .before .before .before .before in
+    let c7 = c6 .before in
+    item-40 (c7 .args .e) (set (c7 .args .e) (c7 .args .externals .now) (c7 .args .table .now)) (c7 .args .s .now)
+    (λ i. omega (arith, c6 .shared-slice-known .given i)) (c7 .args .at) (c7 .args .stop) (c .match .keys2) (c7 .pre .2)
 
 -- src/passes.rt:80:1
 same-length-3 : tie.Need-same-length-3
@@ -69,11 +73,26 @@ same-length-4 c = search needs
 
 -- src/passes.rt:80:1
 returns-3 : tie.Need-returns-3
-returns-3 c = item-41 (c .before .before .before .before .before .before .before .before .before .before .before .before .before .before .before .before .before .args .e) (set (c .before .before .before .before .before .before .before .before .before .before .before .before .before .before .before .before .before .args .e) (c .before .before .before .before .before .before .before .before .before .before .before .before .before .before .before .before .before .args .externals .now) (c .before .before .before .before .before .before .before .before .before .before .before .before .before .before .before .before .before .args .table .now)) (c .before .before .before .before .before .before .before .before .before .before .before .before .before .before .before .before .before .args .s .now) (λ i. omega (arith, c .before .before .before .before .before .before .before .before .before .before .before .before .before .before .before .before .shared-slice-known .given i)) (c .before .before .before .before .before .before .before .before .before .before .before .before .before .before .before .before .before .args .at) (c .before .before .before .before .before .before .before .before .before .before .before .before .before .before .before .before .before .args .stop) (c .before .before .before .before .before .before .before .before .before .before .match .keys3) (c .before .before .before .before .before .before .before .before .before .before .before .before .before .before .before .before .before .pre .0) (sym (c .before .before .before .before .before .before .before .before .before .extent .ensures) ∙ c .before .before .before .before .before .before .before .enum-told .given .1) (c .before .before .before .before .walk .ensures)
+returns-3 c =
+    let c4 = c .before .before .before .before in
+    let c7 = c4 .before .before .before in
+    let c9 = c7 .before .before in
+    let c10 = c9 .before in
+    let c16 = c10 .before .before .before .before .before .before in
+    let c17 = c16 .before in
+    item-41 (c17 .args .e) (set (c17 .args .e) (c17 .args .externals .now) (c17 .args .table .now)) (c17 .args .s .now)
+    (λ i. omega (arith, c16 .shared-slice-known .given i)) (c17 .args .at) (c17 .args .stop) (c10 .match .keys3) (c17 .pre .0)
+    (sym (c9 .extent .ensures) ∙ c7 .enum-told .given .1) (c4 .walk .ensures)
 
 -- src/passes.rt:80:1
 returns-4 : tie.Need-returns-4
-returns-4 c = item-bare (c .before .before .before .before .before .before .before .before .before .before .args .e) (set (c .before .before .before .before .before .before .before .before .before .before .args .e) (c .before .before .before .before .before .before .before .before .before .before .args .externals .now) (c .before .before .before .before .before .before .before .before .before .before .args .table .now)) (c .before .before .before .before .before .before .before .before .before .before .args .s .now) (λ i. omega (arith, c .before .before .before .before .before .before .before .before .before .shared-slice-known .given i)) (c .before .before .before .before .before .before .before .before .before .before .args .at) (c .before .before .before .before .before .before .before .before .before .before .args .stop) (c .before .before .before .match .keys3) (c .before .before .before .before .before .before .before .before .before .before .pre .0) (sym (c .before .before .extent .ensures) ∙ c .enum-told2 .given .1) (c .before .before .before .before .before .before .before .before .before .before .pre .2)
+returns-4 c =
+    let c3 = c .before .before .before in
+    let c9 = c3 .before .before .before .before .before .before in
+    let c10 = c9 .before in
+    item-bare (c10 .args .e) (set (c10 .args .e) (c10 .args .externals .now) (c10 .args .table .now)) (c10 .args .s .now)
+    (λ i. omega (arith, c9 .shared-slice-known .given i)) (c10 .args .at) (c10 .args .stop) (c3 .match .keys3) (c10 .pre .0)
+    (sym (c .before .before .extent .ensures) ∙ c .enum-told2 .given .1) (c10 .pre .2)
 
 -- src/passes.rt:80:1
 same-length-5 : tie.Need-same-length-5
@@ -85,7 +104,14 @@ same-length-6 c = search needs
 
 -- src/passes.rt:80:1
 returns-5 : tie.Need-returns-5
-returns-5 c = item-plain (c .before .before .before .before .before .before .before .before .before .before .before .before .before .before .args .e) (set (c .before .before .before .before .before .before .before .before .before .before .before .before .before .before .args .e) (c .before .before .before .before .before .before .before .before .before .before .before .before .before .before .args .externals .now) (c .before .before .before .before .before .before .before .before .before .before .before .before .before .before .args .table .now)) (c .before .before .before .before .before .before .before .before .before .before .before .before .before .before .args .s .now) (λ i. omega (arith, c .before .before .before .before .before .before .before .before .before .before .before .before .before .shared-slice-known .given i)) (c .before .before .before .before .before .before .before .before .before .before .before .before .before .before .args .at) (c .before .before .before .before .before .before .before .before .before .before .before .before .before .before .args .stop) (c .before .before .before .before .before .before .before .match .rest .0 .0 .1) (c .before .before .before .before .before .before .before .match .rest .0 .1) (c .before .before .before .before .before .before .before .match .rest .1) (c .before .before .before .before .walk2 .ensures)
+returns-5 c =
+    let c4 = c .before .before .before .before in
+    let c7 = c4 .before .before .before in
+    let c13 = c7 .before .before .before .before .before .before in
+    let c14 = c13 .before in
+    item-plain (c14 .args .e) (set (c14 .args .e) (c14 .args .externals .now) (c14 .args .table .now)) (c14 .args .s .now)
+    (λ i. omega (arith, c13 .shared-slice-known .given i)) (c14 .args .at) (c14 .args .stop) (c7 .match .rest .0 .0 .1) (c7 .match .rest .0 .1)
+    (c7 .match .rest .1) (c4 .walk2 .ensures)
 
 pub item-spec : {M : Type 1} → statement M
 item-spec =

@@ -20,7 +20,9 @@ abbrev μ-loop : tie.MeasureT-loop
 
 -- src/passes.rt:65:5
 loop-holds : tie.Need-loop-holds Inv-loop μ-loop
-loop-holds c = passing-start (c .before .before .before .before .before .pre .2) (c .before .before .before .before .before .pre .0)
+loop-holds c =
+    let c5 = c .before .before .before .before .before in
+    passing-start (c5 .pre .2) (c5 .pre .0)
 
 -- src/passes.rt:66:33
 extent-requires : tie.Need-extent-requires Inv-loop μ-loop
@@ -44,11 +46,21 @@ same-length-2 c = let a = c .before .before .before .loop .inv .kept in let b = 
 
 -- src/passes.rt:67:13
 returns : tie.Need-returns Inv-loop μ-loop
-returns c = passing-over (λ i. omega (arith, c .before .before .before .before .before .before .before .before .shared-slice-known .given i)) (c .before .before .before .loop .inv) (sym (c .before .before .extent .ensures) ∙ c .enum-told .given .1)
+returns c =
+    let c3 = c .before .before .before in
+    let c8 = c3 .before .before .before .before .before in
+    passing-over (λ i. omega (arith, c8 .shared-slice-known .given i)) (c3 .loop .inv) (sym (c .before .before .extent .ensures) ∙ c .enum-told .given .1)
 
 -- src/passes.rt:69:15
 item-requires : tie.Need-item-requires Inv-loop μ-loop
-item-requires c κs = let i = extent-upto (c .before .before .before .before .before .before .before .before .before .before .before .before .args .s .now) (c .before .before .before .before .before .before .loop .at) (c .before .before .before .before .before .before .before .before .before .before .before .before .args .end) (c .before .before .before .before .before .before .loop .inv .inside) (sym (c .before .before .before .before .before .extent .ensures) ∙ c .before .before .before .stop .given .1) in (omega arith, omega arith, c .before .before .before .before .before .before .loop .inv .good)
+item-requires c κs =
+    let c3 = c .before .before .before in
+    let c5 = c3 .before .before in
+    let c6 = c5 .before in
+    let c12 = c6 .before .before .before .before .before .before in
+    let i =
+    extent-upto (c12 .args .s .now) (c6 .loop .at) (c12 .args .end) (c6 .loop .inv .inside) (sym (c5 .extent .ensures) ∙ c3 .stop .given .1) in
+    (omega arith, omega arith, c6 .loop .inv .good)
 
 -- src/passes.rt:70:24
 enum-known-p : tie.Need-enum-known-p Inv-loop μ-loop
@@ -56,11 +68,27 @@ enum-known-p c = search needs
 
 -- src/passes.rt:65:5
 loop-less : tie.Need-loop-less Inv-loop μ-loop
-loop-less c = let i = extent-upto (c .before .before .before .before .before .before .before .before .before .before .before .before .before .before .before .before .before .before .before .before .args .s .now) (c .before .before .before .before .before .before .before .before .before .before .before .before .before .before .loop .at) (c .before .before .before .before .before .before .before .before .before .before .before .before .before .before .before .before .before .before .before .before .args .end) (c .before .before .before .before .before .before .before .before .before .before .before .before .before .before .loop .inv .inside) (sym (c .before .before .before .before .before .before .before .before .before .before .before .before .before .extent .ensures) ∙ c .before .before .before .before .before .before .before .before .before .before .before .stop .given .1) in omega arith
+loop-less c =
+    let c11 = c .before .before .before .before .before .before .before .before .before .before .before in
+    let c13 = c11 .before .before in
+    let c14 = c13 .before in
+    let c20 = c14 .before .before .before .before .before .before in
+    let i = extent-upto (c20 .args .s .now) (c14 .loop .at) (c20 .args .end) (c14 .loop .inv .inside) (sym (c13 .extent .ensures) ∙ c11 .stop .given .1) in omega arith
 
 -- src/passes.rt:65:5
 loop-again : tie.Need-loop-again Inv-loop μ-loop
-loop-again c = passing-more (λ i. omega (arith, c .before .before .before .before .before .before .before .before .before .before .before .before .before .before .before .before .before .before .before .shared-slice-known .given i)) (c .before .before .before .before .before .before .before .before .before .before .before .before .before .before .loop .inv) (sym (c .before .before .before .before .before .before .before .before .before .before .before .before .before .extent .ensures) ∙ c .before .before .before .before .before .before .before .before .before .before .before .stop .given .1) (c .before .before .before .before .before .before .before .item .ensures) refl (c .before .p .given .1) (omega arith)
+loop-again c =
+    passing-more
+    (λ i.
+    omega (
+      arith,
+      c .before .before .before .before .before .before .before .before .before .before .before .before .before .before .before .before
+          .before .before .before .shared-slice-known .given i,
+    ))
+    (c .before .before .before .before .before .before .before .before .before .before .before .before .before .before .loop .inv)
+    (sym (c .before .before .before .before .before .before .before .before .before .before .before .before .before .extent .ensures)
+    ∙ c .before .before .before .before .before .before .before .before .before .before .before .stop .given .1)
+    (c .before .before .before .before .before .before .before .item .ensures) refl (c .before .p .given .1) (omega arith)
 
 -- src/passes.rt:74:27
 enum-known-why : tie.Need-enum-known-why Inv-loop μ-loop
@@ -68,15 +96,25 @@ enum-known-why c = search needs
 
 -- src/passes.rt:74:42
 same-length-3 : tie.Need-same-length-3 Inv-loop μ-loop
-same-length-3 c = let a = c .before .before .before .before .before .before .before .before .before .before .before .before .before .before .loop .inv .kept in let b = c .before .before .before .before .before .before .before .before .before .before .before .before .before .before .loop .inv .size in omega arith
+same-length-3 c =
+    let c14 = c .before .before .before .before .before .before .before .before .before .before .before .before .before .before in
+    let a = c14 .loop .inv .kept in let b = c14 .loop .inv .size in omega arith
 
 -- src/passes.rt:74:42
 same-length-4 : tie.Need-same-length-4 Inv-loop μ-loop
-same-length-4 c = let a = c .before .before .before .before .before .before .before .before .before .before .before .before .before .before .loop .inv .kept in let b = c .before .before .before .before .before .before .before .before .before .before .before .before .before .before .loop .inv .size in omega arith
+same-length-4 c =
+    let c14 = c .before .before .before .before .before .before .before .before .before .before .before .before .before .before in
+    let a = c14 .loop .inv .kept in let b = c14 .loop .inv .size in omega arith
 
 -- src/passes.rt:74:42
 returns-2 : tie.Need-returns-2 Inv-loop μ-loop
-returns-2 c = passing-turned (λ i. omega (arith, c .before .before .before .before .before .before .before .before .before .before .before .before .before .before .before .before .before .before .before .shared-slice-known .given i)) (c .before .before .before .before .before .before .before .before .before .before .before .before .before .before .loop .inv) (sym (c .before .before .before .before .before .before .before .before .before .before .before .before .before .extent .ensures) ∙ c .before .before .before .before .before .before .before .before .before .before .before .stop .given .1) (c .before .before .before .before .before .before .before .item .ensures) (c .before .why .given .1)
+returns-2 c =
+    let c7 = c .before .before .before .before .before .before .before in
+    let c11 = c7 .before .before .before .before in
+    let c13 = c11 .before .before in
+    let c14 = c13 .before in
+    let c19 = c14 .before .before .before .before .before in
+    passing-turned (λ i. omega (arith, c19 .shared-slice-known .given i)) (c14 .loop .inv) (sym (c13 .extent .ensures) ∙ c11 .stop .given .1) (c7 .item .ensures) (c .before .why .given .1)
 
 pub items-spec : {M : Type 1} → statement M
 items-spec =

@@ -7,13 +7,15 @@ use Rattle.extraction.proofs.passes.pass.Tie as tie
 use Rattle.extraction.proofs.passes.pass.Reads as reads
 use Rattle.extraction.proofs.passes.pass.Lts as lts
 use Rattle.extraction.proofs.passes.items.Reads as items-reads
-use Rattle.kept.proofs.rest.set_top.Reads as set-top-reads
+use Rattle.state.proofs.rest.set_top.Reads as set-top-reads
 use Rattle.steps.proofs.end_field.Reads as end-field-reads
 use Rattle.writer.proofs.open_field.Reads as open-field-reads
 
 -- src/passes.rt:39:9
 returns : tie.Need-returns
-returns c = pass-short (c .before .before .before .before .before .before .args .e) (set (c .before .before .before .before .before .before .args .e) (c .before .before .before .before .before .before .args .externals .now) (c .before .before .before .before .before .before .args .table .now)) _ _ (c .before .before .before .before .before .before .pre) (omega arith)
+returns c =
+    let c6 = c .before .before .before .before .before .before in
+    pass-short (c6 .args .e) (set (c6 .args .e) (c6 .args .externals .now) (c6 .args .table .now)) _ _ (c6 .pre) (omega arith)
 
 -- src/passes.rt:41:9
 open-field-requires : tie.Need-open-field-requires
@@ -41,7 +43,11 @@ same-length-2 c = search needs
 
 -- src/passes.rt:27:1
 returns-2 : tie.Need-returns-2
-returns-2 c = pass-made (c .before .before .before .before .before .before .before .before .items .result) (c .before .before .before .before .before .before .before .before .before .before .before .before .before .set-top .ensures) (c .before .before .before .before .before .before .before .before .before .before .before .before .before .before .before .before .before .open-field .ensures) (c .before .before .before .before .before .before .before .before .items .ensures) (c .before .before .end-field .ensures)
+returns-2 c =
+    let c8 = c .before .before .before .before .before .before .before .before in
+    let c13 = c8 .before .before .before .before .before in
+    let c17 = c13 .before .before .before .before in
+    pass-made (c8 .items .result) (c13 .set-top .ensures) (c17 .open-field .ensures) (c8 .items .ensures) (c .before .before .end-field .ensures)
 
 pub pass-spec : {M : Type 1} → statement M
 pass-spec =

@@ -24,10 +24,16 @@ atom-at-requires-2 : tie.Need-atom-at-requires-2
 atom-at-requires-2 c κs = search needs
 
 returns : tie.Need-returns
-returns c = exported-given (c .before .before .before .before .args .s .now) (c .before .before .before .before .args .at) (λ i. c .before .before .before .shared-slice-known .given i .fits) (c .before .if1 .taken) (c .before .before .before .before .pre .1 (c .before .if1 .taken)) (c .atom-at .ensures)
+returns c =
+    let c3 = c .before .before .before in
+    let c4 = c3 .before in
+    exported-given (c4 .args .s .now) (c4 .args .at) (λ i. c3 .shared-slice-known .given i .fits) (c .before .if1 .taken) (c4 .pre .1 (c .before .if1 .taken)) (c .atom-at .ensures)
 
 returns-2 : tie.Need-returns-2
-returns-2 c = exported-filled (c .before .before .before .before .args .s .now) (c .before .before .before .before .args .at) (λ i. c .before .before .before .shared-slice-known .given i .fits) (c .before .if1 .left) (c .before .before .before .before .pre .0) (c .atom-at2 .ensures)
+returns-2 c =
+    let c3 = c .before .before .before in
+    let c4 = c3 .before in
+    exported-filled (c4 .args .s .now) (c4 .args .at) (λ i. c3 .shared-slice-known .given i .fits) (c .before .if1 .left) (c4 .pre .0) (c .atom-at2 .ensures)
 
 pub exported-name-spec : {M : Type 1} → statement M
 exported-name-spec =

@@ -42,7 +42,20 @@ same-length : tie.Need-same-length
 same-length c = search needs
 
 returns : tie.Need-returns
-returns c = wrote-as (wrote-field (c .before .before .before .before .before .before .before .before .before .before .before .before .before .before .before .before .before .before .before .before .open-field .ensures) (wrote-then (c .before .before .before .before .before .before .before .before .before .before .before .before .before .before .before .before .copy .ensures) (wrote-then (c .before .before .before .before .before .before .before .before .before .before .before .before .put .ensures) (c .before .before .before .before .before .before .put-id .ensures))) (c .before .before .close-field .ensures)) (framed-leaf 0x23 _ ∙ ap (λ (b : List ℕ). encode (field 0x23 (slice (c .before .before .before .before .before .before .before .before .before .before .before .before .before .before .before .before .before .before .before .before .before .before .before .before .args .at + 3) (c .before .before .before .before .before .before .before .before .before .before .before .before .before .before .before .before .before .before .before .before .before .before .before .before .args .at + 10) (c .before .before .before .before .before .before .before .before .before .before .before .before .before .before .before .before .before .before .before .before .before .before .before .before .args .s .now) ++ 1 ∷ b) none)) (c .before .before .before .before .before .before .before .id-from .ensures .0 ∙ ap (λ (a : List ℕ). a ++ four (c .before .before .before .before .before .before .before .before .before .before .before .before .before .before .before .before .before .before .before .before .before .before .before .before .args .c .0)) (c .before .before .before .before .before .before .before .before .exported-name .ensures)))
+returns c =
+    let c6 = c .before .before .before .before .before .before in
+    let c7 = c6 .before in
+    let c8 = c7 .before in
+    let c12 = c8 .before .before .before .before in
+    let c16 = c12 .before .before .before .before in
+    let c20 = c16 .before .before .before .before in
+    let c24 = c20 .before .before .before .before in
+    wrote-as
+    (wrote-field (c20 .open-field .ensures) (wrote-then (c16 .copy .ensures) (wrote-then (c12 .put .ensures) (c6 .put-id .ensures)))
+    (c .before .before .close-field .ensures))
+    (framed-leaf 0x23 _
+    ∙ ap (λ (b : List ℕ). encode (field 0x23 (slice (c24 .args .at + 3) (c24 .args .at + 10) (c24 .args .s .now) ++ 1 ∷ b) none))
+    (c7 .id-from .ensures .0 ∙ ap (λ (a : List ℕ). a ++ four (c24 .args .c .0)) (c8 .exported-name .ensures)))
 
 pub put-exported-spec : {M : Type 1} → statement M
 put-exported-spec =

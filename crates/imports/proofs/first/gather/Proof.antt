@@ -1,6 +1,6 @@
 -- `imports::first::gather` meets its contract.
 use Rattle.tree.specs.Standing.{rowAt}
-use Rattle.kept.specs.Kept.{idOf}
+use Rattle.state.specs.Cells.{idOf}
 use Rattle.imports.proofs.GatherLaws.{gathering-made, gathering-full}
 use borrow.Author.Needs.{needs}
 use Rattle.imports.proofs.first.gather.Statement.{statement}
@@ -13,7 +13,10 @@ enum-known-i : tie.Need-enum-known-i
 enum-known-i c = search needs
 
 gather-namespaces-requires : tie.Need-gather-namespaces-requires
-gather-namespaces-requires c κs = (c .before .before .before .before .before .before .before .before .before .before .pre .0, c .before .before .before .before .before .before .before .before .before .before .pre .1, c .before .before .before .before .before .before .collect .ensures .good, c .before .before .before .before .before .before .collect .ensures .below _ (c .before .before .i .given .1))
+gather-namespaces-requires c κs =
+    let c6 = c .before .before .before .before .before .before in
+    let c10 = c6 .before .before .before .before in
+    (c10 .pre .0, c10 .pre .1, c6 .collect .ensures .good, c6 .collect .ensures .below _ (c .before .before .i .given .1))
 
 enum-told : tie.Need-enum-told
 enum-told c = search needs
@@ -22,13 +25,21 @@ same-length : tie.Need-same-length
 same-length c = search needs
 
 returns : tie.Need-returns
-returns c = gathering-made (idOf (c .before .before .before .before .before .before .before .before .before .before .before .before .before .args .literal)) (rowAt (c .before .before .before .before .before .before .before .before .before .before .before .before .before .args .s .now) (c .before .before .before .before .before .before .before .before .before .before .before .before .before .args .from) (c .before .before .before .before .before .before .before .before .before .before .before .before .before .args .end)) (c .before .before .before .before .before .before .before .before .before .collect .ensures) (c .before .before .before .before .before .i .given .0 .0) (c .before .before .before .before .before .i .given .1) (c .before .before .gather-namespaces .ensures)
+returns c =
+    let c5 = c .before .before .before .before .before in
+    let c9 = c5 .before .before .before .before in
+    let c13 = c9 .before .before .before .before in
+    gathering-made (idOf (c13 .args .literal)) (rowAt (c13 .args .s .now) (c13 .args .from) (c13 .args .end)) (c9 .collect .ensures)
+    (c5 .i .given .0 .0) (c5 .i .given .1) (c .before .before .gather-namespaces .ensures)
 
 same-length-2 : tie.Need-same-length-2
 same-length-2 c = search needs
 
 returns-2 : tie.Need-returns-2
-returns-2 c = gathering-full (idOf (c .before .before .before .before .before .before .before .before .args .literal)) (rowAt (c .before .before .before .before .before .before .before .before .args .s .now) (c .before .before .before .before .before .before .before .before .args .from) (c .before .before .before .before .before .before .before .before .args .end)) (c .before .before .before .before .collect .ensures) (c .enum-told .given .1)
+returns-2 c =
+    let c4 = c .before .before .before .before in
+    let c8 = c4 .before .before .before .before in
+    gathering-full (idOf (c8 .args .literal)) (rowAt (c8 .args .s .now) (c8 .args .from) (c8 .args .end)) (c4 .collect .ensures) (c .enum-told .given .1)
 
 pub gather-spec : {M : Type 1} → statement M
 gather-spec =

@@ -15,7 +15,9 @@ abbrev μ-loop : tie.MeasureT-loop
 μ-loop s from end i t₀ at₀ t at = end - at
 
 loop-holds : tie.Need-loop-holds Inv-loop μ-loop
-loop-holds c = filling-start (c .before .before .args .i) (c .before .before .args .s .now) (c .before .before .args .from) (c .before .before .args .end) (c .before .before .pre .2) (c .before .before .pre .0) (c .before .before .pre .3)
+loop-holds c =
+    filling-start (c .before .before .args .i) (c .before .before .args .s .now) (c .before .before .args .from) (c .before .before .args .end)
+    (c .before .before .pre .2) (c .before .before .pre .0) (c .before .before .pre .3)
 
 extent-requires : tie.Need-extent-requires Inv-loop μ-loop
 extent-requires c κs = (c .loop .inv .before, c .before .before .before .pre .1)
@@ -30,16 +32,38 @@ same-length : tie.Need-same-length Inv-loop μ-loop
 same-length c = c .before .before .before .loop .inv .cells
 
 returns : tie.Need-returns Inv-loop μ-loop
-returns c = filling-end (c .before .before .before .before .before .before .args .i) (c .before .before .before .before .before .before .args .s .now) (c .before .before .before .before .before .before .args .from) (c .before .before .before .before .before .before .args .end) (c .before .before .before .loop .inv) (sym (c .before .before .extent .ensures) ∙ c .enum-told .given .1)
+returns c =
+    let c3 = c .before .before .before in
+    let c6 = c3 .before .before .before in
+    filling-end (c6 .args .i) (c6 .args .s .now) (c6 .args .from) (c6 .args .end) (c3 .loop .inv) (sym (c .before .before .extent .ensures) ∙ c .enum-told .given .1)
 
 gather-namespace-requires : tie.Need-gather-namespace-requires Inv-loop μ-loop
-gather-namespace-requires c κs = let i = extent-upto (c .before .before .before .before .before .before .before .before .args .s .now) (c .before .before .before .before .before .loop .at) (c .before .before .before .before .before .before .before .before .args .end) (c .before .before .before .before .before .loop .inv .before) (sym (c .before .before .before .before .extent .ensures) ∙ c .before .before .stop .given .1) in let f = c .before .before .before .before .before .before .before .before .pre .1 in (i .0, omega arith, c .before .before .before .before .before .loop .inv .good, c .before .before .before .before .before .loop .inv .below)
+gather-namespace-requires c κs =
+    let c4 = c .before .before .before .before in
+    let c5 = c4 .before in
+    let c8 = c5 .before .before .before in
+    let i =
+    extent-upto (c8 .args .s .now) (c5 .loop .at) (c8 .args .end) (c5 .loop .inv .before)
+    (sym (c4 .extent .ensures) ∙ c .before .before .stop .given .1) in let f = c8 .pre .1 in
+    (i .0, omega arith, c5 .loop .inv .good, c5 .loop .inv .below)
 
 loop-less : tie.Need-loop-less Inv-loop μ-loop
-loop-less c = let i = extent-upto (c .before .before .before .before .before .before .before .before .before .before .before .args .s .now) (c .before .before .before .before .before .before .before .before .loop .at) (c .before .before .before .before .before .before .before .before .before .before .before .args .end) (c .before .before .before .before .before .before .before .before .loop .inv .before) (sym (c .before .before .before .before .before .before .before .extent .ensures) ∙ c .before .before .before .before .before .stop .given .1) in let f = c .before .before .before .before .before .before .before .before .before .before .before .pre .1 in omega arith
+loop-less c =
+    let c5 = c .before .before .before .before .before in
+    let c7 = c5 .before .before in
+    let c8 = c7 .before in
+    let c11 = c8 .before .before .before in
+    let i = extent-upto (c11 .args .s .now) (c8 .loop .at) (c11 .args .end) (c8 .loop .inv .before) (sym (c7 .extent .ensures) ∙ c5 .stop .given .1) in let f = c11 .pre .1 in omega arith
 
 loop-again : tie.Need-loop-again Inv-loop μ-loop
-loop-again c = filling-more (c .before .before .before .before .before .before .before .before .before .before .before .args .i) (c .before .before .before .before .before .before .before .before .before .before .before .args .s .now) (c .before .before .before .before .before .before .before .before .before .before .before .args .from) (c .before .before .before .before .before .before .before .before .before .before .before .args .end) (c .before .before .before .before .before .before .before .before .loop .inv) (sym (c .before .before .before .before .before .before .before .extent .ensures) ∙ c .before .before .before .before .before .stop .given .1) (c .before .before .gather-namespace .ensures) (c .before .before .gather-namespace .kept .1 .1 .1 .1 .0)
+loop-again c =
+    let c5 = c .before .before .before .before .before in
+    let c7 = c5 .before .before in
+    let c8 = c7 .before in
+    let c11 = c8 .before .before .before in
+    filling-more (c11 .args .i) (c11 .args .s .now) (c11 .args .from) (c11 .args .end) (c8 .loop .inv)
+    (sym (c7 .extent .ensures) ∙ c5 .stop .given .1) (c .before .before .gather-namespace .ensures)
+    (c .before .before .gather-namespace .kept .1 .1 .1 .1 .0)
 
 pub gather-namespaces-spec : {M : Type 1} → statement M
 gather-namespaces-spec =

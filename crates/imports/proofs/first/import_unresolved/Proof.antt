@@ -17,7 +17,12 @@ same-length-2 : tie.Need-same-length-2
 same-length-2 c = search needs
 
 returns : tie.Need-returns
-returns c = first-unresolved (c .before .before .before .before .before .before .before .before .before .before .before .args .s .now) (c .before .before .before .before .before .before .before .before .before .before .before .args .at) (c .before .before .before .before .before .before .before .before .before .before .before .args .stop) (c .before .before .before .before .before .before .before .before .before .before .before .args .from) (λ i. c .before .before .before .before .before .before .before .before .before .before .shared-slice-known .given i .fits) (c .before .before .before .before .before .before .before .before .before .before .before .pre .0) (c .before .before .before .before .before .before .before .before .before .before .before .pre .1) (c .before .before .before .before .before .before .before .before .before .before .before .pre .2) (c .before .before .before .before .before .before .before .before .before .before .before .pre .3) (c .before .before .before .before .before .before .copy .ensures) (c .before .before .gathered .ensures)
+returns c =
+    let c6 = c .before .before .before .before .before .before in
+    let c10 = c6 .before .before .before .before in
+    let c11 = c10 .before in
+    first-unresolved (c11 .args .s .now) (c11 .args .at) (c11 .args .stop) (c11 .args .from) (λ i. c10 .shared-slice-known .given i .fits)
+    (c11 .pre .0) (c11 .pre .1) (c11 .pre .2) (c11 .pre .3) (c6 .copy .ensures) (c .before .before .gathered .ensures)
 
 pub import-unresolved-spec : {M : Type 1} → statement M
 import-unresolved-spec =

@@ -30,13 +30,24 @@ same-length-2 : tie.Need-same-length-2
 same-length-2 c = search needs
 
 returns : tie.Need-returns
-returns c = as-made (c .before .before .before .before .before .before .before .before .before .before .before .before .before .before .args .id) (c .before .before .before .before .before .before .before .before .before .before .before .before .before .before .args .name .0) (c .before .before .before .before .before .before .before .before .before .before .before .before .before .before .args .n .0) (c .before .before .before .before .before .before .before .before .before .before .before .before .before .before .args .at) (ap (λ c. c .0) (c .before .before .before .before .before .before .before .before .before .before .before .export-ctxt .ensures)) (c .before .before .before .before .before .before .before .before .before .note-id .ensures) (c .before .before .before .before .id-from .result) (c .before .before .before .before .before .enum-told .given .1) (c .before .before .before .before .id-from .ensures .0) (c .before .before .put-outside .ensures)
+returns c =
+    let c4 = c .before .before .before .before in
+    let c5 = c4 .before in
+    let c9 = c5 .before .before .before .before in
+    let c11 = c9 .before .before in
+    let c14 = c11 .before .before .before in
+    as-made (c14 .args .id) (c14 .args .name .0) (c14 .args .n .0) (c14 .args .at) (ap (λ c. c .0) (c11 .export-ctxt .ensures)) (c9 .note-id .ensures)
+    (c4 .id-from .result) (c5 .enum-told .given .1) (c4 .id-from .ensures .0) (c .before .before .put-outside .ensures)
 
 same-length-3 : tie.Need-same-length-3
 same-length-3 c = search needs
 
 returns-2 : tie.Need-returns-2
-returns-2 c = as-full (c .before .before .before .before .before .before .before .before .before .args .id) (c .before .before .before .before .before .before .before .before .before .args .name .0) (c .before .before .before .before .before .before .before .before .before .args .n .0) (c .before .before .before .before .before .before .before .before .before .args .at) (ap (λ c. c .0) (c .before .before .before .before .before .before .export-ctxt .ensures)) (c .before .before .before .before .note-id .ensures) (c .enum-told2 .given .1)
+returns-2 c =
+    let c4 = c .before .before .before .before in
+    let c6 = c4 .before .before in
+    let c9 = c6 .before .before .before in
+    as-full (c9 .args .id) (c9 .args .name .0) (c9 .args .n .0) (c9 .args .at) (ap (λ c. c .0) (c6 .export-ctxt .ensures)) (c4 .note-id .ensures) (c .enum-told2 .given .1)
 
 pub note-as-spec : {M : Type 1} → statement M
 note-as-spec =

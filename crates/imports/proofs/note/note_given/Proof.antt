@@ -12,7 +12,10 @@ enum-known-given : tie.Need-enum-known-given
 enum-known-given c = search needs
 
 note-named-requires : tie.Need-note-named-requires
-note-named-requires c κs = let h = subst (SpecifierIs (treeAt (c .before .before .before .before .before .before .before .before .args .s .now) (c .before .before .before .before .before .before .before .before .args .at) (c .before .before .before .before .before .before .before .before .args .stop))) (c .before .before .before .given .given .1) (c .before .before .before .before .before .before .before .before .pre .1) in (h .1, c .before .before .before .before .before .before .before .before .pre .2)
+note-named-requires c κs =
+    let c3 = c .before .before .before in
+    let c8 = c3 .before .before .before .before .before in
+    let h = subst (SpecifierIs (treeAt (c8 .args .s .now) (c8 .args .at) (c8 .args .stop))) (c3 .given .given .1) (c8 .pre .1) in (h .1, c8 .pre .2)
 
 enum-known-given-2 : tie.Need-enum-known-given-2
 enum-known-given-2 c = search needs
@@ -21,7 +24,10 @@ cast-t20 : tie.Need-cast-t20
 cast-t20 c = search needs
 
 note-other-requires : tie.Need-note-other-requires
-note-other-requires c κs = let h = subst (SpecifierIs (treeAt (c .before .before .before .before .before .before .before .before .args .s .now) (c .before .before .before .before .before .before .before .before .args .at) (c .before .before .before .before .before .before .before .before .args .stop))) (c .before .before .before .given2 .given .1) (c .before .before .before .before .before .before .before .before .pre .1) in (c .before .before .before .before .before .before .before .before .pre .0, h .1, c .before .before .before .before .before .before .before .before .pre .2)
+note-other-requires c κs =
+    let c3 = c .before .before .before in
+    let c8 = c3 .before .before .before .before .before in
+    let h = subst (SpecifierIs (treeAt (c8 .args .s .now) (c8 .args .at) (c8 .args .stop))) (c3 .given2 .given .1) (c8 .pre .1) in (c8 .pre .0, h .1, c8 .pre .2)
 
 enum-known-given-3 : tie.Need-enum-known-given-3
 enum-known-given-3 c = search needs
@@ -30,7 +36,10 @@ export-ctxt-requires : tie.Need-export-ctxt-requires
 export-ctxt-requires c κs = search needs
 
 note-other-requires-2 : tie.Need-note-other-requires-2
-note-other-requires-2 c κs = let h = subst (SpecifierIs (treeAt (c .before .before .before .before .before .before .before .before .before .args .s .now) (c .before .before .before .before .before .before .before .before .before .args .at) (c .before .before .before .before .before .before .before .before .before .args .stop))) (c .before .before .before .before .given3 .given .1) (c .before .before .before .before .before .before .before .before .before .pre .1) in (c .before .before .before .before .before .before .before .before .before .pre .0, h .1, c .before .before .before .before .before .before .before .before .before .pre .2)
+note-other-requires-2 c κs =
+    let c4 = c .before .before .before .before in
+    let c9 = c4 .before .before .before .before .before in
+    let h = subst (SpecifierIs (treeAt (c9 .args .s .now) (c9 .args .at) (c9 .args .stop))) (c4 .given3 .given .1) (c9 .pre .1) in (c9 .pre .0, h .1, c9 .pre .2)
 
 same-length : tie.Need-same-length
 same-length c = search needs
@@ -39,7 +48,13 @@ same-length-2 : tie.Need-same-length-2
 same-length-2 c = search needs
 
 returns : tie.Need-returns
-returns c = let h = subst (SpecifierIs (treeAt (c .before .before .before .before .before .before .before .before .before .before .before .before .before .args .s .now) (c .before .before .before .before .before .before .before .before .before .before .before .before .before .args .at) (c .before .before .before .before .before .before .before .before .before .before .before .before .before .args .stop))) (c .before .before .before .before .before .before .before .before .given .given .1) (c .before .before .before .before .before .before .before .before .before .before .before .before .before .pre .1) in given-named (c .before .before .before .before .before .before .before .before .before .before .before .before .before .args .n .0) (c .before .before .before .before .before .before .before .before .before .before .before .before .before .args .at) (treeAt (c .before .before .before .before .before .before .before .before .before .before .before .before .before .args .s .now) (c .before .before .before .before .before .before .before .before .before .before .before .before .before .args .at) (c .before .before .before .before .before .before .before .before .before .before .before .before .before .args .stop)) (h .0) (c .before .before .before .before .note-named .ensures _ (h .2) (h .3))
+returns c =
+    let c4 = c .before .before .before .before in
+    let c8 = c4 .before .before .before .before in
+    let c13 = c8 .before .before .before .before .before in
+    let h = subst (SpecifierIs (treeAt (c13 .args .s .now) (c13 .args .at) (c13 .args .stop))) (c8 .given .given .1) (c13 .pre .1) in
+    given-named (c13 .args .n .0) (c13 .args .at) (treeAt (c13 .args .s .now) (c13 .args .at) (c13 .args .stop)) (h .0)
+    (c4 .note-named .ensures _ (h .2) (h .3))
 
 same-length-3 : tie.Need-same-length-3
 same-length-3 c = search needs
@@ -48,7 +63,13 @@ same-length-4 : tie.Need-same-length-4
 same-length-4 c = search needs
 
 returns-2 : tie.Need-returns-2
-returns-2 c = let h = subst (SpecifierIs (treeAt (c .before .before .before .before .before .before .before .before .before .before .before .before .before .args .s .now) (c .before .before .before .before .before .before .before .before .before .before .before .before .before .args .at) (c .before .before .before .before .before .before .before .before .before .before .before .before .before .args .stop))) (c .before .before .before .before .before .before .before .before .given2 .given .1) (c .before .before .before .before .before .before .before .before .before .before .before .before .before .pre .1) in given-default (c .before .before .before .before .before .before .before .before .before .before .before .before .before .args .n .0) (c .before .before .before .before .before .before .before .before .before .before .before .before .before .args .at) (treeAt (c .before .before .before .before .before .before .before .before .before .before .before .before .before .args .s .now) (c .before .before .before .before .before .before .before .before .before .before .before .before .before .args .at) (c .before .before .before .before .before .before .before .before .before .before .before .before .before .args .stop)) (c .before .before .before .before .before .before .before .before .given2 .given .0 .0) (h .2) (λ z. let k = h .0 in omega arith) (h .0) (omega arith) (c .before .before .before .before .note-other .ensures)
+returns-2 c =
+    let c4 = c .before .before .before .before in
+    let c8 = c4 .before .before .before .before in
+    let c13 = c8 .before .before .before .before .before in
+    let h = subst (SpecifierIs (treeAt (c13 .args .s .now) (c13 .args .at) (c13 .args .stop))) (c8 .given2 .given .1) (c13 .pre .1) in
+    given-default (c13 .args .n .0) (c13 .args .at) (treeAt (c13 .args .s .now) (c13 .args .at) (c13 .args .stop)) (c8 .given2 .given .0 .0)
+    (h .2) (λ z. let k = h .0 in omega arith) (h .0) (omega arith) (c4 .note-other .ensures)
 
 same-length-5 : tie.Need-same-length-5
 same-length-5 c = search needs
@@ -57,7 +78,15 @@ same-length-6 : tie.Need-same-length-6
 same-length-6 c = search needs
 
 returns-3 : tie.Need-returns-3
-returns-3 c = let h = subst (SpecifierIs (treeAt (c .before .before .before .before .before .before .before .before .before .before .before .before .before .before .args .s .now) (c .before .before .before .before .before .before .before .before .before .before .before .before .before .before .args .at) (c .before .before .before .before .before .before .before .before .before .before .before .before .before .before .args .stop))) (c .before .before .before .before .before .before .before .before .before .given3 .given .1) (c .before .before .before .before .before .before .before .before .before .before .before .before .before .before .pre .1) in given-namespace (c .before .before .before .before .before .before .before .before .before .before .before .before .before .before .args .n .0) (c .before .before .before .before .before .before .before .before .before .before .before .before .before .before .args .at) (treeAt (c .before .before .before .before .before .before .before .before .before .before .before .before .before .before .args .s .now) (c .before .before .before .before .before .before .before .before .before .before .before .before .before .before .args .at) (c .before .before .before .before .before .before .before .before .before .before .before .before .before .before .args .stop)) (c .before .before .before .before .before .before .before .before .before .given3 .given .0 .0) (h .2) (λ z. let k = h .0 in omega arith) (λ z. let k = h .0 in omega arith) (ap (λ c. c .0) (c .before .before .before .before .before .before .before .export-ctxt .ensures)) (c .before .before .before .before .note-other2 .ensures)
+returns-3 c =
+    let c4 = c .before .before .before .before in
+    let c7 = c4 .before .before .before in
+    let c9 = c7 .before .before in
+    let c14 = c9 .before .before .before .before .before in
+    let h = subst (SpecifierIs (treeAt (c14 .args .s .now) (c14 .args .at) (c14 .args .stop))) (c9 .given3 .given .1) (c14 .pre .1) in
+    given-namespace (c14 .args .n .0) (c14 .args .at) (treeAt (c14 .args .s .now) (c14 .args .at) (c14 .args .stop)) (c9 .given3 .given .0 .0)
+    (h .2) (λ z. let k = h .0 in omega arith) (λ z. let k = h .0 in omega arith) (ap (λ c. c .0) (c7 .export-ctxt .ensures))
+    (c4 .note-other2 .ensures)
 
 pub note-given-spec : {M : Type 1} → statement M
 note-given-spec =

@@ -30,7 +30,12 @@ same-length-2 : tie.Need-same-length-2
 same-length-2 c = search needs
 
 returns : tie.Need-returns
-returns c = λ x i h. named-nothing (c .before .before .before .before .before .before .before .before .before .before .before .before .args .id) (c .before .before .before .before .before .before .before .before .before .before .before .before .args .n .0) (c .before .before .before .before .before .before .before .before .before .before .before .before .args .at) x i (c .before .before .before .before .before .before .before .before .enum-told .given .1) (c .before .before .before .before .before .before .before .name-of .ensures) h (c .before .before .before .before .note-as .ensures)
+returns c =
+    let c4 = c .before .before .before .before in
+    let c7 = c4 .before .before .before in
+    let c8 = c7 .before in
+    let c12 = c8 .before .before .before .before in
+    λ x i h. named-nothing (c12 .args .id) (c12 .args .n .0) (c12 .args .at) x i (c8 .enum-told .given .1) (c7 .name-of .ensures) h (c4 .note-as .ensures)
 
 same-length-3 : tie.Need-same-length-3
 same-length-3 c = search needs
@@ -39,10 +44,16 @@ same-length-4 : tie.Need-same-length-4
 same-length-4 c = search needs
 
 returns-2 : tie.Need-returns-2
-returns-2 c = λ x i h. named-name (c .before .before .before .before .before .before .before .before .before .before .before .before .args .id) (c .before .before .before .before .before .before .before .before .before .before .before .before .args .n .0) (c .before .before .before .before .before .before .before .before .before .before .before .before .args .at) x i (c .before .before .before .before .before .before .before .before .outside .given .0 .0 .0) (c .before .before .before .before .before .before .before .before .outside .given .1) refl h (c .before .before .before .before .note-as2 .ensures)
+returns-2 c =
+    let c4 = c .before .before .before .before in
+    let c8 = c4 .before .before .before .before in
+    let c12 = c8 .before .before .before .before in
+    λ x i h. named-name (c12 .args .id) (c12 .args .n .0) (c12 .args .at) x i (c8 .outside .given .0 .0 .0) (c8 .outside .given .1) refl h (c4 .note-as2 .ensures)
 
 returns-3 : tie.Need-returns-3
-returns-3 c = λ x i h. named-text x (c .before .before .before .before .args .n .0) (c .before .before .before .before .args .at) (c .before .before .before .before .pre .1) (c .enum-told2 .given .1) h
+returns-3 c =
+    let c4 = c .before .before .before .before in
+    λ x i h. named-text x (c4 .args .n .0) (c4 .args .at) (c4 .pre .1) (c .enum-told2 .given .1) h
 
 pub note-named-spec : {M : Type 1} → statement M
 note-named-spec =

@@ -25,13 +25,22 @@ same-length-2 : tie.Need-same-length-2
 same-length-2 c = search needs
 
 returns : tie.Need-returns
-returns c = acts-made (c .before .before .before .before .before .before .before .before .before .before .before .before .before .args .at) (treeAt (c .before .before .before .before .before .before .before .before .before .before .before .before .before .args .s .now) (c .before .before .before .before .before .before .before .before .before .before .before .before .before .args .at) (c .before .before .before .before .before .before .before .before .before .before .before .before .before .args .stop)) (c .before .before .before .before .before .before .before .before .note-id .ensures) (c .before .before .before .before .enum-told .given .1) (c .before .before .copy .ensures .size) (other-copied (λ i. c .before .before .before .before .before .before .before .before .before .before .before .before .shared-slice-known .given i .fits) (c .before .before .copy .ensures))
+returns c =
+    let c4 = c .before .before .before .before in
+    let c8 = c4 .before .before .before .before in
+    let c12 = c8 .before .before .before .before in
+    let c13 = c12 .before in
+    acts-made (c13 .args .at) (treeAt (c13 .args .s .now) (c13 .args .at) (c13 .args .stop)) (c8 .note-id .ensures) (c4 .enum-told .given .1)
+    (c .before .before .copy .ensures .size) (other-copied (λ i. c12 .shared-slice-known .given i .fits) (c .before .before .copy .ensures))
 
 same-length-3 : tie.Need-same-length-3
 same-length-3 c = search needs
 
 returns-2 : tie.Need-returns-2
-returns-2 c = acts-full (c .before .before .before .before .before .before .before .before .before .args .at) (treeAt (c .before .before .before .before .before .before .before .before .before .args .s .now) (c .before .before .before .before .before .before .before .before .before .args .at) (c .before .before .before .before .before .before .before .before .before .args .stop)) (c .before .before .before .before .note-id .ensures) (c .enum-told2 .given .1)
+returns-2 c =
+    let c4 = c .before .before .before .before in
+    let c9 = c4 .before .before .before .before .before in
+    acts-full (c9 .args .at) (treeAt (c9 .args .s .now) (c9 .args .at) (c9 .args .stop)) (c4 .note-id .ensures) (c .enum-told2 .given .1)
 
 pub note-other-spec : {M : Type 1} → statement M
 note-other-spec =

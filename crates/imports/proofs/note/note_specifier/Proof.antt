@@ -23,19 +23,32 @@ enum-told-2 : tie.Need-enum-told-2
 enum-told-2 c = search needs
 
 returns : tie.Need-returns
-returns c = specified-short (c .before .before .before .before .before .before .before .pre .2) (sym (c .before .before .fixed .ensures) ∙ c .enum-told2 .given .1)
+returns c =
+    let c7 = c .before .before .before .before .before .before .before in
+    specified-short (c7 .pre .2) (sym (c .before .before .fixed .ensures) ∙ c .enum-told2 .given .1)
 
 returns-2 : tie.Need-returns-2
-returns-2 c = specified-else (c .before .before .before .before .before .before .before .before .pre .2) (λ a b. omega arith)
+returns-2 c =
+    let c8 = c .before .before .before .before .before .before .before .before in
+    specified-else (c8 .pre .2) (λ a b. omega arith)
 
 returns-3 : tie.Need-returns-3
-returns-3 c = specified-else (c .before .before .before .before .before .before .before .before .before .pre .2) (λ a b. omega arith)
+returns-3 c =
+    let c9 = c .before .before .before .before .before .before .before .before .before in
+    specified-else (c9 .pre .2) (λ a b. omega arith)
 
 specifier-at-requires : tie.Need-specifier-at-requires
-specifier-at-requires c κs = ((_, _, (framing (c .before .before .before .before .before .before .before .before .before .pre .0) (c .before .before .before .before .before .before .before .before .before .pre .1) (sym (c .before .before .before .before .fixed .ensures) ∙ c .before .before .enum-told .given .1))), omega arith, omega arith)
+specifier-at-requires c κs =
+    let c4 = c .before .before .before .before in
+    let c9 = c4 .before .before .before .before .before in
+    ((_, _, (framing (c9 .pre .0) (c9 .pre .1) (sym (c4 .fixed .ensures) ∙ c .before .before .enum-told .given .1))), omega arith, omega arith)
 
 note-given-requires : tie.Need-note-given-requires
-note-given-requires c κs = (c .before .before .before .before .before .before .before .before .before .before .before .before .pre .1, c .before .before .specifier-at .ensures _ _ (framing (c .before .before .before .before .before .before .before .before .before .before .before .before .pre .0) (c .before .before .before .before .before .before .before .before .before .before .before .before .pre .1) (sym (c .before .before .before .before .before .before .before .fixed .ensures) ∙ c .before .before .before .before .before .enum-told .given .1)), c .before .before .before .before .before .before .before .before .before .before .before .before .pre .2)
+note-given-requires c κs =
+    let c5 = c .before .before .before .before .before in
+    let c7 = c5 .before .before in
+    let c12 = c7 .before .before .before .before .before in
+    (c12 .pre .1, c .before .before .specifier-at .ensures _ _ (framing (c12 .pre .0) (c12 .pre .1) (sym (c7 .fixed .ensures) ∙ c5 .enum-told .given .1)), c12 .pre .2)
 
 same-length : tie.Need-same-length
 same-length c = search needs

@@ -25,7 +25,14 @@ returns : tie.Need-returns
 returns c = c .match .keys1
 
 returns-2 : tie.Need-returns-2
-returns-2 c = let h = c .before .before .before .before .pre .1 (λ z. let k = c .before .match .keys2 in omega arith) in (c .before .match .keys2, ap two (c .atom-at .ensures) ∙ two-at (c .before .before .before .before .args .s .now) _ (λ i. c .before .before .before .shared-slice-known .given i .fits) (omega arith))
+returns-2 c =
+    let c3 = c .before .before .before in
+    let c4 = c3 .before in
+    let h = c4 .pre .1 (λ z. let k = c .before .match .keys2 in omega arith) in (
+      c .before .match .keys2,
+      ap two (c .atom-at .ensures)
+          ∙ two-at (c4 .args .s .now) _ (λ i. c3 .shared-slice-known .given i .fits) (omega arith),
+    )
 
 returns-3 : tie.Need-returns-3
 returns-3 c = (c .before .match .rest .0 .1, c .before .match .rest .1)

@@ -24,7 +24,14 @@ same-length : tie.Need-same-length
 same-length c = search needs
 
 returns : tie.Need-returns
-returns c = context-put (c .before .before .before .before .before .before .before .before .before .before .before .before .before .before .before .before .before .before .before .args .n .0) (ap (λ c. c .0) (c .before .before .before .before .before .before .before .export-ctxt .ensures)) (c .before .before .before .before .before .before .before .before .before .before .before .before .before .before .before .open-field .ensures) (c .before .before .before .before .before .before .before .before .before .before .before .put-attributes .ensures) (c .before .before .before .before .before .before .put-context .ensures) (c .before .before .close-field .ensures)
+returns c =
+    let c6 = c .before .before .before .before .before .before in
+    let c7 = c6 .before in
+    let c11 = c7 .before .before .before .before in
+    let c15 = c11 .before .before .before .before in
+    let c19 = c15 .before .before .before .before in
+    context-put (c19 .args .n .0) (ap (λ c. c .0) (c7 .export-ctxt .ensures)) (c15 .open-field .ensures) (c11 .put-attributes .ensures)
+    (c6 .put-context .ensures) (c .before .before .close-field .ensures)
 
 pub put-context-attributes-spec : {M : Type 1} → statement M
 put-context-attributes-spec =

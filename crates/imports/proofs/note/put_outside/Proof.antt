@@ -24,7 +24,14 @@ same-length : tie.Need-same-length
 same-length c = search needs
 
 returns : tie.Need-returns
-returns c = wrote-as (wrote-field (c .before .before .before .before .before .before .before .before .before .before .before .before .before .before .before .before .before .before .open-field .ensures) (wrote-then (c .before .before .before .before .before .before .before .before .before .before .before .before .before .before .put-id .ensures) (wrote-then (c .before .before .before .before .before .before .before .before .before .before .put .ensures) (c .before .before .before .before .before .before .put-id2 .ensures))) (c .before .before .close-field .ensures)) (framed-leaf 0x20 _)
+returns c =
+    let c6 = c .before .before .before .before .before .before in
+    let c10 = c6 .before .before .before .before in
+    let c14 = c10 .before .before .before .before in
+    let c18 = c14 .before .before .before .before in
+    wrote-as
+    (wrote-field (c18 .open-field .ensures) (wrote-then (c14 .put-id .ensures) (wrote-then (c10 .put .ensures) (c6 .put-id2 .ensures)))
+    (c .before .before .close-field .ensures)) (framed-leaf 0x20 _)
 
 pub put-outside-spec : {M : Type 1} → statement M
 put-outside-spec =

@@ -24,19 +24,39 @@ enum-told-2 : tie.Need-enum-told-2
 enum-told-2 c = search needs
 
 returns : tie.Need-returns
-returns c = namespace-short (c .before .before .before .before .before .args .s .now) (c .before .before .before .before .before .args .at) (c .before .before .before .before .before .args .stop) (sym (c .before .before .fixed .ensures) ∙ c .enum-told2 .given .1)
+returns c =
+    let c5 = c .before .before .before .before .before in
+    namespace-short (c5 .args .s .now) (c5 .args .at) (c5 .args .stop) (sym (c .before .before .fixed .ensures) ∙ c .enum-told2 .given .1)
 
 add-id-at : tie.Need-add-id-at
-add-id-at c = let h = specifier-id (framing (c .before .before .before .before .before .before .pre .0) (c .before .before .before .before .before .before .pre .1) (sym (c .before .before .before .fixed .ensures) ∙ c .before .enum-told .given .1)) (omega arith) (omega arith) in let i = framed-in (framing (c .before .before .before .before .before .before .pre .0) (c .before .before .before .before .before .before .pre .1) (sym (c .before .before .before .fixed .ensures) ∙ c .before .enum-told .given .1)) in omega arith
+add-id-at c =
+    let c3 = c .before .before .before in
+    let c6 = c3 .before .before .before in
+    let h =
+    specifier-id (framing (c6 .pre .0) (c6 .pre .1) (sym (c3 .fixed .ensures) ∙ c .before .enum-told .given .1)) (omega arith) (omega arith) in
+    let i = framed-in (framing (c6 .pre .0) (c6 .pre .1) (sym (c3 .fixed .ensures) ∙ c .before .enum-told .given .1)) in omega arith
 
 id-at-requires : tie.Need-id-at-requires
-id-at-requires c κs = let h = specifier-id (framing (c .before .before .before .before .before .before .pre .0) (c .before .before .before .before .before .before .pre .1) (sym (c .before .before .before .fixed .ensures) ∙ c .before .enum-told .given .1)) (omega arith) (omega arith) in let i = framed-in (framing (c .before .before .before .before .before .before .pre .0) (c .before .before .before .before .before .before .pre .1) (sym (c .before .before .before .fixed .ensures) ∙ c .before .enum-told .given .1)) in omega arith
+id-at-requires c κs =
+    let c3 = c .before .before .before in
+    let c6 = c3 .before .before .before in
+    let h =
+    specifier-id (framing (c6 .pre .0) (c6 .pre .1) (sym (c3 .fixed .ensures) ∙ c .before .enum-told .given .1)) (omega arith) (omega arith) in
+    let i = framed-in (framing (c6 .pre .0) (c6 .pre .1) (sym (c3 .fixed .ensures) ∙ c .before .enum-told .given .1)) in omega arith
 
 returns-2 : tie.Need-returns-2
-returns-2 c = namespace-is (c .before .before .before .before .before .before .before .args .s .now) (c .before .before .before .before .before .before .before .args .at) (c .before .before .before .before .before .before .before .args .stop) (specifier-namespace (framing (c .before .before .before .before .before .before .before .pre .0) (c .before .before .before .before .before .before .before .pre .1) (sym (c .before .before .before .before .fixed .ensures) ∙ c .before .before .enum-told .given .1)) (c .before .if1 .taken) (c .id-at .ensures .0) (c .id-at .ensures .1))
+returns-2 c =
+    let c4 = c .before .before .before .before in
+    let c7 = c4 .before .before .before in
+    namespace-is (c7 .args .s .now) (c7 .args .at) (c7 .args .stop)
+    (specifier-namespace (framing (c7 .pre .0) (c7 .pre .1) (sym (c4 .fixed .ensures) ∙ c .before .before .enum-told .given .1))
+    (c .before .if1 .taken) (c .id-at .ensures .0) (c .id-at .ensures .1))
 
 returns-3 : tie.Need-returns-3
-returns-3 c = namespace-other (c .before .before .before .before .before .before .args .s .now) (c .before .before .before .before .before .before .args .at) (c .before .before .before .before .before .before .args .stop) (framing (c .before .before .before .before .before .before .pre .0) (c .before .before .before .before .before .before .pre .1) (sym (c .before .before .before .fixed .ensures) ∙ c .before .enum-told .given .1)) (c .if1 .left)
+returns-3 c =
+    let c3 = c .before .before .before in
+    let c6 = c3 .before .before .before in
+    namespace-other (c6 .args .s .now) (c6 .args .at) (c6 .args .stop) (framing (c6 .pre .0) (c6 .pre .1) (sym (c3 .fixed .ensures) ∙ c .before .enum-told .given .1)) (c .if1 .left)
 
 pub namespace-at-spec : {M : Type 1} → statement M
 namespace-at-spec =

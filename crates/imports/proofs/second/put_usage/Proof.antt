@@ -1,5 +1,5 @@
 -- `imports::second::put_usage` meets its contract.
-use Rattle.kept.specs.Kept.{idOf}
+use Rattle.state.specs.Cells.{idOf}
 use Rattle.imports.proofs.TakenLaws.{usage-is, usage-other}
 use borrow.Author.Needs.{needs}
 use Rattle.imports.proofs.second.put_usage.Statement.{statement}
@@ -21,10 +21,16 @@ same-length : tie.Need-same-length
 same-length c = search needs
 
 returns : tie.Need-returns
-returns c = usage-is (idOf (c .before .before .before .before .before .before .before .before .before .before .args .id)) (c .before .before .before .before .before .before .before .before .before .before .args .i) (c .before .before .before .before .before .before .before .usage-at .ensures) (c .before .before .before .before .before .property .given .0 .0) (c .before .before .before .before .before .property .given .1) (c .before .before .put-named .ensures)
+returns c =
+    let c5 = c .before .before .before .before .before in
+    let c7 = c5 .before .before in
+    let c10 = c7 .before .before .before in
+    usage-is (idOf (c10 .args .id)) (c10 .args .i) (c7 .usage-at .ensures) (c5 .property .given .0 .0) (c5 .property .given .1) (c .before .before .put-named .ensures)
 
 returns-2 : tie.Need-returns-2
-returns-2 c = usage-other (idOf (c .before .before .before .before .before .args .id)) (c .before .before .before .before .before .args .i) (c .before .before .usage-at .ensures) (c .enum-told .given .1)
+returns-2 c =
+    let c5 = c .before .before .before .before .before in
+    usage-other (idOf (c5 .args .id)) (c5 .args .i) (c .before .before .usage-at .ensures) (c .enum-told .given .1)
 
 pub put-usage-spec : {M : Type 1} → statement M
 put-usage-spec =

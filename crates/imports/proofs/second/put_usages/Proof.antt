@@ -1,7 +1,7 @@
 -- `imports::second::put_usages` meets its contract.
 use native.Mathlib.Omega.{arith}
 use Prim.Native.Nat.{_-_}
-use Rattle.kept.specs.Kept.{idOf}
+use Rattle.state.specs.Cells.{idOf}
 use Rattle.imports.proofs.TakenLaws.{Listing, listing-start, listing-more, usages-end}
 use Rattle.imports.proofs.second.put_usages.Statement.{statement}
 use Rattle.imports.proofs.second.put_usages.Tie as tie
@@ -19,7 +19,10 @@ loop-holds : tie.Need-loop-holds Inv-loop μ-loop
 loop-holds c = listing-start (idOf (c .before .before .before .args .id))
 
 put-usage-requires : tie.Need-put-usage-requires Inv-loop μ-loop
-put-usage-requires c κs = let k = c .before .before .before .count-usages .ensures .1 in (c .before .before .before .before .before .before .pre .0, omega arith, c .before .before .before .before .before .before .pre .1)
+put-usage-requires c κs =
+    let c3 = c .before .before .before in
+    let c6 = c3 .before .before .before in
+    let k = c3 .count-usages .ensures .1 in (c6 .pre .0, omega arith, c6 .pre .1)
 
 add-i : tie.Need-add-i Inv-loop μ-loop
 add-i c = omega arith
@@ -28,13 +31,17 @@ loop-less : tie.Need-loop-less Inv-loop μ-loop
 loop-less c = omega arith
 
 loop-again : tie.Need-loop-again Inv-loop μ-loop
-loop-again c = listing-more (c .before .before .before .before .before .loop .inv) (c .before .before .put-usage .ensures) (c .before .before .put-usage .kept .1 .1 .1 .0)
+loop-again c =
+    let c5 = c .before .before .before .before .before in
+    listing-more (c5 .loop .inv) (c .before .before .put-usage .ensures) (c .before .before .put-usage .kept .1 .1 .1 .0)
 
 same-length : tie.Need-same-length Inv-loop μ-loop
 same-length c = c .before .loop .inv .size
 
 returns : tie.Need-returns Inv-loop μ-loop
-returns c = c .before .loop .inv .rest _ _ (usages-end (idOf (c .before .before .before .before .before .args .id)) (c .before .loop .i) (c .before .before .count-usages .ensures .0) (omega arith))
+returns c =
+    let c5 = c .before .before .before .before .before in
+    c .before .loop .inv .rest _ _ (usages-end (idOf (c5 .args .id)) (c .before .loop .i) (c .before .before .count-usages .ensures .0) (omega arith))
 
 pub put-usages-spec : {M : Type 1} → statement M
 put-usages-spec =

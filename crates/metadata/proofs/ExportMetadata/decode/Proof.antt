@@ -19,10 +19,16 @@ enum-known-why : tie.Need-enum-known-why
 enum-known-why c = search needs
 
 returns : tie.Need-returns
-returns c = ap fine (c .decode-parts .ensures) ∙ decode-good (c .before .before .before .before .before .args .attributes .now) (sym (c .before .before .before .read-lent .ensures) ∙ c .before .enum-told .given .1)
+returns c =
+    let c3 = c .before .before .before in
+    let c5 = c3 .before .before in
+    ap fine (c .decode-parts .ensures) ∙ decode-good (c5 .args .attributes .now) (sym (c3 .read-lent .ensures) ∙ c .before .enum-told .given .1)
 
 returns-2 : tie.Need-returns-2
-returns-2 c = decode-refused (c .before .before .before .before .before .args .attributes .now) _ _ (sym (c .before .before .before .read-lent .ensures) ∙ c .before .why .given .1)
+returns-2 c =
+    let c3 = c .before .before .before in
+    let c5 = c3 .before .before in
+    decode-refused (c5 .args .attributes .now) _ _ (sym (c3 .read-lent .ensures) ∙ c .before .why .given .1)
 
 pub decode-spec : {M : Type 1} → statement M
 decode-spec =

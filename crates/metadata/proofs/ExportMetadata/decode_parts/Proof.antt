@@ -20,7 +20,10 @@ unset-requires : tie.Need-unset-requires
 unset-requires c κs = search needs
 
 returns : tie.Need-returns
-returns c = c .unset .ensures ∙ parts-none (c .before .before .before .before .before .args .s .now) (sym (c .before .before .before .extent .ensures) ∙ c .before .enum-told .given .1)
+returns c =
+    let c3 = c .before .before .before in
+    let c5 = c3 .before .before in
+    c .unset .ensures ∙ parts-none (c5 .args .s .now) (sym (c3 .extent .ensures) ∙ c .before .enum-told .given .1)
 
 shared-slice-read-fixed : tie.Need-shared-slice-read-fixed
 shared-slice-read-fixed c =

@@ -6,7 +6,7 @@ use borrow.Author.Needs.{needs}
 use Rattle.tree.specs.Standing.{rowAt}
 use Rattle.tree.proofs.AccessLaws.{extent-upto}
 use Rattle.metadata.specs.Metadata.{Metadata, merged, decodeFrom, decode}
-use Rattle.metadata.specs.Kept.{metadataOf}
+use Rattle.metadata.specs.MetadataValue.{metadataOf}
 use Rattle.metadata.proofs.DecodeLaws.{decode-more, decode-none}
 use Rattle.metadata.proofs.ExportMetadata.decode_row.Statement.{statement}
 use Rattle.metadata.proofs.ExportMetadata.decode_row.Tie as tie

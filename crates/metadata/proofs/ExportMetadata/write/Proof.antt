@@ -8,7 +8,7 @@ use Rattle.writer.specs.Bytes.{framed}
 use Rattle.writer.proofs.Wrote.{wrote-then, wrote-as, wrote-field}
 use Rattle.tree.specs.Tree.{encodes}
 use Rattle.metadata.specs.Metadata.{attributesFor}
-use Rattle.metadata.specs.Kept.{metadataOf}
+use Rattle.metadata.specs.MetadataValue.{metadataOf}
 use borrow.Author.Needs.{needs}
 use Rattle.metadata.proofs.ExportMetadata.write.Statement.{statement}
 use Rattle.metadata.proofs.ExportMetadata.write.Tie as tie
@@ -29,7 +29,14 @@ same-length : tie.Need-same-length
 same-length c = search needs
 
 returns : tie.Need-returns
-returns c = wrote-as (wrote-field (c .before .before .before .before .before .before .before .before .before .before .before .before .before .before .open-field .ensures) (wrote-then (c .before .before .before .before .before .before .before .before .before .before .copy .ensures) (c .before .before .before .before .before .before .put .ensures)) (c .before .before .close-field .ensures)) (ap (λ (x : List ℕ). framed 0x2F (drop 3 x ++ encodes (attributesFor (metadataOf (c .before .before .before .before .before .before .before .before .before .before .before .before .before .before .before .before .before .before .args .self))))) (take-length (c .before .before .before .before .before .before .before .before .before .before .before .before .before .before .before .before .before .before .args .attributes .now)))
+returns c =
+    let c6 = c .before .before .before .before .before .before in
+    let c10 = c6 .before .before .before .before in
+    let c14 = c10 .before .before .before .before in
+    let c18 = c14 .before .before .before .before in
+    wrote-as (wrote-field (c14 .open-field .ensures) (wrote-then (c10 .copy .ensures) (c6 .put .ensures)) (c .before .before .close-field .ensures))
+    (ap (λ (x : List ℕ). framed 0x2F (drop 3 x ++ encodes (attributesFor (metadataOf (c18 .args .self)))))
+    (take-length (c18 .args .attributes .now)))
 
 pub write-spec : {M : Type 1} → statement M
 write-spec =

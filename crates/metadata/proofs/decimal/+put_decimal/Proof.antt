@@ -41,7 +41,10 @@ put-decimal-same-length : (t : ℕ) → put-decimal-lts.Need-same-length (put-de
 put-decimal-same-length t c = omega arith
 
 put-decimal-returns : (t : ℕ) → put-decimal-lts.Need-returns (put-decimal-knows t) (put-decimal-at t) put-decimal.Post
-put-decimal-returns t c = wrote-as (c .before .before .put .ensures) (sym (decimal-digit (c .before .before .before .before .before .before .args .n) (c .before .before .before .before .if1 .taken)))
+put-decimal-returns t c =
+    let c4 = c .before .before .before .before in
+    let c6 = c4 .before .before in
+    wrote-as (c .before .before .put .ensures) (sym (decimal-digit (c6 .args .n) (c4 .if1 .taken)))
 
 put-decimal-put-decimal-requires : (t : ℕ) → put-decimal-lts.Need-put-decimal-requires (put-decimal-knows t) (put-decimal-at t) put-decimal.Post
 put-decimal-put-decimal-requires t c κs = (omega arith, tt)
@@ -59,7 +62,11 @@ put-decimal-same-length-2 : (t : ℕ) → put-decimal-lts.Need-same-length-2 (pu
 put-decimal-same-length-2 t c = omega arith
 
 put-decimal-returns-2 : (t : ℕ) → put-decimal-lts.Need-returns-2 (put-decimal-knows t) (put-decimal-at t) put-decimal.Post
-put-decimal-returns-2 t c = wrote-as (wrote-then (c .before .before .before .before .before .before .put-decimal .ensures) (c .before .before .put2 .ensures)) (sym (decimal-more (c .before .before .before .before .before .before .before .before .before .before .args .n) (c .before .before .before .before .before .before .before .before .if1 .left)))
+put-decimal-returns-2 t c =
+    let c6 = c .before .before .before .before .before .before in
+    let c8 = c6 .before .before in
+    let c10 = c8 .before .before in
+    wrote-as (wrote-then (c6 .put-decimal .ensures) (c .before .before .put2 .ensures)) (sym (decimal-more (c10 .args .n) (c8 .if1 .left)))
 
 pub +put-decimal-spec : {M : Type 1} → statement M
 +put-decimal-spec = close μ-put-decimal λ t. put-decimal-lts.spec (put-decimal-knows t)

@@ -31,7 +31,10 @@ returns : tie.Need-returns Inv-loop μ-loop
 returns c =
     let a = c .before .before .before .before .before .before .args in
     let here = c .before .before .before .before .loop in
-    sym (ap limited (number-other (a .s .now) (here .at) (a .end) (c .before .before .before .loop-test .taken) (c .before .before .before .before .before .before .pre .1) (here .n) (sym (c .before .is-digit .ensures) ∙ not-true _ (c .if1 .taken)))) ∙ here .inv .0
+    sym (ap limited
+    (number-other (a .s .now) (here .at) (a .end) (c .before .before .before .loop-test .taken)
+    (c .before .before .before .before .before .before .pre .1) (here .n) (sym (c .before .is-digit .ensures) ∙ not-true _ (c .if1 .taken))))
+    ∙ here .inv .0
 
 mul-n : tie.Need-mul-n Inv-loop μ-loop
 mul-n c = omega arith

@@ -28,7 +28,8 @@ returns-2 c =
     let a = c .before .before .before .before .args in
     let start = c .before .before .behind-plus in
     let h : start .result < a .end = omega arith in
-    c .number-at .ensures ∙ sym (ap limited (number-some (a .s .now) (start .result) (a .end) h (c .before .before .before .before .pre .1))) ∙ ap (λ (l : List ℕ). limited (number l)) (start .ensures .0)
+    c .number-at .ensures ∙ sym (ap limited (number-some (a .s .now) (start .result) (a .end) h (c .before .before .before .before .pre .1)))
+    ∙ ap (λ (l : List ℕ). limited (number l)) (start .ensures .0)
 
 pub parse-spec : {M : Type 1} → statement M
 parse-spec = tie.close (tie.spec behind-plus-requires returns number-at-requires returns-2)

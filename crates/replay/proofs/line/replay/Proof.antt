@@ -2,7 +2,7 @@
 use native.Mathlib.Omega.{arith}
 use lib.ListN.{length}
 use mathlib.Core.Path.{subst}
-use Rattle.answers.specs.Answer.{AnswerIn}
+use Rattle.answer_text.specs.Answer.{AnswerIn}
 use borrow.Author.Needs.{needs}
 use Rattle.replay.proofs.line.replay.Statement.{statement}
 use Rattle.replay.proofs.line.replay.Tie as tie
@@ -59,7 +59,11 @@ part-compared-start-2 : tie.Need-part-compared-start-2
 part-compared-start-2 c = search needs
 
 part-compared-end-2 : tie.Need-part-compared-end-2
-part-compared-end-2 c = let w = subst (AnswerIn (length (c .before .before .before .before .before .before .before .before .before .before .before .before .before .before .before .before .args .answer .now))) (c .before .before .before .n .given .1) (c .before .before .before .before .before .before .before .respond .ensures) in omega arith
+part-compared-end-2 c =
+    let c3 = c .before .before .before in
+    let c7 = c3 .before .before .before .before in
+    let c16 = c7 .before .before .before .before .before .before .before .before .before in
+    let w = subst (AnswerIn (length (c16 .args .answer .now))) (c3 .n .given .1) (c7 .respond .ensures) in omega arith
 
 compared-requires : tie.Need-compared-requires
 compared-requires c κs = search needs

@@ -38,7 +38,11 @@ part-tychodrel-decode-metadata-start : tie.Need-part-tychodrel-decode-metadata-s
 part-tychodrel-decode-metadata-start c = search needs
 
 part-tychodrel-decode-metadata-end : tie.Need-part-tychodrel-decode-metadata-end
-part-tychodrel-decode-metadata-end c = let w = subst (BytesIn 0 (length (c .before .before .before .before .before .before .before .before .before .before .before .before .before .args .lent .now))) (c .before .before .before .before .n .given .1) (c .before .before .before .before .before .before .before .before .bytes-at .ensures .1) in omega arith
+part-tychodrel-decode-metadata-end c =
+    let c4 = c .before .before .before .before in
+    let c8 = c4 .before .before .before .before in
+    let c13 = c8 .before .before .before .before .before in
+    let w = subst (BytesIn 0 (length (c13 .args .lent .now))) (c4 .n .given .1) (c8 .bytes-at .ensures .1) in omega arith
 
 tychodrel-decode-metadata-requires : tie.Need-tychodrel-decode-metadata-requires
 tychodrel-decode-metadata-requires c κs = search needs

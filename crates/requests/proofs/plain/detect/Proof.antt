@@ -50,7 +50,11 @@ part-tychodrel-detect-start : tie.Need-part-tychodrel-detect-start
 part-tychodrel-detect-start c = search needs
 
 part-tychodrel-detect-end : tie.Need-part-tychodrel-detect-end
-part-tychodrel-detect-end c = let w = subst (BytesIn 0 (length (c .before .before .before .before .before .before .before .before .before .before .before .before .before .before .before .before .before .args .lent .now))) (c .before .before .before .before .n .given .1) (c .before .before .before .before .before .before .before .before .bytes-at .ensures .1) in omega arith
+part-tychodrel-detect-end c =
+    let c4 = c .before .before .before .before in
+    let c8 = c4 .before .before .before .before in
+    let c17 = c8 .before .before .before .before .before .before .before .before .before in
+    let w = subst (BytesIn 0 (length (c17 .args .lent .now))) (c4 .n .given .1) (c8 .bytes-at .ensures .1) in omega arith
 
 tychodrel-detect-requires : tie.Need-tychodrel-detect-requires
 tychodrel-detect-requires c κs = search needs

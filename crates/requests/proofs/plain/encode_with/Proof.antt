@@ -3,7 +3,7 @@ use native.Mathlib.Omega.{arith}
 use lib.ListN.{length}
 use mathlib.Core.Path.{subst}
 use Rattle.text.specs.Hex.{BytesIn}
-use Rattle.asked.specs.Places.{RoomIn}
+use Rattle.request_fields.specs.Places.{RoomIn}
 use borrow.Author.Needs.{needs}
 use Rattle.requests.proofs.plain.encode_with.Statement.{statement}
 use Rattle.requests.proofs.plain.encode_with.Tie as tie
@@ -54,7 +54,11 @@ part-encoded-start : tie.Need-part-encoded-start
 part-encoded-start c = search needs
 
 part-encoded-end : tie.Need-part-encoded-end
-part-encoded-end c = let w = subst (BytesIn 0 (length (c .before .before .before .before .before .before .before .before .before .before .before .before .before .before .before .before .before .before .args .lent .now))) (c .before .before .before .before .before .before .before .before .n .given .1) (c .before .before .before .before .before .before .before .before .before .before .before .before .bytes-at .ensures .1) in omega arith
+part-encoded-end c =
+    let c8 = c .before .before .before .before .before .before .before .before in
+    let c12 = c8 .before .before .before .before in
+    let c18 = c12 .before .before .before .before .before .before in
+    let w = subst (BytesIn 0 (length (c18 .args .lent .now))) (c8 .n .given .1) (c12 .bytes-at .ensures .1) in omega arith
 
 sub-encoded-2 : tie.Need-sub-encoded-2
 sub-encoded-2 c = search needs
@@ -63,7 +67,11 @@ part-encoded-start-2 : tie.Need-part-encoded-start-2
 part-encoded-start-2 c = search needs
 
 part-encoded-end-2 : tie.Need-part-encoded-end-2
-part-encoded-end-2 c = let w = subst (RoomIn (length (c .before .before .before .before .before .before .before .before .before .before .before .before .before .before .before .before .before .before .before .args .out .now))) (c .before .before .before .before .before .room .given .1) (c .before .before .before .before .before .before .before .room-at .ensures) in omega arith
+part-encoded-end-2 c =
+    let c5 = c .before .before .before .before .before in
+    let c7 = c5 .before .before in
+    let c19 = c7 .before .before .before .before .before .before .before .before .before .before .before .before in
+    let w = subst (RoomIn (length (c19 .args .out .now))) (c5 .room .given .1) (c7 .room-at .ensures) in omega arith
 
 encoded-requires : tie.Need-encoded-requires
 encoded-requires c κs = search needs

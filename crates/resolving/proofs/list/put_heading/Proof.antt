@@ -45,7 +45,23 @@ same-length : tie.Need-same-length
 same-length c = search needs
 
 returns : tie.Need-returns
-returns c = wrote-as (wrote-then (wrote-then (wrote-then (wrote-then (wrote-then (c .before .before .before .before .before .before .before .before .before .before .before .before .before .before .before .before .before .before .before .before .before .before .before .before .put .ensures) (c .before .before .before .before .before .before .before .before .before .before .before .before .before .before .before .before .before .before .before .before .put-u16 .ensures)) (c .before .before .before .before .before .before .before .before .before .before .before .before .before .before .before .before .put-u162 .ensures)) (c .before .before .before .before .before .before .before .before .before .before .before .put-u32 .ensures)) (c .before .before .before .before .before .before .put-u322 .ensures)) (c .before .before .copy .ensures)) (heading-bytes (c .before .before .before .before .before .before .before .before .before .before .before .before .before .before .before .before .before .before .before .before .before .before .before .before .before .before .before .before .args .kind) (c .before .before .before .before .before .before .before .before .before .before .before .before .before .before .before .before .before .before .before .before .before .before .before .before .before .before .before .before .args .id .0) (c .before .before .before .before .before .before .before .before .before .before .before .before .before .before .before .before .before .before .before .before .before .before .before .before .before .before .before .before .args .file) _ _ (slice (c .before .before .before .before .before .before .before .before .before .before .before .before .before .before .before .before .before .before .before .before .before .before .before .before .before .before .before .before .args .from) (c .before .before .before .before .before .before .before .before .before .before .before .before .before .before .before .before .before .before .before .before .before .before .before .before .before .before .before .before .args .end) (c .before .before .before .before .before .before .before .before .before .before .before .before .before .before .before .before .before .before .before .before .before .before .before .before .before .before .before .before .args .records .now)) (omega (arith, c .before .before .before .before .before .before .before .before .before .before .before .before .before .before .before .before .before .before .before .before .before .before .before .before .before .before .before .before .good .1 .0)) (c .before .before .before .before .before .before .before .before .before .before .before .before .before .before .before .before .before .before .before .before .before .before .before .before .before .before .before .before .fits .file .fits) (ap (λ (x : SyntaxContext). x .0) (c .before .before .before .before .before .before .before .before .before .before .before .before .local-ctxt .ensures)) (ap (λ (x : SyntaxContext). x .0) (c .before .before .before .before .before .before .before .export-ctxt .ensures)))
+returns c =
+    let c6 = c .before .before .before .before .before .before in
+    let c7 = c6 .before in
+    let c11 = c7 .before .before .before .before in
+    let c12 = c11 .before in
+    let c16 = c12 .before .before .before .before in
+    let c20 = c16 .before .before .before .before in
+    let c24 = c20 .before .before .before .before in
+    let c28 = c24 .before .before .before .before in
+    wrote-as
+    (wrote-then
+    (wrote-then
+    (wrote-then (wrote-then (wrote-then (c24 .put .ensures) (c20 .put-u16 .ensures)) (c16 .put-u162 .ensures)) (c11 .put-u32 .ensures))
+    (c6 .put-u322 .ensures)) (c .before .before .copy .ensures))
+    (heading-bytes (c28 .args .kind) (c28 .args .id .0) (c28 .args .file) _ _ (slice (c28 .args .from) (c28 .args .end) (c28 .args .records .now))
+    (omega (arith, c28 .good .1 .0)) (c28 .fits .file .fits) (ap (λ (x : SyntaxContext). x .0) (c12 .local-ctxt .ensures))
+    (ap (λ (x : SyntaxContext). x .0) (c7 .export-ctxt .ensures)))
 
 pub put-heading-spec : {M : Type 1} → statement M
 put-heading-spec =

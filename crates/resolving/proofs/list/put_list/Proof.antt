@@ -29,13 +29,20 @@ same-length : tie.Need-same-length
 same-length c = search needs
 
 returns : tie.Need-returns
-returns c = puts-field (c .before .before .before .before .before .before .before .before .before .before .before .before .before .open-field .ensures) wrote-none (c .before .before .before .before .before .before .before .before .before .put-records .ensures) (c .before .before .before .before .before .p .given .1) (c .before .before .close-field .ensures)
+returns c =
+    let c5 = c .before .before .before .before .before in
+    let c9 = c5 .before .before .before .before in
+    let c13 = c9 .before .before .before .before in
+    puts-field (c13 .open-field .ensures) wrote-none (c9 .put-records .ensures) (c5 .p .given .1) (c .before .before .close-field .ensures)
 
 same-length-2 : tie.Need-same-length-2
 same-length-2 c = search needs
 
 returns-2 : tie.Need-returns-2
-returns-2 c = puts-parts (c .before .before .before .before .before .before .before .before .before .open-field .ensures) wrote-none (c .before .before .before .before .before .put-records .ensures) (c .before .why .given .1)
+returns-2 c =
+    let c5 = c .before .before .before .before .before in
+    let c9 = c5 .before .before .before .before in
+    puts-parts (c9 .open-field .ensures) wrote-none (c5 .put-records .ensures) (c .before .why .given .1)
 
 pub put-list-spec : {M : Type 1} → statement M
 put-list-spec =

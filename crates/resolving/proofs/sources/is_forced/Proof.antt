@@ -5,7 +5,7 @@ use native.Mathlib.Omega.{arith}
 use Prim.Native.Nat.{_-_}
 use lib.ListN.{length}
 use borrow.Author.Needs.{needs}
-use Rattle.lent.specs.Lists.{among}
+use Rattle.inputs.specs.Lists.{among}
 use Rattle.tree.specs.Layout.{two}
 use Rattle.tree.specs.Standing.{rowAt}
 use Rattle.tree.proofs.AccessLaws.{extent-upto}
@@ -38,19 +38,52 @@ enum-told : tie.Need-enum-told Inv-loop μ-loop
 enum-told c = search needs
 
 returns : tie.Need-returns Inv-loop μ-loop
-returns c = sym (c .before .before .before .loop .inv .0 ∙ forced-end (c .before .before .before .before .before .args .source) (c .before .before .before .before .before .fits .source .fits) (c .before .before .before .loop .inv .1) (sym (c .before .before .extent .ensures) ∙ c .enum-told .given .1))
+returns c =
+    let c3 = c .before .before .before in
+    let c5 = c3 .before .before in
+    sym (c3 .loop .inv .0 ∙ forced-end (c5 .args .source) (c5 .fits .source .fits) (c3 .loop .inv .1) (sym (c .before .before .extent .ensures) ∙ c .enum-told .given .1))
 
 forces-at-requires : tie.Need-forces-at-requires Inv-loop μ-loop
-forces-at-requires c κs = forced-inside (c .before .before .before .before .before .before .args .source) (c .before .before .before .before .before .before .fits .source .fits) (c .before .before .before .before .loop .inv .1) (sym (c .before .before .before .extent .ensures) ∙ c .before .stop .given .1)
+forces-at-requires c κs =
+    let c3 = c .before .before .before in
+    let c4 = c3 .before in
+    let c6 = c4 .before .before in
+    forced-inside (c6 .args .source) (c6 .fits .source .fits) (c4 .loop .inv .1) (sym (c3 .extent .ensures) ∙ c .before .stop .given .1)
 
 returns-2 : tie.Need-returns-2 Inv-loop μ-loop
-returns-2 c = sym (c .before .before .before .before .before .before .loop .inv .0 ∙ forced-step (c .before .before .before .before .before .before .before .before .args .source) (c .before .before .before .before .before .before .before .before .fits .source .fits) (c .before .before .before .before .before .before .loop .inv .1) (sym (c .before .before .before .before .before .extent .ensures) ∙ c .before .before .before .stop .given .1) ∙ ap (λ (b : Bool). b || among (two (c .before .before .before .before .before .before .before .before .args .source)) (forcedIn (rowAt (c .before .before .before .before .before .before .before .before .args .records .now) (c .before .before .before .stop .given .0 .0) (length (c .before .before .before .before .before .before .before .before .args .records .now))))) (sym (c .before .forces-at .ensures) ∙ c .if1 .taken))
+returns-2 c =
+    let c3 = c .before .before .before in
+    let c5 = c3 .before .before in
+    let c6 = c5 .before in
+    let c8 = c6 .before .before in
+    sym (c6 .loop .inv .0
+    ∙ forced-step (c8 .args .source) (c8 .fits .source .fits) (c6 .loop .inv .1) (sym (c5 .extent .ensures) ∙ c3 .stop .given .1)
+    ∙
+    ap (λ (b : Bool). b || among (two (c8 .args .source))
+    (forcedIn (rowAt (c8 .args .records .now) (c3 .stop .given .0 .0) (length (c8 .args .records .now)))))
+    (sym (c .before .forces-at .ensures) ∙ c .if1 .taken))
 
 loop-less : tie.Need-loop-less Inv-loop μ-loop
-loop-less c = let i = extent-upto (c .before .before .before .before .before .before .before .before .args .records .now) (c .before .before .before .before .before .before .loop .at) _ (c .before .before .before .before .before .before .loop .inv .1 .inside) (sym (c .before .before .before .before .before .extent .ensures) ∙ c .before .before .before .stop .given .1) in omega arith
+loop-less c =
+    let c3 = c .before .before .before in
+    let c5 = c3 .before .before in
+    let c6 = c5 .before in
+    let c8 = c6 .before .before in
+    let i = extent-upto (c8 .args .records .now) (c6 .loop .at) _ (c6 .loop .inv .1 .inside) (sym (c5 .extent .ensures) ∙ c3 .stop .given .1) in omega arith
 
 loop-again : tie.Need-loop-again Inv-loop μ-loop
-loop-again c = (c .before .before .before .before .before .before .loop .inv .0 ∙ forced-step (c .before .before .before .before .before .before .before .before .args .source) (c .before .before .before .before .before .before .before .before .fits .source .fits) (c .before .before .before .before .before .before .loop .inv .1) (sym (c .before .before .before .before .before .extent .ensures) ∙ c .before .before .before .stop .given .1) ∙ ap (λ (b : Bool). b || among (two (c .before .before .before .before .before .before .before .before .args .source)) (forcedIn (rowAt (c .before .before .before .before .before .before .before .before .args .records .now) (c .before .before .before .stop .given .0 .0) (length (c .before .before .before .before .before .before .before .before .args .records .now))))) (sym (c .before .forces-at .ensures) ∙ c .if1 .left), records-next (c .before .before .before .before .before .before .loop .inv .1) (sym (c .before .before .before .before .before .extent .ensures) ∙ c .before .before .before .stop .given .1))
+loop-again c =
+    let c3 = c .before .before .before in
+    let c5 = c3 .before .before in
+    let c6 = c5 .before in
+    let c8 = c6 .before .before in (
+      c6 .loop .inv .0 ∙ forced-step (c8 .args .source) (c8 .fits .source .fits) (c6 .loop .inv .1) (sym (c5 .extent .ensures) ∙ c3 .stop .given .1)
+          ∙
+          ap (λ (b : Bool). b || among (two (c8 .args .source))
+          (forcedIn (rowAt (c8 .args .records .now) (c3 .stop .given .0 .0) (length (c8 .args .records .now)))))
+          (sym (c .before .forces-at .ensures) ∙ c .if1 .left),
+      records-next (c6 .loop .inv .1) (sym (c5 .extent .ensures) ∙ c3 .stop .given .1),
+    )
 
 pub is-forced-spec : {M : Type 1} → statement M
 is-forced-spec =

@@ -1,8 +1,8 @@
 -- `resolving::sources::number_source` meets its contract.
 use mathlib.Core.Path.{sym, ap, _∙_}
-use Rattle.lent.specs.Table.{rowsIn}
-use Rattle.lent.specs.Kept.{fileBy}
-use Rattle.scope.specs.Kept.{modulesOf, fileRefusal}
+use Rattle.inputs.specs.Table.{rowsIn}
+use Rattle.inputs.specs.ResolvedValue.{fileBy}
+use Rattle.scope.specs.ScopeValue.{modulesOf, fileRefusal}
 use Rattle.tree.specs.Layout.{two}
 use Rattle.resolving.proofs.NumbersLaws.{number-nowhere, number-given, number-over}
 use borrow.Author.Needs.{needs}
@@ -10,7 +10,7 @@ use Rattle.resolving.proofs.sources.number_source.Statement.{statement}
 use Rattle.resolving.proofs.sources.number_source.Tie as tie
 use Rattle.resolving.proofs.sources.number_source.Reads as reads
 use Rattle.resolving.proofs.sources.number_source.Lts as lts
-use Rattle.lent.proofs.resolve.Reads as resolve-reads
+use Rattle.inputs.proofs.resolve.Reads as resolve-reads
 use Rattle.scope.proofs.Scope.gen_id.Reads as gen-id-reads
 
 resolve-requires : tie.Need-resolve-requires
@@ -32,13 +32,28 @@ enum-told-3 : tie.Need-enum-told-3
 enum-told-3 c = search needs
 
 returns : tie.Need-returns
-returns c = number-given (rowsIn (c .before .before .before .before .before .before .before .before .before .args .table .now)) (two (c .before .before .before .before .before .before .before .before .before .args .source)) (modulesOf (c .before .before .before .before .before .before .before .before .before .args .scope)) (c .before .before .before .before .before .before .before .before .before .args .place) (sym (c .before .before .before .before .before .before .before .resolve .ensures) ∙ ap fileBy (c .before .before .before .before .before .file .given .1)) (c .before .before .before .gen-id .ensures) (ap fileRefusal (c .enum-told .given .1))
+returns c =
+    let c3 = c .before .before .before in
+    let c5 = c3 .before .before in
+    let c7 = c5 .before .before in
+    let c9 = c7 .before .before in
+    number-given (rowsIn (c9 .args .table .now)) (two (c9 .args .source)) (modulesOf (c9 .args .scope)) (c9 .args .place)
+    (sym (c7 .resolve .ensures) ∙ ap fileBy (c5 .file .given .1)) (c3 .gen-id .ensures) (ap fileRefusal (c .enum-told .given .1))
 
 returns-2 : tie.Need-returns-2
-returns-2 c = number-over (rowsIn (c .before .before .before .before .before .before .before .before .before .args .table .now)) (two (c .before .before .before .before .before .before .before .before .before .args .source)) (modulesOf (c .before .before .before .before .before .before .before .before .before .args .scope)) (c .before .before .before .before .before .before .before .before .before .args .place) (sym (c .before .before .before .before .before .before .before .resolve .ensures) ∙ ap fileBy (c .before .before .before .before .before .file .given .1)) (c .before .before .before .gen-id .ensures) (ap fileRefusal (c .enum-told2 .given .1))
+returns-2 c =
+    let c3 = c .before .before .before in
+    let c5 = c3 .before .before in
+    let c7 = c5 .before .before in
+    let c9 = c7 .before .before in
+    number-over (rowsIn (c9 .args .table .now)) (two (c9 .args .source)) (modulesOf (c9 .args .scope)) (c9 .args .place)
+    (sym (c7 .resolve .ensures) ∙ ap fileBy (c5 .file .given .1)) (c3 .gen-id .ensures) (ap fileRefusal (c .enum-told2 .given .1))
 
 returns-3 : tie.Need-returns-3
-returns-3 c = number-nowhere (rowsIn (c .before .before .before .before .args .table .now)) (two (c .before .before .before .before .args .source)) (modulesOf (c .before .before .before .before .args .scope)) (c .before .before .before .before .args .place) (sym (c .before .before .resolve .ensures) ∙ ap fileBy (c .enum-told3 .given .1))
+returns-3 c =
+    let c4 = c .before .before .before .before in
+    number-nowhere (rowsIn (c4 .args .table .now)) (two (c4 .args .source)) (modulesOf (c4 .args .scope)) (c4 .args .place)
+    (sym (c .before .before .resolve .ensures) ∙ ap fileBy (c .enum-told3 .given .1))
 
 pub number-source-spec : {M : Type 1} → statement M
 number-source-spec =

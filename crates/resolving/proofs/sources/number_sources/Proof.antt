@@ -5,8 +5,8 @@ use native.Mathlib.Omega.{arith}
 use Prim.Native.Nat.{_-_}
 use lib.ListN.{length}
 use borrow.Author.Needs.{needs}
-use Rattle.lent.specs.Table.{rowsIn}
-use Rattle.scope.specs.Kept.{modulesOf}
+use Rattle.inputs.specs.Table.{rowsIn}
+use Rattle.scope.specs.ScopeValue.{modulesOf}
 use Rattle.tree.specs.Standing.{rowAt}
 use Rattle.resolving_rules.specs.Resolve.{sourcesIn, numberAll}
 use Rattle.resolving.specs.declared.sources.NumberAnswer.{NumberAnswer}
@@ -23,7 +23,9 @@ use Rattle.resolving.proofs.sources.source_end.Reads as source-end-read
 use Rattle.tree.proofs.layout.literal_value.Reads as literal-value-reads
 
 abbrev Inv-loop : tie.InvT-loop
-Inv-loop scope₀ table records at₀ scope at = (numberAll (rowsIn table) (sourcesIn (recordsIn records)) (modulesOf scope₀) 3 ≡ numberAll (rowsIn table) (sourcesIn (rowAt records at (length records))) (modulesOf scope) at) × RecordsFrom records at
+Inv-loop scope₀ table records at₀ scope at =
+    (numberAll (rowsIn table) (sourcesIn (recordsIn records)) (modulesOf scope₀) 3 ≡ numberAll (rowsIn table)
+    (sourcesIn (rowAt records at (length records))) (modulesOf scope) at) × RecordsFrom records at
 
 abbrev μ-loop : tie.MeasureT-loop
 μ-loop scope₀ table records at₀ scope at = length records - at
@@ -41,13 +43,22 @@ enum-told : tie.Need-enum-told Inv-loop μ-loop
 enum-told c = search needs
 
 returns : tie.Need-returns Inv-loop μ-loop
-returns c = numbers-end (rowsIn (c .before .before .before .before .before .before .args .table .now)) (modulesOf (c .before .before .before .loop .scope)) (c .before .before .before .loop .inv .1) (sym (c .before .before .source-end .ensures) ∙ c .enum-told .given .1) ∙ sym (c .before .before .before .loop .inv .0)
+returns c =
+    let c3 = c .before .before .before in
+    let c6 = c3 .before .before .before in
+    numbers-end (rowsIn (c6 .args .table .now)) (modulesOf (c3 .loop .scope)) (c3 .loop .inv .1) (sym (c .before .before .source-end .ensures) ∙ c .enum-told .given .1) ∙ sym (c3 .loop .inv .0)
 
 add-literal-value : tie.Need-add-literal-value Inv-loop μ-loop
-add-literal-value c = let w = source-stands (c .before .before .before .before .loop .inv .1) (sym (c .before .before .before .source-end .ensures) ∙ c .before .stop .given .1) in let a = w .source .wide in let b = w .source .parts .fits in omega arith
+add-literal-value c =
+    let c3 = c .before .before .before in
+    let c4 = c3 .before in
+    let w = source-stands (c4 .loop .inv .1) (sym (c3 .source-end .ensures) ∙ c .before .stop .given .1) in let a = w .source .wide in let b = w .source .parts .fits in omega arith
 
 literal-value-requires : tie.Need-literal-value-requires Inv-loop μ-loop
-literal-value-requires c κs = let w = source-stands (c .before .before .before .before .loop .inv .1) (sym (c .before .before .before .source-end .ensures) ∙ c .before .stop .given .1) in let a = w .source .wide in let b = w .source .parts .fits in omega arith
+literal-value-requires c κs =
+    let c3 = c .before .before .before in
+    let c4 = c3 .before in
+    let w = source-stands (c4 .loop .inv .1) (sym (c3 .source-end .ensures) ∙ c .before .stop .given .1) in let a = w .source .wide in let b = w .source .parts .fits in omega arith
 
 number-source-requires : tie.Need-number-source-requires Inv-loop μ-loop
 number-source-requires c κs = search needs
@@ -56,16 +67,45 @@ enum-told-2 : tie.Need-enum-told-2 Inv-loop μ-loop
 enum-told-2 c = search needs
 
 loop-less : tie.Need-loop-less Inv-loop μ-loop
-loop-less c = let w = source-stands (c .before .before .before .before .before .before .before .before .before .loop .inv .1) (sym (c .before .before .before .before .before .before .before .before .source-end .ensures) ∙ c .before .before .before .before .before .before .stop .given .1) in let a = w .source .wide in let b = w .source .parts .fits in omega arith
+loop-less c =
+    let c6 = c .before .before .before .before .before .before in
+    let c8 = c6 .before .before in
+    let c9 = c8 .before in
+    let w = source-stands (c9 .loop .inv .1) (sym (c8 .source-end .ensures) ∙ c6 .stop .given .1) in let a = w .source .wide in let b = w .source .parts .fits in omega arith
 
 loop-again : tie.Need-loop-again Inv-loop μ-loop
-loop-again c = (c .before .before .before .before .before .before .before .before .before .loop .inv .0 ∙ numbers-more (rowsIn (c .before .before .before .before .before .before .before .before .before .before .before .before .args .table .now)) (modulesOf (c .before .before .before .before .before .before .before .before .before .loop .scope)) (c .before .before .before .before .before .before .before .before .before .loop .inv .1) (sym (c .before .before .before .before .before .before .before .before .source-end .ensures) ∙ c .before .before .before .before .before .before .stop .given .1) (c .before .before .before .before .literal-value .ensures) (sym (c .before .before .before .number-source .ensures) ∙ ap (λ (e : NumberAnswer). onNumber e (modulesOf (c .before .before .before .number-source .result .scope))) (c .enum-told2 .given .1)), source-stands (c .before .before .before .before .before .before .before .before .before .loop .inv .1) (sym (c .before .before .before .before .before .before .before .before .source-end .ensures) ∙ c .before .before .before .before .before .before .stop .given .1) .rest)
+loop-again c =
+    let c3 = c .before .before .before in
+    let c4 = c3 .before in
+    let c6 = c4 .before .before in
+    let c8 = c6 .before .before in
+    let c9 = c8 .before in
+    let c12 = c9 .before .before .before in (
+      c9 .loop .inv .0
+          ∙ numbers-more (rowsIn (c12 .args .table .now)) (modulesOf (c9 .loop .scope)) (c9 .loop .inv .1)
+          (sym (c8 .source-end .ensures) ∙ c6 .stop .given .1) (c4 .literal-value .ensures)
+          (sym (c3 .number-source .ensures)
+          ∙ ap (λ (e : NumberAnswer). onNumber e (modulesOf (c3 .number-source .result .scope))) (c .enum-told2 .given .1)),
+      source-stands
+          (c9 .loop .inv .1) (sym (c8 .source-end .ensures) ∙ c6 .stop .given .1) .rest,
+    )
 
 enum-known-answer : tie.Need-enum-known-answer Inv-loop μ-loop
 enum-known-answer c = search needs
 
 returns-2 : tie.Need-returns-2 Inv-loop μ-loop
-returns-2 c = numbers-stop (rowsIn (c .before .before .before .before .before .before .before .before .before .before .before .before .before .args .table .now)) (modulesOf (c .before .before .before .before .before .before .before .before .before .before .loop .scope)) (c .before .before .before .before .before .before .before .before .before .before .loop .inv .1) (sym (c .before .before .before .before .before .before .before .before .before .source-end .ensures) ∙ c .before .before .before .before .before .before .before .stop .given .1) (c .before .before .before .before .before .literal-value .ensures) (sym (c .before .before .before .before .number-source .ensures) ∙ ap (λ (e : NumberAnswer). onNumber e (modulesOf (c .before .before .before .before .number-source .result .scope))) (c .before .answer .given .1)) ∙ sym (c .before .before .before .before .before .before .before .before .before .before .loop .inv .0)
+returns-2 c =
+    let c4 = c .before .before .before .before in
+    let c5 = c4 .before in
+    let c7 = c5 .before .before in
+    let c9 = c7 .before .before in
+    let c10 = c9 .before in
+    let c13 = c10 .before .before .before in
+    numbers-stop (rowsIn (c13 .args .table .now)) (modulesOf (c10 .loop .scope)) (c10 .loop .inv .1)
+    (sym (c9 .source-end .ensures) ∙ c7 .stop .given .1) (c5 .literal-value .ensures)
+    (sym (c4 .number-source .ensures)
+    ∙ ap (λ (e : NumberAnswer). onNumber e (modulesOf (c4 .number-source .result .scope))) (c .before .answer .given .1))
+    ∙ sym (c10 .loop .inv .0)
 
 pub number-sources-spec : {M : Type 1} → statement M
 number-sources-spec =

@@ -18,18 +18,27 @@ enum-known-stop : tie.Need-enum-known-stop
 enum-known-stop c = search needs
 
 shared-slice-read-if1 : tie.Need-shared-slice-read-if1
-shared-slice-read-if1 c = let i = extent-upto (c .before .before .before .before .before .before .args .records .now) (c .before .before .before .before .before .before .args .at) _ (c .before .before .before .before .before .before .pre) (sym (c .before .before .before .before .extent .ensures) ∙ c .before .before .stop .given .1) in omega arith
+shared-slice-read-if1 c =
+    let c4 = c .before .before .before .before in
+    let c6 = c4 .before .before in
+    let i = extent-upto (c6 .args .records .now) (c6 .args .at) _ (c6 .pre) (sym (c4 .extent .ensures) ∙ c .before .before .stop .given .1) in omega arith
 
 enum-told : tie.Need-enum-told
 enum-told c = search needs
 
 returns : tie.Need-returns
 unfolding sourceEnd sourceOn
-returns c = rw ((sym (c .before .before .before .before .before .extent .ensures) ∙ c .before .before .before .stop .given .1), eq-eqb _ 0x83 (c .if1 .taken))
+returns c =
+    let c3 = c .before .before .before in
+    let c5 = c3 .before .before in
+    rw ((sym (c5 .extent .ensures) ∙ c3 .stop .given .1), eq-eqb _ 0x83 (c .if1 .taken))
 
 returns-2 : tie.Need-returns-2
 unfolding sourceEnd sourceOn
-returns-2 c = rw ((sym (c .before .before .before .before .before .extent .ensures) ∙ c .before .before .before .stop .given .1), ne-eqb _ 0x83 (c .if1 .left))
+returns-2 c =
+    let c3 = c .before .before .before in
+    let c5 = c3 .before .before in
+    rw ((sym (c5 .extent .ensures) ∙ c3 .stop .given .1), ne-eqb _ 0x83 (c .if1 .left))
 
 returns-3 : tie.Need-returns-3
 unfolding sourceEnd sourceOn

@@ -36,7 +36,17 @@ same-length : tie.Need-same-length
 same-length c = search needs
 
 returns : tie.Need-returns
-returns c = wrote-as (wrote-field (c .before .before .before .before .before .before .before .before .before .before .before .before .before .before .before .before .before .before .before .before .before .before .open-field .ensures) (wrote-then (c .before .before .before .before .before .before .before .before .before .before .before .before .before .before .before .before .before .before .copy .ensures) (wrote-then (c .before .before .before .before .before .before .before .before .before .before .before .before .before .before .put .ensures) (wrote-then (c .before .before .before .before .before .before .before .before .before .before .put-u16 .ensures) (c .before .before .before .before .before .before .put-u32 .ensures)))) (c .before .before .close-field .ensures)) (default-bytes (slice (c .before .before .before .before .before .before .before .before .before .before .before .before .before .before .before .before .before .before .before .before .before .before .before .before .before .before .args .from) (c .before .before .before .before .before .before .before .before .before .before .before .before .before .before .before .before .before .before .before .before .before .before .before .before .before .before .args .end) (c .before .before .before .before .before .before .before .before .before .before .before .before .before .before .before .before .before .before .before .before .before .before .before .before .before .before .args .s .now)))
+returns c =
+    let c6 = c .before .before .before .before .before .before in
+    let c10 = c6 .before .before .before .before in
+    let c14 = c10 .before .before .before .before in
+    let c18 = c14 .before .before .before .before in
+    let c22 = c18 .before .before .before .before in
+    let c26 = c22 .before .before .before .before in
+    wrote-as
+    (wrote-field (c22 .open-field .ensures)
+    (wrote-then (c18 .copy .ensures) (wrote-then (c14 .put .ensures) (wrote-then (c10 .put-u16 .ensures) (c6 .put-u32 .ensures))))
+    (c .before .before .close-field .ensures)) (default-bytes (slice (c26 .args .from) (c26 .args .end) (c26 .args .s .now)))
 
 pub put-default-spec : {M : Type 1} → statement M
 put-default-spec =

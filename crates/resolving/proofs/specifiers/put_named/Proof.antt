@@ -30,16 +30,24 @@ same-length : tie.Need-same-length
 same-length c = search needs
 
 returns : tie.Need-returns
-returns c = puts-done (ap (λ (i : Outside). namedBy i (slice (c .before .before .before .before .before .before .before .before .args .from) (c .before .before .before .before .before .before .before .before .args .end) (c .before .before .before .before .before .before .before .before .args .s .now)) (c .before .before .before .before .before .before .before .before .args .place)) (c .before .before .before .before .enum-told .given .1)) (c .before .before .put-plain .ensures)
+returns c =
+    let c4 = c .before .before .before .before in
+    let c8 = c4 .before .before .before .before in
+    puts-done (ap (λ (i : Outside). namedBy i (slice (c8 .args .from) (c8 .args .end) (c8 .args .s .now)) (c8 .args .place)) (c4 .enum-told .given .1)) (c .before .before .put-plain .ensures)
 
 same-length-2 : tie.Need-same-length-2
 same-length-2 c = search needs
 
 returns-2 : tie.Need-returns-2
-returns-2 c = puts-done (ap (λ (i : Outside). namedBy i (slice (c .before .before .before .before .before .before .before .before .args .from) (c .before .before .before .before .before .before .before .before .args .end) (c .before .before .before .before .before .before .before .before .args .s .now)) (c .before .before .before .before .before .before .before .before .args .place)) (c .before .before .before .before .enum-told2 .given .1)) (c .before .before .put-plain2 .ensures)
+returns-2 c =
+    let c4 = c .before .before .before .before in
+    let c8 = c4 .before .before .before .before in
+    puts-done (ap (λ (i : Outside). namedBy i (slice (c8 .args .from) (c8 .args .end) (c8 .args .s .now)) (c8 .args .place)) (c4 .enum-told2 .given .1)) (c .before .before .put-plain2 .ensures)
 
 returns-3 : tie.Need-returns-3
-returns-3 c = puts-refused refl (ap (λ (i : Outside). namedBy i (slice (c .before .before .before .before .args .from) (c .before .before .before .before .args .end) (c .before .before .before .before .args .s .now)) (c .before .before .before .before .args .place)) (c .enum-told3 .given .1))
+returns-3 c =
+    let c4 = c .before .before .before .before in
+    puts-refused refl (ap (λ (i : Outside). namedBy i (slice (c4 .args .from) (c4 .args .end) (c4 .args .s .now)) (c4 .args .place)) (c .enum-told3 .given .1))
 
 pub put-named-spec : {M : Type 1} → statement M
 put-named-spec =

@@ -36,7 +36,15 @@ same-length : tie.Need-same-length
 same-length c = search needs
 
 returns : tie.Need-returns
-returns c = wrote-as (wrote-field (c .before .before .before .before .before .before .before .before .before .before .before .before .before .before .before .open-field .ensures) (wrote-then (c .before .before .before .before .before .before .before .before .before .before .before .copy .ensures) (c .before .before .before .before .before .before .put .ensures)) (c .before .before .close-field .ensures)) (framed-leaf 0x92 _ ∙ ap (λ (b : ℕ). encode (field 0x92 (slice (c .before .before .before .before .before .before .before .before .before .before .before .before .before .before .before .before .before .before .before .args .from) (c .before .before .before .before .before .before .before .before .before .before .before .before .before .before .before .before .before .before .before .args .end) (c .before .before .before .before .before .before .before .before .before .before .before .before .before .before .before .before .before .before .before .args .s .now) ++ b ∷ []) none)) (c .before .before .before .before .before .before .before .all-byte .ensures))
+returns c =
+    let c6 = c .before .before .before .before .before .before in
+    let c7 = c6 .before in
+    let c11 = c7 .before .before .before .before in
+    let c15 = c11 .before .before .before .before in
+    let c19 = c15 .before .before .before .before in
+    wrote-as (wrote-field (c15 .open-field .ensures) (wrote-then (c11 .copy .ensures) (c6 .put .ensures)) (c .before .before .close-field .ensures))
+    (framed-leaf 0x92 _
+    ∙ ap (λ (b : ℕ). encode (field 0x92 (slice (c19 .args .from) (c19 .args .end) (c19 .args .s .now) ++ b ∷ []) none)) (c7 .all-byte .ensures))
 
 pub put-namespace-spec : {M : Type 1} → statement M
 put-namespace-spec =

@@ -23,7 +23,10 @@ same-length : tie.Need-same-length
 same-length c = search needs
 
 returns : tie.Need-returns
-returns c = wrote-as (wrote-field (c .before .before .before .before .before .before .before .before .before .before .open-field .ensures) (c .before .before .before .before .before .before .copy .ensures) (c .before .before .close-field .ensures)) (framed-leaf 0x91 _)
+returns c =
+    let c6 = c .before .before .before .before .before .before in
+    let c10 = c6 .before .before .before .before in
+    wrote-as (wrote-field (c10 .open-field .ensures) (c6 .copy .ensures) (c .before .before .close-field .ensures)) (framed-leaf 0x91 _)
 
 pub put-plain-spec : {M : Type 1} → statement M
 put-plain-spec =

@@ -41,28 +41,64 @@ same-length : tie.Need-same-length Inv-loop μ-loop
 same-length c = c .before .before .before .loop .inv .0 .size
 
 returns : tie.Need-returns Inv-loop μ-loop
-returns c = onward-end (c .before .before .before .loop .inv .0) (specifiers-end (c .before .before .before .before .before .before .args .all) (c .before .before .before .before .before .before .args .s .now) (c .before .before .before .loop .at) (c .before .before .before .before .before .before .args .end) (c .before .before .before .loop .inv .1 .inside) (sym (c .before .before .extent .ensures) ∙ c .enum-told .given .1))
+returns c =
+    let c3 = c .before .before .before in
+    let c6 = c3 .before .before .before in
+    onward-end (c3 .loop .inv .0)
+    (specifiers-end (c6 .args .all) (c6 .args .s .now) (c3 .loop .at) (c6 .args .end) (c3 .loop .inv .1 .inside)
+    (sym (c .before .before .extent .ensures) ∙ c .enum-told .given .1))
 
 put-specifier-requires : tie.Need-put-specifier-requires Inv-loop μ-loop
-put-specifier-requires c κs = (fields-next (c .before .before .before .before .before .loop .inv .1) (sym (c .before .before .before .before .extent .ensures) ∙ c .before .before .stop .given .1)) .0
+put-specifier-requires c κs =
+    let c4 = c .before .before .before .before in
+    let c5 = c4 .before in
+    (fields-next (c5 .loop .inv .1) (sym (c4 .extent .ensures) ∙ c .before .before .stop .given .1)) .0
 
 enum-known-p : tie.Need-enum-known-p Inv-loop μ-loop
 enum-known-p c = search needs
 
 loop-less : tie.Need-loop-less Inv-loop μ-loop
-loop-less c = let i = extent-upto (c .before .before .before .before .before .before .before .before .before .before .before .before .before .before .args .s .now) (c .before .before .before .before .before .before .before .before .before .before .before .loop .at) (c .before .before .before .before .before .before .before .before .before .before .before .before .before .before .args .end) (c .before .before .before .before .before .before .before .before .before .before .before .loop .inv .1 .inside) (sym (c .before .before .before .before .before .before .before .before .before .before .extent .ensures) ∙ c .before .before .before .before .before .before .before .before .stop .given .1) in omega arith
+loop-less c =
+    let c8 = c .before .before .before .before .before .before .before .before in
+    let c10 = c8 .before .before in
+    let c11 = c10 .before in
+    let c14 = c11 .before .before .before in
+    let i = extent-upto (c14 .args .s .now) (c11 .loop .at) (c14 .args .end) (c11 .loop .inv .1 .inside) (sym (c10 .extent .ensures) ∙ c8 .stop .given .1) in omega arith
 
 loop-again : tie.Need-loop-again Inv-loop μ-loop
-loop-again c = (onward-more (c .before .before .before .before .before .before .before .before .before .before .before .loop .inv .0) (specifiers-more (c .before .before .before .before .before .before .before .before .before .before .before .before .before .before .args .all) (c .before .before .before .before .before .before .before .before .before .before .before .before .before .before .args .s .now) (c .before .before .before .before .before .before .before .before .before .before .before .loop .at) (c .before .before .before .before .before .before .before .before .before .before .before .before .before .before .args .end) (c .before .before .before .before .before .before .before .before .before .before .before .loop .inv .1 .inside) (sym (c .before .before .before .before .before .before .before .before .before .before .extent .ensures) ∙ c .before .before .before .before .before .before .before .before .stop .given .1) ((fields-next (c .before .before .before .before .before .before .before .before .before .before .before .loop .inv .1) (sym (c .before .before .before .before .before .before .before .before .before .before .extent .ensures) ∙ c .before .before .before .before .before .before .before .before .stop .given .1)) .0)) (c .before .before .before .before .before .put-specifier .ensures) (c .before .p .given .1), (fields-next (c .before .before .before .before .before .before .before .before .before .before .before .loop .inv .1) (sym (c .before .before .before .before .before .before .before .before .before .before .extent .ensures) ∙ c .before .before .before .before .before .before .before .before .stop .given .1)) .1)
+loop-again c =
+    let c5 = c .before .before .before .before .before in
+    let c8 = c5 .before .before .before in
+    let c10 = c8 .before .before in
+    let c11 = c10 .before in
+    let c14 = c11 .before .before .before in (
+      onward-more (c11 .loop .inv .0)
+          (specifiers-more (c14 .args .all) (c14 .args .s .now) (c11 .loop .at) (c14 .args .end) (c11 .loop .inv .1 .inside)
+          (sym (c10 .extent .ensures) ∙ c8 .stop .given .1) ((fields-next (c11 .loop .inv .1) (sym (c10 .extent .ensures) ∙ c8 .stop .given .1)) .0))
+          (c5 .put-specifier .ensures) (c .before .p .given .1),
+      (fields-next (c11 .loop .inv .1) (sym (c10 .extent .ensures) ∙ c8 .stop .given .1)) .1,
+    )
 
 enum-known-why : tie.Need-enum-known-why Inv-loop μ-loop
 enum-known-why c = search needs
 
 same-length-2 : tie.Need-same-length-2 Inv-loop μ-loop
-same-length-2 c = c .before .before .before .before .before .put-specifier .ensures .size ∙ c .before .before .before .before .before .before .before .before .before .before .before .loop .inv .0 .size
+same-length-2 c =
+    let c5 = c .before .before .before .before .before in
+    let c11 = c5 .before .before .before .before .before .before in
+    c5 .put-specifier .ensures .size ∙ c11 .loop .inv .0 .size
 
 returns-2 : tie.Need-returns-2 Inv-loop μ-loop
-returns-2 c = onward-stop (c .before .before .before .before .before .before .before .before .before .before .before .loop .inv .0) (specifiers-more (c .before .before .before .before .before .before .before .before .before .before .before .before .before .before .args .all) (c .before .before .before .before .before .before .before .before .before .before .before .before .before .before .args .s .now) (c .before .before .before .before .before .before .before .before .before .before .before .loop .at) (c .before .before .before .before .before .before .before .before .before .before .before .before .before .before .args .end) (c .before .before .before .before .before .before .before .before .before .before .before .loop .inv .1 .inside) (sym (c .before .before .before .before .before .before .before .before .before .before .extent .ensures) ∙ c .before .before .before .before .before .before .before .before .stop .given .1) ((fields-next (c .before .before .before .before .before .before .before .before .before .before .before .loop .inv .1) (sym (c .before .before .before .before .before .before .before .before .before .before .extent .ensures) ∙ c .before .before .before .before .before .before .before .before .stop .given .1)) .0)) (c .before .before .before .before .before .put-specifier .ensures) (c .before .why .given .1)
+returns-2 c =
+    let c5 = c .before .before .before .before .before in
+    let c8 = c5 .before .before .before in
+    let c10 = c8 .before .before in
+    let c11 = c10 .before in
+    let c14 = c11 .before .before .before in
+    onward-stop (c11 .loop .inv .0)
+    (specifiers-more (c14 .args .all) (c14 .args .s .now) (c11 .loop .at) (c14 .args .end) (c11 .loop .inv .1 .inside)
+    (sym (c10 .extent .ensures) ∙ c8 .stop .given .1) ((fields-next (c11 .loop .inv .1) (sym (c10 .extent .ensures) ∙ c8 .stop .given .1)) .0))
+    (c5 .put-specifier .ensures) (c .before .why .given .1)
 
 pub put-specifiers-spec : {M : Type 1} → statement M
 put-specifiers-spec =

@@ -1,7 +1,7 @@
 -- `scope::Scope::add` meets its contract.
 use native.Mathlib.Omega.{arith}
-use Rattle.scope.specs.Kept.{modulesOf}
-use Rattle.scope.proofs.KeptLaws.{from-added}
+use Rattle.scope.specs.ScopeValue.{modulesOf}
+use Rattle.scope.proofs.ScopeValueLaws.{from-added}
 use borrow.Author.Needs.{length-unmapped, needs}
 use Rattle.scope.proofs.Scope.add.Statement.{statement}
 use Rattle.scope.proofs.Scope.add.Tie as tie
@@ -32,7 +32,10 @@ unfolding modulesOf
 returns c =
     let g = length-unmapped _ (c .before .before .before .before .args .t1 .marks) 1024 (c .before .before .before .before .good .0 .1 .1 .1 .1 .0 .1 .0 .1) in
     let h = length-unmapped _ (c .before .before .before .before .args .t1 .files) 256 (c .before .before .before .before .good .0 .1 .1 .1 .0 .1 .0 .1) in
-    rw (c .put-mark4 .ensures, c .before .put-mark3 .ensures, c .before .before .put-mark2 .ensures, c .before .before .before .put-mark .ensures) (from-added (c .before .before .before .before .args .t1 .marks) (c .before .before .before .before .args .n) g (c .before .before .before .before .pre) (c .before .before .before .before .args .t1 .files) (c .before .before .before .before .args .file .0) (omega arith))
+    rw (c .put-mark4 .ensures, c .before .put-mark3 .ensures, c .before .before .put-mark2 .ensures, c .before .before .before .put-mark .ensures)
+    (from-added (c .before .before .before .before .args .t1 .marks) (c .before .before .before .before .args .n) g
+    (c .before .before .before .before .pre) (c .before .before .before .before .args .t1 .files)
+    (c .before .before .before .before .args .file .0) (omega arith))
 
 pub add-spec : {M : Type 1} → statement M
 add-spec =

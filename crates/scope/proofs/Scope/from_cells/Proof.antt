@@ -4,8 +4,8 @@ use Prim.Native.Nat.{_≤_, _-_, min}
 use native.Mathlib.Omega.{arith}
 use borrow.Author.Needs.{needs}
 use lib.ListN.{length, length-set}
-use Rattle.scope.specs.Kept.{modulesFrom, modulesOf, modulesIn}
-use Rattle.scope.proofs.KeptLaws.{cells-taken}
+use Rattle.scope.specs.ScopeValue.{modulesFrom, modulesOf, modulesIn}
+use Rattle.scope.proofs.ScopeValueLaws.{cells-taken}
 use Rattle.scope.proofs.Scope.from_cells.Statement.{statement}
 use Rattle.scope.proofs.Scope.from_cells.Tie as tie
 
@@ -92,7 +92,25 @@ loop-less : tie.Need-loop-less Inv-loop μ-loop
 loop-less c = omega arith
 
 loop-again : tie.Need-loop-again Inv-loop μ-loop
-loop-again c = (cells-taken (c .before .before .before .before .before .before .before .before .before .before .before .before .before .before .args .cells .now) (c .before .before .before .before .before .before .before .before .before .before .before .before .loop .files) (c .before .before .before .before .before .before .before .before .before .before .before .before .loop .marks) (c .before .before .before .before .before .before .before .before .before .before .before .before .before .before .args .base) (c .before .before .before .before .before .before .before .before .before .before .before .before .loop .k) (c .before .before .before .before .before .before .before .before .before .low-file .result) (c .before .before .before .before .before .before .before .slot .result) (c .before .before .before .before .before .slot2 .result) (c .before .before .before .slot3 .result) (c .before .slot4 .result) (c .before .before .before .before .before .before .last-bit .result) (c .before .before .before .before .last-bit2 .result) (c .before .before .last-bit3 .result) (c .last-bit4 .result) (c .before .before .before .before .before .before .before .before .before .before .before .before .loop .inv .2) (c .before .before .before .before .before .before .before .before .before .before .before .before .loop .inv .3) (omega arith) (c .before .before .before .before .before .before .before .before .before .low-file .ensures) (c .before .before .before .before .before .before .last-bit .ensures) (c .before .before .before .before .last-bit2 .ensures) (c .before .before .last-bit3 .ensures) (c .last-bit4 .ensures) (c .before .before .before .before .before .before .before .slot .ensures .0) (c .before .before .before .before .before .slot2 .ensures .0) (c .before .before .before .slot3 .ensures .0) (c .before .slot4 .ensures .0) (c .before .before .before .before .before .before .before .before .before .before .before .before .loop .inv .0), omega arith, simp length-set (c .before .before .before .before .before .before .before .before .before .before .before .before .loop .inv .2), simp length-set (c .before .before .before .before .before .before .before .before .before .before .before .before .loop .inv .3))
+loop-again c =
+    let c3 = c .before .before .before in
+    let c4 = c3 .before in
+    let c5 = c4 .before in
+    let c6 = c5 .before in
+    let c7 = c6 .before in
+    let c9 = c7 .before .before in
+    let c12 = c9 .before .before .before in
+    let c14 = c12 .before .before in (
+      cells-taken (c14 .args .cells .now) (c12 .loop .files) (c12 .loop .marks) (c14 .args .base) (c12 .loop .k) (c9 .low-file .result)
+          (c7 .slot .result) (c5 .slot2 .result) (c3 .slot3 .result) (c .before .slot4 .result) (c6 .last-bit .result) (c4 .last-bit2 .result)
+          (c .before .before .last-bit3 .result) (c .last-bit4 .result) (c12 .loop .inv .2) (c12 .loop .inv .3) (omega arith) (c9 .low-file .ensures)
+          (c6 .last-bit .ensures) (c4 .last-bit2 .ensures) (c .before .before .last-bit3 .ensures) (c .last-bit4 .ensures) (c7 .slot .ensures .0)
+          (c5 .slot2 .ensures .0) (c3 .slot3 .ensures .0) (c .before .slot4 .ensures .0) (c12 .loop .inv .0),
+      omega arith,
+      simp length-set
+          (c12 .loop .inv .2),
+      simp length-set (c12 .loop .inv .3),
+    )
 
 returns : tie.Need-returns Inv-loop μ-loop
 unfolding modulesOf

@@ -2,9 +2,9 @@
 use mathlib.Core.Path.{sym, _∙_, ap}
 use native.Mathlib.Omega.{arith}
 use borrow.Author.Needs.{length-unmapped, needs}
-use Rattle.scope.specs.Kept.{modulesOf, placeBy}
+use Rattle.scope.specs.ScopeValue.{modulesOf, placeBy}
 use Rattle.scope.proofs.Laws.{number-below, gen-known, gen-refused}
-use Rattle.scope.proofs.KeptLaws.{modules-length, modules-added, found-number}
+use Rattle.scope.proofs.ScopeValueLaws.{modules-length, modules-added, found-number}
 use Rattle.scope.proofs.Scope.gen_id.Statement.{statement}
 use Rattle.scope.proofs.Scope.gen_id.Tie as tie
 
@@ -24,7 +24,10 @@ numbered-requires c κs =
     let s = c .before .before .before .before .before .before .before .args .t1 in
     let f = c .before .before .before .before .before .before .before .args .file in
     let files = length-unmapped _ (s .files) 256 (c .before .before .before .before .before .before .before .good .0 .1 .1 .1 .0 .1 .0 .1) in
-    let number = found-number s (f .0) (c .before .before .before .before .before .before .counted .result) (c .before .before .before .find-file .result) files (c .before .before .before .before .before .before .counted .ensures .0) (c .before .before .before .find-file .ensures) ∙ ap placeBy (c .before .i .given .1) in
+    let number =
+    found-number s (f .0) (c .before .before .before .before .before .before .counted .result) (c .before .before .before .find-file .result)
+    files (c .before .before .before .before .before .before .counted .ensures .0) (c .before .before .before .find-file .ensures)
+    ∙ ap placeBy (c .before .i .given .1) in
     let below = number-below (f .0) (modulesOf s) number in
     let count = modules-length s in
     omega arith
@@ -49,7 +52,10 @@ returns c =
     let s = c .before .before .before .before .before .before .before .before .args .t1 in
     let f = c .before .before .before .before .before .before .before .before .args .file in
     let files = length-unmapped _ (s .files) 256 (c .before .before .before .before .before .before .before .before .good .0 .1 .1 .1 .0 .1 .0 .1) in
-    let number = found-number s (f .0) (c .before .before .before .before .before .before .before .counted .result) (c .before .before .before .before .find-file .result) files (c .before .before .before .before .before .before .before .counted .ensures .0) (c .before .before .before .before .find-file .ensures) ∙ ap placeBy (c .before .before .i .given .1) in
+    let number =
+    found-number s (f .0) (c .before .before .before .before .before .before .before .counted .result)
+    (c .before .before .before .before .find-file .result) files (c .before .before .before .before .before .before .before .counted .ensures .0)
+    (c .before .before .before .before .find-file .ensures) ∙ ap placeBy (c .before .before .i .given .1) in
     c .numbered .ensures ∙ sym (gen-known f (modulesOf s) number)
 
 returns-2 : tie.Need-returns-2
@@ -57,15 +63,26 @@ returns-2 c =
     let s = c .before .before .before .before .before .before .before .before .before .args .t1 in
     let f = c .before .before .before .before .before .before .before .before .before .args .file in
     let files = length-unmapped _ (s .files) 256 (c .before .before .before .before .before .before .before .before .before .good .0 .1 .1 .1 .0 .1 .0 .1) in
-    let number = found-number s (f .0) (c .before .before .before .before .before .before .before .before .counted .result) (c .before .before .before .before .before .find-file .result) files (c .before .before .before .before .before .before .before .before .counted .ensures .0) (c .before .before .before .before .before .find-file .ensures) ∙ ap placeBy (c .before .before .before .enum-told .given .1) in
-    c .numbered2 .ensures ∙ modules-added s (c .before .add .result) f (c .before .before .before .before .before .before .before .before .counted .result) (c .before .before .before .before .before .before .before .before .counted .ensures .0) (c .before .before .if1 .taken) number (c .before .add .ensures)
+    let number =
+    found-number s (f .0) (c .before .before .before .before .before .before .before .before .counted .result)
+    (c .before .before .before .before .before .find-file .result) files
+    (c .before .before .before .before .before .before .before .before .counted .ensures .0)
+    (c .before .before .before .before .before .find-file .ensures) ∙ ap placeBy (c .before .before .before .enum-told .given .1) in
+    c .numbered2 .ensures
+    ∙ modules-added s (c .before .add .result) f (c .before .before .before .before .before .before .before .before .counted .result)
+    (c .before .before .before .before .before .before .before .before .counted .ensures .0) (c .before .before .if1 .taken) number
+    (c .before .add .ensures)
 
 returns-3 : tie.Need-returns-3
 returns-3 c =
     let s = c .before .before .before .before .before .before .before .before .before .args .t1 in
     let f = c .before .before .before .before .before .before .before .before .before .args .file in
     let files = length-unmapped _ (s .files) 256 (c .before .before .before .before .before .before .before .before .before .good .0 .1 .1 .1 .0 .1 .0 .1) in
-    let number = found-number s (f .0) (c .before .before .before .before .before .before .before .before .counted .result) (c .before .before .before .before .before .find-file .result) files (c .before .before .before .before .before .before .before .before .counted .ensures .0) (c .before .before .before .before .before .find-file .ensures) ∙ ap placeBy (c .before .before .before .enum-told .given .1) in
+    let number =
+    found-number s (f .0) (c .before .before .before .before .before .before .before .before .counted .result)
+    (c .before .before .before .before .before .find-file .result) files
+    (c .before .before .before .before .before .before .before .before .counted .ensures .0)
+    (c .before .before .before .before .before .find-file .ensures) ∙ ap placeBy (c .before .before .before .enum-told .given .1) in
     let count = modules-length s in
     cc (gen-refused f (modulesOf s) number (omega arith))
 

@@ -5,8 +5,8 @@ use native.Mathlib.Omega.{arith}
 use borrow.Author.Needs.{needs}
 use lib.ListN.{length, drop}
 use Rattle.scope.specs.Modules.{filesIn, requestAll}
-use Rattle.scope.specs.Kept.{modulesOf}
-use Rattle.scope.proofs.KeptLaws.{list-goes-on, list-stops, list-ends}
+use Rattle.scope.specs.ScopeValue.{modulesOf}
+use Rattle.scope.proofs.ScopeValueLaws.{list-goes-on, list-stops, list-ends}
 use Rattle.scope.proofs.Scope.gen_ids.Statement.{statement}
 use Rattle.scope.proofs.Scope.gen_ids.Tie as tie
 
@@ -53,7 +53,15 @@ enum-told-2 : tie.Need-enum-told-2 Inv-loop μ-loop
 enum-told-2 c = search needs
 
 returns : tie.Need-returns Inv-loop μ-loop
-returns c = sym (c .before .before .before .before .before .before .before .before .before .loop .inv .0 ∙ list-stops (c .before .before .before .before .before .before .before .before .before .before .before .args .files .now) (c .before .before .before .before .before .before .before .before .before .loop .i) (record { 0 = c .before .before .before .before .before .before .wide .result * 256 + c .before .before .before .before .wide2 .result }) (modulesOf (c .before .before .before .before .before .before .before .before .before .loop .self)) (c .before .before .before .gen-id .result) (omega arith) (omega arith) (c .before .before .before .gen-id .ensures) (c .enum-told2 .given .1))
+returns c =
+    let c3 = c .before .before .before in
+    let c4 = c3 .before in
+    let c6 = c4 .before .before in
+    let c9 = c6 .before .before .before in
+    let c11 = c9 .before .before in
+    sym (c9 .loop .inv .0
+    ∙ list-stops (c11 .args .files .now) (c9 .loop .i) (record { 0 = c6 .wide .result * 256 + c4 .wide2 .result }) (modulesOf (c9 .loop .self))
+    (c3 .gen-id .result) (omega arith) (omega arith) (c3 .gen-id .ensures) (c .enum-told2 .given .1))
 
 add-i : tie.Need-add-i Inv-loop μ-loop
 add-i c = omega arith
@@ -62,7 +70,17 @@ loop-less : tie.Need-loop-less Inv-loop μ-loop
 loop-less c = omega arith
 
 loop-again : tie.Need-loop-again Inv-loop μ-loop
-loop-again c = (c .before .before .before .before .before .before .before .before .before .loop .inv .0 ∙ list-goes-on (c .before .before .before .before .before .before .before .before .before .before .before .args .files .now) (c .before .before .before .before .before .before .before .before .before .loop .i) (record { 0 = c .before .before .before .before .before .before .wide .result * 256 + c .before .before .before .before .wide2 .result }) (modulesOf (c .before .before .before .before .before .before .before .before .before .loop .self)) (c .before .before .before .gen-id .result) (omega arith) (omega arith) (c .before .before .before .gen-id .ensures) (c .enum-told .given .1), omega arith)
+loop-again c =
+    let c3 = c .before .before .before in
+    let c4 = c3 .before in
+    let c6 = c4 .before .before in
+    let c9 = c6 .before .before .before in
+    let c11 = c9 .before .before in (
+      c9 .loop .inv .0
+          ∙ list-goes-on (c11 .args .files .now) (c9 .loop .i) (record { 0 = c6 .wide .result * 256 + c4 .wide2 .result }) (modulesOf (c9 .loop .self))
+          (c3 .gen-id .result) (omega arith) (omega arith) (c3 .gen-id .ensures) (c .enum-told .given .1),
+      omega arith,
+    )
 
 returns-2 : tie.Need-returns-2 Inv-loop μ-loop
 returns-2 c = sym (c .before .loop .inv .0 ∙ list-ends (c .before .before .before .args .files .now) (c .before .loop .i) (modulesOf (c .before .loop .self)) (omega arith))

@@ -1,6 +1,6 @@
 -- `scope::Scope::new` meets its contract.
 use mathlib.Core.Path.{refl}
-use Rattle.scope.specs.Kept.{modulesFrom, modulesOf}
+use Rattle.scope.specs.ScopeValue.{modulesFrom, modulesOf}
 use Rattle.scope.proofs.Scope.new.Statement.{statement}
 use Rattle.scope.proofs.Scope.new.Tie as tie
 

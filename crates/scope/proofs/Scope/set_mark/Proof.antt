@@ -2,9 +2,9 @@
 use mathlib.Core.Path.{sym}
 use native.Mathlib.Omega.{arith}
 use borrow.Author.Needs.{length-unmapped, needs}
-use Rattle.scope.specs.Kept.{modulesOf}
+use Rattle.scope.specs.ScopeValue.{modulesOf}
 use Rattle.scope.proofs.Laws.{marking-given, marking-refused}
-use Rattle.scope.proofs.KeptLaws.{modules-length, modules-set}
+use Rattle.scope.proofs.ScopeValueLaws.{modules-length, modules-set}
 use Rattle.scope.proofs.Scope.set_mark.Statement.{statement}
 use Rattle.scope.proofs.Scope.set_mark.Tie as tie
 
@@ -20,11 +20,19 @@ put-mark-requires c κs = search needs
 returns : tie.Need-returns
 returns c =
     let l = modules-length (c .before .before .before .before .args .self) in
-    let m = modules-set (c .before .before .before .before .args .self) (c .before .before .before .before .args .kind) (c .before .before .before .before .args .id .0) (length-unmapped _ ((c .before .before .before .before .args .self) .marks) 1024 (c .before .before .before .before .good .0 .1 .1 .1 .1 .0 .1 .0 .1)) (omega arith) in
-    rw (c .put-mark .ensures, m) (sym (marking-given (c .before .before .before .before .args .kind) (c .before .before .before .before .args .id) (modulesOf (c .before .before .before .before .args .self)) (omega arith)))
+    let m =
+    modules-set (c .before .before .before .before .args .self) (c .before .before .before .before .args .kind)
+    (c .before .before .before .before .args .id .0)
+    (length-unmapped _ ((c .before .before .before .before .args .self) .marks) 1024
+    (c .before .before .before .before .good .0 .1 .1 .1 .1 .0 .1 .0 .1)) (omega arith) in
+    rw (c .put-mark .ensures, m)
+    (sym (marking-given (c .before .before .before .before .args .kind) (c .before .before .before .before .args .id)
+    (modulesOf (c .before .before .before .before .args .self)) (omega arith)))
 
 returns-2 : tie.Need-returns-2
-returns-2 c = let l = modules-length (c .before .before .before .args .self) in sym (marking-refused (c .before .before .before .args .kind) (c .before .before .before .args .id) (modulesOf (c .before .before .before .args .self)) (omega arith))
+returns-2 c =
+    let c3 = c .before .before .before in
+    let l = modules-length (c3 .args .self) in sym (marking-refused (c3 .args .kind) (c3 .args .id) (modulesOf (c3 .args .self)) (omega arith))
 
 pub set-mark-spec : {M : Type 1} → statement M
 set-mark-spec = tie.close (tie.spec cast-n counted-requires put-mark-requires returns returns-2)

@@ -4,9 +4,9 @@ use Prim.Native.Nat.{_≤_, _-_, _+_}
 use native.Mathlib.Omega.{arith}
 use borrow.Author.Needs.{needs}
 use lib.ListN.{length-set}
-use Rattle.scope.specs.Kept.{modulesFrom, modulesIn, Rewrites}
+use Rattle.scope.specs.ScopeValue.{modulesFrom, modulesIn, Rewrites}
 use Rattle.scope.proofs.Laws.{rewrites-none, rewrites-set}
-use Rattle.scope.proofs.KeptLaws.{cells-put, modules-length, modules-first}
+use Rattle.scope.proofs.ScopeValueLaws.{cells-put, modules-length, modules-first}
 use Rattle.scope.proofs.Scope.to_cells.Statement.{statement}
 use Rattle.scope.proofs.Scope.to_cells.Tie as tie
 
@@ -87,7 +87,23 @@ loop-less : tie.Need-loop-less Inv-loop μ-loop
 loop-less c = omega arith
 
 loop-again : tie.Need-loop-again Inv-loop μ-loop
-loop-again c = (cells-put (c .before .before .before .before .before .before .before .before .before .before .before .before .loop .cells) (c .before .before .before .before .before .before .before .before .before .before .before .before .before .before .before .args .t1 .files) (c .before .before .before .before .before .before .before .before .before .before .before .before .before .before .before .args .t1 .marks) (c .before .before .before .before .before .before .before .before .before .before .before .before .before .before .before .args .base) (c .before .before .before .before .before .before .before .before .before .before .before .before .loop .k) (c .before .before .before .before .before .wide-file .result) (c .four-bits .result) (c .before .before .before .before .before .before .before .before .before .before .slot .result) (c .before .before .before .before .before .before .before .before .before .slot2 .result) (c .before .before .before .before .before .before .before .before .slot3 .result) (c .before .before .before .before .before .before .before .slot4 .result) (omega arith) (c .before .before .before .before .before .wide-file .ensures .0) (c .before .before .before .before .before .wide-file .ensures .1) (c .four-bits .ensures .0) (c .four-bits .ensures .1) (c .four-bits .ensures .2) (c .four-bits .ensures .3) (c .before .before .before .before .before .before .before .before .before .before .slot .ensures .0) (c .before .before .before .before .before .before .before .before .before .slot2 .ensures .0) (c .before .before .before .before .before .before .before .before .slot3 .ensures .0) (c .before .before .before .before .before .before .before .slot4 .ensures .0) (c .before .before .before .before .before .before .before .before .before .before .before .before .loop .inv .0), omega arith, rewrites-set _ _ (omega arith) (omega arith) (rewrites-set _ _ (omega arith) (omega arith) (c .before .before .before .before .before .before .before .before .before .before .before .before .loop .inv .2)))
+loop-again c =
+    let c5 = c .before .before .before .before .before in
+    let c7 = c5 .before .before in
+    let c8 = c7 .before in
+    let c9 = c8 .before in
+    let c10 = c9 .before in
+    let c12 = c10 .before .before in
+    let c15 = c12 .before .before .before in (
+      cells-put (c12 .loop .cells) (c15 .args .t1 .files) (c15 .args .t1 .marks) (c15 .args .base) (c12 .loop .k) (c5 .wide-file .result)
+          (c .four-bits .result) (c10 .slot .result) (c9 .slot2 .result) (c8 .slot3 .result) (c7 .slot4 .result) (omega arith)
+          (c5 .wide-file .ensures .0) (c5 .wide-file .ensures .1) (c .four-bits .ensures .0) (c .four-bits .ensures .1) (c .four-bits .ensures .2)
+          (c .four-bits .ensures .3) (c10 .slot .ensures .0) (c9 .slot2 .ensures .0) (c8 .slot3 .ensures .0) (c7 .slot4 .ensures .0)
+          (c12 .loop .inv .0),
+      omega arith,
+      rewrites-set _ _ (omega arith) (omega arith)
+          (rewrites-set _ _ (omega arith) (omega arith) (c12 .loop .inv .2)),
+    )
 
 same-length : tie.Need-same-length Inv-loop μ-loop
 same-length c = omega arith
@@ -95,8 +111,14 @@ same-length c = omega arith
 returns : tie.Need-returns Inv-loop μ-loop
 returns c =
     let l = modules-length (c .before .before .before .before .args .t1) in
-    let e : c .before .loop .k ≡ c .before .before .counted .result = omega arith in
-    (omega arith, c .before .before .counted .ensures .1, rw e at (c .before .loop .inv .0) ∙ modules-first (c .before .before .before .before .args .t1) (c .before .before .counted .result) (c .before .before .counted .ensures .0), c .before .loop .inv .2)
+    let e : c .before .loop .k ≡ c .before .before .counted .result = omega arith in (
+      omega arith,
+      c .before .before .counted .ensures .1,
+      rw e at (c .before .loop .inv .0)
+          ∙ modules-first (c .before .before .before .before .args .t1) (c .before .before .counted .result) (c .before .before .counted .ensures .0),
+      c
+          .before .loop .inv .2,
+    )
 
 pub to-cells-spec : {M : Type 1} → statement M
 to-cells-spec =

@@ -6,7 +6,7 @@ use mathlib.Core.Option.{some}
 use Rattle.scope.specs.declared.Mark.the-variants.{Stored, Wrapping}
 use Rattle.scope.specs.Id.{mod-atom, atom}
 use Rattle.scope.specs.Modules.{done, esmId}
-use Rattle.scope.specs.Kept.{modulesOf, readBy}
+use Rattle.scope.specs.ScopeValue.{modulesOf, readBy}
 use Rattle.scope.proofs.Laws.{esm-read, esm-refused}
 use borrow.Author.Needs.{needs}
 use Rattle.scope.proofs.Scope.wrapped_esm_id.Statement.{statement}
@@ -22,7 +22,9 @@ enum-told : tie.Need-enum-told
 enum-told c = search needs
 
 returns : tie.Need-returns
-returns c = sym (esm-refused Wrapping (c .before .before .before .args .id) (modulesOf (c .before .before .before .args .self)) (sym (c .before .before .should-be-wrapped-with-a-fn .ensures) ∙ ap readBy (c .enum-told .given .1)))
+returns c =
+    let c3 = c .before .before .before in
+    sym (esm-refused Wrapping (c3 .args .id) (modulesOf (c3 .args .self)) (sym (c .before .before .should-be-wrapped-with-a-fn .ensures) ∙ ap readBy (c .enum-told .given .1)))
 
 is-stored-requires : tie.Need-is-stored-requires
 is-stored-requires c κs = search needs
@@ -34,7 +36,9 @@ enum-told-2 : tie.Need-enum-told-2
 enum-told-2 c = search needs
 
 returns-2 : tie.Need-returns-2
-returns-2 c = sym (esm-refused Stored (c .before .before .before .before .before .before .before .args .id) (modulesOf (c .before .before .before .before .before .before .before .args .self)) (sym (c .before .before .is-stored .ensures) ∙ ap readBy (c .enum-told2 .given .1)))
+returns-2 c =
+    let c7 = c .before .before .before .before .before .before .before in
+    sym (esm-refused Stored (c7 .args .id) (modulesOf (c7 .args .self)) (sym (c .before .before .is-stored .ensures) ∙ ap readBy (c .enum-told2 .given .1)))
 
 export-ctxt-requires : tie.Need-export-ctxt-requires
 export-ctxt-requires c κs = search needs
@@ -44,17 +48,21 @@ returns-3 c =
     let n = c .before .before .before .before .before .before .before .before .before .before .before .args .id in
     let w = c .before .before .before .before .before .before .before .before .wrapping .given .0 .0 in
     let v = c .before .before .before .before .stored .given .0 .0 in
-    let wrapping = sym (c .before .before .before .before .before .before .before .before .before .before .should-be-wrapped-with-a-fn .ensures) ∙ ap readBy (c .before .before .before .before .before .before .before .before .wrapping .given .1) in
+    let wrapping = sym (c .before .before .before .before .before .before .before .before .before .before .should-be-wrapped-with-a-fn .ensures)
+    ∙ ap readBy (c .before .before .before .before .before .before .before .before .wrapping .given .1) in
     let stored = sym (c .before .before .before .before .before .before .is-stored .ensures) ∙ ap readBy (c .before .before .before .before .stored .given .1) in
     let read = esm-read n (modulesOf (c .before .before .before .before .before .before .before .before .before .before .before .args .self)) w v wrapping stored in
-    sym (read ∙ ap (λ (b : Bool). done (esmId b v n)) (c .before .before .if1 .taken) ∙ ap (λ (b : Bool). done (esmId true b n)) (c .before .if2 .taken) ∙ ap (λ (x : SyntaxContext). done (some (record { 0 = atom mod-atom; 1 = x }))) (sym (c .export-ctxt .ensures)))
+    sym (read ∙ ap (λ (b : Bool). done (esmId b v n)) (c .before .before .if1 .taken)
+    ∙ ap (λ (b : Bool). done (esmId true b n)) (c .before .if2 .taken)
+    ∙ ap (λ (x : SyntaxContext). done (some (record { 0 = atom mod-atom; 1 = x }))) (sym (c .export-ctxt .ensures)))
 
 returns-4 : tie.Need-returns-4
 returns-4 c =
     let n = c .before .before .before .before .before .before .before .before .before .before .args .id in
     let w = c .before .before .before .before .before .before .before .wrapping .given .0 .0 in
     let v = c .before .before .before .stored .given .0 .0 in
-    let wrapping = sym (c .before .before .before .before .before .before .before .before .before .should-be-wrapped-with-a-fn .ensures) ∙ ap readBy (c .before .before .before .before .before .before .before .wrapping .given .1) in
+    let wrapping = sym (c .before .before .before .before .before .before .before .before .before .should-be-wrapped-with-a-fn .ensures)
+    ∙ ap readBy (c .before .before .before .before .before .before .before .wrapping .given .1) in
     let stored = sym (c .before .before .before .before .before .is-stored .ensures) ∙ ap readBy (c .before .before .before .stored .given .1) in
     let read = esm-read n (modulesOf (c .before .before .before .before .before .before .before .before .before .before .args .self)) w v wrapping stored in
     sym (read ∙ ap (λ (b : Bool). done (esmId b v n)) (c .before .if1 .taken) ∙ ap (λ (b : Bool). done (esmId true b n)) (c .if2 .left))
@@ -64,7 +72,8 @@ returns-5 c =
     let n = c .before .before .before .before .before .before .before .before .before .args .id in
     let w = c .before .before .before .before .before .before .wrapping .given .0 .0 in
     let v = c .before .before .stored .given .0 .0 in
-    let wrapping = sym (c .before .before .before .before .before .before .before .before .should-be-wrapped-with-a-fn .ensures) ∙ ap readBy (c .before .before .before .before .before .before .wrapping .given .1) in
+    let wrapping = sym (c .before .before .before .before .before .before .before .before .should-be-wrapped-with-a-fn .ensures)
+    ∙ ap readBy (c .before .before .before .before .before .before .wrapping .given .1) in
     let stored = sym (c .before .before .before .before .is-stored .ensures) ∙ ap readBy (c .before .before .stored .given .1) in
     let read = esm-read n (modulesOf (c .before .before .before .before .before .before .before .before .before .args .self)) w v wrapping stored in
     sym (read ∙ ap (λ (b : Bool). done (esmId b v n)) (c .if1 .left))

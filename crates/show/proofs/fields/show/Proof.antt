@@ -44,7 +44,11 @@ returns-3 : tie.Need-returns-3 Inv-loop μ-loop
 returns-3 c = omega arith
 
 show-field-requires : tie.Need-show-field-requires Inv-loop μ-loop
-show-field-requires c κs = let w = subst (SpotIn (c .before .before .before .before .before .before .before .before .before .before .loop .at) (c .before .before .before .before .before .before .if1 .end)) (c .before .from .given .1) (c .before .before .before .spot-of .ensures) in omega arith
+show-field-requires c κs =
+    let c3 = c .before .before .before in
+    let c6 = c3 .before .before .before in
+    let c10 = c6 .before .before .before .before in
+    let w = subst (SpotIn (c10 .loop .at) (c6 .if1 .end)) (c .before .from .given .1) (c3 .spot-of .ensures) in omega arith
 
 add-depth : tie.Need-add-depth Inv-loop μ-loop
 add-depth c = omega arith
@@ -56,13 +60,23 @@ array-write-ends : tie.Need-array-write-ends Inv-loop μ-loop
 array-write-ends c = omega arith
 
 loop-less : tie.Need-loop-less Inv-loop μ-loop
-loop-less c = let w = subst (SpotIn (c .before .before .before .before .before .before .before .before .before .before .before .before .loop .at) (c .before .before .before .before .before .before .before .before .if1 .end)) (c .before .before .before .from .given .1) (c .before .before .before .before .before .spot-of .ensures) in omega arith
+loop-less c =
+    let c3 = c .before .before .before in
+    let c5 = c3 .before .before in
+    let c8 = c5 .before .before .before in
+    let c12 = c8 .before .before .before .before in
+    let w = subst (SpotIn (c12 .loop .at) (c8 .if1 .end)) (c3 .from .given .1) (c5 .spot-of .ensures) in omega arith
 
 loop-again : tie.Need-loop-again Inv-loop μ-loop
 loop-again c = omega arith
 
 loop-less-2 : tie.Need-loop-less-2 Inv-loop μ-loop
-loop-less-2 c = let w = subst (SpotIn (c .before .before .before .before .before .before .before .before .before .before .before .before .loop .at) (c .before .before .before .before .before .before .before .before .if1 .end)) (c .before .before .before .from .given .1) (c .before .before .before .before .before .spot-of .ensures) in omega arith
+loop-less-2 c =
+    let c3 = c .before .before .before in
+    let c5 = c3 .before .before in
+    let c8 = c5 .before .before .before in
+    let c12 = c8 .before .before .before .before in
+    let w = subst (SpotIn (c12 .loop .at) (c8 .if1 .end)) (c3 .from .given .1) (c5 .spot-of .ensures) in omega arith
 
 loop-again-2 : tie.Need-loop-again-2 Inv-loop μ-loop
 loop-again-2 c = omega arith

@@ -26,7 +26,12 @@ add-fixed-of : tie.Need-add-fixed-of
 add-fixed-of c = search needs
 
 fixed-of-requires : tie.Need-fixed-of-requires
-fixed-of-requires c κs = let x = subst (ReachIn (c .before .before .before .before .before .before .args .at + 3) (c .before .before .before .before .before .before .args .end)) (sym (c .before .before .before .before .extent .ensures) ∙ c .before .before .stop .given .1) (extent-in (c .before .before .before .before .before .before .args .s .now) (c .before .before .before .before .before .before .args .at) (c .before .before .before .before .before .before .args .end) (omega arith)) in omega arith
+fixed-of-requires c κs =
+    let c4 = c .before .before .before .before in
+    let c6 = c4 .before .before in
+    let x =
+    subst (ReachIn (c6 .args .at + 3) (c6 .args .end)) (sym (c4 .extent .ensures) ∙ c .before .before .stop .given .1)
+    (extent-in (c6 .args .s .now) (c6 .args .at) (c6 .args .end) (omega arith)) in omega arith
 
 enum-known-from : tie.Need-enum-known-from
 enum-known-from c = search needs
@@ -38,7 +43,15 @@ returns-2 : tie.Need-returns-2
 returns-2 c = search needs
 
 returns-3 : tie.Need-returns-3
-returns-3 c = let x = subst (ReachIn (c .before .before .before .before .before .before .before .before .before .before .args .at + 3) (c .before .before .before .before .before .before .before .before .before .before .args .end)) (sym (c .before .before .before .before .before .before .before .before .extent .ensures) ∙ c .before .before .before .before .before .before .stop .given .1) (extent-in (c .before .before .before .before .before .before .before .before .before .before .args .s .now) (c .before .before .before .before .before .before .before .before .before .before .args .at) (c .before .before .before .before .before .before .before .before .before .before .args .end) (omega arith)) in let y = subst (ReachIn (c .before .before .before .before .before .before .before .before .before .before .args .at + 3) (c .before .before .before .before .before .before .stop .given .0 .0)) (c .before .from .given .1) (c .before .before .before .fixed-of .ensures) in omega arith
+returns-3 c =
+    let c3 = c .before .before .before in
+    let c6 = c3 .before .before .before in
+    let c8 = c6 .before .before in
+    let c10 = c8 .before .before in
+    let x =
+    subst (ReachIn (c10 .args .at + 3) (c10 .args .end)) (sym (c8 .extent .ensures) ∙ c6 .stop .given .1)
+    (extent-in (c10 .args .s .now) (c10 .args .at) (c10 .args .end) (omega arith)) in let y =
+    subst (ReachIn (c10 .args .at + 3) (c6 .stop .given .0 .0)) (c .before .from .given .1) (c3 .fixed-of .ensures) in omega arith
 
 pub spot-of-spec : {M : Type 1} → statement M
 spot-of-spec =

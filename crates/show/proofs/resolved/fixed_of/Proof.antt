@@ -28,7 +28,9 @@ returns-4 : tie.Need-returns-4
 returns-4 c = search needs
 
 returns-5 : tie.Need-returns-5
-returns-5 c = subst (ReachIn (c .before .before .before .args .at) (c .before .before .before .args .stop)) (sym (c .fixed .ensures)) (fixed-in (c .before .before .before .args .s .now) (c .before .before .before .args .tag) (c .before .before .before .args .at) (c .before .before .before .args .stop) (omega arith))
+returns-5 c =
+    let c3 = c .before .before .before in
+    subst (ReachIn (c3 .args .at) (c3 .args .stop)) (sym (c .fixed .ensures)) (fixed-in (c3 .args .s .now) (c3 .args .tag) (c3 .args .at) (c3 .args .stop) (omega arith))
 
 pub fixed-of-spec : {M : Type 1} → statement M
 fixed-of-spec =

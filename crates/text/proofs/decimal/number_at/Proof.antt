@@ -22,10 +22,16 @@ returns : tie.Need-returns
 returns c = subst (λ (x : Span). NumberIn x (c .before .before .before .before .args .s .now) Bad) (sym (sym (c .before .before .field .ensures .0) ∙ c .enum-told .given .1)) refl
 
 read-decimal-requires : tie.Need-read-decimal-requires
-read-decimal-requires c κs = let w = subst (SpanIn 0 (c .before .before .before .before .before .args .to)) (c .before .a .given .1) (c .before .before .before .field .ensures .1) in omega arith
+read-decimal-requires c κs =
+    let c3 = c .before .before .before in
+    let c5 = c3 .before .before in
+    let w = subst (SpanIn 0 (c5 .args .to)) (c .before .a .given .1) (c3 .field .ensures .1) in omega arith
 
 returns-2 : tie.Need-returns-2
-returns-2 c = subst (λ (x : Span). NumberIn x (c .before .before .before .before .before .before .args .s .now) (c .read-decimal .result)) (sym (sym (c .before .before .before .before .field .ensures .0) ∙ c .before .before .a .given .1)) (c .read-decimal .ensures)
+returns-2 c =
+    let c4 = c .before .before .before .before in
+    let c6 = c4 .before .before in
+    subst (λ (x : Span). NumberIn x (c6 .args .s .now) (c .read-decimal .result)) (sym (sym (c4 .field .ensures .0) ∙ c .before .before .a .given .1)) (c .read-decimal .ensures)
 
 pub number-at-spec : {M : Type 1} → statement M
 number-at-spec =

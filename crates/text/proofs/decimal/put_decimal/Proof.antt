@@ -20,7 +20,9 @@ same-length : tie.Need-same-length
 same-length c = search needs
 
 returns : tie.Need-returns
-returns c = record { count = c .before .before .before .before .before .decimal .result; fewest = c .before .before .before .before .before .decimal .ensures .1 .0; written = written-as (c .before .before .before .before .before .decimal .ensures .1 .1) (c .before .before .put-all .ensures) }
+returns c =
+    let c5 = c .before .before .before .before .before in
+    record { count = c5 .decimal .result; fewest = c5 .decimal .ensures .1 .0; written = written-as (c5 .decimal .ensures .1 .1) (c .before .before .put-all .ensures) }
 
 pub put-decimal-spec : {M : Type 1} → statement M
 put-decimal-spec =

@@ -32,7 +32,9 @@ returns-2 : tie.Need-returns-2 Inv-loop μ-loop
 returns-2 c = λ n short e. omega arith
 
 loop-holds : tie.Need-loop-holds Inv-loop μ-loop
-loop-holds c = number-none (c .before .before .before .args .s .now) (c .before .before .before .args .from) (c .before .before .before .args .to) (omega arith) (omega arith)
+loop-holds c =
+    let c3 = c .before .before .before in
+    number-none (c3 .args .s .now) (c3 .args .from) (c3 .args .to) (omega arith) (omega arith)
 
 shared-slice-read-digit-of : tie.Need-shared-slice-read-digit-of Inv-loop μ-loop
 shared-slice-read-digit-of c = omega arith
@@ -49,13 +51,16 @@ enum-told c = search needs
 returns-3 : tie.Need-returns-3 Inv-loop μ-loop
 returns-3 c =
     let a = c .before .before .before .before .before .before .before .before .before .args in let l = c .before .before .before .before .before .loop in
-    number-bad (a .s .now) (a .from) (a .to) (c .before .before .before .before .before .before .before .before .before .pre .1) (l .i) (l .inv .2) (c .before .before .before .before .loop-test .taken) (other-no-decimal (subst (DigitIs _) (c .enum-told .given .1) (c .before .before .digit-of .ensures)))
+    number-bad (a .s .now) (a .from) (a .to) (c .before .before .before .before .before .before .before .before .before .pre .1) (l .i) (l .inv .2)
+    (c .before .before .before .before .loop-test .taken)
+    (other-no-decimal (subst (DigitIs _) (c .enum-told .given .1) (c .before .before .digit-of .ensures)))
 
 returns-4 : tie.Need-returns-4 Inv-loop μ-loop
 returns-4 c =
     let a = c .before .before .before .before .before .before .before .before .before .before .before .args in let l = c .before .before .before .before .before .before .before .loop in
     let d = subst (DigitIs _) (c .before .before .v .given .1) (c .before .before .before .before .digit-of .ensures) in
-    number-bad (a .s .now) (a .from) (a .to) (c .before .before .before .before .before .before .before .before .before .before .before .pre .1) (l .i) (l .inv .2) (c .before .before .before .before .before .before .loop-test .taken) (high-no-decimal d (c .if3 .taken))
+    number-bad (a .s .now) (a .from) (a .to) (c .before .before .before .before .before .before .before .before .before .before .before .pre .1)
+    (l .i) (l .inv .2) (c .before .before .before .before .before .before .loop-test .taken) (high-no-decimal d (c .if3 .taken))
 
 mul-n : tie.Need-mul-n Inv-loop μ-loop
 mul-n c =

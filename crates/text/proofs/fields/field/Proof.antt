@@ -21,13 +21,21 @@ find-requires c κs = omega arith
 
 returns : tie.Need-returns Inv-loop μ-loop
 returns c =
-    let l = c .before .before .loop in let f = c .before .find in
-    (sym (l .inv .0 ∙ field-found (c .before .before .before .before .args .s .now) (l .at) (c .before .before .before .before .args .to) (f .result) (f .ensures .0) (l .left) (c .if1 .taken)), (omega arith, omega arith, omega arith))
+    let l = c .before .before .loop in let f = c .before .find in (
+      sym (l .inv .0
+          ∙ field-found (c .before .before .before .before .args .s .now) (l .at) (c .before .before .before .before .args .to) (f .result)
+          (f .ensures .0) (l .left) (c .if1 .taken)),
+      (omega arith, omega arith, omega arith),
+    )
 
 returns-2 : tie.Need-returns-2 Inv-loop μ-loop
 returns-2 c =
-    let l = c .before .before .before .loop in let f = c .before .before .find in
-    (sym (l .inv .0 ∙ field-missing (c .before .before .before .before .before .args .s .now) (l .at) (c .before .before .before .before .before .args .to) (f .result) (f .ensures .0) (l .left) (c .before .if1 .left) (c .if2 .taken)), tt)
+    let l = c .before .before .before .loop in let f = c .before .before .find in (
+      sym (l .inv .0
+          ∙ field-missing (c .before .before .before .before .before .args .s .now) (l .at) (c .before .before .before .before .before .args .to)
+          (f .result) (f .ensures .0) (l .left) (c .before .if1 .left) (c .if2 .taken)),
+      tt,
+    )
 
 add-at : tie.Need-add-at Inv-loop μ-loop
 add-at c = omega arith
@@ -40,8 +48,13 @@ loop-less c = omega arith
 
 loop-again : tie.Need-loop-again Inv-loop μ-loop
 loop-again c =
-    let l = c .before .before .before .loop in let f = c .before .before .find in
-    (l .inv .0 ∙ field-next (c .before .before .before .before .before .args .s .now) (l .at) (c .before .before .before .before .before .args .to) (f .result) (f .ensures .0) (l .left) (c .before .if1 .left) (c .if2 .left), omega arith, omega arith)
+    let l = c .before .before .before .loop in let f = c .before .before .find in (
+      l .inv .0
+          ∙ field-next (c .before .before .before .before .before .args .s .now) (l .at) (c .before .before .before .before .before .args .to)
+          (f .result) (f .ensures .0) (l .left) (c .before .if1 .left) (c .if2 .left),
+      omega arith,
+      omega arith,
+    )
 
 pub field-spec : {M : Type 1} → statement M
 field-spec =

@@ -13,7 +13,10 @@ same-length : tie.Need-same-length
 same-length c = search needs
 
 returns : tie.Need-returns
-returns c = written-as (sym (spelt-none (c .before .before .before .before .before .before .before .args .bytes .now) (c .before .before .before .before .if1 .taken))) (c .before .before .put .ensures)
+returns c =
+    let c4 = c .before .before .before .before in
+    let c7 = c4 .before .before .before in
+    written-as (sym (spelt-none (c7 .args .bytes .now) (c4 .if1 .taken))) (c .before .before .put .ensures)
 
 put-hex-requires : tie.Need-put-hex-requires
 put-hex-requires c κs = search needs
@@ -22,7 +25,10 @@ same-length-2 : tie.Need-same-length-2
 same-length-2 c = search needs
 
 returns-2 : tie.Need-returns-2
-returns-2 c = written-as (sym (spelt-some (c .before .before .before .before .before .before .before .args .bytes .now) (c .before .before .before .before .if1 .left))) (c .before .before .put-hex .ensures)
+returns-2 c =
+    let c4 = c .before .before .before .before in
+    let c7 = c4 .before .before .before in
+    written-as (sym (spelt-some (c7 .args .bytes .now) (c4 .if1 .left))) (c .before .before .put-hex .ensures)
 
 pub put-bytes-spec : {M : Type 1} → statement M
 put-bytes-spec =

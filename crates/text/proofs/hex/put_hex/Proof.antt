@@ -54,7 +54,12 @@ loop-again c =
     let q = c .before .before .put2 in
     let n = written-length (p .ensures) in
     let m = written-length (q .ensures) in (
-      λ k r w. l .inv .0 k r (written-pair (c .before .before .before .before .before .before .before .before .before .before .before .before .before .before .before .args .bytes .now) (l .i) (c .before .before .before .before .before .before .before .before .before .before .before .loop-test .taken) (c .before .before .before .before .before .before .before .before .glyph-of .ensures) (p .ensures) (c .before .before .before .glyph-of2 .ensures) (q .ensures) w),
+      λ k r w. l .inv .0 k r
+          (written-pair
+          (c .before .before .before .before .before .before .before .before .before .before .before .before .before .before .before .args .bytes
+          .now) (l .i) (c .before .before .before .before .before .before .before .before .before .before .before .loop-test .taken)
+          (c .before .before .before .before .before .before .before .before .glyph-of .ensures) (p .ensures)
+          (c .before .before .before .glyph-of2 .ensures) (q .ensures) w),
       omega (arith, p .ensures .next, q .ensures .next),
       omega arith,
       omega arith,

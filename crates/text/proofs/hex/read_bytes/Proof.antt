@@ -19,7 +19,8 @@ sub-if3 c = search needs
 returns-2 : tie.Need-returns-2
 returns-2 c =
     let a = c .before .before .before .before .before .before .args in
-    field-dash (a .s .now) (a .from) (a .to) (c .before .before .before .before .before .before .pre .1) (c .before .if2 .taken) (c .if3 .taken) _ _ (c .before .before .before .before .before .before .pre .2)
+    field-dash (a .s .now) (a .from) (a .to) (c .before .before .before .before .before .before .pre .1) (c .before .if2 .taken) (c .if3 .taken) _ _
+    (c .before .before .before .before .before .before .pre .2)
 
 returns-3 : tie.Need-returns-3
 returns-3 c =
@@ -36,7 +37,8 @@ returns-4 : tie.Need-returns-4
 returns-4 c =
     let a = c .before .before .before .before .before .before .before .before .before .args in
     let r = c .before .before .read-hex in
-    field-digits (a .s .now) (a .from) (a .to) (c .before .before .before .before .before .before .before .before .before .pre .1) (omega arith) (c .before .before .before .before .if2 .left) (a .out .now) (a .at) (r .result) _ (r .ensures)
+    field-digits (a .s .now) (a .from) (a .to) (c .before .before .before .before .before .before .before .before .before .pre .1) (omega arith)
+    (c .before .before .before .before .if2 .left) (a .out .now) (a .at) (r .result) _ (r .ensures)
 
 pub read-bytes-spec : {M : Type 1} → statement M
 read-bytes-spec =

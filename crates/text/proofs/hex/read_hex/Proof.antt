@@ -56,7 +56,9 @@ returns-2 : tie.Need-returns-2 Inv-loop μ-loop
 returns-2 c =
     let a = c .before .before .before .before .before .before .before .before .before .args in let l = c .before .before .before .before .before .before .loop in
     let d = subst (DigitIs _) (c .enum-told .given .1) (c .before .before .digit-of .ensures) in
-    l .inv .0 Bad (l .out) (hex-first (a .s .now) (l .i) (a .to) (c .before .before .before .before .before .before .before .before .before .pre .1) (c .before .before .before .before .before .loop-test .taken) d (l .out) (l .out) (l .o))
+    l .inv .0 Bad (l .out)
+    (hex-first (a .s .now) (l .i) (a .to) (c .before .before .before .before .before .before .before .before .before .pre .1)
+    (c .before .before .before .before .before .loop-test .taken) d (l .out) (l .out) (l .o))
 
 add-digit-of : tie.Need-add-digit-of Inv-loop μ-loop
 add-digit-of c = omega arith
@@ -74,28 +76,46 @@ enum-told-2 : tie.Need-enum-told-2 Inv-loop μ-loop
 enum-told-2 c = search needs
 
 same-length-3 : tie.Need-same-length-3 Inv-loop μ-loop
-same-length-3 c = c .before .before .before .before .before .before .before .before .before .before .before .loop .inv .4
+same-length-3 c =
+    let c11 = c .before .before .before .before .before .before .before .before .before .before .before in
+    c11 .loop .inv .4
 
 returns-3 : tie.Need-returns-3 Inv-loop μ-loop
 returns-3 c =
-    let a = c .before .before .before .before .before .before .before .before .before .before .before .before .before .before .args in let l = c .before .before .before .before .before .before .before .before .before .before .before .loop in
+    let a = c .before .before .before .before .before .before .before .before .before .before .before .before .before .before .args in let l =
+    c .before .before .before .before .before .before .before .before .before .before .before .loop in
     let d = subst (DigitIs _) (c .enum-told2 .given .1) (c .before .before .digit-of2 .ensures) in
-    l .inv .0 Bad (l .out) (hex-second (a .s .now) (l .i) (a .to) (c .before .before .before .before .before .before .before .before .before .before .before .before .before .before .pre .1) (omega arith) d (l .out) (l .out) (l .o))
+    l .inv .0 Bad (l .out)
+    (hex-second (a .s .now) (l .i) (a .to)
+    (c .before .before .before .before .before .before .before .before .before .before .before .before .before .before .pre .1) (omega arith) d
+    (l .out) (l .out) (l .o))
 
 same-length-4 : tie.Need-same-length-4 Inv-loop μ-loop
-same-length-4 c = c .before .before .before .before .before .before .before .before .before .before .before .before .before .loop .inv .4
+same-length-4 c =
+    let c13 = c .before .before .before .before .before .before .before .before .before .before .before .before .before in
+    c13 .loop .inv .4
 
 returns-4 : tie.Need-returns-4 Inv-loop μ-loop
 returns-4 c =
-    let a = c .before .before .before .before .before .before .before .before .before .before .before .before .before .before .before .before .args in let l = c .before .before .before .before .before .before .before .before .before .before .before .before .before .loop in
-    l .inv .0 Bad (l .out) (hex-full (a .s .now) (l .i) (a .to) (c .before .before .before .before .before .before .before .before .before .before .before .before .before .before .before .before .pre .1) (c .before .before .before .before .before .before .before .before .before .before .before .before .loop-test .taken) (l .out) (l .out) (l .o) (c .if2 .taken))
+    let a = c .before .before .before .before .before .before .before .before .before .before .before .before .before .before .before .before .args in
+    let l = c .before .before .before .before .before .before .before .before .before .before .before .before .before .loop in
+    l .inv .0 Bad (l .out)
+    (hex-full (a .s .now) (l .i) (a .to)
+    (c .before .before .before .before .before .before .before .before .before .before .before .before .before .before .before .before .pre .1)
+    (c .before .before .before .before .before .before .before .before .before .before .before .before .loop-test .taken) (l .out) (l .out) (l .o)
+    (c .if2 .taken))
 
 mul-out : tie.Need-mul-out Inv-loop μ-loop
-mul-out c = let h = subst (DigitIs _) (c .before .before .before .before .before .before .before .high .given .1) (c .before .before .before .before .before .before .before .before .before .digit-of .ensures) in omega (arith, h .0)
+mul-out c =
+    let c7 = c .before .before .before .before .before .before .before in
+    let c9 = c7 .before .before in
+    let h = subst (DigitIs _) (c7 .high .given .1) (c9 .digit-of .ensures) in omega (arith, h .0)
 
 add-out : tie.Need-add-out Inv-loop μ-loop
 add-out c =
-    let h = subst (DigitIs _) (c .before .before .before .before .before .before .before .high .given .1) (c .before .before .before .before .before .before .before .before .before .digit-of .ensures) in
+    let h =
+    subst (DigitIs _) (c .before .before .before .before .before .before .before .high .given .1)
+    (c .before .before .before .before .before .before .before .before .before .digit-of .ensures) in
     let w = subst (DigitIs _) (c .before .before .low .given .1) (c .before .before .before .before .digit-of2 .ensures) in
     omega (arith, h .0, w .0)
 
@@ -113,10 +133,16 @@ loop-less c = omega arith
 
 loop-again : tie.Need-loop-again Inv-loop μ-loop
 loop-again c =
-    let a = c .before .before .before .before .before .before .before .before .before .before .before .before .before .before .before .before .args in let l = c .before .before .before .before .before .before .before .before .before .before .before .before .before .loop in
-    let h = subst (DigitIs _) (c .before .before .before .before .before .before .before .high .given .1) (c .before .before .before .before .before .before .before .before .before .digit-of .ensures) in
+    let a = c .before .before .before .before .before .before .before .before .before .before .before .before .before .before .before .before .args in
+    let l = c .before .before .before .before .before .before .before .before .before .before .before .before .before .loop in
+    let h =
+    subst (DigitIs _) (c .before .before .before .before .before .before .before .high .given .1)
+    (c .before .before .before .before .before .before .before .before .before .digit-of .ensures) in
     let w = subst (DigitIs _) (c .before .before .low .given .1) (c .before .before .before .before .digit-of2 .ensures) in (
-      λ r k m. l .inv .0 r k (hex-more (a .s .now) (l .i) (a .to) (c .before .before .before .before .before .before .before .before .before .before .before .before .before .before .before .before .pre .1) (omega arith) h w (l .out) (l .o) (c .if2 .left) r k m),
+      λ r k m. l .inv .0 r k
+          (hex-more (a .s .now) (l .i) (a .to)
+          (c .before .before .before .before .before .before .before .before .before .before .before .before .before .before .before .before .pre .1)
+          (omega arith) h w (l .out) (l .o) (c .if2 .left) r k m),
       omega arith,
       omega arith,
       simp length-set (omega arith),

@@ -34,7 +34,10 @@ wide-requires-2 : tie.Need-wide-requires-2
 wide-requires-2 c κs = search needs
 
 add-n : tie.Need-add-n
-add-n c = omega (arith, c .before .before .before .before .before .shared-slice-known .given (c .before .before .before .before .before .before .args .at + 1), c .before .before .before .before .before .shared-slice-known .given (c .before .before .before .before .before .before .args .at + 2), c .before .before .wide .ensures, c .wide2 .ensures)
+add-n c =
+    let c5 = c .before .before .before .before .before in
+    let c6 = c5 .before in
+    omega (arith, c5 .shared-slice-known .given (c6 .args .at + 1), c5 .shared-slice-known .given (c6 .args .at + 2), c .before .before .wide .ensures, c .wide2 .ensures)
 
 add-skip : tie.Need-add-skip
 add-skip c = search needs
@@ -44,7 +47,10 @@ skip-requires c κs = search needs
 
 returns : tie.Need-returns
 unfolding extentAt lengthAt
-returns c = rw (le-leb _ _ (c .before .before .before .before .before .if1 .taken), sym (c .before .before .before .wide .ensures), sym (c .before .wide2 .ensures)) (c .skip .ensures)
+returns c =
+    let c3 = c .before .before .before in
+    let c5 = c3 .before .before in
+    rw (le-leb _ _ (c5 .if1 .taken), sym (c3 .wide .ensures), sym (c .before .wide2 .ensures)) (c .skip .ensures)
 
 returns-2 : tie.Need-returns-2
 unfolding extentAt

@@ -17,14 +17,20 @@ enum-known-b : tie.Need-enum-known-b
 enum-known-b c = search needs
 
 piece-end-requires-2 : tie.Need-piece-end-requires-2
-piece-end-requires-2 c κs = let r = subst (ReachIn (c .before .before .before .before .before .before .args .at) (c .before .before .before .before .before .before .args .stop)) (sym (c .before .before .before .piece-end .ensures) ∙ c .before .b .given .1) (piece-in _ _ _ _ (c .before .before .before .before .before .before .pre .0)) in omega arith
+piece-end-requires-2 c κs =
+    let c3 = c .before .before .before in
+    let c6 = c3 .before .before .before in
+    let r = subst (ReachIn (c6 .args .at) (c6 .args .stop)) (sym (c3 .piece-end .ensures) ∙ c .before .b .given .1) (piece-in _ _ _ _ (c6 .pre .0)) in omega arith
 
 enum-told : tie.Need-enum-told
 enum-told c = search needs
 
 returns : tie.Need-returns
 unfolding fixedAt thenPiece
-returns c = rw (sym (c .before .before .before .before .before .pieces-of .ensures), sym (c .before .before .before .before .piece-end .ensures) ∙ c .before .before .b .given .1) (c .piece-end2 .ensures)
+returns c =
+    let c4 = c .before .before .before .before in
+    let c5 = c4 .before in
+    rw (sym (c5 .pieces-of .ensures), sym (c4 .piece-end .ensures) ∙ c .before .before .b .given .1) (c .piece-end2 .ensures)
 
 returns-2 : tie.Need-returns-2
 unfolding fixedAt thenPiece

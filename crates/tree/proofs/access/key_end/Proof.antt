@@ -48,11 +48,33 @@ sub-if4 c = search needs
 
 returns-4 : tie.Need-returns-4
 unfolding keyAt
-returns-4 c = simp (le-ltb _ _ (c .before .before .before .before .before .before .before .if1 .left), le-ltb _ _ (c .before .before .before .before .before .if2 .left), le-ltb _ _ (c .before .before .before .if3 .left), le-leb _ _ (subst (λ (k : ℕ). k ≤ c .before .before .before .before .before .before .before .before .before .args .stop - (c .before .before .before .before .before .before .before .before .before .args .at + 3)) (c .before .wide .ensures) (c .if4 .taken)))
+returns-4 c =
+    let c3 = c .before .before .before in
+    let c5 = c3 .before .before in
+    let c7 = c5 .before .before in
+    let c9 = c7 .before .before in
+    simp (
+      le-ltb _ _ (c7 .if1 .left),
+      le-ltb _ _ (c5 .if2 .left),
+      le-ltb _ _ (c3 .if3 .left),
+      le-leb _ _
+          (subst (λ (k : ℕ). k ≤ c9 .args .stop - (c9 .args .at + 3)) (c .before .wide .ensures) (c .if4 .taken)),
+    )
 
 returns-5 : tie.Need-returns-5
 unfolding keyAt
-returns-5 c = simp (le-ltb _ _ (c .before .before .before .before .before .before .before .if1 .left), le-ltb _ _ (c .before .before .before .before .before .if2 .left), le-ltb _ _ (c .before .before .before .if3 .left), lt-leb _ _ (subst (λ (k : ℕ). c .before .before .before .before .before .before .before .before .before .args .stop - (c .before .before .before .before .before .before .before .before .before .args .at + 3) < k) (c .before .wide .ensures) (c .if4 .left)))
+returns-5 c =
+    let c3 = c .before .before .before in
+    let c5 = c3 .before .before in
+    let c7 = c5 .before .before in
+    let c9 = c7 .before .before in
+    simp (
+      le-ltb _ _ (c7 .if1 .left),
+      le-ltb _ _ (c5 .if2 .left),
+      le-ltb _ _ (c3 .if3 .left),
+      lt-leb _ _
+          (subst (λ (k : ℕ). c9 .args .stop - (c9 .args .at + 3) < k) (c .before .wide .ensures) (c .if4 .left)),
+    )
 
 pub key-end-spec : {M : Type 1} → statement M
 key-end-spec =

@@ -26,7 +26,10 @@ enum-told c = search needs
 
 returns : tie.Need-returns
 unfolding kindAt onChoice
-returns c = rw (lt-ltb _ _ (c .before .before .before .before .before .before .if1 .taken), sym (c .before .before .before .before .choice-of .ensures) ∙ c .before .before .v .given .1) (c .value-end .ensures)
+returns c =
+    let c4 = c .before .before .before .before in
+    let c6 = c4 .before .before in
+    rw (lt-ltb _ _ (c6 .if1 .taken), sym (c4 .choice-of .ensures) ∙ c .before .before .v .given .1) (c .value-end .ensures)
 
 returns-2 : tie.Need-returns-2
 unfolding kindAt onChoice

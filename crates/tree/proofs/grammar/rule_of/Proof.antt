@@ -116,7 +116,13 @@ returns-15 : tie.Need-returns-15
 returns-15 c = c .expression-rule .ensures ∙ sym (rule-expression _ (c .before .before .if5 .left) (omega arith))
 
 returns-16 : tie.Need-returns-16
-returns-16 c = c .parts-none .ensures ∙ sym (rule-other _ (λ h. ⊎-elim (λ w. omega arith) (λ v. ⊎-elim (λ w. omega arith) (λ u. ⊎-elim (λ w. omega arith) (λ w. omega arith) u) v) (c .before .if1 .came)) (λ h. ⊎-elim (λ w. omega arith) (λ v. ⊎-elim (λ w. omega arith) (λ u. ⊎-elim (λ w. omega arith) (λ w. omega arith) u) v) (c .before .if1 .came)) (λ h. ⊎-elim (λ w. omega arith) (λ v. ⊎-elim (λ w. omega arith) (λ u. ⊎-elim (λ w. omega arith) (λ w. omega arith) u) v) (c .before .if1 .came)) ∙ find-rest _ others parts0 Unit (c .before .before .match .rest) .1)
+returns-16 c = c .parts-none .ensures
+    ∙
+    sym (rule-other _
+    (λ h. ⊎-elim (λ w. omega arith) (λ v. ⊎-elim (λ w. omega arith) (λ u. ⊎-elim (λ w. omega arith) (λ w. omega arith) u) v) (c .before .if1 .came))
+    (λ h. ⊎-elim (λ w. omega arith) (λ v. ⊎-elim (λ w. omega arith) (λ u. ⊎-elim (λ w. omega arith) (λ w. omega arith) u) v) (c .before .if1 .came))
+    (λ h. ⊎-elim (λ w. omega arith) (λ v. ⊎-elim (λ w. omega arith) (λ u. ⊎-elim (λ w. omega arith) (λ w. omega arith) u) v) (c .before .if1 .came))
+    ∙ find-rest _ others parts0 Unit (c .before .before .match .rest) .1)
 
 pub rule-of-spec : {M : Type 1} → statement M
 rule-of-spec =

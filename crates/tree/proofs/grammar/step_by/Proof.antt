@@ -27,7 +27,13 @@ enum-told : tie.Need-enum-told Inv-loop μ-loop
 enum-told c = search needs
 
 returns : tie.Need-returns Inv-loop μ-loop
-returns c = sym (c .before .before .before .before .loop .inv ∙ step-more (c .before .before .before .before .loop .left) (c .before .before .before .before .loop .rule) (c .before .before .before .before .before .args .tag) (c .before .before .before .loop-test .taken) ∙ ap (λ (x : Fit). onFit x (c .before .before .before .before .loop .rule) (stepBy (c .before .before .before .before .loop .left - 1) (restOf (c .before .before .before .before .loop .rule)) (c .before .before .before .before .before .args .tag))) (sym (c .before .before .slot-fit .ensures) ∙ c .enum-told .given .1))
+returns c =
+    let c3 = c .before .before .before in
+    let c4 = c3 .before in
+    let c5 = c4 .before in
+    sym (c4 .loop .inv ∙ step-more (c4 .loop .left) (c4 .loop .rule) (c5 .args .tag) (c3 .loop-test .taken)
+    ∙ ap (λ (x : Fit). onFit x (c4 .loop .rule) (stepBy (c4 .loop .left - 1) (restOf (c4 .loop .rule)) (c5 .args .tag)))
+    (sym (c .before .before .slot-fit .ensures) ∙ c .enum-told .given .1))
 
 enum-told-2 : tie.Need-enum-told-2 Inv-loop μ-loop
 enum-told-2 c = search needs
@@ -36,13 +42,28 @@ rest-of-requires : tie.Need-rest-of-requires Inv-loop μ-loop
 rest-of-requires c κs = search needs
 
 returns-2 : tie.Need-returns-2 Inv-loop μ-loop
-returns-2 c = ap Go (c .rest-of .ensures) ∙ sym (c .before .before .before .before .before .loop .inv ∙ step-more (c .before .before .before .before .before .loop .left) (c .before .before .before .before .before .loop .rule) (c .before .before .before .before .before .before .args .tag) (c .before .before .before .before .loop-test .taken) ∙ ap (λ (x : Fit). onFit x (c .before .before .before .before .before .loop .rule) (stepBy (c .before .before .before .before .before .loop .left - 1) (restOf (c .before .before .before .before .before .loop .rule)) (c .before .before .before .before .before .before .args .tag))) (sym (c .before .before .before .slot-fit .ensures) ∙ c .before .enum-told2 .given .1))
+returns-2 c =
+    let c3 = c .before .before .before in
+    let c4 = c3 .before in
+    let c5 = c4 .before in
+    let c6 = c5 .before in
+    ap Go (c .rest-of .ensures)
+    ∙
+    sym (c5 .loop .inv ∙ step-more (c5 .loop .left) (c5 .loop .rule) (c6 .args .tag) (c4 .loop-test .taken)
+    ∙ ap (λ (x : Fit). onFit x (c5 .loop .rule) (stepBy (c5 .loop .left - 1) (restOf (c5 .loop .rule)) (c6 .args .tag)))
+    (sym (c3 .slot-fit .ensures) ∙ c .before .enum-told2 .given .1))
 
 enum-told-3 : tie.Need-enum-told-3 Inv-loop μ-loop
 enum-told-3 c = search needs
 
 returns-3 : tie.Need-returns-3 Inv-loop μ-loop
-returns-3 c = sym (c .before .before .before .before .loop .inv ∙ step-more (c .before .before .before .before .loop .left) (c .before .before .before .before .loop .rule) (c .before .before .before .before .before .args .tag) (c .before .before .before .loop-test .taken) ∙ ap (λ (x : Fit). onFit x (c .before .before .before .before .loop .rule) (stepBy (c .before .before .before .before .loop .left - 1) (restOf (c .before .before .before .before .loop .rule)) (c .before .before .before .before .before .args .tag))) (sym (c .before .before .slot-fit .ensures) ∙ c .enum-told3 .given .1))
+returns-3 c =
+    let c3 = c .before .before .before in
+    let c4 = c3 .before in
+    let c5 = c4 .before in
+    sym (c4 .loop .inv ∙ step-more (c4 .loop .left) (c4 .loop .rule) (c5 .args .tag) (c3 .loop-test .taken)
+    ∙ ap (λ (x : Fit). onFit x (c4 .loop .rule) (stepBy (c4 .loop .left - 1) (restOf (c4 .loop .rule)) (c5 .args .tag)))
+    (sym (c .before .before .slot-fit .ensures) ∙ c .enum-told3 .given .1))
 
 enum-told-4 : tie.Need-enum-told-4 Inv-loop μ-loop
 enum-told-4 c = search needs
@@ -57,7 +78,15 @@ loop-less : tie.Need-loop-less Inv-loop μ-loop
 loop-less c = omega arith
 
 loop-again : tie.Need-loop-again Inv-loop μ-loop
-loop-again c = c .before .before .before .before .before .loop .inv ∙ step-more (c .before .before .before .before .before .loop .left) (c .before .before .before .before .before .loop .rule) (c .before .before .before .before .before .before .args .tag) (c .before .before .before .before .loop-test .taken) ∙ ap (λ (x : Fit). onFit x (c .before .before .before .before .before .loop .rule) (stepBy (c .before .before .before .before .before .loop .left - 1) (restOf (c .before .before .before .before .before .loop .rule)) (c .before .before .before .before .before .before .args .tag))) (sym (c .before .before .before .slot-fit .ensures) ∙ c .before .enum-told4 .given .1) ∙ ap (λ (r : Rattle.tree.specs.declared.grammar.Rule.Rule). stepBy (c .before .before .before .before .before .loop .left - 1) r (c .before .before .before .before .before .before .args .tag)) (sym (c .rest-of2 .ensures))
+loop-again c =
+    let c3 = c .before .before .before in
+    let c4 = c3 .before in
+    let c5 = c4 .before in
+    let c6 = c5 .before in
+    c5 .loop .inv ∙ step-more (c5 .loop .left) (c5 .loop .rule) (c6 .args .tag) (c4 .loop-test .taken)
+    ∙ ap (λ (x : Fit). onFit x (c5 .loop .rule) (stepBy (c5 .loop .left - 1) (restOf (c5 .loop .rule)) (c6 .args .tag)))
+    (sym (c3 .slot-fit .ensures) ∙ c .before .enum-told4 .given .1)
+    ∙ ap (λ (r : Rattle.tree.specs.declared.grammar.Rule.Rule). stepBy (c5 .loop .left - 1) r (c6 .args .tag)) (sym (c .rest-of2 .ensures))
 
 returns-4 : tie.Need-returns-4 Inv-loop μ-loop
 returns-4 c = sym (c .before .loop .inv ∙ step-none (c .before .loop .left) (c .before .loop .rule) (c .before .before .args .tag) (c .loop-test .left))

@@ -15,7 +15,10 @@ abbrev μ-loop : tie.MeasureT-loop
 μ-loop s a t b n i₀ i = n - i
 
 loop-holds : tie.Need-loop-holds Inv-loop μ-loop
-loop-holds c = let ea : c .args .a ≡ c .args .a + 0 = omega arith in let eb : c .args .b ≡ c .args .b + 0 = omega arith in (ap₂ (λ (x y : ℕ). same (slice x (c .args .a + c .args .n) (c .args .s .now)) (slice y (c .args .b + c .args .n) (c .args .t .now))) ea eb, omega arith)
+loop-holds c = let ea : c .args .a ≡ c .args .a + 0 = omega arith in let eb : c .args .b ≡ c .args .b + 0 = omega arith in (
+  ap₂ (λ (x y : ℕ). same (slice x (c .args .a + c .args .n) (c .args .s .now)) (slice y (c .args .b + c .args .n) (c .args .t .now))) ea eb,
+  omega arith,
+)
 
 add-if1 : tie.Need-add-if1 Inv-loop μ-loop
 add-if1 c = omega arith
@@ -30,7 +33,12 @@ shared-slice-read-if1-2 : tie.Need-shared-slice-read-if1-2 Inv-loop μ-loop
 shared-slice-read-if1-2 c = omega arith
 
 returns : tie.Need-returns Inv-loop μ-loop
-returns c = sym (c .before .before .before .before .loop .inv .0 ∙ same-other (c .before .before .before .before .before .args .s .now) (c .before .before .before .before .before .args .t .now) (c .before .before .before .before .before .args .a) (c .before .before .before .before .before .args .b) (c .before .before .before .before .loop .i) (c .before .before .before .before .before .args .a + c .before .before .before .before .before .args .n) (c .before .before .before .before .before .args .b + c .before .before .before .before .before .args .n) (omega arith) (omega arith) (omega arith) (omega arith) (c .if1 .taken))
+returns c =
+    let c4 = c .before .before .before .before in
+    let c5 = c4 .before in
+    sym (c4 .loop .inv .0
+    ∙ same-other (c5 .args .s .now) (c5 .args .t .now) (c5 .args .a) (c5 .args .b) (c4 .loop .i) (c5 .args .a + c5 .args .n)
+    (c5 .args .b + c5 .args .n) (omega arith) (omega arith) (omega arith) (omega arith) (c .if1 .taken))
 
 add-i : tie.Need-add-i Inv-loop μ-loop
 add-i c = omega arith
@@ -39,10 +47,21 @@ loop-less : tie.Need-loop-less Inv-loop μ-loop
 loop-less c = omega arith
 
 loop-again : tie.Need-loop-again Inv-loop μ-loop
-loop-again c = (c .before .before .before .before .loop .inv .0 ∙ same-more (c .before .before .before .before .before .args .s .now) (c .before .before .before .before .before .args .t .now) (c .before .before .before .before .before .args .a) (c .before .before .before .before .before .args .b) (c .before .before .before .before .loop .i) (c .before .before .before .before .before .args .a + c .before .before .before .before .before .args .n) (c .before .before .before .before .before .args .b + c .before .before .before .before .before .args .n) (omega arith) (omega arith) (omega arith) (omega arith) (c .if1 .left), omega arith)
+loop-again c =
+    let c4 = c .before .before .before .before in
+    let c5 = c4 .before in (
+      c4 .loop .inv .0
+          ∙ same-more (c5 .args .s .now) (c5 .args .t .now) (c5 .args .a) (c5 .args .b) (c4 .loop .i) (c5 .args .a + c5 .args .n)
+          (c5 .args .b + c5 .args .n) (omega arith) (omega arith) (omega arith) (omega arith) (c .if1 .left),
+      omega arith,
+    )
 
 returns-2 : tie.Need-returns-2 Inv-loop μ-loop
-returns-2 c = sym (c .before .loop .inv .0 ∙ same-end (c .before .before .args .s .now) (c .before .before .args .t .now) (c .before .before .args .a + c .before .loop .i) (c .before .before .args .b + c .before .loop .i) (c .before .before .args .a + c .before .before .args .n) (c .before .before .args .b + c .before .before .args .n) (omega arith) (omega arith))
+returns-2 c =
+    sym (c .before .loop .inv .0
+    ∙ same-end (c .before .before .args .s .now) (c .before .before .args .t .now) (c .before .before .args .a + c .before .loop .i)
+    (c .before .before .args .b + c .before .loop .i) (c .before .before .args .a + c .before .before .args .n)
+    (c .before .before .args .b + c .before .before .args .n) (omega arith) (omega arith))
 
 pub same-run-spec : {M : Type 1} → statement M
 same-run-spec =

@@ -44,15 +44,29 @@ enum-told-2 c = search needs
 
 returns-4 : tie.Need-returns-4
 unfolding headAt onStep onExtent
-returns-4 c = rw (ne-eqb _ _ (c .before .before .before .before .before .before .before .before .if1 .left), sym (c .before .before .before .before .before .before .step-by .ensures) ∙ c .before .before .before .before .next .given .1, sym (c .before .before .extent .ensures) ∙ c .enum-told2 .given .1)
+returns-4 c =
+    let c4 = c .before .before .before .before in
+    let c6 = c4 .before .before in
+    let c8 = c6 .before .before in
+    rw (ne-eqb _ _ (c8 .if1 .left), sym (c6 .step-by .ensures) ∙ c4 .next .given .1, sym (c .before .before .extent .ensures) ∙ c .enum-told2 .given .1)
 
 returns-5 : tie.Need-returns-5
 unfolding headAt onStep onExtent
-returns-5 c = rw (ne-eqb _ _ (c .before .before .before .before .before .before .before .before .before .before .if1 .left), sym (c .before .before .before .before .before .before .before .before .step-by .ensures) ∙ c .before .before .before .before .before .before .next .given .1, sym (c .before .before .before .before .extent .ensures) ∙ c .before .before .stop .given .1, lt-ltb _ _ (c .if3 .taken))
+returns-5 c =
+    let c4 = c .before .before .before .before in
+    let c6 = c4 .before .before in
+    let c8 = c6 .before .before in
+    let c10 = c8 .before .before in
+    rw (ne-eqb _ _ (c10 .if1 .left), sym (c8 .step-by .ensures) ∙ c6 .next .given .1, sym (c4 .extent .ensures) ∙ c .before .before .stop .given .1, lt-ltb _ _ (c .if3 .taken))
 
 returns-6 : tie.Need-returns-6
 unfolding headAt onStep onExtent
-returns-6 c = rw (ne-eqb _ _ (c .before .before .before .before .before .before .before .before .before .before .if1 .left), sym (c .before .before .before .before .before .before .before .before .step-by .ensures) ∙ c .before .before .before .before .before .before .next .given .1, sym (c .before .before .before .before .extent .ensures) ∙ c .before .before .stop .given .1, le-ltb _ _ (c .if3 .left))
+returns-6 c =
+    let c4 = c .before .before .before .before in
+    let c6 = c4 .before .before in
+    let c8 = c6 .before .before in
+    let c10 = c8 .before .before in
+    rw (ne-eqb _ _ (c10 .if1 .left), sym (c8 .step-by .ensures) ∙ c6 .next .given .1, sym (c4 .extent .ensures) ∙ c .before .before .stop .given .1, le-ltb _ _ (c .if3 .left))
 
 pub head-of-spec : {M : Type 1} → statement M
 head-of-spec =

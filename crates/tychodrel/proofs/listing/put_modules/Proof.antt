@@ -5,7 +5,7 @@ use mathlib.Core.List.{List}
 use native.Mathlib.Omega.{arith}
 use lib.ListN.{length}
 use borrow.Author.Needs.{needs}
-use Rattle.scope.specs.Kept.{modulesIn}
+use Rattle.scope.specs.ScopeValue.{modulesIn}
 use Rattle.writer.specs.Wrote.{Wrote}
 use Rattle.tychodrel.specs.Answer.{modulesBytes}
 use Rattle.tychodrel.proofs.ListingLaws.{module-written, all-left, none-left}
@@ -13,7 +13,9 @@ use Rattle.tychodrel.proofs.listing.put_modules.Statement.{statement}
 use Rattle.tychodrel.proofs.listing.put_modules.Tie as tie
 
 abbrev Inv-loop : tie.InvT-loop
-Inv-loop cells n out₀ o to₀ i₀ out to i = ((l : List ℕ) (p : ℕ) → Wrote out to (modulesBytes (modulesIn (n - i) (2 * i) cells)) l p → Wrote out₀ o (modulesBytes (modulesIn n 0 cells)) l p) × (length out ≡ length out₀)
+Inv-loop cells n out₀ o to₀ i₀ out to i =
+    ((l : List ℕ) (p : ℕ) → Wrote out to (modulesBytes (modulesIn (n - i) (2 * i) cells)) l p → Wrote out₀ o (modulesBytes (modulesIn n 0 cells)) l p)
+    × (length out ≡ length out₀)
 
 abbrev μ-loop : tie.MeasureT-loop
 μ-loop cells n out₀ o to₀ i₀ out to i = n - i
@@ -61,13 +63,27 @@ loop-less : tie.Need-loop-less Inv-loop μ-loop
 loop-less c = omega arith
 
 loop-again : tie.Need-loop-again Inv-loop μ-loop
-loop-again c = (λ l p w. c .before .before .before .before .before .before .before .before .before .before .before .before .before .loop .inv .0 l p (module-written (c .before .before .before .before .before .before .before .before .before .before .before .before .before .before .before .before .args .cells .now) (c .before .before .before .before .before .before .before .before .before .before .before .before .before .before .before .before .args .n) (c .before .before .before .before .before .before .before .before .before .before .before .before .before .loop .i) (c .before .before .before .before .before .before .before .before .before .before .before .before .loop-test .taken) (c .before .before .before .before .before .before .before .before .before .low-file .ensures) (c .before .before .before .low-marks .ensures) (c .before .before .before .before .before .before .before .before .put-u16 .ensures) (c .before .before .put .ensures) w), c .before .before .put .ensures .size ∙ c .before .before .before .before .before .before .before .before .put-u16 .ensures .size ∙ c .before .before .before .before .before .before .before .before .before .before .before .before .before .loop .inv .1)
+loop-again c =
+    let c3 = c .before .before .before in
+    let c8 = c3 .before .before .before .before .before in
+    let c9 = c8 .before in
+    let c12 = c9 .before .before .before in
+    let c13 = c12 .before in
+    let c16 = c13 .before .before .before in (
+      λ l p w. c13 .loop .inv .0 l p
+          (module-written (c16 .args .cells .now) (c16 .args .n) (c13 .loop .i) (c12 .loop-test .taken) (c9 .low-file .ensures) (c3 .low-marks .ensures)
+          (c8 .put-u16 .ensures) (c .before .before .put .ensures) w),
+      c .before .before .put .ensures .size ∙ c8 .put-u16 .ensures .size
+          ∙ c13 .loop .inv .1,
+    )
 
 same-length : tie.Need-same-length Inv-loop μ-loop
 same-length c = omega arith
 
 returns : tie.Need-returns Inv-loop μ-loop
-returns c = c .before .loop .inv .0 _ _ (none-left (c .before .before .before .before .args .cells .now) (c .before .before .before .before .args .n) (c .before .loop .i) (c .loop-test .left))
+returns c =
+    let c4 = c .before .before .before .before in
+    c .before .loop .inv .0 _ _ (none-left (c4 .args .cells .now) (c4 .args .n) (c .before .loop .i) (c .loop-test .left))
 
 pub put-modules-spec : {M : Type 1} → statement M
 put-modules-spec =

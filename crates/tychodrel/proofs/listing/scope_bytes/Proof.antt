@@ -1,5 +1,5 @@
 -- `tychodrel::listing::scope_bytes` meets its contract.
-use Rattle.scope.specs.Kept.{modulesOf}
+use Rattle.scope.specs.ScopeValue.{modulesOf}
 use Rattle.tychodrel.proofs.ListingLaws.{scope-written}
 use borrow.Author.Needs.{needs}
 use Rattle.tychodrel.proofs.listing.scope_bytes.Statement.{statement}
@@ -30,7 +30,11 @@ put-modules-requires : tie.Need-put-modules-requires
 put-modules-requires c κs = search needs
 
 returns : tie.Need-returns
-returns c = scope-written (modulesOf (c .before .before .before .before .before .before .before .before .before .before .args .scope)) _ (c .before .before .before .before .before .before .before .before .to-cells .ensures .0) (c .before .before .before .before .before .before .before .before .to-cells .ensures .1) (c .before .before .before .before .before .before .before .before .to-cells .ensures .2) (c .before .before .before .before .before .put-u16 .ensures) (c .before .put-modules .ensures)
+returns c =
+    let c5 = c .before .before .before .before .before in
+    let c8 = c5 .before .before .before in
+    let c10 = c8 .before .before in
+    scope-written (modulesOf (c10 .args .scope)) _ (c8 .to-cells .ensures .0) (c8 .to-cells .ensures .1) (c8 .to-cells .ensures .2) (c5 .put-u16 .ensures) (c .before .put-modules .ensures)
 
 pub scope-bytes-spec : {M : Type 1} → statement M
 scope-bytes-spec =

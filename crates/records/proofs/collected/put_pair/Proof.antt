@@ -1,0 +1,46 @@
+use mathlib.Core.Path.{sym, _∙_}
+use Rattle.tree.specs.Standing.{treeAt}
+use Rattle.state.specs.Cells.{idOf}
+use Rattle.records.proofs.SpecifierLaws.{if-none}
+use Rattle.records.proofs.CollectedLaws.{if-as, pair-is, pair-other}
+use borrow.Author.Needs.{needs}
+use Rattle.records.proofs.collected.put_pair.Statement.{statement}
+use Rattle.records.proofs.collected.put_pair.Tie as tie
+use Rattle.records.proofs.collected.put_pair.Reads as reads
+use Rattle.records.proofs.collected.put_pair.Lts as lts
+use Rattle.records.proofs.collected.is_whole.Reads as is-whole-reads
+use Rattle.records.proofs.collected.put_named_parts.Reads as put-named-parts-reads
+
+-- src/collected.rt:160:8
+is-whole-requires : tie.Need-is-whole-requires
+is-whole-requires c κs = search needs
+
+-- src/collected.rt:161:9
+put-named-parts-requires : tie.Need-put-named-parts-requires
+put-named-parts-requires c κs = search needs
+
+-- src/collected.rt:145:1
+same-length : tie.Need-same-length
+same-length c = search needs
+
+-- src/collected.rt:145:1
+returns : tie.Need-returns
+returns c =
+    let c4 = c .before .before .before .before in
+    let c5 = c4 .before in
+    let c9 = c5 .before .before .before .before in
+    if-as (c .before .before .put-named-parts .ensures)
+    (pair-is (c9 .args .namespaces) (idOf (c9 .args .literal)) (treeAt (c9 .args .work .now) (c9 .args .at) (c9 .args .stop))
+    (treeAt (c9 .args .out .now) (c9 .args .made) (c9 .args .until)) (sym (c5 .is-whole .ensures) ∙ c4 .if1 .taken))
+
+-- src/collected.rt:145:1
+returns-2 : tie.Need-returns-2
+returns-2 c =
+    let c5 = c .before .before .before .before .before in
+    if-none
+    (pair-other (c5 .args .namespaces) (idOf (c5 .args .literal)) (treeAt (c5 .args .work .now) (c5 .args .at) (c5 .args .stop))
+    (treeAt (c5 .args .out .now) (c5 .args .made) (c5 .args .until)) (sym (c .before .is-whole .ensures) ∙ c .if1 .left))
+
+pub put-pair-spec : {M : Type 1} → statement M
+put-pair-spec =
+    tie.close (tie.spec is-whole-requires put-named-parts-requires same-length returns returns-2)

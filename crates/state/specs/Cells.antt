@@ -1,0 +1,163 @@
+-- What the walk keeps, in one lent array of numbers: where each table lies, and which state of the rules the array shows.
+-- Document 01, 'Vec, maps, atomics, panics': "hash maps become arrays in insertion order".
+use Prim.Native.Nat.{ℕ, zero, suc, _+_, _/_, _%_, _<_}
+use mathlib.Core.Path.{_≡_}
+use mathlib.Core.Bool.{Bool, true, false, cond}
+use mathlib.Core.List.{List, [], _∷_, _++_, map}
+use mathlib.Core.Option.{Option, none as nothing, some}
+use lib.ListN.{length, getD}
+use Rattle.tables.specs.Rows.{Row, rows, Lies, next, leastOf}
+use Rattle.tables.specs.declared.Table.{Table}
+use Rattle.scope.specs.Modules.{Module}
+use Rattle.scope.specs.ScopeValue.{moduleBy}
+use Rattle.tree.specs.Layout.{two, four, valueOf}
+use Rattle.tree.specs.Tree.{Fields, none, more, fixedOf}
+use Rattle.inputs.specs.Lists.{mapped, among}
+use Rattle.inputs.specs.Fields.{has, findField}
+use Rattle.extraction_rules.specs.State.{Record, Imported, Usage, State}
+use Rattle.extraction_rules.specs.First.{holdsNamespace}
+
+-- ---- The layout
+
+pub data Kind : Type 0 where
+  imports uses records namespaces lazies forces modules : Kind
+
+-- the counts stand in cells 0 to 6, *top* in cell 7, and then the rows; the rooms are document 01's limits (rows 5 and 8), and 'at most one
+-- namespace for 9 bytes of tree'
+abbrev pub tableOf : Kind → Table
+tableOf imports = record { count = 0; base = 8; room = 512 }
+tableOf uses = record { count = 1; base = 1032; room = 2048 }
+tableOf records = record { count = 2; base = 5128; room = 256 }
+tableOf namespaces = record { count = 3; base = 5640; room = 3641 }
+tableOf lazies = record { count = 4; base = 12922; room = 1024 }
+tableOf forces = record { count = 5; base = 14970; room = 256 }
+tableOf modules = record { count = 6; base = 15482; room = 256 }
+
+abbrev pub top-cell : ℕ
+top-cell = 7
+
+abbrev pub cells : ℕ
+cells = 15994
+
+-- an id, a literal or a property in one number: 2^48
+abbrev pub id-limit : ℕ
+id-limit = 281474976710656
+
+-- a place in the tree, or 2^16 and a place in *work*
+abbrev pub place-limit : ℕ
+place-limit = 131072
+
+unfoldable pub Below : ℕ → ℕ → List Row → Type 0
+Below k v [] = Unit
+Below k v (r ∷ l) = (r .0 < k) × (r .1 < v) × Below k v l
+
+-- keys and values of the tables; every number stands for a file and every number for marks
+abbrev pub InLimits : Kind → List Row → Type 0
+InLimits imports l = Below id-limit 4294967296 l
+InLimits uses l = Below id-limit id-limit l
+InLimits records l = Below id-limit 281474976710657 l
+InLimits namespaces l = Below id-limit 256 l
+InLimits lazies l = Below id-limit place-limit l
+InLimits forces l = Below 65536 1 l
+InLimits modules l = Unit
+
+-- the tables lie in the array, with numbers inside their limits
+pub record Good (t : List ℕ) : Type 0 where
+  pub lies : (k : Kind) → Lies (tableOf k) t
+  pub below : (k : Kind) → InLimits k (rows (tableOf k) t)
+
+-- how many rows a table holds
+abbrev pub held : Kind → List ℕ → ℕ
+held k t = length (rows (tableOf k) t)
+
+-- ---- The state that an array shows
+
+abbrev pub flag : Bool → ℕ
+flag false = 0
+flag true = 1
+
+-- an id, a literal or a property, from a number below 2^48: 'I is A then C'
+unfoldable pub idOf : ℕ → List ℕ
+idOf n = two (n / 4294967296) ++ four (n % 4294967296)
+
+-- (id, context)
+abbrev pub importedOf : Row → Imported
+importedOf r = record { id = idOf (r .0); context = four (r .1) }
+
+-- (id, property)
+abbrev pub usageOf : Row → Usage
+usageOf r = record { id = idOf (r .0); property = idOf (r .1) }
+
+-- what the searches see of a record: its literal and the id of its first namespace
+pub record Brief : Type 0 where
+  pub literal : List ℕ
+  pub namespace : Option (List ℕ)
+
+unfoldable pub brief : Record → Brief
+brief r = record { literal = r .literal; namespace = mapped fixedOf (findField (has 0x22) (r .specifiers)) }
+
+-- (literal, 0 or one more than the first namespace)
+abbrev pub namespaceOf : ℕ → Option (List ℕ)
+namespaceOf zero = nothing
+namespaceOf (suc n) = some (idOf n)
+
+unfoldable pub briefOf : Row → Brief
+briefOf r = record { literal = idOf (r .0); namespace = namespaceOf (r .1) }
+
+-- where the first stands that meets a test
+unfoldable pub indexOf : {A : Type 0} → (A → Bool) → List A → Option ℕ
+indexOf p [] = nothing
+indexOf p (a ∷ l) = cond (p a) (some zero) (next (indexOf p l))
+
+-- how many namespaces the records hold
+unfoldable pub countNamespaces : Fields → ℕ
+countNamespaces none = 0
+countNamespaces (more f fs) = flag (has 0x22 f) + countNamespaces fs
+
+unfoldable pub namespacesIn : List Record → ℕ
+namespacesIn [] = 0
+namespacesIn (r ∷ l) = countNamespaces (r .specifiers) + namespacesIn l
+
+-- (literal, place): the specifiers of a lazy record are those at its place
+abbrev pub At : Type 0
+At = ℕ → Fields
+
+abbrev pub lazyOf : At → Row → Record
+lazyOf x r = record { literal = idOf (r .0); specifiers = x (r .1) }
+
+-- (atom, 0)
+abbrev pub atomOf : Row → List ℕ
+atomOf r = two (r .0)
+
+-- (file, marks)
+abbrev pub moduleOf : Row → Module
+moduleOf r = moduleBy (r .0) (r .1)
+
+-- ---- Forced sources
+
+abbrev pub sourcesIn : List Record → List (List ℕ)
+sourcesIn l = map (λ r. valueOf (r .literal)) l
+
+-- each stands once
+unfoldable pub Once : List (List ℕ) → Type 0
+Once [] = Unit
+Once (a ∷ l) = (among a l ≡ false) × Once l
+
+-- forced sources are sources of collected records, each once: so their table has room for all
+pub record Sourced (s : State) : Type 0 where
+  pub once : Once (s .forced)
+  pub from : (a : List ℕ) → among a (s .forced) ≡ true → among a (sourcesIn (s .collected)) ≡ true
+
+-- of a collected record the array shows its literal, its first namespace, and, with the namespaces met, which record is the first to hold
+-- one; of a lazy one its literal and, by what stands at its place, its specifiers
+pub record Shows (x : At) (t : List ℕ) (s : State) : Type 0 where
+  pub imported : map importedOf (rows (tableOf imports) t) ≡ s .imported
+  pub usages : map usageOf (rows (tableOf uses) t) ≡ s .usages
+  pub collected : map briefOf (rows (tableOf records) t) ≡ map brief (s .collected)
+  pub holders : (n : ℕ) → n < id-limit → leastOf n (rows (tableOf namespaces) t) ≡ indexOf (holdsNamespace (idOf n)) (s .collected)
+  pub met : held namespaces t ≡ namespacesIn (s .collected)
+  pub lazy : map (lazyOf x) (rows (tableOf lazies) t) ≡ s .lazy
+  pub forced : map atomOf (rows (tableOf forces) t) ≡ s .forced
+  pub top : getD t top-cell 0 ≡ flag (s .top)
+  pub modules : map moduleOf (rows (tableOf modules) t) ≡ s .modules
+  pub sourced : Sourced s

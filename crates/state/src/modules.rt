@@ -1,0 +1,85 @@
+// The scope's modules: the module of a file or of a source, and marks.
+ghost use mathlib.Core.Option.{some};
+ghost use Rattle.tree.specs.Layout.{two};
+ghost use Rattle.inputs.specs.Table.{rowsIn, fileOf};
+ghost use Rattle.scope.specs.Modules.{setMark};
+ghost use Rattle.scope.specs.ScopeValue.{modulesOf};
+ghost use Rattle.scope.specs.declared.Mark.the-variants.{Cjs, Wrapping};
+ghost use Rattle.extraction_rules.specs.State.{setModules};
+ghost use Rattle.extraction_rules.specs.First.{moduleOf};
+ghost use Rattle.state.specs.Cells.{Good};
+ghost use Rattle.state.specs.Does.{Tells, Turns, Resolves};
+use crate::MODULES;
+use crate::Module;
+use inputs::Resolved;
+use scope::FileAnswer;
+use scope::Scope;
+use scope::id::FileName;
+use scope::id::ModuleId;
+
+// The modules of the table as a scope.
+pub fn scope_of(t: &[u64]) -> Scope
+    requires { ⌜ Good (now t) ⌝ }
+    ensures { λ r. ⌜ Tells (λ s. s .modules) (now (t .entry)) (modulesOf r) ⌝ }
+{
+    Scope::from_cells(t, 15482, tables::count_of(t, MODULES))
+}
+
+// The table shows the modules of a scope.
+pub fn load(t: &mut [u64], scope: Scope)
+    requires { ⌜ Good (now t) ⌝ }
+    ensures { λ _. ⌜ Turns (setModules (modulesOf scope)) (now (t .entry)) (now (t .exit)) ⌝ }
+{
+    let n = scope.to_cells(t, 15482);
+    t[6] = n as u64;
+}
+
+// The module of a file, by a request.
+pub fn request(t: &mut [u64], file: FileName) -> Module
+    requires { ⌜ Good (now t) ⌝ }
+    ensures { λ r. ⌜ Resolves (moduleOf (some (file .0))) (now (t .entry)) (now (t .exit)) r ⌝ }
+{
+    let g = scope_of(t).gen_id(file);
+    let answer = g.answer;
+    match answer {
+        FileAnswer::Given => {
+            let scope = g.scope;
+            load(t, scope);
+            let id = g.id;
+            Module::Is(id)
+        },
+        FileAnswer::TooManyFiles => Module::TooMany,
+    }
+}
+
+// The module of the file that a table names for a source.
+pub fn module_for(t: &mut [u64], table: &[u8], source: u16) -> Module
+    requires { ⌜ Good (now t) ⌝ }
+    ensures { λ r. ⌜ Resolves (moduleOf (fileOf (two source) (rowsIn (now (table .entry))))) (now (t .entry)) (now (t .exit)) r ⌝ }
+{
+    let resolved = inputs::resolve(table, source);
+    match resolved {
+        Resolved::File(file) => request(t, FileName(file)),
+        Resolved::Nowhere => Module::Unresolved,
+    }
+}
+
+// A module is marked as one of CommonJS; a number that was not given changes nothing.
+pub fn mark_cjs(t: &mut [u64], id: ModuleId)
+    requires { ⌜ Good (now t) ⌝ }
+    ensures { λ _. ⌜ Turns (λ s. setModules (setMark Cjs (id .0) (s .modules)) s) (now (t .entry)) (now (t .exit)) ⌝ }
+{
+    let marked = scope_of(t).mark_as_cjs(id);
+    let scope = marked.scope;
+    load(t, scope);
+}
+
+// A module is marked as one to be wrapped; a number that was not given changes nothing.
+pub fn mark_wrapping(t: &mut [u64], id: ModuleId)
+    requires { ⌜ Good (now t) ⌝ }
+    ensures { λ _. ⌜ Turns (λ s. setModules (setMark Wrapping (id .0) (s .modules)) s) (now (t .entry)) (now (t .exit)) ⌝ }
+{
+    let marked = scope_of(t).mark_as_wrapping_required(id);
+    let scope = marked.scope;
+    load(t, scope);
+}

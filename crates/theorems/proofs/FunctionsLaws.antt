@@ -1,0 +1,127 @@
+-- Demand 3 of the functions, by their contracts: both sentences.
+use Prim.Native.Nat.{ℕ}
+use native.Mathlib.Omega.{arith}
+use mathlib.Core.Path.{_≡_, sym, ap, _∙_}
+use mathlib.Core.Bool.{Bool, true, false, cond}
+use mathlib.Core.List.{List, [], _∷_}
+use mathlib.Core.Option.{none as nothing}
+use Rattle.scope.specs.declared.Mark.the-variants.{Wrapping}
+use Rattle.scope.specs.declared.Scope.{Scope}
+use Rattle.scope.specs.declared.id.ModuleId.{ModuleId}
+use Rattle.scope.specs.Modules.{Modules, Generated, Left as Requesting, done as tells, refused as untold, given, isMarked, readMark}
+use Rattle.scope.specs.ScopeValue.{modulesOf}
+use Rattle.tree.specs.declared.grammar.Set.the-variants.{Module, Records}
+use Rattle.tree.specs.Tree.{Field, encode, size}
+use Rattle.tree.specs.Read.{read}
+use Rattle.writer.specs.Finished.{hasRoom}
+use Rattle.inputs.specs.Outcome.{Outcome, done}
+use Rattle.inputs.specs.Buffer.{fieldIn, bufferOf}
+use Rattle.inputs.proofs.AcceptedLaws.{refusal-none}
+use Rattle.inputs.proofs.BufferLaws.{delivered-holds}
+use Rattle.extraction_rules.specs.Call.{Lent, Lengths, Extracted, Left, modulesAfter, extracted, extraction}
+use Rattle.extraction_rules.proofs.ExtractedLaws.{call-room}
+use Rattle.extraction_rules.proofs.ReadableLaws.{call-readable}
+use Rattle.extraction_rules.proofs.RecordsLaws.{call-records}
+use Rattle.extraction.specs.Answer.{answerRefusal}
+use Rattle.resolving_rules.specs.Call.{Lent as LentRecords, Resolved, Left as LeftList, resolved, resolving}
+use Rattle.resolving_rules.proofs.ResolvedLaws.{call-room as list-room, call-modules}
+use Rattle.resolving.specs.Answer.{lentAs, answerRefusal as listRefusal}
+use Rattle.theorems.specs.Lists.{Call, requests, sets, reads, readsEsm, extracts, resolves, after, afterAll}
+use Rattle.theorems.specs.Functions.{HandsBack, HandOn, AnswersExactly, FunctionsKeepOrPart}
+use Rattle.theorems.proofs.ListsLaws.{marked-exactly}
+use Rattle.theorems.proofs.DemandLaws.{kept-whole-or-apart}
+
+-- ---- The sentence on lists
+
+hands-back : (c : Call) (s t : Scope) → HandsBack c s t → modulesOf t ≡ after c (modulesOf s)
+unfolding after
+hands-back (requests f) s t h = ap modulesOf (h .2) ∙ ap (λ (g : Generated). g .modules) (h .1)
+hands-back (sets k m) s t h = ap modulesOf (h .2) ∙ ap (λ (g : Requesting). g .modules) (h .1)
+hands-back (reads k m) s t h = ap modulesOf h
+hands-back (readsEsm m) s t h = ap modulesOf h
+hands-back (extracts l room) s t h = ap modulesOf (h .5) ∙ ap (λ (g : Left). g .modules) (h .4)
+hands-back (resolves l room) s t h = ap modulesOf (h .3) ∙ ap (λ (g : LeftList). g .modules) (h .2)
+
+hand-on : (calls : List Call) (s t : Scope) → HandOn calls s t → modulesOf t ≡ afterAll calls (modulesOf s)
+unfolding afterAll
+hand-on [] s t h = ap modulesOf h
+hand-on (c ∷ calls) s t h = hand-on calls (h .0) t (h .2) ∙ ap (afterAll calls) (hands-back c s (h .0) (h .1))
+
+-- what is read of a module's mark
+read-marked : (m : ModuleId) (ms : Modules) (b : Bool) → tells b ≡ readMark Wrapping m ms → b ≡ isMarked Wrapping (m .0) ms
+unfolding readMark
+read-marked m ms b e = go (given m ms) e
+  where
+    go : (c : Bool) → tells b ≡ cond c (tells (isMarked Wrapping (m .0) ms)) (untold 12) → b ≡ isMarked Wrapping (m .0) ms
+    go true e = cc
+    go false e = absurd (let z : _≡_ {A = ℕ} 0 1 = cc in omega arith)
+
+pub answers-exactly : AnswersExactly
+answers-exactly calls s t fresh h m b e =
+    read-marked m (modulesOf t) b e ∙ ap (isMarked Wrapping (m .0)) (hand-on calls s t h ∙ ap (afterAll calls) fresh) ∙ marked-exactly calls (m .0)
+
+-- ---- What the buffers hold
+
+-- the field in the buffer of an accepted call
+held : {A : Type 0} (f : A → Field) (m : Outcome A) (a : A) (room : ℕ) {s : List ℕ} → m ≡ done a → hasRoom (size (f a)) room ≡ true →
+    s ≡ bufferOf f m room → fieldIn s ≡ encode (f a)
+held f m a room e h q = ap fieldIn (q ∙ ap (λ (o : Outcome _). bufferOf f o room) e) ∙ delivered-holds (f a) room h
+
+module _ (l : Lent) (room : Lengths) (ms : Modules) where
+  extraction-accepted : {x : Left} → x ≡ extraction l room ms → x .refusal ≡ nothing → (t : Extracted) × (extracted l room ms ≡ done t)
+  unfolding extraction
+  extraction-accepted e a = refusal-none (extracted l room ms) (sym (ap (λ (z : Left). z .refusal) e) ∙ a)
+
+  module _ {x : Left} (t : Extracted) (e : x ≡ extraction l room ms) (d : extracted l room ms ≡ done t) where
+    extraction-out : fieldIn (x .out) ≡ encode (t .out)
+    unfolding extraction
+    extraction-out = held (λ (r : Extracted). r .out) (extracted l room ms) t (room .out) d (call-room l room ms t d .1) (ap (λ (z : Left). z .out) e)
+
+    extraction-records : fieldIn (x .records) ≡ encode (t .records)
+    unfolding extraction
+    extraction-records = held (λ (r : Extracted). r .records) (extracted l room ms) t (room .records) d (call-room l room ms t d .2) (ap (λ (z : Left). z .records) e)
+
+    extraction-modules : x .modules ≡ t .modules
+    unfolding extraction
+    extraction-modules = ap (λ (z : Left). z .modules) e ∙ ap (λ (o : Outcome Extracted). modulesAfter o ms) d
+
+module _ (l : LentRecords) (room : ℕ) (ms : Modules) {x : LeftList} (e : x ≡ resolving l room ms) where
+  resolving-accepted : x .refusal ≡ nothing → (u : Resolved) × (resolved l room ms ≡ done u)
+  unfolding resolving
+  resolving-accepted a = refusal-none (resolved l room ms) (sym (ap (λ (z : LeftList). z .refusal) e) ∙ a)
+
+  module _ (u : Resolved) (d : resolved l room ms ≡ done u) where
+    resolving-list : fieldIn (x .list) ≡ encode (u .list)
+    unfolding resolving
+    resolving-list = held (λ (r : Resolved). r .list) (resolved l room ms) u room d (list-room l room ms u d) (ap (λ (z : LeftList). z .list) e)
+
+    resolving-modules : x .modules ≡ u .modules
+    unfolding resolving
+    resolving-modules = ap (λ (z : LeftList). z .modules) e ∙ call-modules l room ms u d
+
+-- ---- Kept whole or taken apart
+
+pub functions-keep-or-part : FunctionsKeepOrPart
+functions-keep-or-part l room s r w o k n q g e a f b bs items own reading requesting placed =
+    let x = extraction-accepted l room (modulesOf s) e (ap answerRefusal a) in
+    let t = x .0 in
+    let records = extraction-records l room (modulesOf s) t e (x .1) in
+    let modules = extraction-modules l room (modulesOf s) t e (x .1) in
+    let given = lentAs (l .table) (fieldIn k) in
+    let y = resolving-accepted given n (modulesOf (r .scope)) f (ap listRefusal b) in
+    let u = y .0 in (
+      t,
+      u,
+      record {
+        out = ap (read Module) (extraction-out l room (modulesOf s) t e (x .1)) ∙ call-readable l room (modulesOf s) bs t (x .1) .1;
+        records = ap (read Records) records ∙ call-records l room (modulesOf s) bs t (x .1);
+        list = resolving-list given n (modulesOf (r .scope)) f u (y .1);
+        extracted = modules;
+        resolved = resolving-modules given n (modulesOf (r .scope)) f u (y .1);
+      },
+      λ k x' i d inside.
+          kept-whole-or-apart l room (modulesOf s) t n u items own (x .1)
+          (sym (ap (λ (ms : Modules). resolved (lentAs (l .table) (encode (t .records))) n ms) modules)
+          ∙ sym (ap (λ (z : List ℕ). resolved (lentAs (l .table) z) n (modulesOf (r .scope))) records) ∙ y .1)
+          bs reading requesting placed k x' i d inside,
+    )

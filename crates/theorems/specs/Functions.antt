@@ -1,0 +1,81 @@
+-- Demand 3 of the functions: both sentences, of what the functions answer and leave. Each equation below that ends in a definition of the
+-- rules is the contract of the function that is called. Document 01, 'Demand 3's words'.
+use Prim.Native.Nat.{ℕ}
+use mathlib.Core.Path.{_≡_}
+use mathlib.Core.Bool.{Bool, true, false}
+use mathlib.Core.List.{List, [], _∷_}
+use mathlib.Core.Option.{some}
+use Rattle.scope.specs.declared.Gen.{Gen}
+use Rattle.scope.specs.declared.Mark.the-variants.{Wrapping}
+use Rattle.scope.specs.declared.Marked.{Marked}
+use Rattle.scope.specs.declared.ReadAnswer.the-variants.{Is}
+use Rattle.scope.specs.declared.Scope.{Scope}
+use Rattle.scope.specs.declared.id.ModuleId.{ModuleId}
+use Rattle.scope.specs.Modules.{Modules, gen, marking, readMark, request}
+use Rattle.scope.specs.ScopeValue.{modulesOf, generated, markedBy, readBy}
+use Rattle.tree.specs.declared.grammar.Set.the-variants.{Module, Records}
+use Rattle.tree.specs.Layout.{valueOf, Bytes}
+use Rattle.tree.specs.Tree.{field, Fields, none, more, encode}
+use Rattle.tree.specs.Read.{fine, read}
+use Rattle.inputs.specs.Outcome.{done}
+use Rattle.inputs.specs.Lists.{among}
+use Rattle.inputs.specs.Table.{rowsIn, atomsIn}
+use Rattle.inputs.specs.Buffer.{fieldIn}
+use Rattle.extraction_rules.specs.Call.{Lent, Lengths, Extracted, itemsRead, extraction}
+use Rattle.extraction.specs.declared.ExtractAnswer.the-variants.{Extracted as Accepted}
+use Rattle.extraction.specs.declared.Extraction.{Extraction}
+use Rattle.extraction.specs.Answer.{left}
+use Rattle.resolving_rules.specs.Call.{Resolved, resolving}
+use Rattle.resolving.specs.declared.ResolveAnswer.the-variants.{Listed}
+use Rattle.resolving.specs.declared.Resolution.{Resolution}
+use Rattle.resolving.specs.Answer.{lentAs, left as leftList}
+use Rattle.theorems.specs.Stands.{stands}
+use Rattle.theorems.specs.Placed.{wellPlaced}
+use Rattle.theorems.specs.Demand.{Declares, takes, Ends}
+use Rattle.theorems.specs.Lists.{Call, requests, sets, reads, readsEsm, extracts, resolves, wrapsAny}
+
+-- ---- The sentence on lists
+
+-- a call on the scope s hands back the scope t; calls that read hand none back
+abbrev pub HandsBack : Call → Scope → Scope → Type 0
+HandsBack (requests f) s t = (r : Gen) × (generated r ≡ gen f (modulesOf s)) × (t ≡ r .scope)
+HandsBack (sets k m) s t = (r : Marked) × (markedBy r ≡ marking k m (modulesOf s)) × (t ≡ r .scope)
+HandsBack (reads k m) s t = t ≡ s
+HandsBack (readsEsm m) s t = t ≡ s
+HandsBack (extracts l room) s t =
+    (r : Extraction) × (w : List ℕ) × (o : List ℕ) × (k : List ℕ) × (left r w o k ≡ extraction l room (modulesOf s)) × (t ≡ r .scope)
+HandsBack (resolves l room) s t = (r : Resolution) × (g : List ℕ) × (leftList r g ≡ resolving l room (modulesOf s)) × (t ≡ r .scope)
+
+-- each call on the scope that the call before it handed back
+abbrev pub HandOn : List Call → Scope → Scope → Type 0
+HandOn [] s t = t ≡ s
+HandOn (c ∷ calls) s t = (u : Scope) × HandsBack c s u × HandOn calls u t
+
+-- After any list of calls from a fresh scope on, `should_be_wrapped_with_a_fn` answers exactly whether a call of the list wrapped the module.
+abbrev pub AnswersExactly : Type 0
+AnswersExactly =
+    (calls : List Call) (s t : Scope) → modulesOf s ≡ [] → HandOn calls s t →
+    (m : ModuleId) (b : Bool) → readBy (Is b) ≡ readMark Wrapping m (modulesOf t) → b ≡ wrapsAny (m .0) calls []
+
+-- ---- Kept whole or taken apart
+
+-- the trees that the buffers hold as read back, and the scope's modules: o and k are *out* and the records, g the resolved list
+pub record Holds (r : Extraction) (o k : List ℕ) (q : Resolution) (g : List ℕ) (t : Extracted) (u : Resolved) : Type 0 where
+  pub out : read Module (fieldIn o) ≡ fine (more (t .out) none)
+  pub records : read Records (fieldIn k) ≡ fine (more (t .records) none)
+  pub list : fieldIn g ≡ encode (u .list)
+  pub extracted : modulesOf (r .scope) ≡ t .modules
+  pub resolved : modulesOf (q .scope) ≡ u .modules
+
+-- `extract_import_info` accepted a well placed tree, and `resolve_imports` the records that it left, with the same table and its scope:
+-- of what the buffers then hold, every namespace import with a non-external source is taken apart or kept as demand 3 says.
+abbrev pub FunctionsKeepOrPart : Type 0
+FunctionsKeepOrPart =
+    (l : Lent) (room : Lengths) (s : Scope) (r : Extraction) (w o k : List ℕ) (n : ℕ) (q : Resolution) (g : List ℕ) →
+    left r w o k ≡ extraction l room (modulesOf s) → r .answer ≡ Accepted →
+    leftList q g ≡ resolving (lentAs (l .table) (fieldIn k)) n (modulesOf (r .scope)) → q .answer ≡ Listed →
+    Bytes (l .tree) → (items : Fields) (own : ℕ × Modules) → itemsRead (read Module (l .tree)) ≡ done items → request (l .file) (modulesOf s) ≡ some own →
+    wellPlaced (own .0) items ≡ true →
+    (t : Extracted) × (u : Resolved) × Holds r o k q g t u
+    × ((k : ℕ) (x i : List ℕ) → Declares items k x (more (field 0x22 i none) none) → among (valueOf x) (atomsIn (l .externals)) ≡ false →
+    Ends (takes (rowsIn (l .table)) x (stands items i)) i x k (stands items i) items l t u)
