@@ -28,8 +28,10 @@ use Rattle.resolving.specs.declared.specifiers.Step.the-variants.{Done, 
 use Rattle.resolving.specs.declared.ResolveAnswer.{ResolveAnswer}
 use Rattle.resolving.specs.declared.ResolveAnswer.the-variants.{Listed, BadTable, NamedTwice, Unread, TooManyFiles, Refused, NoRoom}
 use Rattle.resolving.specs.Records.{RecordsRead, recordsIn}
-use Rattle.resolving.specs.Writes.{whyNumber, Puts, listWith}
-use Rattle.resolving.specs.Answer.{outcomeOf, lentAs, leftBy, tested, listedLeft, onNumbers, numberedLeft}
+use Rattle.resolving.specs.Writes.{Puts, listWith}
+use Rattle.resolving.specs.Answer.{whyNumber}
+use Rattle.resolving.specs.Answer.{outcomeOf, lentAs, leftBy}
+use Rattle.resolving.specs.Stages.{tested, listedLeft, onNumbers, numberedLeft}
 use Rattle.resolving.proofs.RecordsLaws.{records-read, records-sound}
 
 -- ---- '1, 2, 10'

@@ -13,7 +13,8 @@ use Rattle.inputs.specs.Outcome.{Outcome, done, refused, onto}
 use Rattle.resolving.specs.declared.specifiers.Why.{Why}
 use Rattle.resolving.specs.declared.specifiers.Step.{Step}
 use Rattle.resolving.specs.declared.specifiers.Step.the-variants.{Done, Refused}
-use Rattle.resolving.specs.Writes.{whyNumber, Puts, Onward}
+use Rattle.resolving.specs.Writes.{Puts, Onward}
+use Rattle.resolving.specs.Answer.{whyNumber}
 
 -- a field's bytes, as the writer frames them
 framed-parts : (t : ℕ) (x : List ℕ) (cs : Fields) → framed t (x ++ encodes cs) ≡ encode (field t x cs)

@@ -7,14 +7,9 @@ use Rattle.tree.specs.Tree.{Field, field, Fields, encodes}
 use Rattle.writer.specs.Wrote.{Wrote}
 use Rattle.inputs.specs.Outcome.{Outcome, done, refused, onto}
 use Rattle.resolving.specs.declared.specifiers.Why.{Why}
-use Rattle.resolving.specs.declared.specifiers.Why.the-variants.{Unresolved, StringName}
 use Rattle.resolving.specs.declared.specifiers.Step.{Step}
 use Rattle.resolving.specs.declared.specifiers.Step.the-variants.{Done, Refused}
-
--- document 01's number of each refusal of the list
-abbrev pub whyNumber : Why → ℕ
-whyNumber Unresolved = 11
-whyNumber StringName = 6
+use Rattle.resolving.specs.Answer.{whyNumber}
 
 -- the rules give a value, and its bytes were written at o
 pub record Put {A : Type 0} (bytes : A → List ℕ) (m : Outcome A) (l : List ℕ) (o : ℕ) (l' : List ℕ) (p : ℕ) : Type 0 where

@@ -8,7 +8,8 @@ ghost use Rattle.resolving_rules.specs.Call.{resolving};
 ghost use Rattle.resolving_rules.specs.Resolve.{sourcesIn};
 ghost use Rattle.resolving.specs.Records.{RecordsRead, recordsIn};
 ghost use Rattle.resolving.specs.Numbers.{NumbersAll};
-ghost use Rattle.resolving.specs.Answer.{outcomeOf, lentAs, leftBy, left, tested, listedLeft, numberedLeft};
+ghost use Rattle.resolving.specs.Answer.{outcomeOf, lentAs, leftBy, left};
+ghost use Rattle.resolving.specs.Stages.{tested, listedLeft, numberedLeft};
 
 pub mod sources; // the records with a source, and their numbers
 pub mod specifiers; // specifiers, resolved

@@ -1,6 +1,5 @@
 -- Proofs of what is claimed: the sentence on lists of calls (ListsLaws) and demand 3 (DemandLaws, from TopLaws): what well placed items say around
--- a namespace's import, what each pass leaves of it, of its uses and of its record, and what resolving makes of that. Both of the
--- functions (FunctionsLaws).
+-- a namespace's import, what each pass leaves of it, of its uses and of its record, and what resolving makes of that.
 pub mod ListsLaws
 pub mod PlacedLaws
 pub mod EndsLaws
@@ -27,4 +26,3 @@ pub mod UsesLaws
 pub mod WaysLaws
 pub mod WorkedLaws
 pub mod DemandLaws
-pub mod FunctionsLaws

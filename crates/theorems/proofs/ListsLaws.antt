@@ -11,7 +11,7 @@ use lib.ListN.{length}
 use borrow.Author.Tests.{ltb-true}
 use Rattle.scope.specs.declared.Mark.{Mark}
 use Rattle.scope.specs.declared.Mark.the-variants.{Loaded, Stored, Cjs, Wrapping}
-use Rattle.scope.specs.Modules.{Modules, Left, request, generatedBy, gen, isMarked, setMark, given, marking}
+use Rattle.scope.specs.Modules.{Modules, Left, request, generatedBy, gen, goOn, filesIn, requestAll, isMarked, setMark, given, marking}
 use Rattle.scope.proofs.Laws.{request-keeps-marks, mark-keeps-kinds}
 use Rattle.tree.specs.Tree.{Fields, none, more, size}
 use Rattle.inputs.specs.Outcome.{Outcome, done, refused}
@@ -22,7 +22,7 @@ use Rattle.extraction_rules.proofs.MarksLaws.{SameMarks, MarksForced, mark-adds
 use Rattle.resolving_rules.specs.Resolve.{sourcesIn, sourceOf, requested, numberOne, numberAll}
 use Rattle.resolving_rules.specs.Call.{Lent as LentRecords, Numbered, numbered, modulesAfter as numbersAfter, resolving}
 use Rattle.resolving_rules.proofs.ResolvedLaws.{numbered-made}
-use Rattle.theorems.specs.Lists.{Call, requests, sets, reads, readsEsm, extracts, resolves, after, afterAll, forcedTo, wraps, wrapsAny, MarkedExactly}
+use Rattle.theorems.specs.Lists.{Call, requests, requestsAll, sets, reads, readsEsm, extracts, resolves, after, afterAll, forcedTo, wraps, wrapsAny, MarkedExactly}
 
 -- a call that wraps nothing
 unwrapping : {a b : Bool} → a ≡ b → a ≡ b || false
@@ -34,6 +34,16 @@ request-marked : (n f : ℕ) (ms : Modules) (o : Option (ℕ × Modules)) → re
     isMarked Wrapping n (generatedBy o ms .modules) ≡ isMarked Wrapping n ms
 request-marked n f ms nothing e = refl
 request-marked n f ms (some r) e = request-keeps-marks f ms e Wrapping n
+
+requestAll-marked : (n : ℕ) (fs : List ℕ) (ms : Modules) → isMarked Wrapping n (requestAll fs ms .modules) ≡ isMarked Wrapping n ms
+unfolding requestAll
+requestAll-marked n [] ms = refl
+requestAll-marked n (f ∷ fs) ms = go (request f ms) refl (λ new. requestAll-marked n fs new)
+  where
+    go : (o : Option (ℕ × Modules)) → request f ms ≡ o → ((new : Modules) → isMarked Wrapping n (requestAll fs new .modules) ≡ isMarked Wrapping n new) →
+        isMarked Wrapping n (goOn o (λ r. requestAll fs r) ms .modules) ≡ isMarked Wrapping n ms
+    go nothing e h = refl
+    go (some r) e h = h (r .1) ∙ request-keeps-marks f ms e Wrapping n
 
 -- what setting a mark leaves, where b says whether the number was given
 abbrev markingBy : Bool → Mark → ℕ → Modules → Left
@@ -99,6 +109,7 @@ differ e = omega arith
 call-marked : (n : ℕ) (c : Call) (ms : Modules) → isMarked Wrapping n (after c ms) ≡ isMarked Wrapping n ms || wraps n c ms
 unfolding after wraps gen marking extraction resolving
 call-marked n (requests f) ms = unwrapping (request-marked n (f .0) ms (request (f .0) ms) refl)
+call-marked n (requestsAll files) ms = unwrapping (requestAll-marked n (filesIn files) ms)
 call-marked n (sets Loaded m) ms = unwrapping (other-marked Loaded n (m .0) ms (given m ms) (λ e. differ (cc)))
 call-marked n (sets Stored m) ms = unwrapping (other-marked Stored n (m .0) ms (given m ms) (λ e. differ (cc)))
 call-marked n (sets Cjs m) ms = unwrapping (other-marked Cjs n (m .0) ms (given m ms) (λ e. differ (cc)))

@@ -8,7 +8,7 @@ use Rattle.scope.specs.declared.id.FileName.{FileName}
 use Rattle.scope.specs.declared.id.ModuleId.{ModuleId}
 use Rattle.scope.specs.declared.Mark.{Mark}
 use Rattle.scope.specs.declared.Mark.the-variants.{Loaded, Stored, Cjs, Wrapping}
-use Rattle.scope.specs.Modules.{Modules, gen, marking, isMarked}
+use Rattle.scope.specs.Modules.{Modules, gen, filesIn, requestAll, marking, isMarked}
 use Rattle.inputs.specs.Outcome.{Outcome, done, refused}
 use Rattle.inputs.specs.Table.{Row, rowsIn}
 use Rattle.extraction_rules.specs.Reach.{reaches}
@@ -17,10 +17,11 @@ use Rattle.resolving_rules.specs.Call.{Lent as LentRecords, resolving}
 
 -- ---- Lists of calls
 
--- a call on a scope with all its inputs: a file request, a mark set or read (`wrapped_esm_id` reads two), an extraction, a resolving;
--- 'calls that start their own scope stand in no list'
+-- a call on a scope with all its inputs: a file request, one for a lent list of files, a mark set or read (`wrapped_esm_id` reads two),
+-- an extraction, a resolving; 'calls that start their own scope stand in no list'
 pub data Call : Type 0 where
   requests : FileName → Call
+  requestsAll : List ℕ → Call
   sets : Mark → ModuleId → Call
   reads : Mark → ModuleId → Call
   readsEsm : ModuleId → Call
@@ -30,6 +31,7 @@ pub data Call : Type 0 where
 -- the scope's modules after a call, refused or not
 unfoldable pub after : Call → Modules → Modules
 after (requests f) ms = gen f ms .modules
+after (requestsAll files) ms = requestAll (filesIn files) ms .modules
 after (sets k m) ms = marking k m ms .modules
 after (reads k m) ms = ms
 after (readsEsm m) ms = ms
@@ -51,6 +53,7 @@ forcedTo n rows (refused k p) = false
 -- such an extraction, or an accepted call that sets the wrapping mark and names the module
 unfoldable pub wraps : ℕ → Call → Modules → Bool
 wraps n (requests f) ms = false
+wraps n (requestsAll files) ms = false
 wraps n (sets Loaded m) ms = false
 wraps n (sets Stored m) ms = false
 wraps n (sets Cjs m) ms = false

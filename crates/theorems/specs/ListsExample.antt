@@ -6,14 +6,14 @@ use mathlib.Core.List.{List, [], _∷_, _++_, map}
 use mathlib.Core.Option.{bind, Option·elim}
 use Rattle.scope.specs.declared.Mark.the-variants.{Stored, Cjs, Wrapping}
 use Rattle.scope.specs.Id.{moduleId}
-use Rattle.scope.specs.Modules.{gen, marking}
+use Rattle.scope.specs.Modules.{gen, filesIn, requestAll, marking}
 use Rattle.tree.specs.Tree.{encode}
 use Rattle.extraction_rules.specs.Call.{Lent, Lengths}
 use Rattle.extraction_rules.specs.Build.{a, own, imports, namespace, statement, ident, program, records, collected, lending, room, rooms}
 use Rattle.extraction_rules.specs.Computes.{computing}
 use Rattle.resolving_rules.specs.Call.{Lent as LentRecords}
 use Rattle.resolving_rules.specs.Computes.{computing as computing-resolved}
-use Rattle.theorems.specs.Lists.{Call, requests, sets, reads, readsEsm, extracts, resolves, after, afterAll, wraps, wrapsAny}
+use Rattle.theorems.specs.Lists.{Call, requests, requestsAll, sets, reads, readsEsm, extracts, resolves, after, afterAll, wraps, wrapsAny}
 
 -- `import * as a from './m'; a;` forces ./m
 abbrev forcing : Lent
@@ -25,11 +25,12 @@ tooShort = record { work = room; out = room; records = 0 }
 abbrev listing : LentRecords
 listing = record { table = forcing .table; records = encode (records (collected [] ∷ [])) }
 
--- file 9 becomes module 0; module 1 is not given, so refused; an extraction that forces ./m is refused for want of room; file 10 becomes
+-- file 9 becomes module 0, and stays it in a list of files with a byte too many; module 1 is not given, so refused; an extraction that forces ./m is refused for want of room; file 10 becomes
 -- module 1; module 0 is marked cjs
 abbrev quiet : List Call
 quiet =
     requests (record { 0 = 9 }) ∷
+    requestsAll (0 ∷ 9 ∷ 7 ∷ []) ∷
     sets Wrapping (moduleId 1) ∷
     extracts forcing tooShort ∷
     resolves listing room ∷
@@ -50,22 +51,22 @@ numbers = 0 ∷ 1 ∷ 2 ∷ []
 
 -- nothing is wrapped, neither by the calls nor in the scope
 quiet-wraps : map (λ n. wrapsAny n quiet []) numbers ≡ false ∷ false ∷ false ∷ []
-unfolding computing computing-resolved gen marking after wraps wrapsAny bind Option·elim
+unfolding computing computing-resolved gen filesIn requestAll marking after wraps wrapsAny bind Option·elim
 quiet-wraps = refl
 
 quiet-after : afterAll quiet [] ≡
     record { file = 9; loaded = false; stored = false; cjs = true; wrapping = false } ∷
     record { file = 10; loaded = false; stored = false; cjs = false; wrapping = false } ∷ []
-unfolding computing computing-resolved gen marking after afterAll
+unfolding computing computing-resolved gen filesIn requestAll marking after afterAll
 quiet-after = refl
 
 -- both modules are wrapped
 wrapping-wraps : map (λ n. wrapsAny n (quiet ++ wrapping) []) numbers ≡ true ∷ true ∷ false ∷ []
-unfolding computing computing-resolved gen marking after wraps wrapsAny bind Option·elim
+unfolding computing computing-resolved gen filesIn requestAll marking after wraps wrapsAny bind Option·elim
 wrapping-wraps = refl
 
 wrapping-after : afterAll (quiet ++ wrapping) [] ≡
     record { file = 9; loaded = false; stored = false; cjs = true; wrapping = true } ∷
     record { file = 10; loaded = false; stored = false; cjs = false; wrapping = true } ∷ []
-unfolding computing computing-resolved gen marking after afterAll
+unfolding computing computing-resolved gen filesIn requestAll marking after afterAll
 wrapping-after = refl

@@ -1,1 +1,1 @@
-// What is claimed of several calls together. The claims stand in specs/, their proofs in proofs/.
+// Theorems over several calls, on the rules. They stand in specs/, their proofs in proofs/.

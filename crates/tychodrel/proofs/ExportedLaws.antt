@@ -29,7 +29,7 @@ use Rattle.resolving.specs.declared.ResolveAnswer.the-variants.{TooManyFiles as
 use Rattle.resolving.specs.declared.Resolution.{Resolution}
 use Rattle.resolving.specs.declared.specifiers.Why.{Why as ListWhy}
 use Rattle.resolving.specs.declared.specifiers.Why.the-variants.{Unresolved, StringName as TextName}
-use Rattle.resolving.specs.Writes.{whyNumber}
+use Rattle.resolving.specs.Answer.{whyNumber}
 use Rattle.resolving.specs.Answer.{answerRefusal as resolveRefusal, left as leftResolving}
 use Rattle.tychodrel.specs.Answer.{packedIn, scopeBytes}
 use Rattle.tychodrel.specs.Calls.{onFiles, withFiles, extractNone, extractCall, resolveNone, resolveCall, Numbered, Tells, Leaves, LeavesList}

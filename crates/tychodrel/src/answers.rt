@@ -7,7 +7,7 @@ ghost use mathlib.Core.Path.{_≡_};
 ghost use Rattle.tree.specs.Read.{refusalOf};
 ghost use Rattle.steps.specs.Step.{refusalOf as walkRefusal};
 ghost use Rattle.extraction.specs.Answer.{answerRefusal as extractRefusal};
-ghost use Rattle.resolving.specs.Writes.{whyNumber};
+ghost use Rattle.resolving.specs.Answer.{whyNumber};
 ghost use Rattle.resolving.specs.Answer.{answerRefusal as resolveRefusal};
 ghost use Rattle.tychodrel.specs.Answer.{packed, packedIn, encodeAnswerOf};
 

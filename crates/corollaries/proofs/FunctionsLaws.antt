@@ -1,10 +1,13 @@
 -- Demand 3 of the functions, by their contracts: both sentences.
-use Prim.Native.Nat.{ℕ}
+use Prim.Native.Nat.{ℕ, zero, suc}
 use native.Mathlib.Omega.{arith}
-use mathlib.Core.Path.{_≡_, sym, ap, _∙_}
+use mathlib.Core.Path.{_≡_, refl, sym, ap, _∙_}
 use mathlib.Core.Bool.{Bool, true, false, cond}
 use mathlib.Core.List.{List, [], _∷_}
 use mathlib.Core.Option.{none as nothing}
+use lib.Dec.{ltb}
+use lib.ListN.{length}
+use borrow.Author.Tests.{ltb-false, le-ltb}
 use Rattle.scope.specs.declared.Mark.the-variants.{Wrapping}
 use Rattle.scope.specs.declared.Scope.{Scope}
 use Rattle.scope.specs.declared.id.ModuleId.{ModuleId}
@@ -26,16 +29,17 @@ use Rattle.extraction.specs.Answer.{answerRefusal}
 use Rattle.resolving_rules.specs.Call.{Lent as LentRecords, Resolved, Left as LeftList, resolved, resolving}
 use Rattle.resolving_rules.proofs.ResolvedLaws.{call-room as list-room, call-modules}
 use Rattle.resolving.specs.Answer.{lentAs, answerRefusal as listRefusal}
-use Rattle.theorems.specs.Lists.{Call, requests, sets, reads, readsEsm, extracts, resolves, after, afterAll}
-use Rattle.theorems.specs.Functions.{HandsBack, HandOn, AnswersExactly, FunctionsKeepOrPart}
+use Rattle.theorems.specs.Lists.{Call, requests, requestsAll, sets, reads, readsEsm, extracts, resolves, after, afterAll, wrapsAny}
+use Rattle.corollaries.specs.Functions.{HandsBack, HandOn, AnswersExactly, FunctionsKeepOrPart}
 use Rattle.theorems.proofs.ListsLaws.{marked-exactly}
 use Rattle.theorems.proofs.DemandLaws.{kept-whole-or-apart}
 
 -- ---- The sentence on lists
 
 hands-back : (c : Call) (s t : Scope) → HandsBack c s t → modulesOf t ≡ after c (modulesOf s)
 unfolding after
 hands-back (requests f) s t h = ap modulesOf (h .2) ∙ ap (λ (g : Generated). g .modules) (h .1)
+hands-back (requestsAll files) s t h = ap modulesOf (h .2) ∙ ap (λ (g : Requesting). g .modules) (h .1)
 hands-back (sets k m) s t h = ap modulesOf (h .2) ∙ ap (λ (g : Requesting). g .modules) (h .1)
 hands-back (reads k m) s t h = ap modulesOf h
 hands-back (readsEsm m) s t h = ap modulesOf h
@@ -56,9 +60,33 @@ read-marked m ms b e = go (given m ms) e
     go true e = cc
     go false e = absurd (let z : _≡_ {A = ℕ} 0 1 = cc in omega arith)
 
+-- a number that was not given has no mark
+unmarked-past : (n : ℕ) (ms : Modules) → ltb n (length ms) ≡ false → isMarked Wrapping n ms ≡ false
+unfolding isMarked
+unmarked-past n [] e = refl
+unmarked-past zero (m ∷ ms) e = absurd (let z = ltb-false 0 (length (m ∷ ms)) e in omega arith)
+unmarked-past (suc n) (m ∷ ms) e =
+    let z = ltb-false (suc n) (length (m ∷ ms)) e in
+    unmarked-past n ms (le-ltb n (length ms) (omega arith))
+
+unread-marked : (m : ModuleId) (ms : Modules) → untold 12 ≡ readMark Wrapping m ms → isMarked Wrapping (m .0) ms ≡ false
+unfolding readMark
+unread-marked m ms e = go (given m ms) refl e
+  where
+    go : (c : Bool) → given m ms ≡ c → untold 12 ≡ cond c (tells (isMarked Wrapping (m .0) ms)) (untold 12) → isMarked Wrapping (m .0) ms ≡ false
+    go true q e = absurd (let z : _≡_ {A = ℕ} 0 1 = cc in omega arith)
+    go false q e = unmarked-past (m .0) ms q
+
+handed-marked : (calls : List Call) (s t : Scope) → modulesOf s ≡ [] → HandOn calls s t → (n : ℕ) → isMarked Wrapping n (modulesOf t) ≡ wrapsAny n calls []
+handed-marked calls s t fresh h n = ap (isMarked Wrapping n) (hand-on calls s t h ∙ ap (afterAll calls) fresh) ∙ marked-exactly calls n
+
 pub answers-exactly : AnswersExactly
-answers-exactly calls s t fresh h m b e =
-    read-marked m (modulesOf t) b e ∙ ap (isMarked Wrapping (m .0)) (hand-on calls s t h ∙ ap (afterAll calls) fresh) ∙ marked-exactly calls (m .0)
+answers-exactly calls s t fresh h m b e = read-marked m (modulesOf t) b e ∙ handed-marked calls s t fresh h (m .0)
+
+-- and a number that was not given was wrapped by no call
+pub answers-none : (calls : List Call) (s t : Scope) → modulesOf s ≡ [] → HandOn calls s t → (m : ModuleId) →
+    untold 12 ≡ readMark Wrapping m (modulesOf t) → wrapsAny (m .0) calls [] ≡ false
+answers-none calls s t fresh h m e = sym (handed-marked calls s t fresh h (m .0)) ∙ unread-marked m (modulesOf t) e
 
 -- ---- What the buffers hold
 
@@ -102,7 +130,7 @@ module _ (l : LentRecords) (room : ℕ) (ms : Modules) {x : LeftList} (e : x ≡
 -- ---- Kept whole or taken apart
 
 pub functions-keep-or-part : FunctionsKeepOrPart
-functions-keep-or-part l room s r w o k n q g e a f b bs items own reading requesting placed =
+functions-keep-or-part l room s r w o k n q g e a f b bs items p =
     let x = extraction-accepted l room (modulesOf s) e (ap answerRefusal a) in
     let t = x .0 in
     let records = extraction-records l room (modulesOf s) t e (x .1) in
@@ -112,6 +140,8 @@ functions-keep-or-part l room s r w o k n q g e a f b bs items own reading reque
     let u = y .0 in (
       t,
       u,
+      x .1,
+      y .1,
       record {
         out = ap (read Module) (extraction-out l room (modulesOf s) t e (x .1)) ∙ call-readable l room (modulesOf s) bs t (x .1) .1;
         records = ap (read Records) records ∙ call-records l room (modulesOf s) bs t (x .1);
@@ -120,8 +150,8 @@ functions-keep-or-part l room s r w o k n q g e a f b bs items own reading reque
         resolved = resolving-modules given n (modulesOf (r .scope)) f u (y .1);
       },
       λ k x' i d inside.
-          kept-whole-or-apart l room (modulesOf s) t n u items own (x .1)
+          kept-whole-or-apart l room (modulesOf s) t n u items (p .own) (x .1)
           (sym (ap (λ (ms : Modules). resolved (lentAs (l .table) (encode (t .records))) n ms) modules)
           ∙ sym (ap (λ (z : List ℕ). resolved (lentAs (l .table) z) n (modulesOf (r .scope))) records) ∙ y .1)
-          bs reading requesting placed k x' i d inside,
+          bs (p .reading) (p .requesting) (p .placed) k x' i d inside,
     )
