@@ -11,7 +11,7 @@ use borrow.Author.Tests.{ltb-false, le-ltb}
 use Rattle.scope.specs.declared.Mark.the-variants.{Wrapping}
 use Rattle.scope.specs.declared.Scope.{Scope}
 use Rattle.scope.specs.declared.id.ModuleId.{ModuleId}
-use Rattle.scope.specs.Modules.{Modules, Generated, Left as Requesting, done as tells, refused as untold, given, isMarked, readMark}
+use Rattle.scope.specs.Modules.{Modules, Generated, Left as Requesting, done as tells, refused as untold, given, not-given, isMarked, readMark}
 use Rattle.scope.specs.ScopeValue.{modulesOf}
 use Rattle.tree.specs.declared.grammar.Set.the-variants.{Module, Records}
 use Rattle.tree.specs.Tree.{Field, encode, size}
@@ -56,7 +56,7 @@ read-marked : (m : ModuleId) (ms : Modules) (b : Bool) → tells b ≡ readMark 
 unfolding readMark
 read-marked m ms b e = go (given m ms) e
   where
-    go : (c : Bool) → tells b ≡ cond c (tells (isMarked Wrapping (m .0) ms)) (untold 12) → b ≡ isMarked Wrapping (m .0) ms
+    go : (c : Bool) → tells b ≡ cond c (tells (isMarked Wrapping (m .0) ms)) (untold not-given) → b ≡ isMarked Wrapping (m .0) ms
     go true e = cc
     go false e = absurd (let z : _≡_ {A = ℕ} 0 1 = cc in omega arith)
 
@@ -69,11 +69,11 @@ unmarked-past (suc n) (m ∷ ms) e =
     let z = ltb-false (suc n) (length (m ∷ ms)) e in
     unmarked-past n ms (le-ltb n (length ms) (omega arith))
 
-unread-marked : (m : ModuleId) (ms : Modules) → untold 12 ≡ readMark Wrapping m ms → isMarked Wrapping (m .0) ms ≡ false
+unread-marked : (m : ModuleId) (ms : Modules) → untold not-given ≡ readMark Wrapping m ms → isMarked Wrapping (m .0) ms ≡ false
 unfolding readMark
 unread-marked m ms e = go (given m ms) refl e
   where
-    go : (c : Bool) → given m ms ≡ c → untold 12 ≡ cond c (tells (isMarked Wrapping (m .0) ms)) (untold 12) → isMarked Wrapping (m .0) ms ≡ false
+    go : (c : Bool) → given m ms ≡ c → untold not-given ≡ cond c (tells (isMarked Wrapping (m .0) ms)) (untold not-given) → isMarked Wrapping (m .0) ms ≡ false
     go true q e = absurd (let z : _≡_ {A = ℕ} 0 1 = cc in omega arith)
     go false q e = unmarked-past (m .0) ms q
 
@@ -85,7 +85,7 @@ answers-exactly calls s t fresh h m b e = read-marked m (modulesOf t) b e ∙ ha
 
 -- and a number that was not given was wrapped by no call
 pub answers-none : (calls : List Call) (s t : Scope) → modulesOf s ≡ [] → HandOn calls s t → (m : ModuleId) →
-    untold 12 ≡ readMark Wrapping m (modulesOf t) → wrapsAny (m .0) calls [] ≡ false
+    untold not-given ≡ readMark Wrapping m (modulesOf t) → wrapsAny (m .0) calls [] ≡ false
 answers-none calls s t fresh h m e = sym (handed-marked calls s t fresh h (m .0)) ∙ unread-marked m (modulesOf t) e
 
 -- ---- What the buffers hold

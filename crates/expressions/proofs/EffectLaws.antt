@@ -8,7 +8,8 @@ use Rattle.state.specs.Cells.{At, Good, Shows}
 use Rattle.state.specs.Does.{Turns, Acts}
 use Rattle.state.specs.declared.Room.{Room}
 use Rattle.state.specs.declared.Room.the-variants.{Made, Full}
-use Rattle.steps.specs.Step.{refusalOf, Effects}
+use Rattle.steps.specs.Step.{Effects}
+use Rattle.steps.specs.Refusal.{refusalOf}
 use Rattle.steps.specs.declared.Why.{Why}
 use Rattle.steps.specs.declared.Why.the-variants.{TableFull}
 use Rattle.steps.specs.declared.Effect.{Effect}

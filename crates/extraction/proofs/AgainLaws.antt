@@ -34,7 +34,8 @@ use Rattle.steps.specs.declared.Step.{Step}
 use Rattle.steps.specs.declared.Step.the-variants.{Done, Refused}
 use Rattle.steps.specs.declared.Effect.{Effect}
 use Rattle.steps.specs.declared.Effect.the-variants.{Fine, Refused as Turned}
-use Rattle.steps.specs.Step.{refusalOf, Made, Steps}
+use Rattle.steps.specs.Step.{Made, Steps}
+use Rattle.steps.specs.Refusal.{refusalOf}
 use Rattle.walking.specs.Walking.{set}
 use Rattle.records.specs.Model.{specifiersOf, rebuilt}
 use Rattle.records.specs.Writes.{Placing, itemsIn, recordsIn}
@@ -42,7 +43,7 @@ use Rattle.records.proofs.ToldLaws.{items-read, records-are}
 use Rattle.extraction.specs.declared.ExtractAnswer.{ExtractAnswer}
 use Rattle.extraction.specs.declared.ExtractAnswer.the-variants.{Refused as Answered}
 use Rattle.extraction.specs.Passes.{ItemsRead, passAct}
-use Rattle.extraction.specs.Answer.{Wraps, wrapFrom, bothFit, Closes, Between, secondly, Seconds}
+use Rattle.extraction.specs.Stages.{Wraps, wrapFrom, bothFit, Closes, Between, secondly, Seconds}
 use Rattle.extraction.proofs.EndLaws.{fits-not, answered}
 use Rattle.extraction.proofs.ReadLaws.{reads-work}
 

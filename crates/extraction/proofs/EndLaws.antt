@@ -18,7 +18,7 @@ use Rattle.extraction_rules.specs.State.{State}
 use Rattle.state.specs.Cells.{At, Shows}
 use Rattle.records.specs.Writes.{WroteFor, Placing, BothRead, RowRead, recordsIn}
 use Rattle.extraction.specs.declared.ExtractAnswer.the-variants.{Extracted as Accepted, Refused as Answered, NoRoom}
-use Rattle.extraction.specs.Answer.{Closes}
+use Rattle.extraction.specs.Stages.{Closes}
 use Rattle.steps.specs.declared.Why.{Why}
 
 -- ---- Room

@@ -23,7 +23,8 @@ use Rattle.state.specs.Cells.{Good}
 use Rattle.records.specs.Writes.{itemsIn}
 use Rattle.extraction.specs.declared.ExtractAnswer.{ExtractAnswer}
 use Rattle.extraction.specs.declared.ExtractAnswer.the-variants.{Extracted as Accepted, BadLists, NamedTwice, Unread}
-use Rattle.extraction.specs.Answer.{lentAs, roomIn, ModuleRead, Calls, ownedBy}
+use Rattle.extraction.specs.Answer.{lentAs, roomIn}
+use Rattle.extraction.specs.Stages.{ModuleRead, Calls, ownedBy}
 use Rattle.extraction.proofs.ReadLaws.{module-read, module-items}
 use Rattle.extraction.proofs.OnceLaws.{ends-as}
 

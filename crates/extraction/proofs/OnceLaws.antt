@@ -40,7 +40,8 @@ use Rattle.steps.specs.declared.Why.{Why}
 use Rattle.steps.specs.declared.Why.the-variants.{TooManyFiles}
 use Rattle.steps.specs.declared.Step.{Step}
 use Rattle.steps.specs.declared.Step.the-variants.{Done, Refused}
-use Rattle.steps.specs.Step.{refusalOf, Steps}
+use Rattle.steps.specs.Step.{Steps}
+use Rattle.steps.specs.Refusal.{refusalOf}
 use Rattle.walking.specs.Walking.{set}
 use Rattle.records.specs.Writes.{placed, Placing, itemsIn}
 use Rattle.records.specs.Model.{rebuilt}
@@ -48,7 +49,8 @@ use Rattle.records.proofs.RebuiltLaws.{run-rebuilt}
 use Rattle.extraction.specs.declared.ExtractAnswer.{ExtractAnswer}
 use Rattle.extraction.specs.declared.ExtractAnswer.the-variants.{Refused as Answered, NoRoom}
 use Rattle.extraction.specs.Passes.{ItemsRead, passAct}
-use Rattle.extraction.specs.Answer.{lentAs, roomIn, Ends, Between, secondly, Seconds, ModuleRead, Calls, passesBy, ownedBy}
+use Rattle.extraction.specs.Answer.{lentAs, roomIn}
+use Rattle.extraction.specs.Stages.{Ends, Between, secondly, Seconds, ModuleRead, Calls, passesBy, ownedBy}
 use Rattle.extraction.proofs.EndLaws.{fits-not, fits-so, room-size, finished-part, no-room-accepted, answered}
 use Rattle.extraction.proofs.ReadLaws.{reads-tree}
 use Rattle.extraction.proofs.AgainLaws.{walked, walked-refused}

@@ -19,7 +19,7 @@ use Rattle.state.specs.Cells.{At}
 use Rattle.records.specs.Writes.{placed, Placing, itemsIn}
 use Rattle.records.proofs.ToldLaws.{placed-0, placed-first, placed-second}
 use Rattle.walking.specs.Walking.{Reads}
-use Rattle.extraction.specs.Answer.{ModuleRead}
+use Rattle.extraction.specs.Stages.{ModuleRead}
 
 -- ---- A module
 

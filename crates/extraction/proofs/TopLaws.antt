@@ -19,7 +19,8 @@ use Rattle.state.specs.Does.{Tells, Turns}
 use Rattle.state.proofs.RestLaws.{zero-good, zero-shows}
 use Rattle.extraction.specs.declared.ExtractAnswer.{ExtractAnswer}
 use Rattle.extraction.specs.declared.ExtractAnswer.the-variants.{Extracted as Accepted, BadLists, NamedTwice, Unread, Refused, NoRoom}
-use Rattle.extraction.specs.Answer.{answerRefusal, answerNumber, answerPlace, roomIn, left, Calls}
+use Rattle.extraction.specs.Answer.{answerRefusal, roomIn, left}
+use Rattle.extraction.specs.Stages.{answerNumber, answerPlace, Calls}
 
 -- ---- The array at the start
 

@@ -25,9 +25,9 @@ use Rattle.steps.specs.declared.Why.{Why}
 use Rattle.steps.specs.declared.Why.the-variants.{TooManyFiles}
 use Rattle.steps.specs.declared.Effect.{Effect}
 use Rattle.steps.specs.declared.Effect.the-variants.{Fine, Refused as Turned}
-use Rattle.steps.specs.Step.{refusalOf}
+use Rattle.steps.specs.Refusal.{refusalOf}
 use Rattle.steps.proofs.StepsLaws.{fine-turned, turned-as}
-use Rattle.extraction.specs.Answer.{wrapOne, wrapFrom, Wraps, Wrapping}
+use Rattle.extraction.specs.Stages.{wrapOne, wrapFrom, Wraps, Wrapping}
 
 -- ---- One source
 

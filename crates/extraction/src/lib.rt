@@ -9,7 +9,8 @@ ghost use Rattle.extraction_rules.specs.State.{second as pass-two};
 ghost use Rattle.extraction_rules.specs.Call.{setting, badLists, extracted, extraction};
 ghost use Rattle.inputs.specs.Table.{rowsIn};
 ghost use Rattle.state.specs.Cells.{Good};
-ghost use Rattle.extraction.specs.Answer.{left, lentAs, roomIn, wrapOne, wrapFrom, Wraps, Closes, Seconds, ModuleRead, Calls, passesBy, ownedBy};
+ghost use Rattle.extraction.specs.Answer.{left, lentAs, roomIn};
+ghost use Rattle.extraction.specs.Stages.{wrapOne, wrapFrom, Wraps, Closes, Seconds, ModuleRead, Calls, passesBy, ownedBy};
 
 pub mod passes; // a pass over a module's items
 

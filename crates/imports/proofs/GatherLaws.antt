@@ -31,7 +31,8 @@ use Rattle.state.proofs.CollectLaws.{length-extend}
 use Rattle.state.proofs.ExtendLaws.{extended-other}
 use Rattle.state.proofs.NamespaceLaws.{namespaces-extended, extend-more, extend-none}
 use Rattle.state.proofs.RecordLaws.{held-shown}
-use Rattle.steps.specs.Step.{identBy, refusalOf}
+use Rattle.steps.specs.Step.{identBy}
+use Rattle.steps.specs.Refusal.{refusalOf}
 use Rattle.steps.specs.declared.Ident.{Ident}
 use Rattle.steps.specs.declared.Ident.the-variants.{Is, Other}
 use Rattle.steps.specs.declared.Step.the-variants.{Done, Refused}

@@ -24,7 +24,8 @@ use Rattle.state.specs.Does.{Did, extendAt}
 use Rattle.state.specs.declared.Room.{Room}
 use Rattle.state.specs.declared.Room.the-variants.{Made, Full}
 use Rattle.metadata.specs.Metadata.{append}
-use Rattle.steps.specs.Step.{ReadAt, refusalOf}
+use Rattle.steps.specs.Step.{ReadAt}
+use Rattle.steps.specs.Refusal.{refusalOf}
 use Rattle.steps.specs.declared.Step.{Step}
 use Rattle.steps.specs.declared.Step.the-variants.{Done, Refused}
 use Rattle.steps.specs.declared.Why.{Why}

@@ -5,7 +5,7 @@ use mathlib.Core.Path.{_≡_, refl, sym, ap, ap₂, subst, _∙_}
 use mathlib.Core.List.{List}
 use mathlib.Core.Option.{Option, none as nothing, some}
 use lib.ListN.{length}
-use Rattle.scope.specs.Modules.{Modules, Generated, generatedBy, numberOf, request, gen}
+use Rattle.scope.specs.Modules.{Modules, too-many-files, Generated, generatedBy, numberOf, request, gen}
 use Rattle.scope.specs.declared.id.FileName.{FileName}
 use Rattle.scope.proofs.Laws.{request-numbers}
 use Rattle.tree.specs.declared.layout.Reach.the-variants.{Upto, Short}
@@ -30,22 +30,22 @@ module _ (rows : List Row) (a : List ℕ) (ms : Modules) (p : ℕ) where
   unfolding numberOne
   number-nowhere e = sym (ap (λ (o : Option ℕ). numberOne o ms p) e)
 
-  given : (o : Option (ℕ × Modules)) → generatedBy o ms .refusal ≡ 0 → done (generatedBy o ms .modules) ≡ requested o p
+  given : (o : Option (ℕ × Modules)) → generatedBy o ms .refusal ≡ nothing → done (generatedBy o ms .modules) ≡ requested o p
   given (some r) e = refl
-  given nothing e = absurd (omega arith)
+  given nothing e = absurd (let z : _≡_ {A = ℕ} 0 1 = cc in omega arith)
 
-  over : (o : Option (ℕ × Modules)) → generatedBy o ms .refusal ≡ 5 → refused 5 p ≡ requested o p
-  over (some r) e = absurd (omega arith)
+  over : (o : Option (ℕ × Modules)) → generatedBy o ms .refusal ≡ some too-many-files → refused 5 p ≡ requested o p
+  over (some r) e = absurd (let z : _≡_ {A = ℕ} 0 1 = cc in omega arith)
   over nothing e = refl
 
   module _ {file : FileName} {g : Generated} (h : fileOf a rows ≡ some (file .0)) (e : g ≡ gen file ms) where
-    pub number-given : g .refusal ≡ 0 → done (g .modules) ≡ numberOne (fileOf a rows) ms p
+    pub number-given : g .refusal ≡ nothing → done (g .modules) ≡ numberOne (fileOf a rows) ms p
     unfolding gen numberOne
     number-given z =
         ap (λ (k : Generated). done (k .modules)) e ∙ given (request (file .0) ms) (sym (ap (λ (k : Generated). k .refusal) e) ∙ z)
         ∙ sym (ap (λ (o : Option ℕ). numberOne o ms p) h)
 
-    pub number-over : g .refusal ≡ 5 → refused 5 p ≡ numberOne (fileOf a rows) ms p
+    pub number-over : g .refusal ≡ some too-many-files → refused 5 p ≡ numberOne (fileOf a rows) ms p
     unfolding gen numberOne
     number-over z = over (request (file .0) ms) (sym (ap (λ (k : Generated). k .refusal) e) ∙ z) ∙ sym (ap (λ (o : Option ℕ). numberOne o ms p) h)
 

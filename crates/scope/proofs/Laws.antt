@@ -17,8 +17,8 @@ use Rattle.scope.specs.declared.id.Id.{Id}
 use Rattle.scope.specs.declared.Mark.{Mark}
 use Rattle.scope.specs.declared.Mark.the-variants.{Loaded, Stored, Cjs, Wrapping}
 use Rattle.scope.specs.Id.{local, export}
-use Rattle.scope.specs.Modules.{Module, Modules, next, placeOf, numberOf, unmarked, requestBy, request, generatedBy, gen, Left, goOn}
-use Rattle.scope.specs.Modules.{requestAll, marked, withMark, isMarked, setMark, given, marking, done, refused, readMark, esmId, wrappedEsmId}
+use Rattle.scope.specs.Modules.{Module, Modules, next, placeOf, numberOf, unmarked, requestBy, request, too-many-files, generatedBy, gen, Left, goOn}
+use Rattle.scope.specs.Modules.{requestAll, marked, withMark, isMarked, setMark, given, not-given, marking, done, refused, readMark, esmId, wrappedEsmId}
 use Rattle.scope.specs.ScopeValue.{moduleBy, modulesIn, Rewrites}
 
 -- ---- Contexts: distinct modules have distinct contexts, and local and export contexts never meet each other or 0
@@ -250,27 +250,27 @@ unfolding gen request
 gen-refused f ms e h = rw (e, le-ltb (length ms) 256 h)
 
 -- a list of files goes on behind a file that is given, and ends at one that is refused
-onward : (o : Option (ℕ × Modules)) (rest : Modules → Left) (ms : Modules) → generatedBy o ms .refusal ≡ 0 → goOn o rest ms ≡ rest (generatedBy o ms .modules)
+onward : (o : Option (ℕ × Modules)) (rest : Modules → Left) (ms : Modules) → generatedBy o ms .refusal ≡ none → goOn o rest ms ≡ rest (generatedBy o ms .modules)
 onward (some r) rest ms e = refl
-onward none rest ms e = absurd (omega arith)
+onward none rest ms e = absurd (let z : _≡_ {A = ℕ} 0 1 = cc in omega arith)
 
-pub request-all-more : (f : FileName) (fs : List ℕ) (ms : Modules) → gen f ms .refusal ≡ 0 → requestAll (f .0 ∷ fs) ms ≡ requestAll fs (gen f ms .modules)
+pub request-all-more : (f : FileName) (fs : List ℕ) (ms : Modules) → gen f ms .refusal ≡ none → requestAll (f .0 ∷ fs) ms ≡ requestAll fs (gen f ms .modules)
 unfolding requestAll gen
 request-all-more f fs ms e = onward (request (f .0) ms) (λ r. requestAll fs r) ms e
 
-stopped : (o : Option (ℕ × Modules)) (rest : Modules → Left) (ms : Modules) → generatedBy o ms .refusal ≡ 5 → goOn o rest ms ≡ record { modules = generatedBy o ms .modules; refusal = 5 }
-stopped (some r) rest ms e = absurd (omega arith)
+stopped : (o : Option (ℕ × Modules)) (rest : Modules → Left) (ms : Modules) → generatedBy o ms .refusal ≡ some too-many-files → goOn o rest ms ≡ record { modules = generatedBy o ms .modules; refusal = some too-many-files }
+stopped (some r) rest ms e = absurd (let z : _≡_ {A = ℕ} 0 1 = cc in omega arith)
 stopped none rest ms e = refl
 
-pub request-all-stops : (f : FileName) (fs : List ℕ) (ms : Modules) → gen f ms .refusal ≡ 5 → requestAll (f .0 ∷ fs) ms ≡ record { modules = gen f ms .modules; refusal = 5 }
+pub request-all-stops : (f : FileName) (fs : List ℕ) (ms : Modules) → gen f ms .refusal ≡ some too-many-files → requestAll (f .0 ∷ fs) ms ≡ record { modules = gen f ms .modules; refusal = some too-many-files }
 unfolding requestAll gen
 request-all-stops f fs ms e = stopped (request (f .0) ms) (λ r. requestAll fs r) ms e
 
-pub marking-given : (k : Mark) (m : ModuleId) (ms : Modules) → m .0 < length ms → marking k m ms ≡ record { modules = setMark k (m .0) ms; refusal = 0 }
+pub marking-given : (k : Mark) (m : ModuleId) (ms : Modules) → m .0 < length ms → marking k m ms ≡ record { modules = setMark k (m .0) ms; refusal = none }
 unfolding marking
 marking-given k m ms h = rw (lt-ltb (m .0) (length ms) h)
 
-pub marking-refused : (k : Mark) (m : ModuleId) (ms : Modules) → length ms ≤ m .0 → marking k m ms ≡ record { modules = ms; refusal = 12 }
+pub marking-refused : (k : Mark) (m : ModuleId) (ms : Modules) → length ms ≤ m .0 → marking k m ms ≡ record { modules = ms; refusal = some not-given }
 unfolding marking
 marking-refused k m ms h = rw (le-ltb (m .0) (length ms) h)
 
@@ -278,12 +278,12 @@ pub read-given : (k : Mark) (m : ModuleId) (ms : Modules) → m .0 < length ms �
 unfolding readMark
 read-given k m ms h = rw (lt-ltb (m .0) (length ms) h)
 
-pub read-refused : (k : Mark) (m : ModuleId) (ms : Modules) → length ms ≤ m .0 → readMark k m ms ≡ refused 12
+pub read-refused : (k : Mark) (m : ModuleId) (ms : Modules) → length ms ≤ m .0 → readMark k m ms ≡ refused not-given
 unfolding readMark
 read-refused k m ms h = rw (le-ltb (m .0) (length ms) h)
 
 -- the id of a wrapped module is what reading its two marks says
-esm-by : (b x y w v : Bool) (m : ModuleId) → cond b (done x) (refused 12) ≡ done w → cond b (done y) (refused 12) ≡ done v → cond b (done (esmId x y m)) (refused 12) ≡ done (esmId w v m)
+esm-by : (b x y w v : Bool) (m : ModuleId) → cond b (done x) (refused not-given) ≡ done w → cond b (done y) (refused not-given) ≡ done v → cond b (done (esmId x y m)) (refused not-given) ≡ done (esmId w v m)
 esm-by true x y w v m p q = let a : x ≡ w = cc in let c : y ≡ v = cc in rw (a, c)
 esm-by false x y w v m p q = absurd (let z : _≡_ {A = ℕ} 0 1 = cc in omega arith)
 
@@ -291,11 +291,11 @@ pub esm-read : (m : ModuleId) (ms : Modules) (w v : Bool) → readMark Wrapping 
 unfolding readMark wrappedEsmId
 esm-read m ms w v p q = esm-by (given m ms) (isMarked Wrapping (m .0) ms) (isMarked Stored (m .0) ms) w v m p q
 
-esm-none : (b x : Bool) (o : Option Id) → cond b (done x) (refused 12) ≡ refused 12 → cond b (done o) (refused 12) ≡ refused 12
+esm-none : (b x : Bool) (o : Option Id) → cond b (done x) (refused not-given) ≡ refused not-given → cond b (done o) (refused not-given) ≡ refused not-given
 esm-none true x o e = absurd (let z : _≡_ {A = ℕ} 0 1 = cc in omega arith)
 esm-none false x o e = refl
 
-pub esm-refused : (k : Mark) (m : ModuleId) (ms : Modules) → readMark k m ms ≡ refused 12 → wrappedEsmId m ms ≡ refused 12
+pub esm-refused : (k : Mark) (m : ModuleId) (ms : Modules) → readMark k m ms ≡ refused not-given → wrappedEsmId m ms ≡ refused not-given
 unfolding readMark wrappedEsmId
 esm-refused k m ms e = esm-none (given m ms) (isMarked k (m .0) ms) (esmId (isMarked Wrapping (m .0) ms) (isMarked Stored (m .0) ms) m) e
 

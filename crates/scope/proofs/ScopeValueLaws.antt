@@ -13,7 +13,7 @@ use native.Mathlib.Numerals.{add-one}
 use lib.Seq.{getD-set-same, getD-set-other, getD-take, drop-cons}
 use Rattle.scope.specs.declared.Mark.{Mark}
 use Rattle.scope.specs.declared.Mark.the-variants.{Loaded, Stored, Cjs, Wrapping}
-use Rattle.scope.specs.Modules.{Modules, next, placeOf, numberOf, Generated, generatedBy, gen, filesIn, requestAll, unmarked, withMark, marked, setMark, isMarked}
+use Rattle.scope.specs.Modules.{Modules, next, placeOf, numberOf, too-many-files, Generated, generatedBy, gen, filesIn, requestAll, unmarked, withMark, marked, setMark, isMarked}
 use Rattle.scope.proofs.Laws.{gen-added, request-all-more, request-all-stops, cells-agree, cells-more}
 use Rattle.scope.specs.ScopeValue.{rankOf, slotOf, moduleAt, stored, modulesFrom, modulesOf, modulesIn, placeBy, generated, fileRefusal}
 use Rattle.scope.specs.declared.id.FileName.{FileName}
@@ -351,16 +351,16 @@ module _ (l : List ℕ) (i : ℕ) (f : FileName) (ms : Modules) (g : Gen) (h : i
 
   pub list-goes-on : g .answer ≡ Given → requestAll (filesIn (drop i l)) ms ≡ requestAll (filesIn (drop (i + 2) l)) (modulesOf (g .scope))
   list-goes-on a =
-      let r : gen f ms .refusal ≡ 0 = ap (λ (x : Generated). x .refusal) (sym e) ∙ ap fileRefusal a in
+      let r : gen f ms .refusal ≡ none = ap (λ (x : Generated). x .refusal) (sym e) ∙ ap fileRefusal a in
       let m : gen f ms .modules ≡ modulesOf (g .scope) = ap (λ (x : Generated). x .modules) (sym e) in
       here ∙ request-all-more f (filesIn (drop (i + 2) l)) ms r ∙ ap (requestAll (filesIn (drop (i + 2) l))) m
 
-  pub list-stops : g .answer ≡ TooManyFiles → requestAll (filesIn (drop i l)) ms ≡ record { modules = modulesOf (g .scope); refusal = 5 }
+  pub list-stops : g .answer ≡ TooManyFiles → requestAll (filesIn (drop i l)) ms ≡ record { modules = modulesOf (g .scope); refusal = some too-many-files }
   list-stops a =
-      let r : gen f ms .refusal ≡ 5 = ap (λ (x : Generated). x .refusal) (sym e) ∙ ap fileRefusal a in
+      let r : gen f ms .refusal ≡ some too-many-files = ap (λ (x : Generated). x .refusal) (sym e) ∙ ap fileRefusal a in
       let m : gen f ms .modules ≡ modulesOf (g .scope) = ap (λ (x : Generated). x .modules) (sym e) in
-      here ∙ request-all-stops f (filesIn (drop (i + 2) l)) ms r ∙ ap (λ (x : Modules). record { modules = x; refusal = 5 }) m
+      here ∙ request-all-stops f (filesIn (drop (i + 2) l)) ms r ∙ ap (λ (x : Modules). record { modules = x; refusal = some too-many-files }) m
 
-pub list-ends : (l : List ℕ) (i : ℕ) (ms : Modules) → length l < i + 2 → requestAll (filesIn (drop i l)) ms ≡ record { modules = ms; refusal = 0 }
+pub list-ends : (l : List ℕ) (i : ℕ) (ms : Modules) → length l < i + 2 → requestAll (filesIn (drop i l)) ms ≡ record { modules = ms; refusal = none }
 unfolding requestAll
 list-ends l i ms h = rw (files-none l i h)

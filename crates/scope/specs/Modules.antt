@@ -1,5 +1,5 @@
 -- A scope as its modules in the order of their numbers, each with its file and its marks, and one definition for each call on it.
--- Document 01, 'Scope', and the rows 5 and 12 of 'Where a call turns back'.
+-- Document 01, 'Scope', and the rows 5 and 12 of 'Where a call turns back': place 0 for both.
 use Prim.Native.Nat.{ℕ, zero, suc, _+_, _*_}
 use mathlib.Core.Bool.{Bool, true, false, cond, _&&_}
 use mathlib.Core.List.{List, [], _∷_, _++_, map}
@@ -53,18 +53,26 @@ requestBy none f ms = cond (ltb (length ms) 256) (some (length ms, ms ++ (unmark
 unfoldable pub request : ℕ → Modules → Option (ℕ × Modules)
 request f ms = requestBy (numberOf f ms) f ms
 
--- what a request leaves and answers: the modules, the number and its contexts; refusal 5, all else as it was
+-- a refusal's number and its place; none where the call is accepted
+abbrev pub Refusal : Type 0
+Refusal = Option (ℕ × ℕ)
+
+-- 5: a 257th file, 'in file requests (place 0)'
+abbrev pub too-many-files : ℕ × ℕ
+too-many-files = (5, 0)
+
+-- what a request leaves and answers: the modules, the number and its contexts; refused, all else as it was
 pub record Generated : Type 0 where
   pub modules : Modules
   pub id : ModuleId
   pub local-ctxt : SyntaxContext
   pub export-ctxt : SyntaxContext
-  pub refusal : ℕ
+  pub refusal : Refusal
 
 abbrev pub generatedBy : Option (ℕ × Modules) → Modules → Generated
 generatedBy (some r) ms =
-    record { modules = r .1; id = moduleId (r .0); local-ctxt = localCtxt (moduleId (r .0)); export-ctxt = exportCtxt (moduleId (r .0)); refusal = 0 }
-generatedBy none ms = record { modules = ms; id = moduleId 0; local-ctxt = context empty; export-ctxt = context empty; refusal = 5 }
+    record { modules = r .1; id = moduleId (r .0); local-ctxt = localCtxt (moduleId (r .0)); export-ctxt = exportCtxt (moduleId (r .0)); refusal = none }
+generatedBy none ms = record { modules = ms; id = moduleId 0; local-ctxt = context empty; export-ctxt = context empty; refusal = some too-many-files }
 
 unfoldable pub gen : FileName → Modules → Generated
 gen f ms = generatedBy (request (f .0) ms) ms
@@ -75,18 +83,18 @@ filesIn [] = []
 filesIn (a ∷ []) = []
 filesIn (a ∷ (b ∷ l)) = (a * 256 + b) ∷ filesIn l
 
--- what a call leaves: the modules, and the refusal's number, 0 where there is none
+-- what a call leaves
 pub record Left : Type 0 where
   pub modules : Modules
-  pub refusal : ℕ
+  pub refusal : Refusal
 
 -- the files in order, up to the first that is refused
 abbrev pub goOn : Option (ℕ × Modules) → (Modules → Left) → Modules → Left
 goOn (some r) rest ms = rest (r .1)
-goOn none rest ms = record { modules = ms; refusal = 5 }
+goOn none rest ms = record { modules = ms; refusal = some too-many-files }
 
 unfoldable pub requestAll : List ℕ → Modules → Left
-requestAll [] ms = record { modules = ms; refusal = 0 }
+requestAll [] ms = record { modules = ms; refusal = none }
 requestAll (f ∷ fs) ms = goOn (request f ms) (λ r. requestAll fs r) ms
 
 -- ---- Marks
@@ -116,26 +124,29 @@ setMark k n [] = []
 setMark k zero (m ∷ ms) = withMark k m ∷ ms
 setMark k (suc n) (m ∷ ms) = m ∷ setMark k n ms
 
--- 12: 'module number not given'
+-- 12: 'module number not given', place 0
+abbrev pub not-given : ℕ × ℕ
+not-given = (12, 0)
+
 abbrev pub given : ModuleId → Modules → Bool
 given m ms = ltb (m .0) (length ms)
 
 -- a mark is set
 unfoldable pub marking : Mark → ModuleId → Modules → Left
-marking k m ms = cond (given m ms) (record { modules = setMark k (m .0) ms; refusal = 0 }) (record { modules = ms; refusal = 12 })
+marking k m ms = cond (given m ms) (record { modules = setMark k (m .0) ms; refusal = none }) (record { modules = ms; refusal = some not-given })
 
--- what a reading call answers: a value, or a refusal's number
+-- what a reading call answers: a value, or a refusal's number and place
 pub data Outcome (A : Type 0) : Type 0 where
   done : A → Outcome A
-  refused : ℕ → Outcome A
+  refused : ℕ × ℕ → Outcome A
 
 -- a mark is read
 unfoldable pub readMark : Mark → ModuleId → Modules → Outcome Bool
-readMark k m ms = cond (given m ms) (done (isMarked k (m .0) ms)) (refused 12)
+readMark k m ms = cond (given m ms) (done (isMarked k (m .0) ms)) (refused not-given)
 
 -- '`wrapped_esm_id` gives (mod, export context) for wrapped stored modules, else none.'
 abbrev pub esmId : Bool → Bool → ModuleId → Option Id
 esmId wrapping stored m = cond (wrapping && stored) (some (record { 0 = atom mod-atom; 1 = exportCtxt m })) none
 
 unfoldable pub wrappedEsmId : ModuleId → Modules → Outcome (Option Id)
-wrappedEsmId m ms = cond (given m ms) (done (esmId (isMarked Wrapping (m .0) ms) (isMarked Stored (m .0) ms) m)) (refused 12)
+wrappedEsmId m ms = cond (given m ms) (done (esmId (isMarked Wrapping (m .0) ms) (isMarked Stored (m .0) ms) m)) (refused not-given)

@@ -6,7 +6,7 @@ use mathlib.Core.List.{List, [], _∷_}
 use mathlib.Core.Option.{Option, none, some}
 use lib.Dec.{eqb}
 use lib.ListN.{length, getD, set}
-use Rattle.scope.specs.Modules.{Module, Modules, Generated, Left, Outcome, done, refused}
+use Rattle.scope.specs.Modules.{Module, Modules, Refusal, too-many-files, Generated, Left, not-given, Outcome, done, refused}
 use Rattle.scope.specs.declared.id.Id.{Id}
 use Rattle.scope.specs.declared.Mark.{Mark}
 use Rattle.scope.specs.declared.Mark.the-variants.{Loaded, Stored, Cjs, Wrapping}
@@ -77,14 +77,14 @@ abbrev pub placeBy : Place → Option ℕ
 placeBy (At i) = some i
 placeBy Nowhere = none
 
--- the numbers of the refusals
-abbrev pub fileRefusal : FileAnswer → ℕ
-fileRefusal Given = 0
-fileRefusal TooManyFiles = 5
+-- numbers and places of the refusals
+abbrev pub fileRefusal : FileAnswer → Refusal
+fileRefusal Given = none
+fileRefusal TooManyFiles = some too-many-files
 
-abbrev pub setRefusal : SetAnswer → ℕ
-setRefusal Set = 0
-setRefusal NoSuchModule = 12
+abbrev pub setRefusal : SetAnswer → Refusal
+setRefusal Set = none
+setRefusal NoSuchModule = some not-given
 
 -- what the answers stand for
 abbrev pub generated : Gen → Generated
@@ -98,9 +98,9 @@ markedBy r = record { modules = modulesOf (r .scope); refusal = setRefusal (r .a
 
 abbrev pub readBy : ReadAnswer → Outcome Bool
 readBy (Is b) = done b
-readBy NotRead = refused 12
+readBy NotRead = refused not-given
 
 abbrev pub esmBy : EsmAnswer → Outcome (Option Id)
 esmBy (Wrapped i) = done (some i)
 esmBy NotWrapped = done none
-esmBy NotKnown = refused 12
+esmBy NotKnown = refused not-given

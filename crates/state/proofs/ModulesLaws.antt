@@ -9,7 +9,7 @@ use lib.Dec.{leb, ltb}
 use lib.ListN.{length, getD, set}
 use lib.Seq.{getD-set-same, getD-set-other}
 use borrow.Author.Tests.{leb-true, leb-false, ltb-true, ltb-false}
-use Rattle.scope.specs.Modules.{Modules, Generated, generatedBy, request, gen, Left, setMark, given, marking}
+use Rattle.scope.specs.Modules.{Modules, too-many-files, Generated, generatedBy, request, gen, Left, setMark, given, marking}
 use Rattle.scope.specs.ScopeValue.{modulesOf, modulesIn, Rewrites, fileRefusal, generated, markedBy}
 use Rattle.scope.specs.declared.id.FileName.{FileName}
 use Rattle.scope.specs.declared.id.ModuleId.{ModuleId}
@@ -73,13 +73,13 @@ modules-loaded {t} {m} {n} {ms} g h e r =
 
 -- ---- A file is requested
 
-gave-number : (o : Option (ℕ × Modules)) (ms : Modules) (p : ℕ) (s : State) → generatedBy o ms .refusal ≡ 0 →
+gave-number : (o : Option (ℕ × Modules)) (ms : Modules) (p : ℕ) (s : State) → generatedBy o ms .refusal ≡ nothing →
     requested o p s ≡ done (some (generatedBy o ms .id .0), setModules (generatedBy o ms .modules) s)
 gave-number (some r) ms p s e = refl
-gave-number nothing ms p s e = absurd (omega arith)
+gave-number nothing ms p s e = absurd (let z : _≡_ {A = ℕ} 0 1 = cc in omega arith)
 
-gave-refusal : (o : Option (ℕ × Modules)) (ms : Modules) (p : ℕ) (s : State) → generatedBy o ms .refusal ≡ 5 → requested o p s ≡ refused 5 p
-gave-refusal (some r) ms p s e = absurd (omega arith)
+gave-refusal : (o : Option (ℕ × Modules)) (ms : Modules) (p : ℕ) (s : State) → generatedBy o ms .refusal ≡ some too-many-files → requested o p s ≡ refused 5 p
+gave-refusal (some r) ms p s e = absurd (let z : _≡_ {A = ℕ} 0 1 = cc in omega arith)
 gave-refusal nothing ms p s e = refl
 
 module _ (f : FileName) (g : Gen) {t : List ℕ} {ms : Modules} (n : Tells (λ s. s .modules) t ms) (e : generated g ≡ gen f ms) where
@@ -92,7 +92,7 @@ module _ (f : FileName) (g : Gen) {t : List ℕ} {ms : Modules} (n : Tells (λ s
   request-done a u s p w =
       let i = gen-shown s w in
       let o = request (f .0) (s .modules) in
-      let k : generatedBy o (s .modules) .refusal ≡ 0 = ap (λ (x : Generated). x .refusal) (sym i) ∙ ap fileRefusal a in
+      let k : generatedBy o (s .modules) .refusal ≡ nothing = ap (λ (x : Generated). x .refusal) (sym i) ∙ ap fileRefusal a in
       record {
         state = setModules (modulesOf (g .scope)) s;
         is = gave-number o (s .modules) p s k ∙ ap (λ (x : Generated). done (some (x .id .0), setModules (x .modules) s)) (sym i);

@@ -17,7 +17,8 @@ use Rattle.steps.specs.declared.Step.{Step}
 use Rattle.steps.specs.declared.Step.the-variants.{Done, Refused}
 use Rattle.steps.specs.declared.Effect.{Effect}
 use Rattle.steps.specs.declared.Effect.the-variants.{Fine, Refused as Turned}
-use Rattle.steps.specs.Step.{refusalOf, Steps, Effects, Begun, Ended, withParts, Small, Made}
+use Rattle.steps.specs.Step.{Steps, Effects, Begun, Ended, withParts, Small, Made}
+use Rattle.steps.specs.Refusal.{refusalOf}
 use Rattle.steps.specs.declared.Ident.the-variants.{Is, Other}
 
 -- ---- Answers

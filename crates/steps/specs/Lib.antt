@@ -1,2 +1,3 @@
--- How the code's steps stand to the rules (Step).
+-- Numbers of the walk's refusals (Refusal); how the code's steps stand to the rules (Step).
+pub mod Refusal
 pub mod Step

@@ -19,7 +19,7 @@ use Rattle.state.specs.Cells.{At, id-limit, Good, idOf, Shows}
 use Rattle.state.specs.Does.{Did}
 use Rattle.steps.specs.declared.Setting.{Setting as CodeSetting}
 use Rattle.steps.specs.declared.Why.{Why}
-use Rattle.steps.specs.declared.Why.the-variants.{TooManyFiles, StringName, PrivateName, TableFull}
+use Rattle.steps.specs.Refusal.{refusalOf}
 use Rattle.steps.specs.declared.Step.{Step}
 use Rattle.steps.specs.declared.Step.the-variants.{Done, Refused}
 use Rattle.steps.specs.declared.Effect.{Effect}
@@ -37,13 +37,6 @@ settingOf e externals table =
     record { pass = passOf (e .second); own = e .own .0; config = record { require = e .require }; externals = externals; table = table }
 
 -- ---- What answers stand for
-
--- document 01's number of each refusal of the walk
-abbrev pub refusalOf : Why → ℕ
-refusalOf TooManyFiles = 5
-refusalOf StringName = 6
-refusalOf PrivateName = 7
-refusalOf TableFull = 8
 
 abbrev pub identBy : Ident → Option (List ℕ)
 identBy (Is n) = some (idOf n)

@@ -3,7 +3,7 @@
 use Prim.Native.Nat.{ℕ, _+_}
 use native.Mathlib.Omega.{arith}
 use mathlib.Core.Path.{_≡_, refl, sym, ap, _∙_}
-use mathlib.Core.Bool.{Bool, true, false, cond, _&&_, _||_, or-false, or-assoc}
+use mathlib.Core.Bool.{Bool, true, false, cond, not, _&&_, _||_, or-false, or-assoc}
 use mathlib.Core.List.{List, [], _∷_}
 use mathlib.Core.Option.{Option, none as nothing, some}
 use lib.Dec.{ltb, eqb}
@@ -11,10 +11,11 @@ use lib.ListN.{length}
 use borrow.Author.Tests.{ltb-true}
 use Rattle.scope.specs.declared.Mark.{Mark}
 use Rattle.scope.specs.declared.Mark.the-variants.{Loaded, Stored, Cjs, Wrapping}
-use Rattle.scope.specs.Modules.{Modules, Left, request, generatedBy, gen, goOn, filesIn, requestAll, isMarked, setMark, given, marking}
+use Rattle.scope.specs.Modules.{Modules, Left, request, generatedBy, gen, goOn, filesIn, requestAll, isMarked, setMark, given, not-given, marking}
 use Rattle.scope.proofs.Laws.{request-keeps-marks, mark-keeps-kinds}
 use Rattle.tree.specs.Tree.{Fields, none, more, size}
 use Rattle.inputs.specs.Outcome.{Outcome, done, refused}
+use Rattle.inputs.specs.Lists.{isSome}
 use Rattle.inputs.specs.Table.{Row, rowsIn, fileOf}
 use Rattle.extraction_rules.specs.Call.{Extracted, modulesAfter, extracted, extraction}
 use Rattle.extraction_rules.proofs.OutcomeLaws.{Of, of-each, of-done, of-onto}
@@ -47,7 +48,7 @@ requestAll-marked n (f ∷ fs) ms = go (request f ms) refl (λ new. requestAll-m
 
 -- what setting a mark leaves, where b says whether the number was given
 abbrev markingBy : Bool → Mark → ℕ → Modules → Left
-markingBy b k m ms = cond b (record { modules = setMark k m ms; refusal = 0 }) (record { modules = ms; refusal = 12 })
+markingBy b k m ms = cond b (record { modules = setMark k m ms; refusal = nothing }) (record { modules = ms; refusal = some not-given })
 
 -- a mark of another kind
 other-marked : (k : Mark) (n m : ℕ) (ms : Modules) (b : Bool) → (Wrapping ≡ k → ⊥) →
@@ -57,7 +58,7 @@ other-marked k n m ms false d = refl
 
 -- a wrapping mark is set where the call is accepted
 set-marked : (n m : ℕ) (ms : Modules) (b : Bool) → ltb m (length ms) ≡ b →
-    isMarked Wrapping n (markingBy b Wrapping m ms .modules) ≡ isMarked Wrapping n ms || eqb (markingBy b Wrapping m ms .refusal) 0 && eqb n m
+    isMarked Wrapping n (markingBy b Wrapping m ms .modules) ≡ isMarked Wrapping n ms || not (isSome (markingBy b Wrapping m ms .refusal)) && eqb n m
 set-marked n m ms true e = mark-adds Wrapping n m ms (ltb-true m (length ms) e)
 set-marked n m ms false e = unwrapping refl
 

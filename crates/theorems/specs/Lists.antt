@@ -1,7 +1,7 @@
 -- Demand 3, second part: the wrapping marks after every list of calls. Document 01, 'Demand 3's words', the sentence on lists.
 use Prim.Native.Nat.{ℕ}
 use mathlib.Core.Path.{_≡_}
-use mathlib.Core.Bool.{Bool, false, _&&_, _||_}
+use mathlib.Core.Bool.{Bool, false, not, _&&_, _||_}
 use mathlib.Core.List.{List, [], _∷_}
 use lib.Dec.{eqb}
 use Rattle.scope.specs.declared.id.FileName.{FileName}
@@ -10,6 +10,7 @@ use Rattle.scope.specs.declared.Mark.{Mark}
 use Rattle.scope.specs.declared.Mark.the-variants.{Loaded, Stored, Cjs, Wrapping}
 use Rattle.scope.specs.Modules.{Modules, gen, filesIn, requestAll, marking, isMarked}
 use Rattle.inputs.specs.Outcome.{Outcome, done, refused}
+use Rattle.inputs.specs.Lists.{isSome}
 use Rattle.inputs.specs.Table.{Row, rowsIn}
 use Rattle.extraction_rules.specs.Reach.{reaches}
 use Rattle.extraction_rules.specs.Call.{Lent, Lengths, Extracted, extracted, extraction}
@@ -57,7 +58,7 @@ wraps n (requestsAll files) ms = false
 wraps n (sets Loaded m) ms = false
 wraps n (sets Stored m) ms = false
 wraps n (sets Cjs m) ms = false
-wraps n (sets Wrapping m) ms = eqb (marking Wrapping m ms .refusal) 0 && eqb n (m .0)
+wraps n (sets Wrapping m) ms = not (isSome (marking Wrapping m ms .refusal)) && eqb n (m .0)
 wraps n (reads k m) ms = false
 wraps n (readsEsm m) ms = false
 wraps n (extracts l room) ms = forcedTo n (rowsIn (l .table)) (extracted l room ms)

@@ -5,7 +5,7 @@ use mathlib.Core.Path.{_≡_, sym, ap, subst, _∙_}
 use mathlib.Core.List.{List, []}
 use mathlib.Core.Option.{Option, some}
 use lib.ListN.{length}
-use Rattle.scope.specs.Modules.{Modules, Left as Requesting, filesIn, requestAll}
+use Rattle.scope.specs.Modules.{Modules, too-many-files, Left as Requesting, filesIn, requestAll}
 use Rattle.scope.specs.ScopeValue.{modulesOf, requested, fileRefusal}
 use Rattle.scope.specs.declared.Requested.{Requested}
 use Rattle.scope.specs.declared.FileAnswer.{FileAnswer}
@@ -16,7 +16,7 @@ use Rattle.tree.specs.Read.{refusalOf as readRefusal}
 use Rattle.writer.specs.Finished.{zeroed}
 use Rattle.steps.specs.declared.Why.{Why as WalkWhy}
 use Rattle.steps.specs.declared.Why.the-variants.{TooManyFiles as TooMany, StringName, PrivateName, TableFull}
-use Rattle.steps.specs.Step.{refusalOf as walkRefusal}
+use Rattle.steps.specs.Refusal.{refusalOf as walkRefusal}
 use Rattle.extraction_rules.specs.Call.{Lent as Extracting, Lengths, Left as Extracted, extraction}
 use Rattle.extraction.specs.declared.ExtractAnswer.{ExtractAnswer}
 use Rattle.extraction.specs.declared.ExtractAnswer.the-variants.{Extracted as Accepted, BadLists, NamedTwice, Unread, Refused, NoRoom}
@@ -36,7 +36,7 @@ use Rattle.tychodrel.specs.Calls.{onFiles, withFiles, extractNone, extra
 
 -- ---- The files are requested in a fresh scope
 
-module _ {A : Type 0} (q : Requested) (files : List ℕ) (go : Modules → A) (stop : ℕ → Modules → A) (asked : requested q ≡ requestAll (filesIn files) []) where
+module _ {A : Type 0} (q : Requested) (files : List ℕ) (go : Modules → A) (stop : ℕ × ℕ → Modules → A) (asked : requested q ≡ requestAll (filesIn files) []) where
   files-answered : (a : FileAnswer) → q .answer ≡ a → withFiles files go stop ≡ onFiles (fileRefusal a) (modulesOf (q .scope)) go stop
   unfolding withFiles
   files-answered a h =
@@ -46,7 +46,7 @@ module _ {A : Type 0} (q : Requested) (files : List ℕ) (go : Modules → A) (s
   files-given : q .answer ≡ Given → withFiles files go stop ≡ go (modulesOf (q .scope))
   files-given h = files-answered Given h
 
-  files-refused : q .answer ≡ TooManyFiles → withFiles files go stop ≡ stop 5 (modulesOf (q .scope))
+  files-refused : q .answer ≡ TooManyFiles → withFiles files go stop ≡ stop too-many-files (modulesOf (q .scope))
   files-refused h = files-answered TooManyFiles h
 
 -- what is told of a refusal and of modules, by what these are
@@ -111,7 +111,7 @@ extract-given q files l room {a} {s} {w} {o} {k} h g x =
 -- the files are refused
 pub extract-refused : (q : Requested) (files : List ℕ) (l : Extracting) (w o k : List ℕ) {a : ℕ} {s w' o' k' : List ℕ} →
     requested q ≡ requestAll (filesIn files) [] → q .answer ≡ TooManyFiles →
-    Tells (some (5, 0)) (modulesOf (q .scope)) a s → w' ≡ zeroed w → o' ≡ zeroed o → k' ≡ zeroed k → Leaves (extractCall files l (roomIn w o k)) a s w' o' k'
+    Tells (some too-many-files) (modulesOf (q .scope)) a s → w' ≡ zeroed w → o' ≡ zeroed o → k' ≡ zeroed k → Leaves (extractCall files l (roomIn w o k)) a s w' o' k'
 unfolding zeroed
 extract-refused q files l w o k {a} {s} {w'} {o'} {k'} h g t x y z =
     subst (λ (e : Extracted). Leaves e a s w' o' k') (sym (files-refused q files (extraction l (roomIn w o k)) (extractNone (roomIn w o k)) h g))
@@ -135,7 +135,7 @@ resolve-given q files l room {a} {s} {k} h g x =
 
 pub resolve-refused : (q : Requested) (files : List ℕ) (l : Resolving) (k : List ℕ) {a : ℕ} {s k' : List ℕ} →
     requested q ≡ requestAll (filesIn files) [] → q .answer ≡ TooManyFiles →
-    Tells (some (5, 0)) (modulesOf (q .scope)) a s → k' ≡ zeroed k → LeavesList (resolveCall files l (length k)) a s k'
+    Tells (some too-many-files) (modulesOf (q .scope)) a s → k' ≡ zeroed k → LeavesList (resolveCall files l (length k)) a s k'
 unfolding zeroed
 resolve-refused q files l k {a} {s} {k'} h g t x =
     subst (λ (e : Listed). LeavesList e a s k') (sym (files-refused q files (resolving l (length k)) (resolveNone (length k)) h g))

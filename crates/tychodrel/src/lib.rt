@@ -28,7 +28,7 @@ ghost use lib.ListN.{length};
 ghost use Rattle.detection.specs.Detection.{detect};
 ghost use Rattle.metadata.specs.MetadataValue.{metadataOf};
 ghost use Rattle.metadata.specs.Calls.{decodeCall, encodeAnswer, encodeOut};
-ghost use Rattle.scope.specs.Modules.{filesIn, requestAll};
+ghost use Rattle.scope.specs.Modules.{too-many-files, filesIn, requestAll};
 ghost use Rattle.scope.specs.ScopeValue.{modulesOf, requested};
 ghost use Rattle.extraction_rules.specs.Call.{extraction};
 ghost use Rattle.extraction.specs.Answer.{lentAs, roomIn};
@@ -134,7 +134,7 @@ fn request_files(files: &[u8]) -> Requested
 
 // A 257th file among those that are lent.
 fn refuse_files(entry: Scope, scope: &mut [u8; 770]) -> u64
-    ensures { λ r. ⌜ Tells (some (5, 0)) (modulesOf entry) r (now (scope .exit)) ⌝ }
+    ensures { λ r. ⌜ Tells (some too-many-files) (modulesOf entry) r (now (scope .exit)) ⌝ }
 {
     *scope = scope_bytes(entry);
     pack(5, 0)

@@ -17,7 +17,8 @@ use Rattle.steps.specs.declared.Setting.{Setting as CodeSetting}
 use Rattle.steps.specs.declared.Why.{Why}
 use Rattle.steps.specs.declared.Step.{Step}
 use Rattle.steps.specs.declared.Step.the-variants.{Done, Refused}
-use Rattle.steps.specs.Step.{settingOf, refusalOf, ReadAt, Sound, SoundAll, Made, Steps}
+use Rattle.steps.specs.Step.{settingOf, ReadAt, Sound, SoundAll, Made, Steps}
+use Rattle.steps.specs.Refusal.{refusalOf}
 
 -- what the walk is set to, from the lent lists
 abbrev pub set : CodeSetting → List ℕ → List ℕ → Setting

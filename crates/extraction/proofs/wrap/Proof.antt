@@ -3,7 +3,7 @@ use mathlib.Core.Path.{_≡_, refl}
 use native.Mathlib.Omega.{arith}
 use borrow.Author.Needs.{needs}
 use lib.ListN.{length}
-use Rattle.extraction.specs.Answer.{Wrapping}
+use Rattle.extraction.specs.Stages.{Wrapping}
 use Rattle.extraction.proofs.WrapLaws.{wrapping-start, wrapping-next, wrapping-turned, wrapping-over, forces-most}
 use Rattle.extraction.proofs.wrap.Statement.{statement}
 use Rattle.extraction.proofs.wrap.Tie as tie
