@@ -18,7 +18,8 @@ use Rattle.tree.specs.Tree.{Field, encode, size}
 use Rattle.tree.specs.Read.{read}
 use Rattle.writer.specs.Finished.{hasRoom}
 use Rattle.inputs.specs.Outcome.{Outcome, done}
-use Rattle.inputs.specs.Buffer.{fieldIn, bufferOf}
+use Rattle.tree.specs.Layout.{fieldIn}
+use Rattle.inputs.specs.Buffer.{bufferOf}
 use Rattle.inputs.proofs.AcceptedLaws.{refusal-none}
 use Rattle.inputs.proofs.BufferLaws.{delivered-holds}
 use Rattle.extraction_rules.specs.Call.{Lent, Lengths, Extracted, Left, modulesAfter, extracted, extraction}

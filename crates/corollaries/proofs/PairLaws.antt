@@ -13,7 +13,7 @@ use Rattle.scope.specs.declared.id.ModuleId.{ModuleId}
 use Rattle.scope.specs.Modules.{Modules, readMark}
 use Rattle.scope.specs.ScopeValue.{modulesOf, readBy}
 use Rattle.tree.specs.Layout.{twoAt, Bytes}
-use Rattle.inputs.specs.Buffer.{fieldIn}
+use Rattle.tree.specs.Layout.{fieldIn}
 use Rattle.extraction_rules.specs.Call.{Lent, Lengths, Left, extraction}
 use Rattle.extraction.specs.declared.ExtractAnswer.{ExtractAnswer}
 use Rattle.extraction.specs.declared.ExtractAnswer.the-variants.{Extracted as Accepted, BadLists, NamedTwice, Unread, Refused, NoRoom}

@@ -22,7 +22,7 @@ use Rattle.tree.specs.Read.{fine, read}
 use Rattle.inputs.specs.Outcome.{done}
 use Rattle.inputs.specs.Lists.{among}
 use Rattle.inputs.specs.Table.{rowsIn, atomsIn}
-use Rattle.inputs.specs.Buffer.{fieldIn}
+use Rattle.tree.specs.Layout.{fieldIn}
 use Rattle.extraction_rules.specs.Call.{Lent, Lengths, Extracted, itemsRead, extracted, extraction}
 use Rattle.extraction.specs.declared.ExtractAnswer.the-variants.{Extracted as Accepted}
 use Rattle.extraction.specs.declared.Extraction.{Extraction}

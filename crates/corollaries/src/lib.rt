@@ -15,7 +15,7 @@ ghost use mathlib.Core.List.{[]};
 ghost use Prim.Native.Nat.{_<_, _≤_};
 ghost use lib.ListN.{length, take};
 ghost use Rattle.scope.specs.ScopeValue.{modulesOf};
-ghost use Rattle.inputs.specs.Buffer.{fieldIn};
+ghost use Rattle.tree.specs.Layout.{fieldIn};
 ghost use Rattle.extraction.specs.Answer.{lentAs, roomIn};
 ghost use Rattle.resolving_rules.specs.Call.{resolving};
 ghost use Rattle.resolving.specs.Answer.{lentAs as recordsAs, left as leftList};

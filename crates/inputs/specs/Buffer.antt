@@ -1,9 +1,8 @@
 -- The lent buffers that calls fill. Document 01, 'Where a call turns back', row 9 and the last two sentences.
-use Prim.Native.Nat.{ℕ, _+_}
+use Prim.Native.Nat.{ℕ}
 use mathlib.Core.Bool.{not}
 use mathlib.Core.List.{List}
-use lib.ListN.{take, replicate}
-use Rattle.tree.specs.Layout.{twoAt}
+use lib.ListN.{replicate}
 use Rattle.tree.specs.Tree.{Field, encode, size}
 use Rattle.writer.specs.Finished.{hasRoom, delivered}
 use Rattle.inputs.specs.Outcome.{Outcome, done, refused, refuseIf}
@@ -16,7 +15,3 @@ fits f room = refuseIf (not (hasRoom (size f) room)) 9
 abbrev pub bufferOf : {A : Type 0} → (A → Field) → Outcome A → ℕ → List ℕ
 bufferOf f (done a) room = delivered (encode (f a)) room
 bufferOf f (refused n p) room = replicate room 0
-
--- the bytes of the field at the front of a buffer: 'a one-byte tag, a two-byte content length, content'
-unfoldable pub fieldIn : List ℕ → List ℕ
-fieldIn s = take (3 + twoAt s 1) s

@@ -4,5 +4,5 @@ pub mod EncodeLaws
 pub mod DecodeLaws
 pub mod CallsLaws
 pub mod WithinLaws
-pub mod RoundTrip
+pub mod RoundTripLaws
 pub mod RefusalLaws

@@ -1,10 +1,12 @@
 -- Trees: how many bytes they take, and how deep their parts are.
-use Prim.Native.Nat.{ℕ, _+_, _≤_}
-use mathlib.Core.Path.{_≡_, refl}
+use Prim.Native.Nat.{ℕ, _+_, _*_, _/_, _%_, _≤_}
+use mathlib.Core.Path.{_≡_, refl, ap, _∙_}
 use mathlib.Core.List.{List, [], _++_, append-nil}
 use native.Mathlib.Omega.{arith}
 use native.Mathlib.Nat.{le-max-left, le-max-right, max-le}
-use lib.ListN.{length, length-append}
+use lib.ListN.{length, length-append, take}
+use lib.Seq.{take-append-seam}
+use Rattle.tree.specs.Layout.{fieldIn}
 use Rattle.tree.specs.Tree.{Field, field, Fields, none, more, framed, encode, encodes, size, sizes, depth, depths}
 
 framed-length : (t : ℕ) (c : List ℕ) → length (framed t c) ≡ 3 + length c
@@ -82,3 +84,15 @@ depth-one f = native.Mathlib.Nat.max-zero (depth f)
 
 pub depth-positive : (f : Field) → 1 ≤ depth f
 depth-positive (field t x cs) = let z = depth-parts t x cs in omega arith
+
+-- ---- A field at the front of a buffer
+
+framed-front : (t : ℕ) (c z : List ℕ) → fieldIn (framed t c ++ z) ≡ framed t c
+unfolding fieldIn framed
+framed-front t c z =
+    let n : 3 + (length c / 256 * 256 + length c % 256) ≡ length (framed t c) = omega arith in
+    ap (λ (n : ℕ). take n (framed t c ++ z)) n ∙ take-append-seam (framed t c) z
+
+pub encode-front : (f : Field) (z : List ℕ) → fieldIn (encode f ++ z) ≡ encode f
+unfolding encode
+encode-front (field t x cs) z = framed-front t (x ++ encodes cs) z

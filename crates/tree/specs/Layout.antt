@@ -30,6 +30,10 @@ twoAt s at = getD s at 0 * 256 + getD s (at + 1) 0
 abbrev pub fourAt : List ℕ → ℕ → ℕ
 fourAt s at = twoAt s at * 65536 + twoAt s (at + 2)
 
+-- the bytes of the field at the front of a buffer: 'a one-byte tag, a two-byte content length, content'
+unfoldable pub fieldIn : List ℕ → List ℕ
+fieldIn s = take (3 + twoAt s 1) s
+
 -- two runs of bytes are equal
 unfoldable pub same : List ℕ → List ℕ → Bool
 same [] [] = true

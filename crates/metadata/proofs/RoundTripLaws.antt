@@ -2,26 +2,26 @@
 use Prim.Native.Nat.{ℕ, _-_, _≤_}
 use mathlib.Core.Path.{_≡_, refl, sym, ap, _∙_}
 use mathlib.Core.Bool.{Bool, true, false, cond, _||_, or-false}
-use mathlib.Core.List.{List, [], _++_}
+use mathlib.Core.List.{List, []}
 use mathlib.Core.Option.{Option, none as nothing, some}
 use native.Mathlib.Omega.{arith}
-use lib.ListN.{length, take, replicate}
+use lib.ListN.{length, replicate}
 use borrow.Author.Tests.{ne-eqb}
-use lib.Seq.{take-append-seam}
 use Rattle.writer.specs.Finished.{hasRoom}
 use Rattle.writer.proofs.Finished.{delivered-field, room-true}
 use Rattle.tree.specs.declared.grammar.Set.the-variants.{Attributes}
-use Rattle.tree.specs.Layout.{Bytes, same}
+use Rattle.tree.specs.Layout.{Bytes, same, fieldIn}
 use Rattle.tree.specs.Tree.{Field, field, Fields, none, more, encode, size, fixedOf, partsOf}
 use Rattle.tree.specs.Read.{Reading, fine, refused, mapped}
 use Rattle.tree.specs.Within.{Within}
-use Rattle.tree.proofs.TreeLaws.{size-encode}
+use Rattle.tree.proofs.TreeLaws.{size-encode, encode-front}
 use Rattle.tree.proofs.ReadLaws.{fine-inj}
 use Rattle.tree.proofs.CompleteLaws.{read-complete}
 use Rattle.metadata.specs.Metadata.{Metadata, Small, injectedAttribute, contextAttribute, injectedAttributes, contextAttributes, append}
 use Rattle.metadata.specs.Metadata.{attributesFor, withMetadata, startsWith, contextIn, told, newer, merged, decodeFrom, unset, decode}
 use Rattle.metadata.specs.declared.Encoded.the-variants.{Done, NoRoom}
 use Rattle.metadata.specs.Calls.{attributesIn, lent, decodeCall, answerOn, outOn, encodeAnswer, encodeOut, Encoding}
+use Rattle.metadata.specs.RoundTrip.{WrittenAlone, WrittenOnto}
 use Rattle.metadata.proofs.DecimalLaws.{decimal-parses}
 use Rattle.metadata.proofs.CallsLaws.{lent-sound}
 use Rattle.metadata.proofs.WithinLaws.{new-within}
@@ -101,7 +101,7 @@ lent-back f w =
 record Accepted (m : Metadata) (s : List ℕ) (room n : ℕ) (old : Fields) : Type 0 where
   is-lent : lent s ≡ fine old
   fits : length (encode (withMetadata m old)) ≤ 65538
-  bytes : take n (encodeOut m s room) ≡ encode (withMetadata m old)
+  bytes : fieldIn (encodeOut m s room) ≡ encode (withMetadata m old)
 
 module _ (m : Metadata) (s : List ℕ) (room n : ℕ) where
   room-accepted : (old : Fields) (b : Bool) → lent s ≡ fine old → hasRoom (length (encode (withMetadata m old))) room ≡ b →
@@ -109,15 +109,13 @@ module _ (m : Metadata) (s : List ℕ) (room n : ℕ) where
   unfolding encodeOut outOn
   room-accepted old true e r a =
       let bs = encode (withMetadata m old) in
-      let k : length bs ≡ n = cc in
       record {
         is-lent = e;
         fits = room-true (length bs) room r .0;
         bytes =
-            ap (λ (x : Reading Fields). take n (outOn x m room)) e
-            ∙ ap (take n) (delivered-field bs room r)
-            ∙ ap (λ (i : ℕ). take i (bs ++ replicate (room - length bs) 0)) (sym k)
-            ∙ take-append-seam bs (replicate (room - length bs) 0);
+            ap (λ (x : Reading Fields). fieldIn (outOn x m room)) e
+            ∙ ap fieldIn (delivered-field bs room r)
+            ∙ encode-front (withMetadata m old) (replicate (room - length bs) 0);
       }
   room-accepted old false e r a = absurd (let z : _≡_ {A = ℕ} 0 1 = cc in omega arith)
 
@@ -127,7 +125,7 @@ module _ (m : Metadata) (s : List ℕ) (room n : ℕ) where
   answer-accepted (refused w p) e a = absurd (let z : _≡_ {A = ℕ} 0 1 = cc in omega arith)
 
   accepted-decodes : Bytes s → Small (m .context) → encodeAnswer m s room ≡ Done n →
-      (o : Metadata) × (decodeCall s ≡ fine o) × (decodeCall (take n (encodeOut m s room)) ≡ fine (merged o m))
+      (o : Metadata) × (decodeCall s ≡ fine o) × (decodeCall (fieldIn (encodeOut m s room)) ≡ fine (merged o m))
   unfolding encodeAnswer decodeCall
   accepted-decodes bs h a =
       let g = answer-accepted (lent s) refl a in
@@ -140,18 +138,15 @@ module _ (m : Metadata) (s : List ℕ) (room n : ℕ) where
             ∙ ap fine (older-merged m old h),
       )
 
-module _ {m : Metadata} {l l' : List ℕ} {n : ℕ} where
-  -- the bytes that `encode` wrote, without the zeros behind, decode to the metadata onto what the lent ones told
-  pub encoded-decodes : {s : List ℕ} → Encoding m s l (Done n) l' → Bytes s → Small (m .context) →
-      (o : Metadata) × (decodeCall s ≡ fine o) × (decodeCall (take n l') ≡ fine (merged o m))
-  encoded-decodes {s} e bs h =
-      let g = accepted-decodes m s (length l) n bs h (sym (e .answer)) in
-      (g .0, g .1, ap (λ (x : List ℕ). decodeCall (take n x)) (e .buffer) ∙ g .2)
+pub written-onto : WrittenOnto
+written-onto m s l l' n e bs h =
+    let g = accepted-decodes m s (length l) n bs h (sym (e .answer)) in
+    (g .0, g .1, ap (λ (x : List ℕ). decodeCall (fieldIn x)) (e .buffer) ∙ g .2)
 
-  -- onto nothing: to the metadata
-  pub encoded-alone : Encoding m [] l (Done n) l' → Small (m .context) → decodeCall (take n l') ≡ fine m
-  unfolding decodeCall lent decode decodeFrom
-  encoded-alone e h =
-      let g = encoded-decodes e (λ i. omega arith) h in
-      let o : g .0 ≡ unset = sym (fine-inj (g .1)) in
-      g .2 ∙ ap (λ (x : Metadata). fine (merged x m)) o ∙ ap fine (merged-unset m)
+-- onto nothing: what was written
+pub written-alone : WrittenAlone
+unfolding decodeCall lent decode decodeFrom
+written-alone m l l' n e h =
+    let g = written-onto m [] l l' n e (λ i. omega arith) h in
+    let o : g .0 ≡ unset = sym (fine-inj (g .1)) in
+    g .2 ∙ ap (λ (x : Metadata). fine (merged x m)) o ∙ ap fine (merged-unset m)
