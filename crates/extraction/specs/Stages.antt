@@ -1,7 +1,7 @@
 -- What the stages of the call do, as the code has them: how each ends, what it asks and what it leaves. Only inner contracts cite this.
 use Prim.Native.Nat.{ℕ, _≤_}
 use mathlib.Core.Path.{_≡_}
-use mathlib.Core.Bool.{true}
+use mathlib.Core.Bool.{true, false}
 use mathlib.Core.List.{List, map}
 use lib.ListN.{length, drop}
 use Rattle.scope.specs.Modules.{Modules, request}
