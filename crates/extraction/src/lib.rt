@@ -12,7 +12,7 @@ ghost use Rattle.state.specs.Cells.{Good};
 ghost use Rattle.extraction.specs.Answer.{left, lentAs, roomIn};
 ghost use Rattle.extraction.specs.Stages.{wrapOne, wrapFrom, Wraps, Closes, Seconds, ModuleRead, Calls, passesBy, ownedBy};
 
-pub mod passes; // a pass over a module's items
+mod passes; // a pass over a module's items
 
 use inputs::bad_externals;
 use inputs::bad_table;

@@ -24,16 +24,6 @@ pub fn put_decimal(out: &mut [u8], o: usize, n: u32) -> usize
     writer::put(out, last, 48 + ((n % 10) as u8))
 }
 
-// How many digits n has.
-pub fn decimal_length(n: u32) -> usize
-    ensures { λ r. ⌜ (r ≡ length (decimal n)) × (r ≤ 10) ⌝ }
-{
-    if n < 10 {
-        return 1;
-    }
-    1 + decimal_length(n / 10)
-}
-
 fn is_digit(b: u8) -> bool
     ensures { λ r. ⌜ r ≡ isDigit b ⌝ }
 {

@@ -1,5 +1,5 @@
 // What an export tells of itself in the attributes of an import. Port of swc_bundler's `util.rs`, `ExportMetadata`.
-pub mod decimal;
+mod decimal;
 
 use decimal::Parsed;
 use scope::id::SyntaxContext;
@@ -79,13 +79,6 @@ pub fn put_context(out: &mut [u8], o: usize, ctxt: SyntaxContext) -> usize
     let p = decimal::put_decimal(out, value, ctxt.0);
     writer::close_field(out, o, p);
     p
-}
-
-// How many bytes that attribute takes.
-pub fn context_size(ctxt: SyntaxContext) -> usize
-    ensures { λ r. ⌜ r ≡ size (contextAttribute (ctxt .0)) ⌝ }
-{
-    34 + decimal::decimal_length(ctxt.0)
 }
 
 // Whether the content from `from` up to end starts with h.

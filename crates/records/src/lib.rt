@@ -3,10 +3,10 @@ ghost use Rattle.tree.specs.Tree.{encode};
 ghost use Rattle.state.specs.Cells.{Good};
 ghost use Rattle.records.specs.Writes.{WroteFor, Placing, BothRead, recordsIn};
 
-pub mod bindings; // the binding ids of a pattern
-pub mod collected; // collected records
-pub mod lazy; // lazy records and forced sources
-pub mod parts; // the parts of an import
+mod bindings; // the binding ids of a pattern
+mod collected; // collected records
+mod lazy; // lazy records and forced sources
+mod parts; // the parts of an import
 
 use collected::put_collected;
 use lazy::put_forced;

@@ -1,6 +1,6 @@
 // Answers a request as the vectors have it: those with a scope by the crate scoped, the others here. `lent` gets the bytes that a
 // request spells; `work`, `out`, `records` and `list` lend a call its buffers.
-pub mod plain; // detect, encode, decode
+mod plain; // detect, encode, decode
 
 use answer_text::Answer;
 use check::same;

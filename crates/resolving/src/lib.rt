@@ -11,9 +11,9 @@ ghost use Rattle.resolving.specs.Numbers.{NumbersAll};
 ghost use Rattle.resolving.specs.Answer.{outcomeOf, lentAs, leftBy, left};
 ghost use Rattle.resolving.specs.Stages.{tested, listedLeft, numberedLeft};
 
-pub mod sources; // the records with a source, and their numbers
+mod sources; // the records with a source, and their numbers
 pub mod specifiers; // specifiers, resolved
-pub mod list; // the resolved list
+mod list; // the resolved list
 
 use list::put_list;
 use scope::Scope;

@@ -3,6 +3,6 @@
 pub mod buffer;
 pub mod fields;
 pub mod line;
-pub mod names;
+mod names;
 pub mod print;
-pub mod resolved;
+mod resolved;

@@ -1,7 +1,7 @@
 // Where a field ends, and where its fixed bytes end: what every walk over the bytes goes by.
 ghost use mathlib.Core.Path.{_≡_};
 ghost use Prim.Native.Nat.{_+_, _≤_, _<_};
-ghost use lib.ListN.{length, getD};
+ghost use lib.ListN.{length};
 ghost use Rattle.tree.specs.Access.{valueAt, choiceOf, kindAt, keyAt, pieceAt, fixedAt, extentAt};
 use crate::grammar::Piece;
 use crate::grammar::Value;
@@ -17,14 +17,6 @@ use crate::layout::wide;
 pub enum Choice {
     Take(Value),
     Bad,
-}
-
-// The tag of the field at `at`.
-pub fn tag_at(s: &[u8], at: usize) -> u8
-    requires { ⌜ at < length (now s) ⌝ }
-    ensures { λ r. ⌜ r ≡ getD (now (s .entry)) at 0 ⌝ }
-{
-    s[at]
 }
 
 fn value_end(v: Value, at: usize, stop: usize) -> Reach

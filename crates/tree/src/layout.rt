@@ -3,7 +3,7 @@ ghost use mathlib.Core.Path.{_≡_};
 ghost use Prim.Native.Nat.{_+_, _≤_};
 ghost use lib.ListN.{length};
 ghost use lib.Seq.{slice};
-ghost use Rattle.tree.specs.Layout.{skipAt, literalEnd, twoAt, fourAt, same, atomAt, idAt, literalWidth, literalAt, literalValue, sameLiteral};
+ghost use Rattle.tree.specs.Layout.{skipAt, literalEnd, twoAt, fourAt, same, literalWidth, literalValue};
 
 // How far something reaches: up to a place, or past the bytes that there are.
 pub enum Reach {
@@ -81,25 +81,4 @@ pub fn same_run(s: &[u8], a: usize, t: &[u8], b: usize, n: usize) -> bool
         i += 1;
     }
     true
-}
-
-pub fn same_atom(s: &[u8], a: usize, t: &[u8], b: usize) -> bool
-    requires { ⌜ (a + 2 ≤ length (now s)) × (b + 2 ≤ length (now t)) ⌝ }
-    ensures { λ r. ⌜ r ≡ same (atomAt (now (s .entry)) a) (atomAt (now (t .entry)) b) ⌝ }
-{
-    same_run(s, a, t, b, ATOM)
-}
-
-pub fn same_id(s: &[u8], a: usize, t: &[u8], b: usize) -> bool
-    requires { ⌜ (a + 6 ≤ length (now s)) × (b + 6 ≤ length (now t)) ⌝ }
-    ensures { λ r. ⌜ r ≡ same (idAt (now (s .entry)) a) (idAt (now (t .entry)) b) ⌝ }
-{
-    same_run(s, a, t, b, ID)
-}
-
-pub fn same_literal(s: &[u8], a: usize, t: &[u8], b: usize) -> bool
-    requires { ⌜ (a + literalWidth ≤ length (now s)) × (b + literalWidth ≤ length (now t)) ⌝ }
-    ensures { λ r. ⌜ r ≡ sameLiteral (literalAt (now (s .entry)) a) (literalAt (now (t .entry)) b) ⌝ }
-{
-    same_run(s, a, t, b, LITERAL)
 }

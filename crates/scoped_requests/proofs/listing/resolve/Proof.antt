@@ -86,11 +86,16 @@ part-resolve-into-start : tie.Need-part-resolve-into-start
 part-resolve-into-start c = search needs
 
 part-resolve-into-end : tie.Need-part-resolve-into-end
-part-resolve-into-end c =
-    let c20 = c .before .before .before .before .before .before .before .before .before .before .before .before .before .before .before .before .before .before .before .before in
-    let c24 = c20 .before .before .before .before in
-    let c32 = c24 .before .before .before .before .before .before .before .before in
-    let v1 = subst (BytesIn 0 (length (c32 .args .lent .now))) (c20 .a .given .1) (c24 .bytes-at .ensures .1) in omega arith
+part-resolve-into-end c = let v1 =
+    subst
+    (BytesIn 0
+    (length
+    (c .before .before .before .before .before .before .before .before .before .before .before .before .before .before .before .before .before .before
+    .before .before .before .before .before .before .before .before .before .before .before .before .before .before .args .lent .now)))
+    (c .before .before .before .before .before .before .before .before .before .before .before .before .before .before .before .before .before .before
+    .before .before .a .given .1)
+    (c .before .before .before .before .before .before .before .before .before .before .before .before .before .before .before .before .before .before
+    .before .before .before .before .before .before .bytes-at .ensures .1) in omega arith
 
 sub-resolve-into-2 : tie.Need-sub-resolve-into-2
 sub-resolve-into-2 c =
@@ -105,10 +110,11 @@ part-resolve-into-start-2 c =
     let v2 = subst (BytesIn _ _) (c14 .b .given .1) (c18 .bytes-at2 .ensures .1) in omega arith
 
 part-resolve-into-end-2 : tie.Need-part-resolve-into-end-2
-part-resolve-into-end-2 c =
-    let c14 = c .before .before .before .before .before .before .before .before .before .before .before .before .before .before in
-    let c18 = c14 .before .before .before .before in
-    let v2 = subst (BytesIn _ _) (c14 .b .given .1) (c18 .bytes-at2 .ensures .1) in omega arith
+part-resolve-into-end-2 c = let v2 =
+    subst (BytesIn _ _)
+    (c .before .before .before .before .before .before .before .before .before .before .before .before .before .before .b .given .1)
+    (c .before .before .before .before .before .before .before .before .before .before .before .before .before .before .before .before .before .before
+    .bytes-at2 .ensures .1) in omega arith
 
 sub-resolve-into-3 : tie.Need-sub-resolve-into-3
 sub-resolve-into-3 c =
