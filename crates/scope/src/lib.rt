@@ -1,5 +1,6 @@
 // A scope: the modules that were asked for, in the order of their numbers, with their files and marks. Port of swc_bundler's `scope.rs`
-// and of the generator in `id.rs`. A scope goes in by value and comes back in the answer; a refused call gives back the scope it was given.
+// and of the generator in `id.rs`. A scope goes in by value and comes back in the answer. A refused call gives back the scope it was given;
+// a list of files, the scope with those before the refused one.
 pub mod id;
 
 use id::Atom;

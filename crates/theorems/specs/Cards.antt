@@ -1,5 +1,5 @@
 -- The twelve cards of document 01: one list, and one sentence about the rules.
--- The cards' trees and results stand with the rules they speak of, in the crates extraction and resolving.
+-- The cards' trees and results stand with the rules they speak of, in the crates extraction_rules and resolving_rules.
 use Prim.Native.Nat.{ℕ}
 use mathlib.Core.Path.{_≡_, refl}
 use mathlib.Core.Bool.{false}

@@ -1,4 +1,4 @@
--- `answer_text::prefill` meets its contract.
+-- `prefill`: the invariant says that the buffer keeps its length (`length-set`: a store changes no length). The rest is arithmetic.
 use Prim.Native.Nat.{_-_}
 use lib.ListN.{length, length-set}
 use mathlib.Core.Path.{_≡_}

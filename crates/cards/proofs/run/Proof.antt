@@ -1,4 +1,4 @@
--- `cards::run` meets its contract. The invariant: the place is at most one past the text.
+-- `cards::run`: the invariant: the place is at most one past the text.
 use Prim.Native.Nat.{_-_, _+_, _≤_}
 use native.Mathlib.Omega.{arith}
 use Rattle.cards.proofs.run.Statement.{statement}

@@ -1,4 +1,4 @@
--- `cards::take` meets its contract.
+-- `take`: `SpanIn`, which `field` ensures, bounds the word within the line; the rest is `search needs`.
 use mathlib.Core.Path.{subst}
 use lib.ListN.{length}
 use native.Mathlib.Omega.{arith}

@@ -1,3 +1,4 @@
+-- `set_mark`: by the kind of mark; the contract of each call is `marking` of that kind.
 use mathlib.Core.Path.{_≡_, refl, sym, ap, _∙_}
 use Rattle.scope.specs.declared.Mark.{Mark}
 use Rattle.scope.specs.Modules.{marking}
@@ -5,64 +6,46 @@ use Rattle.scope.specs.ScopeValue.{modulesOf}
 use borrow.Author.Needs.{needs}
 use Rattle.corollaries.proofs.set_mark.Statement.{statement}
 use Rattle.corollaries.proofs.set_mark.Tie as tie
-use Rattle.corollaries.proofs.set_mark.Reads as reads
-use Rattle.corollaries.proofs.set_mark.Lts as lts
-use Rattle.scope.proofs.Scope.mark_as_cjs.Reads as mark-as-cjs-reads
-use Rattle.scope.proofs.Scope.mark_as_loaded.Reads as mark-as-loaded-reads
-use Rattle.scope.proofs.Scope.mark_as_wrapping_required.Reads as mark-as-wrapping-required-reads
-use Rattle.scope.proofs.Scope.store_module.Reads as store-module-reads
 
--- src/lib.rt:139:17
 enum-told : tie.Need-enum-told
 enum-told c = search needs
 
--- src/lib.rt:139:17
 mark-as-loaded-requires : tie.Need-mark-as-loaded-requires
 mark-as-loaded-requires c κs = search needs
 
--- src/lib.rt:143:17
 enum-told-2 : tie.Need-enum-told-2
 enum-told-2 c = search needs
 
--- src/lib.rt:143:17
 store-module-requires : tie.Need-store-module-requires
 store-module-requires c κs = search needs
 
--- src/lib.rt:147:17
 enum-told-3 : tie.Need-enum-told-3
 enum-told-3 c = search needs
 
--- src/lib.rt:147:17
 mark-as-cjs-requires : tie.Need-mark-as-cjs-requires
 mark-as-cjs-requires c κs = search needs
 
--- src/lib.rt:151:17
 enum-told-4 : tie.Need-enum-told-4
 enum-told-4 c = search needs
 
--- src/lib.rt:151:17
 mark-as-wrapping-required-requires : tie.Need-mark-as-wrapping-required-requires
 mark-as-wrapping-required-requires c κs = search needs
 
--- src/lib.rt:134:1
 returns : tie.Need-returns
 returns c =
     let c4 = c .before .before .before .before in
     (c .before .mark-as-loaded .result, c .before .mark-as-loaded .ensures ∙ ap (λ (k : Mark). marking k (c4 .args .id) (modulesOf (c4 .args .scope))) (sym (c .before .before .enum-told .given .1)), refl)
 
--- src/lib.rt:134:1
 returns-2 : tie.Need-returns-2
 returns-2 c =
     let c4 = c .before .before .before .before in
     (c .before .store-module .result, c .before .store-module .ensures ∙ ap (λ (k : Mark). marking k (c4 .args .id) (modulesOf (c4 .args .scope))) (sym (c .before .before .enum-told2 .given .1)), refl)
 
--- src/lib.rt:134:1
 returns-3 : tie.Need-returns-3
 returns-3 c =
     let c4 = c .before .before .before .before in
     (c .before .mark-as-cjs .result, c .before .mark-as-cjs .ensures ∙ ap (λ (k : Mark). marking k (c4 .args .id) (modulesOf (c4 .args .scope))) (sym (c .before .before .enum-told3 .given .1)), refl)
 
--- src/lib.rt:134:1
 returns-4 : tie.Need-returns-4
 returns-4 c =
     let c4 = c .before .before .before .before in

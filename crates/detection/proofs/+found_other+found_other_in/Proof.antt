@@ -1,4 +1,6 @@
--- The functions found_other, found_other_in, which call one another, meet their contracts.
+-- `found_other` and `found_other_in`: the loop's invariant says that the row from here on answers what the whole row answers.
+-- The measure is a field's length, and a row's length and one more: a field is no longer than the row around it, and its parts start
+-- behind its head of three bytes.
 use Prim.Native.Nat.{_+_, _-_, _≤_, ℕ, _<_}
 use mathlib.Core.Path.{_≡_, refl, sym, _∙_}
 use native.Mathlib.Omega.{arith}
@@ -11,7 +13,6 @@ use borrow.Fn.Kinds.{In}
 use borrow.Fn.PlainCycle.{Measures, is, falls, and}
 use Rattle.detection.proofs.+found_other+found_other_in.{statement}
 use Rattle.detection.proofs.+found_other+found_other_in.Tie.{close}
--- The functions found_other, found_other_in, which call one another, meet their contracts.
 use Rattle.detection.proofs.found_other.Reads as found-other
 use Rattle.detection.proofs.found_other.Kinds as found-other-kinds
 use Rattle.detection.proofs.+found_other+found_other_in.Lts-found_other as found-other-lts

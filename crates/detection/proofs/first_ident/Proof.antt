@@ -1,4 +1,5 @@
--- `detection::first_ident` meets its contract.
+-- `first_ident`: no whole field (`first-none`), fixed bytes short (`first-short`), a 60 (`first-named`), another tag (`first-other`).
+-- The atom of a 60 may be read since its fixed bytes are six (`plain-ends`).
 use Rattle.detection.proofs.DetectionLaws.{first-none, first-short, first-named, first-other}
 use Prim.Native.Nat.{_+_}
 use mathlib.Core.Path.{sym, ap, _∙_, refl}
@@ -10,7 +11,6 @@ use Rattle.scope.specs.Id.{atom}
 use Rattle.detection.specs.declared.Ident.the-variants.{Name}
 use borrow.Author.Needs.{needs}
 use Rattle.detection.proofs.first_ident.Statement.{statement}
--- `detection::first_ident` meets its contract.
 use Rattle.detection.proofs.first_ident.Tie as tie
 
 extent-requires : tie.Need-extent-requires

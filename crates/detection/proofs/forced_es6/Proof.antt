@@ -1,4 +1,5 @@
--- `detection::forced_es6` meets its contract.
+-- `forced_es6`: the invariant says that the items from here on answer what all items answer, and that reading accepts them
+-- (`accepted-next`): so the byte that is tested is the tag of the field that stands there (`forced-more`).
 use Prim.Native.Nat.{_-_, _≤_}
 use Rattle.tree.proofs.GrammarLaws.{within-true, within-below, within-above}
 use mathlib.Core.Path.{_≡_, refl, sym, _∙_}
@@ -9,8 +10,6 @@ use Rattle.tree.proofs.AccessLaws.{extent-upto}
 use Rattle.detection.specs.Detection.{forcedEs6, Accepted}
 use Rattle.detection.proofs.DetectionLaws.{forced-none, forced-more, accepted-next}
 use Rattle.detection.proofs.forced_es6.Statement.{statement}
--- `detection::forced_es6` meets its contract.
--- `detection::forced_es6` meets its contract.
 use Rattle.detection.proofs.forced_es6.Tie as tie
 
 abbrev Inv-loop : tie.InvT-loop

@@ -1,4 +1,5 @@
--- `detection::is_es6` meets its contract.
+-- `is_es6`: too long, refused by reading, or read (`detect-long`, `detect-refused`, `detect-read`). `items-accepted` says that the items of
+-- a module that was read stand from 3 on and are accepted, which `items_es6` requires.
 use mathlib.Core.Path.{sym, ap, _∙_}
 use native.Mathlib.Omega.{arith}
 use Rattle.detection.specs.Detection.{answers}

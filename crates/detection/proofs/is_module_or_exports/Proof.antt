@@ -1,4 +1,4 @@
--- `detection::is_module_or_exports` meets its contract.
+-- `is_module_or_exports`: the definition makes the same two tests.
 use borrow.Author.Tests.{eq-eqb, ne-eqb}
 use Rattle.detection.proofs.is_module_or_exports.Statement.{statement}
 use Rattle.detection.proofs.is_module_or_exports.Tie as tie

@@ -1,4 +1,4 @@
--- `detection::other_here` meets its contract.
+-- `other_here`: by the tag: a member (`member-here`), a call (`call-here`), any other (`none-here`); for the first two by the first part.
 use mathlib.Core.Path.{sym, _∙_}
 use Rattle.detection.proofs.DetectionLaws.{member-here, call-here, none-here}
 use borrow.Author.Needs.{needs}

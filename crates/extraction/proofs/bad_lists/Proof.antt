@@ -1,33 +1,25 @@
+-- `bad_lists`: the tests of the code are those of the rule, in the same order; each return has its law of ListsLaws.
 use Rattle.extraction.proofs.ListsLaws.{bad-long, bad-first, bad-second}
 use borrow.Author.Needs.{needs}
 use Rattle.extraction.proofs.bad_lists.Statement.{statement}
 use Rattle.extraction.proofs.bad_lists.Tie as tie
-use Rattle.extraction.proofs.bad_lists.Reads as reads
-use Rattle.extraction.proofs.bad_lists.Lts as lts
-use Rattle.inputs.proofs.bad_externals.Reads as bad-externals-reads
-use Rattle.inputs.proofs.bad_table.Reads as bad-table-reads
 
--- src/lib.rt:113:9
 returns : tie.Need-returns
 returns c =
     let c4 = c .before .before .before .before in
     bad-long (c4 .args .externals .now) (c4 .args .table .now) (c4 .args .tree .now) (c .if1 .taken)
 
--- src/lib.rt:115:8
 bad-externals-requires : tie.Need-bad-externals-requires
 bad-externals-requires c κs = search needs
 
--- src/lib.rt:116:9
 returns-2 : tie.Need-returns-2
 returns-2 c =
     let c6 = c .before .before .before .before .before .before in
     bad-first (c6 .args .externals .now) (c6 .args .table .now) (c6 .args .tree .now) (c .before .before .if1 .left) (c .before .bad-externals .ensures) (c .if2 .taken)
 
--- src/lib.rt:118:5
 bad-table-requires : tie.Need-bad-table-requires
 bad-table-requires c κs = search needs
 
--- src/lib.rt:109:1
 returns-3 : tie.Need-returns-3
 returns-3 c =
     let c3 = c .before .before .before in

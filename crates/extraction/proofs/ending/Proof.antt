@@ -1,3 +1,5 @@
+-- `ending`: by whether the tree fits and then by whether the records fit; each return has its law of EndLaws.
+-- `room-true` says that a tree that fits is no longer than `out`; so the part of `out` is in bounds.
 use mathlib.Core.Path.{sym, _∙_}
 use native.Mathlib.Omega.{arith}
 use Rattle.writer.proofs.Finished.{room-true}
@@ -5,44 +7,31 @@ use Rattle.extraction.proofs.EndLaws.{closes-short, closes-full, closes
 use borrow.Author.Needs.{needs}
 use Rattle.extraction.proofs.ending.Statement.{statement}
 use Rattle.extraction.proofs.ending.Tie as tie
-use Rattle.extraction.proofs.ending.Reads as reads
-use Rattle.extraction.proofs.ending.Lts as lts
-use Rattle.records.proofs.put_records.Reads as put-records-reads
-use Rattle.writer.proofs.finish.Reads as finish-reads
 
--- src/lib.rt:281:8
 finish-requires : tie.Need-finish-requires
 finish-requires c κs = search needs
 
--- src/lib.rt:282:41
 sub-put-records : tie.Need-sub-put-records
 sub-put-records c = search needs
 
--- src/lib.rt:282:41
 part-put-records-start : tie.Need-part-put-records-start
 part-put-records-start c = search needs
 
--- src/lib.rt:282:41
 part-put-records-end : tie.Need-part-put-records-end
 part-put-records-end c = let b = room-true _ _ (sym (c .before .before .before .before .finish .ensures .room) ∙ c .before .if1 .taken) in omega arith
 
--- src/lib.rt:282:13
 put-records-requires : tie.Need-put-records-requires
 put-records-requires c κs = search needs
 
--- src/lib.rt:283:12
 finish-requires-2 : tie.Need-finish-requires-2
 finish-requires-2 c κs = search needs
 
--- src/lib.rt:270:1
 same-length : tie.Need-same-length
 same-length c = search needs
 
--- src/lib.rt:270:1
 same-length-2 : tie.Need-same-length-2
 same-length-2 c = search needs
 
--- src/lib.rt:270:1
 returns : tie.Need-returns
 returns c =
     let c3 = c .before .before .before in
@@ -52,15 +41,12 @@ returns c =
     let c21 = c14 .before .before .before .before .before .before .before in
     closes-full (c21 .args .tree .now) (c21 .args .work .now) (c14 .finish .ensures) (c11 .if1 .taken) (c7 .put-records .ensures) (c3 .finish2 .ensures) (c .if2 .taken)
 
--- src/lib.rt:270:1
 same-length-3 : tie.Need-same-length-3
 same-length-3 c = search needs
 
--- src/lib.rt:270:1
 same-length-4 : tie.Need-same-length-4
 same-length-4 c = search needs
 
--- src/lib.rt:270:1
 returns-2 : tie.Need-returns-2
 returns-2 c =
     let c3 = c .before .before .before in
@@ -70,11 +56,9 @@ returns-2 c =
     let c21 = c14 .before .before .before .before .before .before .before in
     closes-long (c21 .args .tree .now) (c21 .args .work .now) (c14 .finish .ensures) (c11 .if1 .taken) (c7 .put-records .ensures) (c3 .finish2 .ensures) (c .if2 .left)
 
--- src/lib.rt:270:1
 same-length-5 : tie.Need-same-length-5
 same-length-5 c = search needs
 
--- src/lib.rt:270:1
 returns-3 : tie.Need-returns-3
 returns-3 c = closes-short (c .before .before .before .finish .ensures) (c .if1 .left)
 

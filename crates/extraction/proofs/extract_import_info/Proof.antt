@@ -1,3 +1,5 @@
+-- `extract_import_info`: `zeros-good` says that an array of zeros is a good start. An accepted call hands on the modules in the array
+-- (`left-accepted`); any other leaves the scope as it was and the buffers zero (`left-refused`).
 use mathlib.Core.Logic.{⊎-elim}
 use native.Mathlib.Omega.{arith}
 use Rattle.extraction.specs.Answer.{lentAs}
@@ -5,66 +7,46 @@ use Rattle.extraction.proofs.TopLaws.{zeros-good, left-accepted, left-r
 use borrow.Author.Needs.{needs}
 use Rattle.extraction.proofs.extract_import_info.Statement.{statement}
 use Rattle.extraction.proofs.extract_import_info.Tie as tie
-use Rattle.extraction.proofs.extract_import_info.Reads as reads
-use Rattle.extraction.proofs.extract_import_info.Lts as lts
-use Rattle.extraction.proofs.lists.Reads as lists-reads
-use Rattle.state.proofs.modules.load.Reads as load-reads
-use Rattle.state.proofs.modules.scope_of.Reads as scope-of-reads
-use Rattle.writer.proofs.clear.Reads as clear-reads
 
--- src/lib.rt:82:10
 slice-aggregate-load : tie.Need-slice-aggregate-load
 slice-aggregate-load c = search needs
 
--- src/lib.rt:82:5
 load-requires : tie.Need-load-requires
 load-requires c κs = zeros-good
 
--- src/lib.rt:89:9
 slice-aggregate-lists : tie.Need-slice-aggregate-lists
 slice-aggregate-lists c = search needs
 
--- src/lib.rt:83:9
 lists-requires : tie.Need-lists-requires
 lists-requires c κs = search needs
 
--- src/lib.rt:96:29
 enum-told : tie.Need-enum-told
 enum-told c = search needs
 
--- src/lib.rt:96:29
 slice-aggregate-scope-of : tie.Need-slice-aggregate-scope-of
 slice-aggregate-scope-of c = search needs
 
--- src/lib.rt:96:20
 scope-of-requires : tie.Need-scope-of-requires
 scope-of-requires c κs = search needs
 
--- src/lib.rt:100:13
 clear-requires : tie.Need-clear-requires
 clear-requires c κs = search needs
 
--- src/lib.rt:101:13
 clear-requires-2 : tie.Need-clear-requires-2
 clear-requires-2 c κs = search needs
 
--- src/lib.rt:102:13
 clear-requires-3 : tie.Need-clear-requires-3
 clear-requires-3 c κs = search needs
 
--- src/lib.rt:68:1
 same-length : tie.Need-same-length
 same-length c = search needs
 
--- src/lib.rt:68:1
 same-length-2 : tie.Need-same-length-2
 same-length-2 c = search needs
 
--- src/lib.rt:68:1
 same-length-3 : tie.Need-same-length-3
 same-length-3 c = search needs
 
--- src/lib.rt:68:1
 returns : tie.Need-returns
 returns c =
     let c11 = c .before .before .before .before .before .before .before .before .before .before .before in
@@ -75,19 +57,15 @@ returns c =
     (c25 .args .scope) (c17 .load .ensures) (c11 .lists .ensures) (λ i. c22 .shared-slice-known3 .given i .fits) (c .scope-of .result)
     (c .before .before .enum-told .given .1) (c .scope-of .ensures)
 
--- src/lib.rt:68:1
 same-length-4 : tie.Need-same-length-4
 same-length-4 c = search needs
 
--- src/lib.rt:68:1
 same-length-5 : tie.Need-same-length-5
 same-length-5 c = search needs
 
--- src/lib.rt:68:1
 same-length-6 : tie.Need-same-length-6
 same-length-6 c = search needs
 
--- src/lib.rt:68:1
 returns-2 : tie.Need-returns-2
 returns-2 c =
     left-refused

@@ -1,3 +1,5 @@
+-- `first_pass`: by whether the pass refused and then by whether its tree fits; each return has its law of OnceLaws.
+-- `room-true` says that a tree that fits is no longer than `work`; so the part of `work` is in bounds.
 use mathlib.Core.Path.{sym, _∙_}
 use native.Mathlib.Omega.{arith}
 use Rattle.writer.proofs.Finished.{room-true}
@@ -5,61 +7,43 @@ use Rattle.extraction.proofs.OnceLaws.{once-refused, once-short, once-e
 use borrow.Author.Needs.{needs}
 use Rattle.extraction.proofs.first_pass.Statement.{statement}
 use Rattle.extraction.proofs.first_pass.Tie as tie
-use Rattle.extraction.proofs.first_pass.Reads as reads
-use Rattle.extraction.proofs.first_pass.Lts as lts
-use Rattle.extraction.proofs.passes.pass.Reads as pass-reads
-use Rattle.extraction.proofs.second_pass.Reads as second-pass-reads
-use Rattle.writer.proofs.finish.Reads as finish-reads
 
--- src/lib.rt:190:11
 pass-requires : tie.Need-pass-requires
 pass-requires c κs = search needs
 
--- src/lib.rt:191:20
 enum-known-n : tie.Need-enum-known-n
 enum-known-n c = search needs
 
--- src/lib.rt:191:29
 finish-requires : tie.Need-finish-requires
 finish-requires c κs = search needs
 
--- src/lib.rt:199:17
 sub-second-pass : tie.Need-sub-second-pass
 sub-second-pass c = search needs
 
--- src/lib.rt:199:17
 part-second-pass-start : tie.Need-part-second-pass-start
 part-second-pass-start c = search needs
 
--- src/lib.rt:199:17
 part-second-pass-end : tie.Need-part-second-pass-end
 part-second-pass-end c = let b = room-true _ _ (sym (c .before .before .before .before .before .finish .ensures .room) ∙ c .before .before .if1 .taken) in omega arith
 
--- src/lib.rt:192:13
 second-pass-requires : tie.Need-second-pass-requires
 second-pass-requires c κs = search needs
 
--- src/lib.rt:206:23
 enum-known-why : tie.Need-enum-known-why
 enum-known-why c = search needs
 
--- src/lib.rt:171:1
 same-length : tie.Need-same-length
 same-length c = search needs
 
--- src/lib.rt:171:1
 same-length-2 : tie.Need-same-length-2
 same-length-2 c = search needs
 
--- src/lib.rt:171:1
 same-length-3 : tie.Need-same-length-3
 same-length-3 c = search needs
 
--- src/lib.rt:171:1
 same-length-4 : tie.Need-same-length-4
 same-length-4 c = search needs
 
--- src/lib.rt:171:1
 returns : tie.Need-returns
 returns c =
     let c6 = c .before .before .before .before .before .before in
@@ -71,15 +55,12 @@ returns c =
     once-ends (c34 .args .own) (c34 .args .config) (c34 .args .externals .now) (c34 .args .table .now) (c34 .args .tree .now) (c24 .pass .ensures)
     (c18 .n .given .1) (c15 .finish .ensures) (c12 .if1 .taken) (c6 .second-pass .ensures)
 
--- src/lib.rt:171:1
 same-length-5 : tie.Need-same-length-5
 same-length-5 c = search needs
 
--- src/lib.rt:171:1
 same-length-6 : tie.Need-same-length-6
 same-length-6 c = search needs
 
--- src/lib.rt:171:1
 returns-2 : tie.Need-returns-2
 returns-2 c =
     let c3 = c .before .before .before in
@@ -89,15 +70,12 @@ returns-2 c =
     once-short (c22 .args .own) (c22 .args .config) (c22 .args .externals .now) (c22 .args .table .now) (c22 .args .tree .now) (c12 .pass .ensures)
     (c6 .n .given .1) (c3 .finish .ensures) (c .if1 .left)
 
--- src/lib.rt:171:1
 same-length-7 : tie.Need-same-length-7
 same-length-7 c = search needs
 
--- src/lib.rt:171:1
 same-length-8 : tie.Need-same-length-8
 same-length-8 c = search needs
 
--- src/lib.rt:171:1
 returns-3 : tie.Need-returns-3
 returns-3 c =
     let c7 = c .before .before .before .before .before .before .before in

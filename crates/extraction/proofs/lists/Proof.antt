@@ -1,29 +1,21 @@
+-- `lists`: each return has its law of ListsLaws: bad lists, a source named twice, an unread tree, or a tree that was read, which
+-- `own_file` goes on with.
 use Rattle.extraction.proofs.ListsLaws.{lists-bad, lists-twice, lists-unread, lists-read}
 use borrow.Author.Needs.{needs}
 use Rattle.extraction.proofs.lists.Statement.{statement}
 use Rattle.extraction.proofs.lists.Tie as tie
-use Rattle.extraction.proofs.lists.Reads as reads
-use Rattle.extraction.proofs.lists.Lts as lts
-use Rattle.extraction.proofs.bad_lists.Reads as bad-lists-reads
-use Rattle.extraction.proofs.own_file.Reads as own-file-reads
-use Rattle.inputs.proofs.names_twice.Reads as names-twice-reads
-use Rattle.tree.proofs.read.read_tree.Reads as read-tree-reads
 
--- src/lib.rt:136:8
 bad-lists-requires : tie.Need-bad-lists-requires
 bad-lists-requires c κs = search needs
 
--- src/lib.rt:137:9
 returns : tie.Need-returns
 returns c =
     let c9 = c .before .before .before .before .before .before .before .before .before in
     lists-bad (c9 .args .file .0) (c9 .args .config) (c9 .args .externals .now) (c9 .args .table .now) (c9 .args .tree .now) (c .before .bad-lists .ensures) (c9 .pre) (c .if1 .taken)
 
--- src/lib.rt:139:8
 names-twice-requires : tie.Need-names-twice-requires
 names-twice-requires c κs = search needs
 
--- src/lib.rt:140:9
 returns-2 : tie.Need-returns-2
 returns-2 c =
     let c3 = c .before .before .before in
@@ -31,39 +23,30 @@ returns-2 c =
     lists-twice (c11 .args .file .0) (c11 .args .config) (c11 .args .externals .now) (c11 .args .table .now) (c11 .args .tree .now)
     (c3 .bad-lists .ensures) (c .before .names-twice .ensures) (c11 .pre) (c .before .before .if1 .left) (c .if2 .taken)
 
--- src/lib.rt:142:11
 read-tree-requires : tie.Need-read-tree-requires
 read-tree-requires c κs = search needs
 
--- src/lib.rt:143:73
 enum-told : tie.Need-enum-told
 enum-told c = search needs
 
--- src/lib.rt:143:26
 own-file-requires : tie.Need-own-file-requires
 own-file-requires c κs = search needs
 
--- src/lib.rt:144:26
 enum-known-why : tie.Need-enum-known-why
 enum-known-why c = search needs
 
--- src/lib.rt:122:1
 same-length : tie.Need-same-length
 same-length c = search needs
 
--- src/lib.rt:122:1
 same-length-2 : tie.Need-same-length-2
 same-length-2 c = search needs
 
--- src/lib.rt:122:1
 same-length-3 : tie.Need-same-length-3
 same-length-3 c = search needs
 
--- src/lib.rt:122:1
 same-length-4 : tie.Need-same-length-4
 same-length-4 c = search needs
 
--- src/lib.rt:122:1
 returns-3 : tie.Need-returns-3
 returns-3 c =
     let c8 = c .before .before .before .before .before .before .before .before in
@@ -78,7 +61,6 @@ returns-3 c =
     (c19 .bad-lists .ensures) (c17 .names-twice .ensures) (c18 .if1 .left) (c16 .if2 .left) (c15 .read-tree .ensures) (c13 .enum-told .given .1)
     (c8 .own-file .ensures)
 
--- src/lib.rt:122:1
 returns-4 : tie.Need-returns-4
 returns-4 c =
     let c3 = c .before .before .before in

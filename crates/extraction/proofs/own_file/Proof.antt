@@ -1,49 +1,37 @@
+-- `own_file`: by what `request` gave; each answer has its law of OnceLaws.
+-- In `own-unresolved` the rule gives a file its number or refuses, so this answer cannot be.
 use Rattle.extraction.proofs.OnceLaws.{own-numbered, own-unresolved, own-full}
 use borrow.Author.Needs.{needs}
 use Rattle.extraction.proofs.own_file.Statement.{statement}
 use Rattle.extraction.proofs.own_file.Tie as tie
-use Rattle.extraction.proofs.own_file.Reads as reads
-use Rattle.extraction.proofs.own_file.Lts as lts
-use Rattle.extraction.proofs.first_pass.Reads as first-pass-reads
-use Rattle.state.proofs.modules.request.Reads as request-reads
 
--- src/lib.rt:163:11
 request-requires : tie.Need-request-requires
 request-requires c κs = search needs
 
--- src/lib.rt:164:20
 enum-known-own : tie.Need-enum-known-own
 enum-known-own c = search needs
 
--- src/lib.rt:164:28
 first-pass-requires : tie.Need-first-pass-requires
 first-pass-requires c κs = search needs
 
--- src/lib.rt:165:54
 enum-told : tie.Need-enum-told
 enum-told c = search needs
 
--- src/lib.rt:166:51
 enum-told-2 : tie.Need-enum-told-2
 enum-told-2 c = search needs
 
--- src/lib.rt:149:1
 same-length : tie.Need-same-length
 same-length c = search needs
 
--- src/lib.rt:149:1
 same-length-2 : tie.Need-same-length-2
 same-length-2 c = search needs
 
--- src/lib.rt:149:1
 same-length-3 : tie.Need-same-length-3
 same-length-3 c = search needs
 
--- src/lib.rt:149:1
 same-length-4 : tie.Need-same-length-4
 same-length-4 c = search needs
 
--- src/lib.rt:149:1
 returns : tie.Need-returns
 returns c =
     let c8 = c .before .before .before .before .before .before .before .before in
@@ -53,22 +41,18 @@ returns c =
     own-numbered (c27 .args .file .0) (c27 .args .config) (c27 .args .externals .now) (c27 .args .table .now) (c27 .args .tree .now)
     (c18 .request .ensures) (c14 .own .given .0 .0) (c14 .own .given .1) (c8 .first-pass .ensures)
 
--- src/lib.rt:149:1
 same-length-5 : tie.Need-same-length-5
 same-length-5 c = search needs
 
--- src/lib.rt:149:1
 returns-2 : tie.Need-returns-2
 returns-2 c =
     let c4 = c .before .before .before .before in
     let c13 = c4 .before .before .before .before .before .before .before .before .before in
     own-unresolved (c13 .args .file .0) (c13 .args .config) (c13 .args .externals .now) (c13 .args .table .now) (c13 .args .tree .now) (c4 .request .ensures) (c .enum-told .given .1)
 
--- src/lib.rt:149:1
 same-length-6 : tie.Need-same-length-6
 same-length-6 c = search needs
 
--- src/lib.rt:149:1
 returns-3 : tie.Need-returns-3
 returns-3 c =
     let c4 = c .before .before .before .before in

@@ -1,54 +1,39 @@
+-- `second_pass`: by whether the pass refused and then by whether `wrap` did; each return has its law of AgainLaws.
 use Rattle.extraction.proofs.AgainLaws.{again-pass-refused, again-wrap-refused, again-ends}
 use borrow.Author.Needs.{needs}
 use Rattle.extraction.proofs.second_pass.Statement.{statement}
 use Rattle.extraction.proofs.second_pass.Tie as tie
-use Rattle.extraction.proofs.second_pass.Reads as reads
-use Rattle.extraction.proofs.second_pass.Lts as lts
-use Rattle.extraction.proofs.ending.Reads as ending-reads
-use Rattle.extraction.proofs.passes.pass.Reads as pass-reads
-use Rattle.extraction.proofs.wrap.Reads as wrap-reads
 
--- src/lib.rt:230:11
 pass-requires : tie.Need-pass-requires
 pass-requires c κs = search needs
 
--- src/lib.rt:231:20
 enum-known-n : tie.Need-enum-known-n
 enum-known-n c = search needs
 
--- src/lib.rt:231:32
 wrap-requires : tie.Need-wrap-requires
 wrap-requires c κs = search needs
 
--- src/lib.rt:232:42
 enum-told : tie.Need-enum-told
 enum-told c = search needs
 
--- src/lib.rt:232:29
 ending-requires : tie.Need-ending-requires
 ending-requires c κs = search needs
 
--- src/lib.rt:233:29
 enum-known-why : tie.Need-enum-known-why
 enum-known-why c = search needs
 
--- src/lib.rt:235:23
 enum-known-why-2 : tie.Need-enum-known-why-2
 enum-known-why-2 c = search needs
 
--- src/lib.rt:211:1
 same-length : tie.Need-same-length
 same-length c = search needs
 
--- src/lib.rt:211:1
 same-length-2 : tie.Need-same-length-2
 same-length-2 c = search needs
 
--- src/lib.rt:211:1
 same-length-3 : tie.Need-same-length-3
 same-length-3 c = search needs
 
--- src/lib.rt:211:1
 returns : tie.Need-returns
 returns c =
     let c4 = c .before .before .before .before in
@@ -60,15 +45,12 @@ returns c =
     again-ends (c31 .args .own) (c31 .args .config) (c31 .args .externals .now) (c31 .args .table .now) (c31 .args .tree .now) (c21 .pass .ensures)
     (c15 .n .given .1) (c12 .wrap .ensures) (c8 .enum-told .given .1) (c4 .ending .ensures)
 
--- src/lib.rt:211:1
 same-length-4 : tie.Need-same-length-4
 same-length-4 c = search needs
 
--- src/lib.rt:211:1
 same-length-5 : tie.Need-same-length-5
 same-length-5 c = search needs
 
--- src/lib.rt:211:1
 returns-2 : tie.Need-returns-2
 returns-2 c =
     let c5 = c .before .before .before .before .before in
@@ -78,15 +60,12 @@ returns-2 c =
     again-wrap-refused (c24 .args .own) (c24 .args .config) (c24 .args .externals .now) (c24 .args .table .now) (c24 .args .tree .now)
     (c14 .pass .ensures) (c8 .n .given .1) (c5 .wrap .ensures) (c .before .why .given .1)
 
--- src/lib.rt:211:1
 same-length-6 : tie.Need-same-length-6
 same-length-6 c = search needs
 
--- src/lib.rt:211:1
 same-length-7 : tie.Need-same-length-7
 same-length-7 c = search needs
 
--- src/lib.rt:211:1
 returns-3 : tie.Need-returns-3
 returns-3 c =
     let c7 = c .before .before .before .before .before .before .before in

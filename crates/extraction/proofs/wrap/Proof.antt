@@ -1,3 +1,5 @@
+-- `wrap`: the invariant `Wrapping` says that wrapping the forced sources from i on completes wrapping all of them.
+-- The measure is 256 - i; `forces-most` says that at most 256 sources are forced.
 use Prim.Native.Nat.{_-_}
 use mathlib.Core.Path.{_≡_, refl}
 use native.Mathlib.Omega.{arith}
@@ -7,11 +9,6 @@ use Rattle.extraction.specs.Stages.{Wrapping}
 use Rattle.extraction.proofs.WrapLaws.{wrapping-start, wrapping-next, wrapping-turned, wrapping-over, forces-most}
 use Rattle.extraction.proofs.wrap.Statement.{statement}
 use Rattle.extraction.proofs.wrap.Tie as tie
-use Rattle.extraction.proofs.wrap.Reads as reads
-use Rattle.extraction.proofs.wrap.Lts as lts
-use Rattle.extraction.proofs.wrap_source.Reads as wrap-source-reads
-use Rattle.state.proofs.forced.count_forced.Reads as count-forced-reads
-use Rattle.state.proofs.forced.forced_at.Reads as forced-at-reads
 
 abbrev Inv-loop : tie.InvT-loop
 Inv-loop table t₀ i₀ t i = Wrapping table t₀ i t × (length t ≡ length t₀)
@@ -19,39 +16,31 @@ Inv-loop table t₀ i₀ t i = Wrapping table t₀ i t × (length t ≡ length t
 abbrev μ-loop : tie.MeasureT-loop
 μ-loop table t₀ i₀ t i = 256 - i
 
--- src/lib.rt:245:5
 loop-holds : tie.Need-loop-holds Inv-loop μ-loop
 loop-holds c = (wrapping-start (c .before .before .args .table .now) (c .before .before .pre), refl)
 
--- src/lib.rt:245:15
 count-forced-requires : tie.Need-count-forced-requires Inv-loop μ-loop
 count-forced-requires c κs = c .before .loop .inv .0 .good
 
--- src/lib.rt:246:27
 forced-at-requires : tie.Need-forced-at-requires Inv-loop μ-loop
 forced-at-requires c κs = (c .before .before .before .before .loop .inv .0 .good, omega arith)
 
--- src/lib.rt:246:15
 wrap-source-requires : tie.Need-wrap-source-requires Inv-loop μ-loop
 wrap-source-requires c κs = c .before .before .before .before .before .before .loop .inv .0 .good
 
--- src/lib.rt:247:29
 enum-told : tie.Need-enum-told Inv-loop μ-loop
 enum-told c = search needs
 
--- src/lib.rt:247:29
 add-i : tie.Need-add-i Inv-loop μ-loop
 add-i c =
     let c11 = c .before .before .before .before .before .before .before .before .before .before .before in
     let b = forces-most (c11 .loop .inv .0 .good) in omega arith
 
--- src/lib.rt:245:5
 loop-less : tie.Need-loop-less Inv-loop μ-loop
 loop-less c =
     let c11 = c .before .before .before .before .before .before .before .before .before .before .before in
     let b = forces-most (c11 .loop .inv .0 .good) in omega arith
 
--- src/lib.rt:245:5
 loop-again : tie.Need-loop-again Inv-loop μ-loop
 loop-again c =
     let c4 = c .before .before .before .before in
@@ -59,15 +48,12 @@ loop-again c =
     let c11 = c6 .before .before .before .before .before in
     (wrapping-next (c6 .forced-at .result .0) (c11 .loop .inv .0) (c6 .forced-at .ensures) (c4 .wrap-source .ensures) (c .enum-told .given .1), omega arith)
 
--- src/lib.rt:248:29
 enum-known-why : tie.Need-enum-known-why Inv-loop μ-loop
 enum-known-why c = search needs
 
--- src/lib.rt:248:44
 same-length : tie.Need-same-length Inv-loop μ-loop
 same-length c = omega arith
 
--- src/lib.rt:248:44
 returns : tie.Need-returns Inv-loop μ-loop
 returns c =
     let c5 = c .before .before .before .before .before in
@@ -75,11 +61,9 @@ returns c =
     let c12 = c7 .before .before .before .before .before in
     wrapping-turned (c7 .forced-at .result .0) (c12 .loop .inv .0) (c7 .forced-at .ensures) (c5 .wrap-source .ensures) (c .before .why .given .1)
 
--- src/lib.rt:240:1
 same-length-2 : tie.Need-same-length-2 Inv-loop μ-loop
 same-length-2 c = omega arith
 
--- src/lib.rt:240:1
 returns-2 : tie.Need-returns-2 Inv-loop μ-loop
 returns-2 c = wrapping-over (c .before .before .before .loop .inv .0) (c .before .count-forced .ensures .0) (c .if1 .left)
 

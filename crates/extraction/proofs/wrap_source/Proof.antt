@@ -1,37 +1,27 @@
+-- `wrap_source`: by what `module_for` gave; each answer has its law of WrapLaws.
 use Rattle.extraction.proofs.WrapLaws.{source-marked, source-unresolved, source-full}
 use borrow.Author.Needs.{needs}
 use Rattle.extraction.proofs.wrap_source.Statement.{statement}
 use Rattle.extraction.proofs.wrap_source.Tie as tie
-use Rattle.extraction.proofs.wrap_source.Reads as reads
-use Rattle.extraction.proofs.wrap_source.Lts as lts
-use Rattle.state.proofs.modules.mark_wrapping.Reads as mark-wrapping-reads
-use Rattle.state.proofs.modules.module_for.Reads as module-for-reads
 
--- src/lib.rt:259:11
 module-for-requires : tie.Need-module-for-requires
 module-for-requires c κs = search needs
 
--- src/lib.rt:260:20
 enum-known-id : tie.Need-enum-known-id
 enum-known-id c = search needs
 
--- src/lib.rt:261:13
 mark-wrapping-requires : tie.Need-mark-wrapping-requires
 mark-wrapping-requires c κs = search needs
 
--- src/lib.rt:264:31
 enum-told : tie.Need-enum-told
 enum-told c = search needs
 
--- src/lib.rt:265:44
 enum-told-2 : tie.Need-enum-told-2
 enum-told-2 c = search needs
 
--- src/lib.rt:255:1
 same-length : tie.Need-same-length
 same-length c = search needs
 
--- src/lib.rt:255:1
 returns : tie.Need-returns
 returns c =
     let c5 = c .before .before .before .before .before in
@@ -39,22 +29,18 @@ returns c =
     let c13 = c9 .before .before .before .before in
     source-marked (c13 .args .table .now) (c13 .args .source) (c5 .id .given .0 .0) (c9 .module-for .ensures) (c5 .id .given .1) (c .before .before .mark-wrapping .ensures)
 
--- src/lib.rt:255:1
 same-length-2 : tie.Need-same-length-2
 same-length-2 c = search needs
 
--- src/lib.rt:255:1
 returns-2 : tie.Need-returns-2
 returns-2 c =
     let c4 = c .before .before .before .before in
     let c8 = c4 .before .before .before .before in
     source-unresolved (c8 .args .table .now) (c8 .args .source) (c4 .module-for .ensures) (c .enum-told .given .1)
 
--- src/lib.rt:255:1
 same-length-3 : tie.Need-same-length-3
 same-length-3 c = search needs
 
--- src/lib.rt:255:1
 returns-3 : tie.Need-returns-3
 returns-3 c =
     let c4 = c .before .before .before .before in

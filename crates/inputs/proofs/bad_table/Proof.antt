@@ -1,4 +1,4 @@
--- `inputs::bad_table` meets its contract.
+-- `bad_table`: the definition makes the same two tests.
 use borrow.Author.Tests.{lt-ltb, le-ltb}
 use Rattle.inputs.specs.Table.{badExternals, badTable}
 use Rattle.inputs.proofs.bad_table.Statement.{statement}

@@ -1,4 +1,5 @@
--- `inputs::is_external` meets its contract.
+-- `is_external`: the invariant says that the atom is among all externals just where it is among those from i on. `external-here` and
+-- `external-on` go from the number that is compared to the two bytes: each is below 256, so equal numbers are equal bytes.
 use mathlib.Core.Path.{_≡_, refl, sym, _∙_}
 use Prim.Native.Nat.{_≤_, _-_, _+_}
 use native.Mathlib.Omega.{arith}

@@ -1,4 +1,5 @@
--- `inputs::names_twice` meets its contract.
+-- `names_twice`: the invariant says that a source is named twice in the table just where one is in the rows from i on.
+-- Row i's source is named again just where `resolve_from` finds a file for it behind row i (`twice-here`, `twice-on`).
 use mathlib.Core.Path.{_≡_, refl, sym, ap, _∙_}
 use Prim.Native.Nat.{ℕ, _≤_, _-_, _+_}
 use native.Mathlib.Omega.{arith}

@@ -1,4 +1,5 @@
--- `inputs::resolve_from` meets its contract.
+-- `resolve_from`: the invariant says that the source's file in the rows from `from` on is its file in the rows from i on.
+-- A row of the source has it (`file-here`), another is passed (`file-on`), and with fewer than four bytes left there is none (`file-end`).
 use mathlib.Core.Path.{_≡_, refl, sym, ap, _∙_}
 use mathlib.Core.Option.{some}
 use Prim.Native.Nat.{_≤_, _-_, _+_}

@@ -1,4 +1,4 @@
--- `context_in` meets its contract: by whether the content starts with the key, and by what parses.
+-- `context_in`: by whether the content starts with the key, and by what parses.
 use mathlib.Core.Path.{sym, ap, _∙_}
 use native.Mathlib.Omega.{arith}
 use borrow.Author.Tests.{not-true, not-false}

@@ -1,4 +1,4 @@
--- `newer` meets its contract.
+-- `newer`: a split on the new context.
 use borrow.Author.Needs.{needs}
 use Rattle.metadata.proofs.newer.Statement.{statement}
 use Rattle.metadata.proofs.newer.Tie as tie

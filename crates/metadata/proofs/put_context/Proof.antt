@@ -1,4 +1,4 @@
--- `put_context` meets its contract: a field with the key and the digits.
+-- `put_context`: a field with the key and the digits.
 use Rattle.writer.proofs.Wrote.{wrote-then, wrote-as, wrote-field}
 use Rattle.metadata.proofs.EncodeLaws.{context-bytes}
 use borrow.Author.Needs.{needs}

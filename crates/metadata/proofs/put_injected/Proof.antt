@@ -1,4 +1,4 @@
--- `put_injected` meets its contract: a field, or nothing.
+-- `put_injected`: a field, or nothing.
 use Rattle.writer.proofs.Wrote.{wrote-none, wrote-as, wrote-field}
 use Rattle.metadata.specs.Metadata.{injectedAttribute}
 use Rattle.metadata.proofs.EncodeLaws.{injected-none, injected-bytes}

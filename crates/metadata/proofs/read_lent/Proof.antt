@@ -1,4 +1,4 @@
--- `read_lent` meets its contract.
+-- `read_lent`: empty bytes are good by the rule (`lent-empty`); the rule reads all others (`lent-read`), as `read_tree` does.
 use mathlib.Core.Path.{sym, _∙_}
 use Rattle.metadata.proofs.CallsLaws.{lent-empty, lent-read}
 use borrow.Author.Needs.{needs}

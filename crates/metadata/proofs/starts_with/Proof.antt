@@ -1,4 +1,4 @@
--- `starts_with` meets its contract: bytes that are too few start with nothing.
+-- `starts_with`: fewer bytes than those of h do not start with h (`starts-short`); else the first ones are compared with it (`starts-run`).
 use mathlib.Core.Path.{sym, _∙_}
 use native.Mathlib.Omega.{arith}
 use lib.Seq.{slice, length-slice}

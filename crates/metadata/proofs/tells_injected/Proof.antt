@@ -1,4 +1,4 @@
--- `tells_injected` meets its contract: a content of another length tells nothing.
+-- `tells_injected`: a content of another length tells nothing.
 use Prim.Native.Nat.{ℕ, _+_}
 use mathlib.Core.Path.{_≡_, sym, ap, _∙_}
 use native.Mathlib.Omega.{arith}

@@ -1,41 +1,28 @@
+-- `put_records`: one way; `records-written` joins the three runs of records into the encoding of the whole tree.
 use native.Mathlib.Omega.{arith}
 use Rattle.records.proofs.CollectedLaws.{records-written}
 use borrow.Author.Needs.{needs}
 use Rattle.records.proofs.put_records.Statement.{statement}
 use Rattle.records.proofs.put_records.Tie as tie
-use Rattle.records.proofs.put_records.Reads as reads
-use Rattle.records.proofs.put_records.Lts as lts
-use Rattle.records.proofs.collected.put_collected.Reads as put-collected-reads
-use Rattle.records.proofs.lazy.put_forced.Reads as put-forced-reads
-use Rattle.records.proofs.lazy.put_lazies.Reads as put-lazies-reads
-use Rattle.writer.proofs.close_field.Reads as close-field-reads
-use Rattle.writer.proofs.open_field.Reads as open-field-reads
 
--- src/lib.rt:19:9
 open-field-requires : tie.Need-open-field-requires
 open-field-requires c κs = search needs
 
--- src/lib.rt:20:9
 put-collected-requires : tie.Need-put-collected-requires
 put-collected-requires c κs = search needs
 
--- src/lib.rt:21:9
 put-lazies-requires : tie.Need-put-lazies-requires
 put-lazies-requires c κs = search needs
 
--- src/lib.rt:22:9
 put-forced-requires : tie.Need-put-forced-requires
 put-forced-requires c κs = search needs
 
--- src/lib.rt:23:5
 close-field-requires : tie.Need-close-field-requires
 close-field-requires c κs = search needs
 
--- src/lib.rt:15:1
 same-length : tie.Need-same-length
 same-length c = search needs
 
--- src/lib.rt:15:1
 returns : tie.Need-returns
 returns c =
     let c6 = c .before .before .before .before .before .before in

@@ -1,4 +1,4 @@
--- `replay::fill` meets its contract.
+-- `fill`: `CameIn`, which `read_more` ensures, keeps the new end within the buffer; the rest is `search needs`.
 use borrow.Author.Needs.{needs}
 use mathlib.Core.Path.{subst}
 use native.Mathlib.Omega.{arith}

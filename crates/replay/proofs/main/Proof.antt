@@ -1,4 +1,4 @@
--- `replay::main` meets its contract.
+-- `main`: `length-replicate` gives the lengths of both arrays; the rest is `search needs`.
 use Prim.Native.Nat.{ℕ}
 use borrow.Author.Needs.{needs}
 use lib.ListN.{length-replicate}

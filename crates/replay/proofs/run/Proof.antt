@@ -1,4 +1,5 @@
--- `replay::run` meets its contract. The invariant: the window lies within its buffer, and the buffers keep their lengths; the turns that are left fall.
+-- `run`: the invariant says that the window lies within its buffer, and that both buffers keep their lengths.
+-- The measure is the number of turns that are left.
 use lib.ListN.{length}
 use mathlib.Core.Path.{_≡_, refl}
 use native.Mathlib.Omega.{arith}

@@ -1,4 +1,4 @@
--- `replay::shift` meets its contract. The invariant: the window keeps its length.
+-- `shift`: the invariant says that i is no less than start, and that the window keeps its length. The rest is arithmetic.
 use Prim.Native.Nat.{_-_, _≤_}
 use lib.ListN.{length, length-set}
 use mathlib.Core.Path.{_≡_}

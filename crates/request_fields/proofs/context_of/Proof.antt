@@ -1,4 +1,4 @@
--- `request_fields::context_of` meets its contract.
+-- `context_of`: `BytesIn`, which `bytes_at` ensures, says that the four bytes stand within `lent`; the rest is `search needs`.
 use native.Mathlib.Omega.{arith}
 use lib.ListN.{length}
 use mathlib.Core.Path.{subst}

@@ -1,4 +1,4 @@
--- `request_fields::own_file` meets its contract.
+-- `own_file`: `BytesIn`, which `bytes_at` ensures, says that the two bytes stand within `lent`; the rest is `search needs`.
 use native.Mathlib.Omega.{arith}
 use lib.ListN.{length}
 use mathlib.Core.Path.{subst}

@@ -1,4 +1,4 @@
--- `requests::respond_in` meets its contract.
+-- `respond_in`: `SpanIn`, which `field` ensures, bounds the word within the line; the rest is `search needs`.
 use native.Mathlib.Omega.{arith}
 use mathlib.Core.Path.{subst}
 use Rattle.text.specs.Fields.{SpanIn}

@@ -1,14 +1,9 @@
--- `resolving::listing` meets its contract.
+-- `listing`: by whether `put_list` refused and then by whether the list fits; each return has its law of AnswerLaws.
 use Rattle.scope.specs.ScopeValue.{modulesOf}
 use Rattle.resolving.proofs.AnswerLaws.{list-turned, list-fits, list-long}
 use borrow.Author.Needs.{needs}
 use Rattle.resolving.proofs.listing.Statement.{statement}
 use Rattle.resolving.proofs.listing.Tie as tie
-use Rattle.resolving.proofs.listing.Reads as reads
-use Rattle.resolving.proofs.listing.Lts as lts
-use Rattle.resolving.proofs.list.put_list.Reads as put-list-reads
-use Rattle.writer.proofs.clear.Reads as clear-reads
-use Rattle.writer.proofs.finish.Reads as finish-reads
 
 put-list-requires : tie.Need-put-list-requires
 put-list-requires c κs = search needs

@@ -1,13 +1,8 @@
--- `resolving::lists` meets its contract.
+-- `lists`: each return has its law of AnswerLaws: a bad table, a source named twice, unread records, or records that were read.
 use Rattle.resolving.proofs.AnswerLaws.{tested-bad, tested-twice, tested-unread, tested-read}
 use borrow.Author.Needs.{needs}
 use Rattle.resolving.proofs.lists.Statement.{statement}
 use Rattle.resolving.proofs.lists.Tie as tie
-use Rattle.resolving.proofs.lists.Reads as reads
-use Rattle.resolving.proofs.lists.Lts as lts
-use Rattle.inputs.proofs.bad_table.Reads as bad-table-reads
-use Rattle.inputs.proofs.names_twice.Reads as names-twice-reads
-use Rattle.tree.proofs.read.read_tree.Reads as read-tree-reads
 
 bad-table-requires : tie.Need-bad-table-requires
 bad-table-requires c κs = search needs

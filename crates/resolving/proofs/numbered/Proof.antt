@@ -1,4 +1,5 @@
--- `resolving::numbered` meets its contract.
+-- `numbered`: by whether every source got its number: then `numbers-all` gives `listing` its precondition.
+-- `numbers-over` says that a 257th file leaves the scope as it was and the buffer zero.
 use mathlib.Core.Path.{sym, ap, _∙_}
 use lib.ListN.{length}
 use Rattle.inputs.specs.Table.{rowsIn}
@@ -12,11 +13,6 @@ use Rattle.resolving.proofs.AnswerLaws.{numbers-listed, numbers-over}
 use borrow.Author.Needs.{needs}
 use Rattle.resolving.proofs.numbered.Statement.{statement}
 use Rattle.resolving.proofs.numbered.Tie as tie
-use Rattle.resolving.proofs.numbered.Reads as reads
-use Rattle.resolving.proofs.numbered.Lts as lts
-use Rattle.resolving.proofs.listing.Reads as listing-reads
-use Rattle.resolving.proofs.sources.number_sources.Reads as number-sources-reads
-use Rattle.writer.proofs.clear.Reads as clear-reads
 
 number-sources-requires : tie.Need-number-sources-requires
 number-sources-requires c κs = search needs

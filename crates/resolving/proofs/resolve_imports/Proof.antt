@@ -1,4 +1,5 @@
--- `resolving::resolve_imports` meets its contract.
+-- `resolve_imports`: by what `lists` answered. `tested-sound` says that records that passed the tests are read, as `numbered` asks.
+-- `call-refused` says that any other answer leaves the scope as it was and the buffer zero.
 use mathlib.Core.Path.{refl, sym, ap, _∙_}
 use mathlib.Core.Logic.{⊎-elim}
 use native.Mathlib.Omega.{arith}
@@ -11,11 +12,6 @@ use Rattle.resolving.proofs.AnswerLaws.{tested-sound, call-goes, call-r
 use borrow.Author.Needs.{needs}
 use Rattle.resolving.proofs.resolve_imports.Statement.{statement}
 use Rattle.resolving.proofs.resolve_imports.Tie as tie
-use Rattle.resolving.proofs.resolve_imports.Reads as reads
-use Rattle.resolving.proofs.resolve_imports.Lts as lts
-use Rattle.resolving.proofs.lists.Reads as lists-reads
-use Rattle.resolving.proofs.numbered.Reads as numbered-reads
-use Rattle.writer.proofs.clear.Reads as clear-reads
 
 lists-requires : tie.Need-lists-requires
 lists-requires c κs = search needs

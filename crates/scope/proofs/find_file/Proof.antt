@@ -1,4 +1,5 @@
--- `scope::find_file` meets its contract.
+-- `find_file`: the invariant says that the file's place is i plus its place among the files from i on. A file that differs is passed
+-- (`place-passed`), an equal one stands at i (`place-here`), and behind the last there is none (`place-end`).
 use mathlib.Core.Path.{_≡_, sym, _∙_}
 use Prim.Native.Nat.{_≤_, _-_}
 use native.Mathlib.Omega.{arith}

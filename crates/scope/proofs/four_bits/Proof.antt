@@ -1,4 +1,4 @@
--- `scope::four_bits` meets its contract.
+-- `four_bits`: `bits-back` says that of x + 2 y + 4 z + 8 w, each at most 1, division and remainder give every one back.
 use mathlib.Core.Path.{refl}
 use Rattle.scope.proofs.ScopeValueLaws.{bits-back}
 use borrow.Author.Needs.{needs}

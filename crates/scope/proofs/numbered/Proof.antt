@@ -1,4 +1,4 @@
--- `scope::numbered` meets its contract.
+-- `numbered`: n fits the module's number, the contexts are what their functions promise, and the rest is congruence.
 use borrow.Author.Needs.{needs}
 use Rattle.scope.proofs.numbered.Statement.{statement}
 use Rattle.scope.proofs.numbered.Tie as tie

@@ -1,4 +1,4 @@
--- `scope_demo::fill` meets its contract.
+-- `fill`: no contract. The invariant, that the file is at most 1256, and the measure, what is left up to it, are arithmetic.
 use Prim.Native.Nat.{_≤_, _-_}
 use native.Mathlib.Omega.{arith}
 use borrow.Author.Needs.{needs}

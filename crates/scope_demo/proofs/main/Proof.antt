@@ -1,4 +1,5 @@
--- `scope_demo::main` meets its contract.
+-- `main`: the contracts of `new` and `gen_id` turn each scope into the definition's modules, and so each number that `expect` compares is
+-- found by computation.
 use mathlib.Core.Path.{_∙_, ap}
 use borrow.Author.Tests.{eq-eqb}
 use Rattle.scope.specs.Modules.{Generated, gen, request, numberOf, placeOf}

@@ -1,4 +1,4 @@
--- `tables::count_of` meets its contract.
+-- `count_of`: the number in the count cell is the number of rows (`rows-length`), and `Lies` says that it is at most the room.
 use native.Mathlib.Omega.{arith}
 use Rattle.tables.proofs.RowLaws.{rows-length}
 use borrow.Author.Needs.{needs}

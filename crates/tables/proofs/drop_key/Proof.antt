@@ -1,4 +1,5 @@
--- `tables::drop_key` meets its contract.
+-- `drop_key`: the invariant (`Dropping`) says that the first `kept` rows are the first i of the start without those of the key, and that no
+-- cell outside these i rows has changed, so row i is read as it was. A step is `drop-skips` or `drop-keeps`; `rows-dropped` ends it.
 use mathlib.Core.Path.{_≡_, subst}
 use Prim.Native.Nat.{ℕ, _-_}
 use native.Mathlib.Omega.{arith}

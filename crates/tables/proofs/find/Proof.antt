@@ -1,4 +1,5 @@
--- `tables::find` meets its contract.
+-- `find`: the invariant says that what is found from row i on is what is found from row 0 on. A key below lo or above hi is passed
+-- (`found-low`, `found-high`), one between is the first (`found-here`), and behind the last row there is none (`found-end`).
 use mathlib.Core.Path.{_≡_, refl, sym, _∙_}
 use mathlib.Core.Logic.{⊎-elim}
 use Rattle.tables.proofs.RowLaws.{foundFrom, found-start, found-low, found-high, found-here, found-end}

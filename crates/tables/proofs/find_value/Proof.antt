@@ -1,4 +1,4 @@
--- `tables::find_value` meets its contract.
+-- `find_value`: `found-value` says that in the table one cell further on the values stand where keys are read; the rest is `find`.
 use mathlib.Core.Path.{refl, _∙_}
 use Rattle.tables.proofs.RowLaws.{found-value}
 use borrow.Author.Needs.{needs}

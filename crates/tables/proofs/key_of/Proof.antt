@@ -1,4 +1,4 @@
--- `tables::key_of` meets its contract.
+-- `key_of`: `rows-row` says in which two cells row i stands; the first of them is read. It is inside since i is below the count.
 use mathlib.Core.Path.{sym, ap}
 use native.Mathlib.Omega.{arith}
 use Rattle.tables.specs.Rows.{Row}

@@ -1,4 +1,5 @@
--- `tables::least_value` meets its contract.
+-- `least_value`: the loop goes down; the invariant says that `best` is the least value of the key among the rows from i on.
+-- The row before them is joined by `least-here` where it has the key, by `least-other` where not.
 use mathlib.Core.Path.{_≡_, sym, ap, _∙_}
 use Prim.Native.Nat.{_≤_, _+_, _*_, _-_}
 use native.Mathlib.Omega.{arith}

@@ -1,4 +1,4 @@
--- `tables::lesser_of` meets its contract.
+-- `lesser_of`: a split on `best` and on the comparison; the definition makes the same.
 use borrow.Author.Tests.{lt-ltb, le-ltb}
 use borrow.Author.Needs.{needs}
 use Rattle.tables.proofs.lesser_of.Statement.{statement}

@@ -1,4 +1,4 @@
--- `tables::push` meets its contract.
+-- `push`: `row-pushed` says that the three stores, the row's two cells and the count, make one row more and stay inside the table.
 use native.Mathlib.Omega.{arith}
 use lib.ListN.{length-set}
 use Rattle.tables.proofs.OnlyLaws.{row-pushed}

@@ -1,4 +1,4 @@
--- `tables::set_value` meets its contract.
+-- `set_value`: `row-valued` says that a store in a row's second cell changes this row's value alone and stays inside the table.
 use native.Mathlib.Omega.{arith}
 use Rattle.tables.proofs.RowLaws.{rows-length}
 use Rattle.tables.proofs.OnlyLaws.{row-valued}

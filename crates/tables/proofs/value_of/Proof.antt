@@ -1,4 +1,4 @@
--- `tables::value_of` meets its contract.
+-- `value_of`: `rows-row` says in which two cells row i stands; the second of them is read. It is inside since i is below the count.
 use mathlib.Core.Path.{sym, ap}
 use native.Mathlib.Omega.{arith}
 use Rattle.tables.specs.Rows.{Row}

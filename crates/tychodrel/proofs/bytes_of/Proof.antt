@@ -1,4 +1,4 @@
--- `tychodrel::bytes_of` meets its contract.
+-- `bytes_of`: by whether there is a context; the six bytes of the rule then compute to those of the array.
 use borrow.Author.Needs.{needs}
 use Rattle.tychodrel.proofs.bytes_of.Statement.{statement}
 use Rattle.tychodrel.proofs.bytes_of.Tie as tie

@@ -1,4 +1,4 @@
--- `tychodrel::extract_in` meets its contract.
+-- `extract_in`: one way; `leaves-extracted` takes the contracts of the extraction, of `scope_bytes` and of `extract_answer` together.
 use Rattle.tychodrel.proofs.ExportedLaws.{leaves-extracted}
 use borrow.Author.Needs.{needs}
 use Rattle.tychodrel.proofs.extract_in.Statement.{statement}

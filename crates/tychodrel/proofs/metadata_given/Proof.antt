@@ -1,4 +1,4 @@
--- `tychodrel::metadata_given` meets its contract.
+-- `metadata_given`: by whether there is a context; the rule then computes to the answer.
 use Rattle.tychodrel.proofs.metadata_given.Statement.{statement}
 use Rattle.tychodrel.proofs.metadata_given.Tie as tie
 

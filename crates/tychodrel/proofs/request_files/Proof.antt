@@ -1,4 +1,4 @@
--- `tychodrel::request_files` meets its contract.
+-- `request_files`: one way; the contract of `gen_ids`, in the scope that `Scope::new` gives, which has no modules.
 use mathlib.Core.Path.{ap, _∙_}
 use Rattle.scope.specs.Modules.{Modules, filesIn, requestAll}
 use borrow.Author.Needs.{needs}

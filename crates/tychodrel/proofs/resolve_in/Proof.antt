@@ -1,4 +1,4 @@
--- `tychodrel::resolve_in` meets its contract.
+-- `resolve_in`: one way; `leaves-resolved` takes the contracts of the resolving, of `scope_bytes` and of `resolve_answer` together.
 use Rattle.tychodrel.proofs.ExportedLaws.{leaves-resolved}
 use borrow.Author.Needs.{needs}
 use Rattle.tychodrel.proofs.resolve_in.Statement.{statement}

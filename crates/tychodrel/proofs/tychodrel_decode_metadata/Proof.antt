@@ -1,4 +1,4 @@
--- `tychodrel::tychodrel_decode_metadata` meets its contract.
+-- `tychodrel_decode_metadata`: by whether `decode` was done or broke off; its contract, with that answer put in, gives number and bytes.
 use mathlib.Core.Path.{sym, _∙_, ap}
 use Rattle.metadata.specs.declared.Decoded.{Decoded}
 use Rattle.metadata.specs.Calls.{decoded}

@@ -1,4 +1,4 @@
--- `tychodrel::tychodrel_detect` meets its contract.
+-- `tychodrel_detect`: by the answer of `is_es6`; its contract, with that answer put in, gives the number.
 use mathlib.Core.Path.{sym, _∙_, ap}
 use Rattle.detection.specs.declared.DetectAnswer.{DetectAnswer}
 use Rattle.detection.specs.Detection.{outcomeOf}

@@ -1,4 +1,4 @@
--- `tychodrel::tychodrel_encode_metadata` meets its contract.
+-- `tychodrel_encode_metadata`: one way; the contract of `encode`, for the metadata that `metadata_given` gives.
 use mathlib.Core.Path.{_∙_, ap}
 use Rattle.tychodrel.specs.Answer.{encodeAnswerOf}
 use borrow.Author.Needs.{needs}

@@ -1,4 +1,5 @@
--- `tychodrel::tychodrel_extract` meets its contract.
+-- `tychodrel_extract`: by whether all files got numbers: then the call is that of `extract_in` (`extract-given`).
+-- `extract-refused` says that otherwise the buffers are zero.
 use Rattle.tychodrel.proofs.ExportedLaws.{extract-given, extract-refused}
 use borrow.Author.Needs.{needs}
 use Rattle.tychodrel.proofs.tychodrel_extract.Statement.{statement}

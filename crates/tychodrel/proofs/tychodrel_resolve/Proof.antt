@@ -1,4 +1,5 @@
--- `tychodrel::tychodrel_resolve` meets its contract.
+-- `tychodrel_resolve`: by whether all files got numbers: then the call is that of `resolve_in` (`resolve-given`).
+-- `resolve-refused` says that otherwise the buffer is zero.
 use Rattle.tychodrel.proofs.ExportedLaws.{resolve-given, resolve-refused}
 use borrow.Author.Needs.{needs}
 use Rattle.tychodrel.proofs.tychodrel_resolve.Statement.{statement}

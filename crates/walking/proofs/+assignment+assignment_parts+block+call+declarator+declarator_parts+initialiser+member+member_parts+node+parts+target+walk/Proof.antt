@@ -1,3 +1,6 @@
+-- `walk` and the twelve functions in its cycle: the measure is 8 times the bytes that are left, plus a rank from 5 (`node`) to 9
+-- (`member_parts`): a call has fewer bytes, or as many and a lower rank. The loop of `parts` has the invariant `Going`: walking the fields
+-- from here on completes walking the row. By its law or its callee's contract, each return has written the walk by the tag's rule.
 use mathlib.Core.Path.{sym, ap, subst, _∙_, refl}
 use mathlib.Core.Bool.{false, true}
 use mathlib.Core.Option.{none as nothing}

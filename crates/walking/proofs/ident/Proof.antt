@@ -1,30 +1,22 @@
+-- `ident`: by the pass and by *object*; the laws of PlainLaws say that a 60 stays, and that its id is forced in the first pass if
+-- *object* is clear.
 use Rattle.walking.proofs.PlainLaws.{ident-again, ident-object, ident-forced}
 use borrow.Author.Needs.{needs}
 use Rattle.walking.proofs.ident.Statement.{statement}
 use Rattle.walking.proofs.ident.Tie as tie
-use Rattle.walking.proofs.ident.Reads as reads
-use Rattle.walking.proofs.ident.Lts as lts
-use Rattle.state.proofs.forced.force_id.Reads as force-id-reads
-use Rattle.state.proofs.ident.id_at.Reads as id-at-reads
-use Rattle.state.proofs.ident.put_ident.Reads as put-ident-reads
 
--- src/walking.rt:176:23
 add-id-at : tie.Need-add-id-at
 add-id-at c = search needs
 
--- src/walking.rt:176:9
 id-at-requires : tie.Need-id-at-requires
 id-at-requires c κs = search needs
 
--- src/walking.rt:178:27
 put-ident-requires : tie.Need-put-ident-requires
 put-ident-requires c κs = search needs
 
--- src/walking.rt:178:9
 same-length : tie.Need-same-length
 same-length c = search needs
 
--- src/walking.rt:178:9
 returns : tie.Need-returns
 returns c =
     let c4 = c .before .before .before .before in
@@ -34,15 +26,12 @@ returns c =
     (c11 .args .object) (c5 .id-at .result) (c11 .pre .0) (c11 .pre .1) (c5 .id-at .ensures .0) (c .before .before .put-ident .ensures)
     (c11 .pre .3) (c4 .if1 .taken)
 
--- src/walking.rt:181:27
 put-ident-requires-2 : tie.Need-put-ident-requires-2
 put-ident-requires-2 c κs = search needs
 
--- src/walking.rt:181:9
 same-length-2 : tie.Need-same-length-2
 same-length-2 c = search needs
 
--- src/walking.rt:181:9
 returns-2 : tie.Need-returns-2
 returns-2 c =
     let c4 = c .before .before .before .before in
@@ -53,23 +42,18 @@ returns-2 c =
     (c12 .args .object) (c6 .id-at .result) (c12 .pre .0) (c12 .pre .1) (c6 .id-at .ensures .0) (c .before .before .put-ident2 .ensures)
     (c12 .pre .3) (c5 .if1 .left) (c4 .if2 .taken)
 
--- src/walking.rt:183:5
 force-id-requires : tie.Need-force-id-requires
 force-id-requires c κs = search needs
 
--- src/walking.rt:184:16
 put-ident-requires-3 : tie.Need-put-ident-requires-3
 put-ident-requires-3 c κs = search needs
 
--- src/walking.rt:161:1
 same-length-3 : tie.Need-same-length-3
 same-length-3 c = search needs
 
--- src/walking.rt:161:1
 same-length-4 : tie.Need-same-length-4
 same-length-4 c = search needs
 
--- src/walking.rt:161:1
 returns-3 : tie.Need-returns-3
 returns-3 c =
     let c6 = c .before .before .before .before .before .before in

@@ -1,40 +1,32 @@
+-- `make_lazy`: by whether `add_lazy` had room. The contract's premise says which specifiers stand at the place; `lazy-made` and
+-- `lazy-full` put these into the rule.
 use Rattle.state.specs.Cells.{idOf}
 use Rattle.walking.proofs.AmendLaws.{lazy-made, lazy-full}
 use borrow.Author.Needs.{needs}
 use Rattle.walking.proofs.make_lazy.Statement.{statement}
 use Rattle.walking.proofs.make_lazy.Tie as tie
-use Rattle.walking.proofs.make_lazy.Reads as reads
-use Rattle.walking.proofs.make_lazy.Lts as lts
-use Rattle.state.proofs.rest.add_lazy.Reads as add-lazy-reads
 
--- src/walking.rt:473:11
 add-lazy-requires : tie.Need-add-lazy-requires
 add-lazy-requires c κs = search needs
 
--- src/walking.rt:474:23
 enum-told : tie.Need-enum-told
 enum-told c = search needs
 
--- src/walking.rt:475:37
 enum-told-2 : tie.Need-enum-told-2
 enum-told-2 c = search needs
 
--- src/walking.rt:463:1
 same-length : tie.Need-same-length
 same-length c = search needs
 
--- src/walking.rt:463:1
 returns : tie.Need-returns
 returns c =
     let c4 = c .before .before .before .before in
     let c7 = c4 .before .before .before in
     λ out fs. lazy-made (idOf (c7 .args .literal)) (c7 .args .at) fs out (c4 .add-lazy .ensures) (c .enum-told .given .1)
 
--- src/walking.rt:463:1
 same-length-2 : tie.Need-same-length-2
 same-length-2 c = search needs
 
--- src/walking.rt:463:1
 returns-2 : tie.Need-returns-2
 returns-2 c =
     let c4 = c .before .before .before .before in

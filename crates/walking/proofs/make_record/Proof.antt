@@ -1,28 +1,20 @@
+-- `make_record`: by *top*: if it is clear, the rule is that of `make_lazy` (`record-lazy`); if it is set, by whether `collect` had room.
 use Rattle.state.specs.Cells.{idOf}
 use Rattle.tree.specs.Tree.{none}
 use Rattle.walking.proofs.AmendLaws.{record-lazy, record-collected, record-full}
 use borrow.Author.Needs.{needs}
 use Rattle.walking.proofs.make_record.Statement.{statement}
 use Rattle.walking.proofs.make_record.Tie as tie
-use Rattle.walking.proofs.make_record.Reads as reads
-use Rattle.walking.proofs.make_record.Lts as lts
-use Rattle.walking.proofs.make_lazy.Reads as make-lazy-reads
-use Rattle.state.proofs.records.collect.Reads as collect-reads
-use Rattle.state.proofs.rest.is_top.Reads as is-top-reads
 
--- src/walking.rt:453:9
 is-top-requires : tie.Need-is-top-requires
 is-top-requires c κs = search needs
 
--- src/walking.rt:454:9
 make-lazy-requires : tie.Need-make-lazy-requires
 make-lazy-requires c κs = search needs
 
--- src/walking.rt:454:9
 same-length : tie.Need-same-length
 same-length c = search needs
 
--- src/walking.rt:454:9
 returns : tie.Need-returns
 returns c =
     let c4 = c .before .before .before .before in
@@ -30,23 +22,18 @@ returns c =
     let c8 = c5 .before .before .before in
     λ out. record-lazy (idOf (c8 .args .literal)) (c8 .args .at) out (c5 .is-top .ensures) (c4 .if1 .taken) (c .before .before .make-lazy .ensures out none)
 
--- src/walking.rt:456:11
 collect-requires : tie.Need-collect-requires
 collect-requires c κs = search needs
 
--- src/walking.rt:457:28
 enum-told : tie.Need-enum-told
 enum-told c = search needs
 
--- src/walking.rt:458:40
 enum-told-2 : tie.Need-enum-told-2
 enum-told-2 c = search needs
 
--- src/walking.rt:444:1
 same-length-2 : tie.Need-same-length-2
 same-length-2 c = search needs
 
--- src/walking.rt:444:1
 returns-2 : tie.Need-returns-2
 returns-2 c =
     let c4 = c .before .before .before .before in
@@ -55,11 +42,9 @@ returns-2 c =
     let c10 = c7 .before .before .before in
     λ out. record-collected (idOf (c10 .args .literal)) (c10 .args .at) out (c7 .is-top .ensures) (c6 .if1 .left) (c4 .collect .ensures) (c .enum-told .given .1)
 
--- src/walking.rt:444:1
 same-length-3 : tie.Need-same-length-3
 same-length-3 c = search needs
 
--- src/walking.rt:444:1
 returns-3 : tie.Need-returns-3
 returns-3 c =
     let c4 = c .before .before .before .before in

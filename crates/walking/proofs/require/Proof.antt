@@ -1,52 +1,39 @@
+-- `require`: by what `mark_required` gave; each answer has its law of AmendLaws: the module is marked, then the record is made.
+-- `require-marked` also has the callee set in what was written.
 use Rattle.state.specs.Cells.{idOf}
 use Rattle.walking.specs.Walking.{set}
 use Rattle.walking.proofs.AmendLaws.{require-marked, require-unresolved, require-full}
 use borrow.Author.Needs.{needs}
 use Rattle.walking.proofs.require.Statement.{statement}
 use Rattle.walking.proofs.require.Tie as tie
-use Rattle.walking.proofs.require.Reads as reads
-use Rattle.walking.proofs.require.Lts as lts
-use Rattle.expressions.proofs.require.mark_required.Reads as mark-required-reads
-use Rattle.expressions.proofs.require.set_callee.Reads as set-callee-reads
-use Rattle.walking.proofs.make_record.Reads as make-record-reads
 
--- src/walking.rt:433:11
 mark-required-requires : tie.Need-mark-required-requires
 mark-required-requires c κs = search needs
 
--- src/walking.rt:434:26
 enum-known-n : tie.Need-enum-known-n
 enum-known-n c = search needs
 
--- src/walking.rt:435:13
 set-callee-requires : tie.Need-set-callee-requires
 set-callee-requires c κs = search needs
 
--- src/walking.rt:436:13
 make-record-requires : tie.Need-make-record-requires
 make-record-requires c κs = search needs
 
--- src/walking.rt:438:58
 enum-told : tie.Need-enum-told
 enum-told c = search needs
 
--- src/walking.rt:438:33
 make-record-requires-2 : tie.Need-make-record-requires-2
 make-record-requires-2 c κs = search needs
 
--- src/walking.rt:439:44
 enum-told-2 : tie.Need-enum-told-2
 enum-told-2 c = search needs
 
--- src/walking.rt:419:1
 same-length : tie.Need-same-length
 same-length c = search needs
 
--- src/walking.rt:419:1
 same-length-2 : tie.Need-same-length-2
 same-length-2 c = search needs
 
--- src/walking.rt:419:1
 returns : tie.Need-returns
 returns c =
     let c6 = c .before .before .before .before .before .before in
@@ -56,11 +43,9 @@ returns c =
     require-marked (idOf (c19 .args .literal)) (set (c19 .args .e) (c19 .args .externals .now) (c19 .args .table .now)) (c19 .args .at)
     (c13 .mark-required .ensures) (c9 .n .given .0 .0) (c9 .n .given .1) (c6 .set-callee .ensures) (c .before .before .make-record .ensures _)
 
--- src/walking.rt:419:1
 same-length-3 : tie.Need-same-length-3
 same-length-3 c = search needs
 
--- src/walking.rt:419:1
 returns-2 : tie.Need-returns-2
 returns-2 c =
     let c4 = c .before .before .before .before in
@@ -69,11 +54,9 @@ returns-2 c =
     require-unresolved (idOf (c14 .args .literal)) (set (c14 .args .e) (c14 .args .externals .now) (c14 .args .table .now)) (c14 .args .at)
     (c8 .mark-required .ensures) (c4 .enum-told .given .1) (c .before .before .make-record2 .ensures _)
 
--- src/walking.rt:419:1
 same-length-4 : tie.Need-same-length-4
 same-length-4 c = search needs
 
--- src/walking.rt:419:1
 returns-3 : tie.Need-returns-3
 returns-3 c =
     let c4 = c .before .before .before .before in

@@ -1,3 +1,5 @@
+-- `require_lazily`: by what `mark_required` gave; each answer has its law of AmendLaws: the module is marked, then the lazy record is made.
+-- `lazily-marked` also has the callee set in what was written.
 use Rattle.extraction_rules.specs.First.{bindings}
 use Rattle.state.specs.Cells.{idOf}
 use Rattle.walking.specs.Walking.{set}
@@ -5,54 +7,37 @@ use Rattle.walking.proofs.AmendLaws.{lazily-marked, lazily-unresolved, 
 use borrow.Author.Needs.{needs}
 use Rattle.walking.proofs.require_lazily.Statement.{statement}
 use Rattle.walking.proofs.require_lazily.Tie as tie
-use Rattle.walking.proofs.require_lazily.Reads as reads
-use Rattle.walking.proofs.require_lazily.Lts as lts
-use Rattle.expressions.proofs.require.mark_required.Reads as mark-required-reads
-use Rattle.expressions.proofs.require.set_callee.Reads as set-callee-reads
-use Rattle.walking.proofs.make_lazy.Reads as make-lazy-reads
-use Rattle.walking.proofs.place_of.Reads as place-of-reads
 
--- src/walking.rt:506:9
 place-of-requires : tie.Need-place-of-requires
 place-of-requires c κs = search needs
 
--- src/walking.rt:507:11
 mark-required-requires : tie.Need-mark-required-requires
 mark-required-requires c κs = search needs
 
--- src/walking.rt:508:26
 enum-known-n : tie.Need-enum-known-n
 enum-known-n c = search needs
 
--- src/walking.rt:509:13
 set-callee-requires : tie.Need-set-callee-requires
 set-callee-requires c κs = search needs
 
--- src/walking.rt:510:13
 make-lazy-requires : tie.Need-make-lazy-requires
 make-lazy-requires c κs = search needs
 
--- src/walking.rt:512:63
 enum-told : tie.Need-enum-told
 enum-told c = search needs
 
--- src/walking.rt:512:33
 make-lazy-requires-2 : tie.Need-make-lazy-requires-2
 make-lazy-requires-2 c κs = search needs
 
--- src/walking.rt:513:44
 enum-told-2 : tie.Need-enum-told-2
 enum-told-2 c = search needs
 
--- src/walking.rt:491:1
 same-length : tie.Need-same-length
 same-length c = search needs
 
--- src/walking.rt:491:1
 same-length-2 : tie.Need-same-length-2
 same-length-2 c = search needs
 
--- src/walking.rt:491:1
 returns : tie.Need-returns
 returns c =
     let c6 = c .before .before .before .before .before .before in
@@ -64,11 +49,9 @@ returns c =
     (c13 .mark-required .ensures) (c15 .place-of .ensures .0) (c9 .n .given .0 .0) (c9 .n .given .1) (c6 .set-callee .ensures)
     (c .before .before .make-lazy .ensures _ (bindings q))
 
--- src/walking.rt:491:1
 same-length-3 : tie.Need-same-length-3
 same-length-3 c = search needs
 
--- src/walking.rt:491:1
 returns-2 : tie.Need-returns-2
 returns-2 c =
     let c4 = c .before .before .before .before in
@@ -78,11 +61,9 @@ returns-2 c =
     λ q. lazily-unresolved (idOf (c15 .args .literal)) (set (c15 .args .e) (c15 .args .externals .now) (c15 .args .table .now)) (c15 .args .at) q
     (c8 .mark-required .ensures) (c10 .place-of .ensures .0) (c4 .enum-told .given .1) (c .before .before .make-lazy2 .ensures _ (bindings q))
 
--- src/walking.rt:491:1
 same-length-4 : tie.Need-same-length-4
 same-length-4 c = search needs
 
--- src/walking.rt:491:1
 returns-3 : tie.Need-returns-3
 returns-3 c =
     let c4 = c .before .before .before .before in

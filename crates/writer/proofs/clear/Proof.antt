@@ -1,4 +1,4 @@
--- `clear` meets its contract: it zeroes from 0 on.
+-- `clear`: it zeroes from 0 on.
 use mathlib.Core.Path.{_∙_}
 use borrow.Author.Needs.{needs}
 use Rattle.writer.proofs.Finished.{zeroed-all}

@@ -1,4 +1,4 @@
--- `clear_from` meets its contract. The invariant: zeroing what is left, from here, zeroes all.
+-- `clear_from`: the invariant: zeroing what is left, from here, zeroes all.
 use mathlib.Core.Path.{_≡_, refl, sym, _∙_}
 use Prim.Native.Nat.{_-_}
 use native.Mathlib.Omega.{arith}

@@ -1,4 +1,5 @@
--- `close_field` meets its contract: the length is filled in, or the field is too long.
+-- `close_field`: where the content starts at p or before and p is at most 65,538, its length is filled in (`closed-fills`); else the
+-- definition too leaves the buffer as it is (`closed-long`).
 use mathlib.Core.Path.{sym, _∙_}
 use native.Mathlib.Omega.{arith}
 use borrow.Author.Needs.{needs}

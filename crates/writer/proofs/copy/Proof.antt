@@ -1,4 +1,4 @@
--- `copy` meets its contract. The invariant: writing what is left of the part, from here, writes the whole of it.
+-- `copy`: the invariant: writing what is left of the part, from here, writes the whole of it.
 use mathlib.Core.List.{List}
 use mathlib.Core.Path.{_≡_, refl, _∙_}
 use Prim.Native.Nat.{ℕ, _-_}

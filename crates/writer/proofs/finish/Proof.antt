@@ -1,4 +1,4 @@
--- `finish` meets its contract: it asks `has_room`, and zeroes accordingly.
+-- `finish`: it asks `has_room`, and zeroes accordingly.
 use mathlib.Core.Path.{sym, _∙_}
 use borrow.Author.Needs.{needs}
 use Rattle.writer.proofs.finish.Statement.{statement}

@@ -1,4 +1,4 @@
--- `has_room` meets its contract.
+-- `has_room`: the two tests together say that n is at most the lesser of 65,538 and the room (`has-room`, else `no-room`).
 use mathlib.Core.Path.{sym}
 use native.Mathlib.Omega.{arith}
 use Rattle.writer.proofs.Finished.{has-room, no-room}

@@ -1,4 +1,4 @@
--- `put_all` meets its contract: a slice is its part from 0 to its length.
+-- `put_all`: a slice is its part from 0 to its length.
 use borrow.Author.Needs.{needs}
 use lib.Seq.{take-length}
 use Rattle.writer.proofs.put_all.Statement.{statement}

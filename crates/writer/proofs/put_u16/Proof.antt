@@ -1,4 +1,4 @@
--- `put_u16` meets its contract: the high byte, then the low byte.
+-- `put_u16`: the high byte, then the low byte.
 use borrow.Author.Needs.{needs}
 use Rattle.writer.proofs.Wrote.{wrote-then}
 use Rattle.writer.proofs.put_u16.Statement.{statement}

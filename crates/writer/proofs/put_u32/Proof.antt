@@ -1,4 +1,4 @@
--- `put_u32` meets its contract: the upper half, then the lower half.
+-- `put_u32`: the upper half, then the lower half.
 use borrow.Author.Needs.{needs}
 use Rattle.writer.proofs.Wrote.{wrote-then}
 use Rattle.writer.proofs.put_u32.Statement.{statement}

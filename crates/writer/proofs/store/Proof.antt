@@ -1,4 +1,4 @@
--- `store` meets its contract: a store past the end changes nothing.
+-- `store`: a store past the end changes nothing.
 use mathlib.Core.Path.{sym}
 use borrow.Author.Needs.{needs}
 use lib.Seq.{set-out}

@@ -1,4 +1,4 @@
--- `answer_text::modules::marked` meets its contract.
+-- `marked`: the invariant is empty: the loop test i < 770 bounds each read and write. The measure is 770 - i; all is arithmetic.
 use Prim.Native.Nat.{_-_}
 use native.Mathlib.Omega.{arith}
 use Rattle.answer_text.proofs.modules.marked.Statement.{statement}

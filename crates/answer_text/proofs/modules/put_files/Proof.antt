@@ -1,4 +1,4 @@
--- `answer_text::modules::put_files` meets its contract.
+-- `put_files`: the invariant says that n is within the buffer, which keeps its length. Each way through the code is arithmetic.
 use Prim.Native.Nat.{_-_, _≤_}
 use mathlib.Core.Path.{_≡_}
 use lib.ListN.{length}

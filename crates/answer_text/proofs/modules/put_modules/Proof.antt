@@ -1,4 +1,4 @@
--- `answer_text::modules::put_modules` meets its contract.
+-- `put_modules`: the invariant says that n is within the text, which keeps its length. Each way through the code is arithmetic.
 use Prim.Native.Nat.{_-_, _≤_}
 use mathlib.Core.Path.{_≡_}
 use lib.ListN.{length}

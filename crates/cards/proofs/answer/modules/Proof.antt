@@ -1,4 +1,4 @@
--- `cards::answer::modules` meets its contract. The invariant: the number is at most the count.
+-- `cards::answer::modules`: the invariant: the number is at most the count.
 use Prim.Native.Nat.{_-_, _≤_}
 use native.Mathlib.Omega.{arith}
 use borrow.Author.Needs.{needs}

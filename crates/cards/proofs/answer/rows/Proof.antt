@@ -1,4 +1,4 @@
--- `cards::answer::rows` meets its contract. The invariant: the place is within the table.
+-- `cards::answer::rows`: the invariant: the place is within the table.
 use Prim.Native.Nat.{_-_, _≤_}
 use native.Mathlib.Omega.{arith}
 use borrow.Author.Needs.{needs}

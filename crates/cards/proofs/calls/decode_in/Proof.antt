@@ -1,4 +1,4 @@
--- `cards::calls::decode_in` meets its contract.
+-- `decode_in`: `BytesIn`, which `rest_at` ensures, bounds the part of `lent`; the rest is `search needs`.
 use mathlib.Core.Path.{subst}
 use lib.ListN.{length}
 use native.Mathlib.Omega.{arith}

@@ -1,4 +1,4 @@
--- `cards::calls::extract_in` meets its contract.
+-- `extract_in`: `AskedIn`, which `read_request` ensures, is the precondition of `extract_lent`; the rest is `search needs`.
 use mathlib.Core.Path.{subst}
 use lib.ListN.{length}
 use native.Mathlib.Omega.{arith}

@@ -1,4 +1,5 @@
--- `cards::calls::resolve_in` meets its contract.
+-- `resolve_in`: `BytesIn` and `PairIn`, which `bytes_at` and `pair_at` ensure, put the three parts of `lent` in order and in bounds.
+-- The rest is `search needs`.
 use mathlib.Core.Path.{subst}
 use lib.ListN.{length}
 use native.Mathlib.Omega.{arith}

@@ -1,4 +1,4 @@
--- `cards::request::config_of` meets its contract.
+-- `config_of`: `SpanIn`, which `field` ensures, bounds the part of the line; the rest is `search needs`.
 use mathlib.Core.Path.{subst}
 use lib.ListN.{length}
 use native.Mathlib.Omega.{arith}

@@ -1,4 +1,5 @@
--- `cards::request::groups` meets its contract. The invariant: the place is at most one past the line, and the bytes so far end within the buffer.
+-- `groups`: the invariant says that i is at most one past the line, and that the bytes so far end within the buffer.
+-- The measure is len - i; `bytes-in` says where the bytes of one group end.
 use Prim.Native.Nat.{_-_, _+_, _≤_}
 use mathlib.Core.Path.{_≡_, subst}
 use lib.ListN.{length}

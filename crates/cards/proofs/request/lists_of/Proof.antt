@@ -1,4 +1,4 @@
--- `cards::request::lists_of` meets its contract.
+-- `lists_of`: each read starts where the one before it ended; `BytesIn` and `PairIn` say that it ends no earlier and within the buffer.
 use mathlib.Core.Path.{subst}
 use lib.ListN.{length}
 use native.Mathlib.Omega.{arith}

@@ -1,4 +1,4 @@
--- `cards::request::pair_at` meets its contract.
+-- `pair_at`: each read starts where the one before it ended; `BytesIn` says that it ends no earlier and within the buffer.
 use mathlib.Core.Path.{subst}
 use native.Mathlib.Omega.{arith}
 use borrow.Author.Needs.{needs}

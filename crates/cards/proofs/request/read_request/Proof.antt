@@ -1,4 +1,4 @@
--- `cards::request::read_request` meets its contract.
+-- `read_request`: the contract of `lists_of`, with its answer put in, is what is asked; the rest is `search needs`.
 use mathlib.Core.Path.{subst}
 use lib.ListN.{length}
 use borrow.Author.Needs.{needs}

@@ -1,4 +1,4 @@
--- `cards::request::rest_at` meets its contract.
+-- `rest_at`: `SpanIn`, which `field` ensures, puts the start within the line, as `groups` asks; the rest is `search needs`.
 use mathlib.Core.Path.{subst}
 use lib.ListN.{length}
 use native.Mathlib.Omega.{arith}

@@ -1,4 +1,5 @@
--- `expressions::ident::ident_after` and `expressions::ident::property_after` meet their contracts.
+-- `ident_after`, `property_after`: the measures are stop - at and end - from + 1; `upto-in` and `extent-upto` make them fall.
+-- Each return has its law of AfterLaws: the id that the rule gives for a field with these bytes.
 use mathlib.Core.Path.{sym, _∙_, refl}
 use native.Mathlib.Omega.{arith}
 use borrow.Author.Needs.{needs}

@@ -1,4 +1,5 @@
--- `expressions::ident::named_at` meets its contract.
+-- `named_at`: each return has its law of AfterLaws: no field, fixed bytes not whole, a 70, another tag.
+-- `extent-upto` and `plain-ends` say that the field and the atom of a 70 lie within end; so the reads are in bounds.
 use Prim.Native.Nat.{_+_}
 use mathlib.Core.Path.{sym, _∙_, refl}
 use native.Mathlib.Omega.{arith}
@@ -8,12 +9,6 @@ use Rattle.expressions.proofs.AfterLaws.{named-none, named-short, named
 use borrow.Author.Needs.{needs}
 use Rattle.expressions.proofs.ident.named_at.Statement.{statement}
 use Rattle.expressions.proofs.ident.named_at.Tie as tie
-use Rattle.expressions.proofs.ident.named_at.Reads as reads
-use Rattle.expressions.proofs.ident.named_at.Lts as lts
-use Rattle.state.proofs.ident.id_from.Reads as id-from-reads
-use Rattle.tree.proofs.access.extent.Reads as extent-reads
-use Rattle.tree.proofs.access.fixed.Reads as fixed-reads
-use Rattle.tree.proofs.layout.atom_at.Reads as atom-at-reads
 use Rattle.tree.proofs.WidthLaws.{plain-ends}
 use Rattle.tree.specs.declared.grammar.Value.the-variants.{Atom}
 

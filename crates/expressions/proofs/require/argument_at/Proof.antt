@@ -1,4 +1,5 @@
--- `expressions::require::argument_at` meets its contract.
+-- `argument_at`: each return has its law of LiteralLaws: no 75, fixed bytes not whole, not one byte, a spread, or the plain argument.
+-- `upto-in` (the fixed bytes end within the field) gives the bounds.
 use Prim.Native.Nat.{_+_}
 use mathlib.Core.Path.{sym, _∙_}
 use native.Mathlib.Omega.{arith}
@@ -7,10 +8,6 @@ use Rattle.expressions.proofs.LiteralLaws.{argument-other, argument-sho
 use borrow.Author.Needs.{needs}
 use Rattle.expressions.proofs.require.argument_at.Statement.{statement}
 use Rattle.expressions.proofs.require.argument_at.Tie as tie
-use Rattle.expressions.proofs.require.argument_at.Reads as reads
-use Rattle.expressions.proofs.require.argument_at.Lts as lts
-use Rattle.expressions.proofs.require.literal_at.Reads as literal-at-reads
-use Rattle.tree.proofs.access.fixed.Reads as fixed-reads
 
 shared-slice-read-tag : tie.Need-shared-slice-read-tag
 shared-slice-read-tag c = search needs

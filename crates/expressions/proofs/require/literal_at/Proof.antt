@@ -1,4 +1,5 @@
--- `expressions::require::literal_at` meets its contract.
+-- `literal_at`: each return has its law of LiteralLaws: no field, fixed bytes not whole, a 61, another tag.
+-- `extent-upto` and `plain-ends` say that the field and the literal of a 61 lie within end.
 use Prim.Native.Nat.{_+_}
 use mathlib.Core.Path.{sym, _∙_, refl}
 use native.Mathlib.Omega.{arith}
@@ -7,11 +8,6 @@ use Rattle.expressions.proofs.LiteralLaws.{first-none, first-short, fir
 use borrow.Author.Needs.{needs}
 use Rattle.expressions.proofs.require.literal_at.Statement.{statement}
 use Rattle.expressions.proofs.require.literal_at.Tie as tie
-use Rattle.expressions.proofs.require.literal_at.Reads as reads
-use Rattle.expressions.proofs.require.literal_at.Lts as lts
-use Rattle.state.proofs.ident.id_at.Reads as id-at-reads
-use Rattle.tree.proofs.access.extent.Reads as extent-reads
-use Rattle.tree.proofs.access.fixed.Reads as fixed-reads
 use Rattle.tree.proofs.WidthLaws.{plain-ends}
 use Rattle.tree.specs.declared.grammar.Value.the-variants.{Literal}
 

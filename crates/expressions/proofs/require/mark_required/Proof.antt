@@ -1,13 +1,9 @@
--- `expressions::require::mark_required` meets its contract.
+-- `mark_required`: by what `module_for` gave; each answer has its law of MarkLaws.
+-- The laws split the rule into finding the module and marking it.
 use Rattle.expressions.proofs.MarkLaws.{mark-marked, mark-unresolved, mark-full}
 use borrow.Author.Needs.{needs}
 use Rattle.expressions.proofs.require.mark_required.Statement.{statement}
 use Rattle.expressions.proofs.require.mark_required.Tie as tie
-use Rattle.expressions.proofs.require.mark_required.Reads as reads
-use Rattle.expressions.proofs.require.mark_required.Lts as lts
-use Rattle.state.proofs.ident.name_of.Reads as name-of-reads
-use Rattle.state.proofs.modules.mark_cjs.Reads as mark-cjs-reads
-use Rattle.state.proofs.modules.module_for.Reads as module-for-reads
 
 name-of-requires : tie.Need-name-of-requires
 name-of-requires c κs = search needs

@@ -1,4 +1,5 @@
--- `expressions::require::required_at` meets its contract.
+-- `required_at`: seven laws of RequiredAtLaws name the condition of a require call that fails first; the eighth says that all hold.
+-- `extent-upto` (a callee that is found ends within stop) gives the bounds.
 use Prim.Native.Nat.{_+_}
 use mathlib.Core.Path.{sym, _∙_}
 use native.Mathlib.Omega.{arith}
@@ -8,13 +9,6 @@ use Rattle.expressions.proofs.RequiredAtLaws.{call-off, call-other, cal
 use borrow.Author.Needs.{needs}
 use Rattle.expressions.proofs.require.required_at.Statement.{statement}
 use Rattle.expressions.proofs.require.required_at.Tie as tie
-use Rattle.expressions.proofs.require.required_at.Reads as reads
-use Rattle.expressions.proofs.require.required_at.Lts as lts
-use Rattle.expressions.proofs.ident.ident_after.Reads as ident-after-reads
-use Rattle.expressions.proofs.require.sole_literal.Reads as sole-literal-reads
-use Rattle.state.proofs.ident.name_of.Reads as name-of-reads
-use Rattle.inputs.proofs.is_external.Reads as is-external-reads
-use Rattle.tree.proofs.access.extent.Reads as extent-reads
 
 returns : tie.Need-returns
 returns c =

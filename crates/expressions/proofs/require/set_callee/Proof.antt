@@ -1,4 +1,5 @@
--- `expressions::require::set_callee` meets its contract.
+-- `set_callee`: `callee-set` says that four stores at o + 8 turn the written call into the one with the new context.
+-- `callee-past` says that nothing need be stored where o + 8 is past the end of the buffer.
 use native.Mathlib.Omega.{arith}
 use mathlib.Core.Path.{ap}
 use Rattle.scope.specs.declared.id.SyntaxContext.{SyntaxContext}
@@ -6,10 +7,6 @@ use Rattle.expressions.proofs.CalleeLaws.{callee-past, callee-set}
 use borrow.Author.Needs.{needs}
 use Rattle.expressions.proofs.require.set_callee.Statement.{statement}
 use Rattle.expressions.proofs.require.set_callee.Tie as tie
-use Rattle.expressions.proofs.require.set_callee.Reads as reads
-use Rattle.expressions.proofs.require.set_callee.Lts as lts
-use Rattle.scope.proofs.id.ModuleId.export_ctxt.Reads as export-ctxt-reads
-use Rattle.writer.proofs.put_u32.Reads as put-u32-reads
 
 returns : tie.Need-returns
 returns c = callee-past (c .before .before .args .n .0) (c .before .before .args .o) (omega arith)

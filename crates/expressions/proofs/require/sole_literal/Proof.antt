@@ -1,4 +1,4 @@
--- `expressions::require::sole_literal` meets its contract.
+-- `sole_literal`: each return has its law of LiteralLaws: no field, a second one, or just one; then `argument_at` gives the literal.
 use mathlib.Core.Path.{sym, _∙_}
 use native.Mathlib.Omega.{arith}
 use Rattle.tree.proofs.AccessLaws.{extent-upto}
@@ -6,10 +6,6 @@ use Rattle.expressions.proofs.LiteralLaws.{sole-none, sole-two, sole-on
 use borrow.Author.Needs.{needs}
 use Rattle.expressions.proofs.require.sole_literal.Statement.{statement}
 use Rattle.expressions.proofs.require.sole_literal.Tie as tie
-use Rattle.expressions.proofs.require.sole_literal.Reads as reads
-use Rattle.expressions.proofs.require.sole_literal.Lts as lts
-use Rattle.expressions.proofs.require.argument_at.Reads as argument-at-reads
-use Rattle.tree.proofs.access.extent.Reads as extent-reads
 
 extent-requires : tie.Need-extent-requires
 extent-requires c κs = search needs

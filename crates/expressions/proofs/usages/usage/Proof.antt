@@ -1,4 +1,5 @@
--- `expressions::usages::usage` meets its contract.
+-- `usage`: each return has its law of UsageLaws: the rule passes over a 63 without object, id, member or import, forces the id
+-- under a computed member, and otherwise is the rule of `use_from`. `extent-upto` places the object and the member within stop.
 use Prim.Native.Nat.{_+_}
 use mathlib.Core.Path.{sym, _∙_}
 use native.Mathlib.Omega.{arith}
@@ -9,13 +10,6 @@ use Rattle.expressions.proofs.UsageLaws.{usage-bare, usage-other, usage
 use borrow.Author.Needs.{needs}
 use Rattle.expressions.proofs.usages.usage.Statement.{statement}
 use Rattle.expressions.proofs.usages.usage.Tie as tie
-use Rattle.expressions.proofs.usages.usage.Reads as reads
-use Rattle.expressions.proofs.usages.usage.Lts as lts
-use Rattle.expressions.proofs.ident.ident_after.Reads as ident-after-reads
-use Rattle.expressions.proofs.usages.use_from.Reads as use-from-reads
-use Rattle.state.proofs.forced.force_id.Reads as force-id-reads
-use Rattle.state.proofs.imported.imported_as.Reads as imported-as-reads
-use Rattle.tree.proofs.access.extent.Reads as extent-reads
 
 add-extent : tie.Need-add-extent
 add-extent c = search needs

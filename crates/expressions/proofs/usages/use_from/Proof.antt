@@ -1,4 +1,4 @@
--- `expressions::usages::use_from` meets its contract.
+-- `use_from`: by whether a record is found, and then by what `module_for` gave; each of the four ways has its law of PropertyLaws.
 use Rattle.inputs.specs.Table.{rowsIn}
 use Rattle.tree.specs.Standing.{treeAt}
 use Rattle.steps.specs.Step.{settingOf}
@@ -6,11 +6,6 @@ use Rattle.expressions.proofs.PropertyLaws.{from-none, from-number, fro
 use borrow.Author.Needs.{needs}
 use Rattle.expressions.proofs.usages.use_from.Statement.{statement}
 use Rattle.expressions.proofs.usages.use_from.Tie as tie
-use Rattle.expressions.proofs.usages.use_from.Reads as reads
-use Rattle.expressions.proofs.usages.use_from.Lts as lts
-use Rattle.expressions.proofs.usages.use_property.Reads as use-property-reads
-use Rattle.state.proofs.modules.module_for.Reads as module-for-reads
-use Rattle.state.proofs.records.used_record.Reads as used-record-reads
 
 used-record-requires : tie.Need-used-record-requires
 used-record-requires c κs = search needs

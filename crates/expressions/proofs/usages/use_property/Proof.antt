@@ -1,4 +1,5 @@
--- `expressions::usages::use_property` meets its contract.
+-- `use_property`: by the member's tag; the contract's premise, that it is a 70 or a 72, rules out the two ways that pass it over.
+-- For a 70 `property-made` and `property-full` say that the rule is `add_usage` with the name in the export context.
 use Prim.Native.Nat.{_+_}
 use mathlib.Core.Path.{sym, _∙_, refl}
 use native.Mathlib.Omega.{arith}
@@ -7,13 +8,6 @@ use Rattle.expressions.proofs.PropertyLaws.{property-short, property-pr
 use borrow.Author.Needs.{needs}
 use Rattle.expressions.proofs.usages.use_property.Statement.{statement}
 use Rattle.expressions.proofs.usages.use_property.Tie as tie
-use Rattle.expressions.proofs.usages.use_property.Reads as reads
-use Rattle.expressions.proofs.usages.use_property.Lts as lts
-use Rattle.state.proofs.ident.id_from.Reads as id-from-reads
-use Rattle.state.proofs.imported.add_usage.Reads as add-usage-reads
-use Rattle.scope.proofs.id.ModuleId.export_ctxt.Reads as export-ctxt-reads
-use Rattle.tree.proofs.access.fixed.Reads as fixed-reads
-use Rattle.tree.proofs.layout.atom_at.Reads as atom-at-reads
 use Rattle.tree.proofs.WidthLaws.{plain-ends}
 use Rattle.tree.specs.declared.grammar.Value.the-variants.{Atom}
 

@@ -1,3 +1,5 @@
+-- `import`: fixed bytes that are not whole contradict the premise that the item was read (`import-short`).
+-- `import-one` and `import-two` say that the item's rule in each pass is that of `import_first` and `import_second`.
 use mathlib.Core.Path.{sym, ap, _∙_}
 use native.Mathlib.Omega.{arith}
 use Rattle.inputs.specs.Table.{rowsIn}
@@ -7,29 +9,19 @@ use Rattle.extraction.proofs.ItemLaws.{import-short, import-one, import
 use borrow.Author.Needs.{needs}
 use Rattle.extraction.proofs.passes.import.Statement.{statement}
 use Rattle.extraction.proofs.passes.import.Tie as tie
-use Rattle.extraction.proofs.passes.import.Reads as reads
-use Rattle.extraction.proofs.passes.import.Lts as lts
-use Rattle.imports.proofs.first.import_first.Reads as import-first-reads
-use Rattle.imports.proofs.second.import_second.Reads as import-second-reads
-use Rattle.tree.proofs.access.fixed.Reads as fixed-reads
 
--- src/passes.rt:120:44
 add-fixed : tie.Need-add-fixed
 add-fixed c = search needs
 
--- src/passes.rt:120:29
 fixed-requires : tie.Need-fixed-requires
 fixed-requires c κs = search needs
 
--- src/passes.rt:120:21
 enum-known-from : tie.Need-enum-known-from
 enum-known-from c = search needs
 
--- src/passes.rt:121:9
 enum-told : tie.Need-enum-told
 enum-told c = search needs
 
--- src/passes.rt:121:9
 returns : tie.Need-returns
 returns c =
     let c7 = c .before .before .before .before .before .before .before in
@@ -38,7 +30,6 @@ returns c =
     (λ i. omega (arith, c7 .shared-slice-known .given i)) (c8 .args .at) (c8 .args .stop) (c8 .pre .0) (c8 .pre .3)
     (sym (c .before .before .fixed .ensures) ∙ c .enum-told .given .1)
 
--- src/passes.rt:124:9
 import-second-requires : tie.Need-import-second-requires
 import-second-requires c κs =
     let c4 = c .before .before .before .before in
@@ -46,7 +37,6 @@ import-second-requires c κs =
     let c12 = c6 .before .before .before .before .before .before in
     (omega arith, omega arith, c12 .pre .0, sym (c6 .fixed .ensures) ∙ c4 .from .given .1, c12 .pre .3)
 
--- src/passes.rt:126:9
 import-first-requires : tie.Need-import-first-requires
 import-first-requires c κs =
     let c4 = c .before .before .before .before in
@@ -54,15 +44,12 @@ import-first-requires c κs =
     let c12 = c6 .before .before .before .before .before .before in
     (omega arith, omega arith, c12 .pre .0, sym (c6 .fixed .ensures) ∙ c4 .from .given .1, c12 .pre .3)
 
--- src/passes.rt:106:1
 same-length : tie.Need-same-length
 same-length c = search needs
 
--- src/passes.rt:106:1
 same-length-2 : tie.Need-same-length-2
 same-length-2 c = search needs
 
--- src/passes.rt:106:1
 returns-2 : tie.Need-returns-2
 returns-2 c =
     let c4 = c .before .before .before .before in
@@ -73,15 +60,12 @@ returns-2 c =
     (λ i. omega (arith, c16 .shared-slice-known .given i)) (c17 .args .at) (c17 .args .stop) (c7 .if1 .taken) (ap passOf (c7 .if1 .taken))
     (c17 .pre .0) (c4 .import-second .ensures (rowsIn (c17 .args .table .now)))
 
--- src/passes.rt:106:1
 same-length-3 : tie.Need-same-length-3
 same-length-3 c = search needs
 
--- src/passes.rt:106:1
 same-length-4 : tie.Need-same-length-4
 same-length-4 c = search needs
 
--- src/passes.rt:106:1
 returns-3 : tie.Need-returns-3
 returns-3 c =
     let c4 = c .before .before .before .before in

@@ -1,3 +1,5 @@
+-- `item`: by the tag. An import has the contract of `import`; a 40 and a 41 without parts leave nothing (`item-40`, `item-bare`);
+-- any other item is what it is walked to (`item-41`, `item-plain`).
 use mathlib.Core.Path.{sym, _∙_}
 use native.Mathlib.Omega.{arith}
 use Rattle.walking.specs.Walking.{set}
@@ -5,57 +7,40 @@ use Rattle.extraction.proofs.ItemLaws.{item-plain, item-40, item-41, it
 use borrow.Author.Needs.{needs}
 use Rattle.extraction.proofs.passes.item.Statement.{statement}
 use Rattle.extraction.proofs.passes.item.Tie as tie
-use Rattle.extraction.proofs.passes.item.Reads as reads
-use Rattle.extraction.proofs.passes.item.Lts as lts
-use Rattle.extraction.proofs.passes.import.Reads as import-reads
-use Rattle.tree.proofs.access.extent.Reads as extent-reads
-use Rattle.walking.proofs.walk.Reads as walk-reads
 
--- src/passes.rt:94:11
 shared-slice-read-match : tie.Need-shared-slice-read-match
 shared-slice-read-match c = search needs
 
--- src/passes.rt:95:17
 import-requires : tie.Need-import-requires
 import-requires c κs = search needs
 
--- src/passes.rt:97:33
 add-extent : tie.Need-add-extent
 add-extent c = search needs
 
--- src/passes.rt:97:23
 extent-requires : tie.Need-extent-requires
 extent-requires c κs = search needs
 
--- src/passes.rt:98:77
 enum-told : tie.Need-enum-told
 enum-told c = search needs
 
--- src/passes.rt:98:31
 walk-requires : tie.Need-walk-requires
 walk-requires c κs = search needs
 
--- src/passes.rt:99:29
 enum-told-2 : tie.Need-enum-told-2
 enum-told-2 c = search needs
 
--- src/passes.rt:101:14
 walk-requires-2 : tie.Need-walk-requires-2
 walk-requires-2 c κs = search needs
 
--- src/passes.rt:80:1
 same-length : tie.Need-same-length
 same-length c = search needs
 
--- src/passes.rt:80:1
 same-length-2 : tie.Need-same-length-2
 same-length-2 c = search needs
 
--- src/passes.rt:80:1
 returns : tie.Need-returns
 returns c = search needs
 
--- src/passes.rt:80:1
 returns-2 : tie.Need-returns-2
 returns-2 c =
     let c6 = c .before .before .before .before .before .before in
@@ -63,15 +48,12 @@ returns-2 c =
     item-40 (c7 .args .e) (set (c7 .args .e) (c7 .args .externals .now) (c7 .args .table .now)) (c7 .args .s .now)
     (λ i. omega (arith, c6 .shared-slice-known .given i)) (c7 .args .at) (c7 .args .stop) (c .match .keys2) (c7 .pre .2)
 
--- src/passes.rt:80:1
 same-length-3 : tie.Need-same-length-3
 same-length-3 c = search needs
 
--- src/passes.rt:80:1
 same-length-4 : tie.Need-same-length-4
 same-length-4 c = search needs
 
--- src/passes.rt:80:1
 returns-3 : tie.Need-returns-3
 returns-3 c =
     let c4 = c .before .before .before .before in
@@ -84,7 +66,6 @@ returns-3 c =
     (λ i. omega (arith, c16 .shared-slice-known .given i)) (c17 .args .at) (c17 .args .stop) (c10 .match .keys3) (c17 .pre .0)
     (sym (c9 .extent .ensures) ∙ c7 .enum-told .given .1) (c4 .walk .ensures)
 
--- src/passes.rt:80:1
 returns-4 : tie.Need-returns-4
 returns-4 c =
     let c3 = c .before .before .before in
@@ -94,15 +75,12 @@ returns-4 c =
     (λ i. omega (arith, c9 .shared-slice-known .given i)) (c10 .args .at) (c10 .args .stop) (c3 .match .keys3) (c10 .pre .0)
     (sym (c .before .before .extent .ensures) ∙ c .enum-told2 .given .1) (c10 .pre .2)
 
--- src/passes.rt:80:1
 same-length-5 : tie.Need-same-length-5
 same-length-5 c = search needs
 
--- src/passes.rt:80:1
 same-length-6 : tie.Need-same-length-6
 same-length-6 c = search needs
 
--- src/passes.rt:80:1
 returns-5 : tie.Need-returns-5
 returns-5 c =
     let c4 = c .before .before .before .before in

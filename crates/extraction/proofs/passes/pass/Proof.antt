@@ -1,47 +1,35 @@
+-- `pass`: fewer than three bytes contradict the premise that the items were read (`pass-short`).
+-- `pass-made` says that *top* set and the items framed as a 01 are the walk of the module.
 use native.Mathlib.Omega.{arith}
 use Rattle.walking.specs.Walking.{set}
 use Rattle.extraction.proofs.PassLaws.{pass-short, pass-made}
 use borrow.Author.Needs.{needs}
 use Rattle.extraction.proofs.passes.pass.Statement.{statement}
 use Rattle.extraction.proofs.passes.pass.Tie as tie
-use Rattle.extraction.proofs.passes.pass.Reads as reads
-use Rattle.extraction.proofs.passes.pass.Lts as lts
-use Rattle.extraction.proofs.passes.items.Reads as items-reads
-use Rattle.state.proofs.rest.set_top.Reads as set-top-reads
-use Rattle.steps.proofs.end_field.Reads as end-field-reads
-use Rattle.writer.proofs.open_field.Reads as open-field-reads
 
--- src/passes.rt:39:9
 returns : tie.Need-returns
 returns c =
     let c6 = c .before .before .before .before .before .before in
     pass-short (c6 .args .e) (set (c6 .args .e) (c6 .args .externals .now) (c6 .args .table .now)) _ _ (c6 .pre) (omega arith)
 
--- src/passes.rt:41:9
 open-field-requires : tie.Need-open-field-requires
 open-field-requires c κs = search needs
 
--- src/passes.rt:42:5
 set-top-requires : tie.Need-set-top-requires
 set-top-requires c κs = search needs
 
--- src/passes.rt:43:9
 items-requires : tie.Need-items-requires
 items-requires c κs = search needs
 
--- src/passes.rt:44:5
 end-field-requires : tie.Need-end-field-requires
 end-field-requires c κs = search needs
 
--- src/passes.rt:27:1
 same-length : tie.Need-same-length
 same-length c = search needs
 
--- src/passes.rt:27:1
 same-length-2 : tie.Need-same-length-2
 same-length-2 c = search needs
 
--- src/passes.rt:27:1
 returns-2 : tie.Need-returns-2
 returns-2 c =
     let c8 = c .before .before .before .before .before .before .before .before in

@@ -1,4 +1,5 @@
--- `imports::export::export_specifier` meets its contract.
+-- `export_specifier`: each return has its law of ExportLaws: one of the two names is a string, or the 23 is written with the id forced.
+-- `export-first`, `export-second` and `export-room` say how long a 23's fixed bytes are; so the reads are in bounds.
 use native.Mathlib.Omega.{arith}
 use mathlib.Core.Path.{ap}
 use Rattle.steps.specs.Step.{settingOf}

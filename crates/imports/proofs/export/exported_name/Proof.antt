@@ -1,4 +1,4 @@
--- `imports::export::exported_name` meets its contract.
+-- `exported_name`: by the kind byte at at + 10; the two laws of ExportLaws say which two bytes are the exported name.
 use native.Mathlib.Omega.{arith}
 use Rattle.imports.proofs.ExportLaws.{exported-given, exported-filled}
 use borrow.Author.Needs.{needs}

@@ -1,4 +1,4 @@
--- `imports::export::put_exported` meets its contract.
+-- `put_exported`: the writes follow one another (`wrote-then`), and opening and closing around them frames the field (`wrote-field`).
 use mathlib.Core.Path.{ap, _∙_}
 use mathlib.Core.List.{List, _∷_, _++_}
 use Prim.Native.Nat.{ℕ, _+_}

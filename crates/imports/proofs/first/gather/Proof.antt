@@ -1,4 +1,4 @@
--- `imports::first::gather` meets its contract.
+-- `gather`: by whether `collect` had room. `gathering-made` adds what `gather_namespaces` did to the record.
 use Rattle.tree.specs.Standing.{rowAt}
 use Rattle.state.specs.Cells.{idOf}
 use Rattle.imports.proofs.GatherLaws.{gathering-made, gathering-full}

@@ -1,4 +1,5 @@
--- `imports::first::gather_namespace` meets its contract.
+-- `gather_namespace`: by whether the field is a 22: then its id is the record's next namespace (`extending-is`).
+-- `extending-other` says that another field adds none.
 use Rattle.tree.specs.Standing.{treeAt}
 use Rattle.imports.proofs.GatherLaws.{extending-is, extending-other}
 use borrow.Author.Needs.{needs}

@@ -1,4 +1,5 @@
--- `imports::first::gather_namespaces` meets its contract.
+-- `gather_namespaces`: the invariant `Filling` says that gathering the fields from here on completes gathering those from `from` on.
+-- `filling-more` takes one field; `filling-end` says that none is left. The measure is end - at.
 use native.Mathlib.Omega.{arith}
 use mathlib.Core.Path.{sym, _∙_}
 use borrow.Author.Needs.{needs}

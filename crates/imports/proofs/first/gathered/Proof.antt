@@ -1,4 +1,5 @@
--- `imports::first::gathered` meets its contract.
+-- `gathered`: by whether `gather` had room. `head-literal` and `head-parts` say that what `gather` was given are the literal
+-- and the parts of the tree's import.
 use native.Mathlib.Omega.{arith}
 use Rattle.imports.proofs.HeadLaws.{head-in, head-literal, head-parts}
 use Rattle.imports.proofs.GatherLaws.{collected-made, collected-full}

@@ -1,4 +1,5 @@
--- `imports::first::import_first` meets its contract.
+-- `import_first`: an external import stays (`first-external`). Any other goes by what `module_for` gave; each answer has its law
+-- of FirstLaws. `head-source` says that the name read at at + 3 is the tree's source value.
 use native.Mathlib.Omega.{arith}
 use Rattle.inputs.specs.Table.{atomsIn, rowsIn}
 use Rattle.steps.specs.Step.{settingOf}

@@ -1,4 +1,5 @@
--- `imports::first::import_resolved` meets its contract.
+-- `import_resolved`: by whether `note_all` refused. `first-resolved` joins the written head, specifiers and attributes into the
+-- rule's field and collects the record; `first-refused` passes the refusal on. `head-in` gives the bounds.
 use mathlib.Core.Path.{_∙_}
 use Rattle.imports.proofs.HeadLaws.{head-in}
 use Rattle.imports.proofs.FirstLaws.{first-resolved, first-refused}

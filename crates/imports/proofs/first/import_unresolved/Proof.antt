@@ -1,4 +1,4 @@
--- `imports::first::import_unresolved` meets its contract.
+-- `import_unresolved`: one way; `first-unresolved` says that the copied bytes are the rule's field and the collected record is its state.
 use Rattle.imports.proofs.FirstLaws.{first-unresolved}
 use borrow.Author.Needs.{needs}
 use Rattle.imports.proofs.first.import_unresolved.Statement.{statement}

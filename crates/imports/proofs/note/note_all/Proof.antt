@@ -1,4 +1,6 @@
--- `imports::note::note_all` meets its contract.
+-- `note_all`: the invariant `Going` says that noting the fields from here on completes noting those from `from` on.
+-- The loop ends at the end of the row, at a 2F (behind which a row that was read has nothing), or at a refusal.
+-- The measure is end - at.
 use native.Mathlib.Omega.{arith}
 use mathlib.Core.Path.{sym, _∙_}
 use borrow.Author.Needs.{needs}

@@ -1,4 +1,4 @@
--- `imports::note::note_as` meets its contract.
+-- `note_as`: by whether `note_id` had room. `as-made` and `as-full` put the export context and the outside id into the rule.
 use mathlib.Core.Path.{ap}
 use Rattle.imports.proofs.NoteLaws.{as-made, as-full}
 use borrow.Author.Needs.{needs}

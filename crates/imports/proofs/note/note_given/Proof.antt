@@ -1,4 +1,4 @@
--- `imports::note::note_given` meets its contract.
+-- `note_given`: by the specifier's kind; the precondition `SpecifierIs` says of each kind which tag and id stand in the tree.
 use native.Mathlib.Omega.{arith}
 use mathlib.Core.Path.{ap, subst}
 use Rattle.tree.specs.Standing.{treeAt}

@@ -1,4 +1,4 @@
--- `imports::note::note_named` meets its contract.
+-- `note_named`: by the kind of the outside name, which the premise `OutsideIs` ties to the fixed bytes. A string is refused (`named-text`).
 use mathlib.Core.Path.{refl}
 use Rattle.imports.proofs.NoteLaws.{named-name, named-nothing, named-text}
 use borrow.Author.Needs.{needs}

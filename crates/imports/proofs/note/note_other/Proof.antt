@@ -1,4 +1,4 @@
--- `imports::note::note_other` meets its contract.
+-- `note_other`: by whether `note_id` had room. `other-copied` says that the copied bytes are the encoding of a field that was read.
 use Rattle.tree.specs.Standing.{treeAt}
 use Rattle.imports.proofs.MadeLaws.{acts-made, acts-full}
 use Rattle.imports.proofs.NoteLaws.{other-copied}

@@ -1,4 +1,5 @@
--- `imports::note::note_specifier` meets its contract.
+-- `note_specifier`: the ways out before the last contradict the contract's premise, that the field is read and is a specifier.
+-- On the last one `framing` gives what `specifier_at` and `note_given` ask for.
 use native.Mathlib.Omega.{arith}
 use mathlib.Core.Path.{sym, _∙_}
 use Rattle.imports.proofs.WidthLaws.{framing}

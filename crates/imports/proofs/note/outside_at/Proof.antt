@@ -1,4 +1,4 @@
--- `imports::note::outside_at` meets its contract.
+-- `outside_at`: by the kind byte: 0, 1 or another. The precondition has room for a name unless it is 0; for a 1 `two-at` gives the name.
 use native.Mathlib.Omega.{arith}
 use mathlib.Core.Path.{_∙_, ap}
 use Rattle.tree.specs.Layout.{two}

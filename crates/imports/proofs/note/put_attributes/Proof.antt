@@ -1,4 +1,4 @@
--- `imports::note::put_attributes` meets its contract.
+-- `put_attributes`: by whether a field stands at `at`. `attributes-copied` and `attributes-none` say which bytes its attributes are.
 use native.Mathlib.Omega.{arith}
 use mathlib.Core.Path.{sym, _∙_}
 use Rattle.tree.proofs.AccessLaws.{extent-upto}

@@ -1,4 +1,4 @@
--- `imports::note::put_context_attributes` meets its contract.
+-- `put_context_attributes`: one way; `context-put` says that the old attributes and the context one, framed as a 2F, are `withMetadata`.
 use mathlib.Core.Path.{ap}
 use Rattle.imports.proofs.AttributesLaws.{context-put}
 use borrow.Author.Needs.{needs}

@@ -1,4 +1,4 @@
--- `imports::note::put_outside` meets its contract.
+-- `put_outside`: the writes follow one another (`wrote-then`), and opening and closing around them frames the field (`wrote-field`).
 use Rattle.writer.proofs.Wrote.{wrote-then, wrote-as, wrote-field}
 use borrow.Author.Needs.{needs}
 use Rattle.imports.proofs.note.put_outside.Statement.{statement}

@@ -1,4 +1,5 @@
--- `imports::note::specifier_at` meets its contract.
+-- `specifier_at`: by the tag: 20, 21 or 22; each has its law of NoteLaws.
+-- `specifier-id` and `outside-room` say that the id and the outside name lie within the fixed bytes.
 use native.Mathlib.Omega.{arith}
 use Rattle.imports.proofs.WidthLaws.{framed-in}
 use Rattle.imports.proofs.NoteLaws.{specifier-id, outside-room, specifier-named, specifier-default, specifier-namespace}

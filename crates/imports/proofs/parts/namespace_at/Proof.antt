@@ -1,4 +1,5 @@
--- `imports::parts::namespace_at` meets its contract.
+-- `namespace_at`: each return has its law of SoleLaws: fixed bytes not whole, a 22 with its id, another tag.
+-- `specifier-id` says that the id lies within the fixed bytes.
 use native.Mathlib.Omega.{arith}
 use mathlib.Core.Path.{sym, _∙_}
 use Rattle.imports.proofs.WidthLaws.{framing, framed-in}

@@ -1,4 +1,5 @@
--- `imports::parts::sole_namespace` meets its contract.
+-- `sole_namespace`: each return has its law of SoleLaws: no field, just one specifier, more of them.
+-- More of them means that the specifiers behind the first do not stop where they start.
 use native.Mathlib.Omega.{arith}
 use mathlib.Core.Path.{sym, _∙_}
 use Rattle.tree.proofs.AccessLaws.{extent-upto}

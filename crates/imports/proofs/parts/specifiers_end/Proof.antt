@@ -1,4 +1,5 @@
--- `imports::parts::specifiers_end` meets its contract.
+-- `specifiers_end`: the invariant `Seeking` says that where the specifiers from here on end, those from `from` on end too.
+-- It ends at the end of the row or at a 2F. The measure is end - at.
 use native.Mathlib.Omega.{arith}
 use mathlib.Core.Path.{sym, _∙_}
 use borrow.Author.Needs.{needs}

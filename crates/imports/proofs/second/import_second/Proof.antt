@@ -1,4 +1,5 @@
--- `imports::second::import_second` meets its contract.
+-- `import_second`: each return has its law of AgainLaws: external, forced, without a sole namespace (these stay), or taken apart.
+-- `head-source` says that the name read at at + 3 is the tree's source value.
 use native.Mathlib.Omega.{arith}
 use Rattle.inputs.specs.Table.{atomsIn}
 use Rattle.steps.specs.Step.{settingOf}

@@ -1,4 +1,4 @@
--- `imports::second::put_taken_apart` meets its contract.
+-- `put_taken_apart`: one way; `taken-written` joins the head, the usages and the bytes from the 2F on into the import's encoding.
 use Rattle.imports.proofs.HeadLaws.{head-in}
 use Rattle.imports.proofs.TakenLaws.{taken-written}
 use borrow.Author.Needs.{needs}

@@ -1,4 +1,5 @@
--- `imports::second::put_usage` meets its contract.
+-- `put_usage`: by whether the usage at i is one of the id. `usage-is` and `usage-other` say that with what is written here and the
+-- usages from i + 1 on, those from i on are written.
 use Rattle.state.specs.Cells.{idOf}
 use Rattle.imports.proofs.TakenLaws.{usage-is, usage-other}
 use borrow.Author.Needs.{needs}

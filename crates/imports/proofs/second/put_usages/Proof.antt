@@ -1,4 +1,5 @@
--- `imports::second::put_usages` meets its contract.
+-- `put_usages`: the invariant `Listing` says that writing the usages from i on completes writing all of them. The measure is n - i.
+-- `usages-end` says that from n on there is none.
 use native.Mathlib.Omega.{arith}
 use Prim.Native.Nat.{_-_}
 use Rattle.state.specs.Cells.{idOf}

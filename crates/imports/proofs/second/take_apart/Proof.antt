@@ -1,4 +1,4 @@
--- `imports::second::take_apart` meets its contract.
+-- `take_apart`: by whether the id has usages. `apart-some` has the import written with them; `apart-none` forces its source and keeps it.
 use native.Mathlib.Omega.{arith}
 use Rattle.imports.proofs.HeadLaws.{head-in, head-source}
 use Rattle.imports.proofs.TakenLaws.{apart-some, apart-none}

@@ -1,4 +1,4 @@
--- `decode` meets its contract: by the verdict on what was lent.
+-- `decode`: by the verdict on what was lent.
 use mathlib.Core.Path.{sym, ap, _∙_}
 use Rattle.tree.specs.Read.{fine}
 use Rattle.metadata.proofs.CallsLaws.{decode-good, decode-refused}

@@ -1,4 +1,4 @@
--- `decode_parts` meets its contract: the parts of the field at 0, if it stands there.
+-- `decode_parts`: the parts of the field at 0, if it stands there.
 use mathlib.Core.Path.{sym, _∙_}
 use native.Mathlib.Omega.{arith}
 use Rattle.tree.proofs.AccessLaws.{extent-upto, upto-in}

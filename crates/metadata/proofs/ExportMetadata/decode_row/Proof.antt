@@ -1,4 +1,4 @@
--- `decode_row` meets its contract. The invariant: what is left tells, onto what was told, what the whole row tells.
+-- `decode_row`: the invariant: what is left tells, onto what was told, what the whole row tells.
 use mathlib.Core.Path.{_≡_, sym, ap, _∙_}
 use Prim.Native.Nat.{_-_, _≤_}
 use native.Mathlib.Omega.{arith}

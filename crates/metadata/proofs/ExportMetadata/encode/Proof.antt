@@ -1,4 +1,4 @@
--- `encode` meets its contract: by the verdict on what was lent, and by the room.
+-- `encode`: by the verdict on what was lent, and by the room.
 use mathlib.Core.Path.{sym, _∙_}
 use Rattle.tree.specs.Layout.{Bytes}
 use Rattle.metadata.specs.MetadataValue.{metadataOf}

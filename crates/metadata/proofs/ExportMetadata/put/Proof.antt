@@ -1,4 +1,4 @@
--- `put` meets its contract: with a context, and without.
+-- `put`: with a context, and without.
 use mathlib.Core.Path.{ap}
 use Rattle.writer.proofs.Wrote.{wrote-then, wrote-as}
 use Rattle.metadata.specs.MetadataValue.{contextOf}

@@ -1,4 +1,4 @@
--- `told_at` meets its contract: by where the fixed bytes end.
+-- `told_at`: by where the fixed bytes end.
 use mathlib.Core.Path.{sym, ap₂, _∙_}
 use mathlib.Core.Bool.{Bool}
 use mathlib.Core.Option.{Option}

@@ -1,4 +1,4 @@
--- `write` meets its contract: a field with the old content and the new.
+-- `write`: a field with the old content and the new.
 use mathlib.Core.Path.{ap}
 use mathlib.Core.List.{List, _++_}
 use Prim.Native.Nat.{ℕ}

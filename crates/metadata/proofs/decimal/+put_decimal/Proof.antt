@@ -1,4 +1,4 @@
--- `put_decimal` meets its contract: one digit, or the others and then the last. The number falls.
+-- `put_decimal`: one digit, or the others and then the last. The number falls.
 use mathlib.Core.Path.{sym}
 use native.Mathlib.Omega.{arith}
 use borrow.Author.Needs.{needs}

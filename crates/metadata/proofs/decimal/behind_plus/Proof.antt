@@ -1,4 +1,4 @@
--- `behind_plus` meets its contract.
+-- `behind_plus`: no text (`unsigned-none`), a plus in front, which is left out (`unsigned-plus`), or another byte (`unsigned-other`).
 use mathlib.Core.Path.{sym}
 use native.Mathlib.Omega.{arith}
 use Rattle.metadata.proofs.DecimalLaws.{unsigned-none, unsigned-plus, unsigned-other}

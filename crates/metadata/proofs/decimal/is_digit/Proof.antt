@@ -1,4 +1,4 @@
--- `is_digit` meets its contract.
+-- `is_digit`: the definition makes the same two tests.
 use borrow.Author.Tests.{le-leb, lt-leb}
 use Rattle.metadata.proofs.decimal.is_digit.Statement.{statement}
 use Rattle.metadata.proofs.decimal.is_digit.Tie as tie

@@ -1,6 +1,5 @@
--- `number_at` meets its contract. The invariant: what is left, behind the number so far, gives what the whole text gives.
+-- `number_at`: the invariant says that what is left, behind the number so far, gives what the whole text gives.
 use Prim.Native.Nat.{_+_, _*_, _-_, _≤_, _<_}
--- `number_at` meets its contract. The invariant: what is left, behind the number so far, gives what the whole text gives.
 use lib.ListN.{getD}
 use mathlib.Core.Path.{_≡_, refl, sym, ap, _∙_}
 use native.Mathlib.Omega.{arith}

@@ -1,4 +1,5 @@
--- `parse` meets its contract.
+-- `parse`: `behind_plus` gives the text without its plus. Where nothing is left there is no number (`number-none`); else the number is
+-- that of the digits (`number-some`), which `number_at` gives.
 use mathlib.Core.Path.{sym, ap, _∙_}
 use native.Mathlib.Omega.{arith}
 use Rattle.metadata.specs.Decimal.{number, limited, parsed}

@@ -1,3 +1,5 @@
+-- `put_below`, `put_bindings`, `put_left`: the measure is the number of bytes, one more for the fields of a row than for a field.
+-- The loop's invariant: with the ids of the fields from here on, those of all fields are written.
 use mathlib.Core.Path.{_≡_, refl, sym, _∙_}
 use mathlib.Core.Logic.{inl, inr}
 use mathlib.Core.List.{List}

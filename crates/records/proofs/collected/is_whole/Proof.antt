@@ -1,41 +1,32 @@
+-- `is_whole`: by whether the item is an import (else `whole-other`), and by whether its literal is this one (`whole-is`) or
+-- another (`whole-differs`).
 use mathlib.Core.Path.{_∙_}
 use native.Mathlib.Omega.{arith}
 use Rattle.records.proofs.CollectedLaws.{whole-other, whole-is, whole-differs}
 use borrow.Author.Needs.{needs}
 use Rattle.records.proofs.collected.is_whole.Statement.{statement}
 use Rattle.records.proofs.collected.is_whole.Tie as tie
-use Rattle.records.proofs.collected.is_whole.Reads as reads
-use Rattle.records.proofs.collected.is_whole.Lts as lts
-use Rattle.records.proofs.parts.import_at.Reads as import-at-reads
-use Rattle.records.proofs.parts.is_namespace.Reads as is-namespace-reads
 
--- src/collected.rt:172:26
 import-at-requires : tie.Need-import-at-requires
 import-at-requires c κs = search needs
 
--- src/collected.rt:172:19
 enum-known-own : tie.Need-enum-known-own
 enum-known-own c = search needs
 
--- src/collected.rt:173:9
 enum-told : tie.Need-enum-told
 enum-told c = search needs
 
--- src/collected.rt:173:9
 returns : tie.Need-returns
 returns c =
     let c4 = c .before .before .before .before in
     whole-other (c4 .args .work .now) (c4 .args .at) (c4 .args .stop) (c4 .args .literal) (c4 .pre .2) (c .before .before .import-at .ensures .other (c .enum-told .given .1))
 
--- src/collected.rt:176:28
 add-is-namespace : tie.Need-add-is-namespace
 add-is-namespace c = search needs
 
--- src/collected.rt:176:9
 is-namespace-requires : tie.Need-is-namespace-requires
 is-namespace-requires c κs = let i = (c .before .before .before .before .import-at .ensures .is _ (c .before .before .own .given .1)) .inside in omega arith
 
--- src/collected.rt:168:1
 returns-2 : tie.Need-returns-2
 returns-2 c =
     let c3 = c .before .before .before in
@@ -45,7 +36,6 @@ returns-2 c =
     ∙ whole-is (c7 .args .work .now) (c7 .args .at) (c7 .args .stop) (c7 .args .literal) (c7 .pre .2) _
     (c5 .import-at .ensures .is _ (c3 .own .given .1)) (c .before .if1 .taken)
 
--- src/collected.rt:168:1
 returns-3 : tie.Need-returns-3
 returns-3 c =
     let c4 = c .before .before .before .before in

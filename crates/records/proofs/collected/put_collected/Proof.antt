@@ -1,3 +1,5 @@
+-- `put_collected`: the invariant says that with the records from i on all of them are written; `collected-more` splits off the record at i.
+-- The measure is n - i.
 use mathlib.Core.List.{map}
 use Prim.Native.Nat.{_-_, _≤_}
 use lib.ListN.{drop}
@@ -10,13 +12,6 @@ use Rattle.records.proofs.OnwardLaws.{onward-start, onward-end, drop-en
 use Rattle.records.proofs.CollectedLaws.{onward-if, collected-more, collected-none}
 use Rattle.records.proofs.collected.put_collected.Statement.{statement}
 use Rattle.records.proofs.collected.put_collected.Tie as tie
-use Rattle.records.proofs.collected.put_collected.Reads as reads
-use Rattle.records.proofs.collected.put_collected.Lts as lts
-use Rattle.state.proofs.forced.is_forced.Reads as is-forced-reads
-use Rattle.state.proofs.ident.name_of.Reads as name-of-reads
-use Rattle.state.proofs.records.count_records.Reads as count-records-reads
-use Rattle.state.proofs.records.record_literal.Reads as record-literal-reads
-use Rattle.records.proofs.collected.put_record.Reads as put-record-reads
 
 abbrev Inv-loop : tie.InvT-loop
 Inv-loop work out t records₀ o n i₀ to₀ records i to =
@@ -27,43 +22,34 @@ Inv-loop work out t records₀ o n i₀ to₀ records i to =
 abbrev μ-loop : tie.MeasureT-loop
 μ-loop work out t records₀ o n i₀ to₀ records i to = n - i
 
--- src/collected.rt:37:9
 count-records-requires : tie.Need-count-records-requires Inv-loop μ-loop
 count-records-requires c κs = c .before .before .before .before .pre
 
--- src/collected.rt:40:5
 loop-holds : tie.Need-loop-holds Inv-loop μ-loop
 loop-holds c = (onward-start, omega arith)
 
--- src/collected.rt:41:13
 record-literal-requires : tie.Need-record-literal-requires Inv-loop μ-loop
 record-literal-requires c κs =
     let c7 = c .before .before .before .before .before .before .before in
     (c7 .pre, let e = c .before .before .count-records .ensures .1 in omega arith)
 
--- src/collected.rt:42:40
 name-of-requires : tie.Need-name-of-requires Inv-loop μ-loop
 name-of-requires c κs = c .record-literal .ensures .0
 
--- src/collected.rt:42:13
 is-forced-requires : tie.Need-is-forced-requires Inv-loop μ-loop
 is-forced-requires c κs =
     let c9 = c .before .before .before .before .before .before .before .before .before in
     c9 .pre
 
--- src/collected.rt:43:9
 put-record-requires : tie.Need-put-record-requires Inv-loop μ-loop
 put-record-requires c κs = c .before .before .before .record-literal .ensures .0
 
--- src/collected.rt:44:9
 add-i : tie.Need-add-i Inv-loop μ-loop
 add-i c = omega arith
 
--- src/collected.rt:40:5
 loop-less : tie.Need-loop-less Inv-loop μ-loop
 loop-less c = omega arith
 
--- src/collected.rt:40:5
 loop-again : tie.Need-loop-again Inv-loop μ-loop
 loop-again c =
     let c4 = c .before .before .before .before in
@@ -77,11 +63,9 @@ loop-again c =
       omega arith,
     )
 
--- src/collected.rt:33:1
 same-length : tie.Need-same-length Inv-loop μ-loop
 same-length c = c .before .loop .inv .0 .size
 
--- src/collected.rt:33:1
 returns : tie.Need-returns Inv-loop μ-loop
 returns c =
     let c7 = c .before .before .before .before .before .before .before in

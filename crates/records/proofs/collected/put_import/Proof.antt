@@ -1,3 +1,5 @@
+-- `put_import`: by whether the item is an import, and then by its source; the laws of CollectedLaws say what each way gathers.
+-- `parts-read` says that the parts of an import that was read are read.
 use mathlib.Core.Path.{sym, _∙_}
 use native.Mathlib.Omega.{arith}
 use Rattle.records.proofs.SpecifierLaws.{if-none}
@@ -5,50 +7,36 @@ use Rattle.records.proofs.CollectedLaws.{if-as, if-from, parts-read, ga
 use borrow.Author.Needs.{needs}
 use Rattle.records.proofs.collected.put_import.Statement.{statement}
 use Rattle.records.proofs.collected.put_import.Tie as tie
-use Rattle.records.proofs.collected.put_import.Reads as reads
-use Rattle.records.proofs.collected.put_import.Lts as lts
-use Rattle.state.proofs.ident.name_of.Reads as name-of-reads
-use Rattle.records.proofs.parts.import_at.Reads as import-at-reads
-use Rattle.records.proofs.parts.put_specifiers.Reads as put-specifiers-reads
 
--- src/collected.rt:100:30
 import-at-requires : tie.Need-import-at-requires
 import-at-requires c κs = search needs
 
--- src/collected.rt:100:19
 enum-known-literal : tie.Need-enum-known-literal
 enum-known-literal c = search needs
 
--- src/collected.rt:101:9
 enum-told : tie.Need-enum-told
 enum-told c = search needs
 
--- src/collected.rt:101:9
 returns : tie.Need-returns
 returns c =
     let c5 = c .before .before .before .before .before in
     if-none (gathered-none (c5 .args .namespaces) (c5 .args .work .now) (c5 .args .at) (c5 .args .stop) (c5 .args .source) (c .before .before .import-at .ensures .other (c .enum-told .given .1)))
 
--- src/collected.rt:103:8
 name-of-requires : tie.Need-name-of-requires
 name-of-requires c κs = (c .before .before .before .import-at .ensures .is _ (c .before .literal .given .1)) .small
 
--- src/collected.rt:104:30
 add-put-specifiers : tie.Need-add-put-specifiers
 add-put-specifiers c = search needs
 
--- src/collected.rt:104:9
 put-specifiers-requires : tie.Need-put-specifiers-requires
 put-specifiers-requires c κs =
     let c4 = c .before .before .before .before in
     let c6 = c4 .before .before in
     let i = (c6 .import-at .ensures .is _ (c4 .literal .given .1)) .inside in omega arith
 
--- src/collected.rt:88:1
 same-length : tie.Need-same-length
 same-length c = search needs
 
--- src/collected.rt:88:1
 returns-2 : tie.Need-returns-2
 returns-2 c =
     let c4 = c .before .before .before .before in
@@ -60,7 +48,6 @@ returns-2 c =
     (gathered-is (c12 .args .namespaces) (c12 .args .work .now) (c12 .args .at) (c12 .args .stop) (c12 .args .source) _
     (c9 .import-at .ensures .is _ (c7 .literal .given .1)) (c12 .fits .source .fits) (sym (c5 .name-of .ensures) ∙ c4 .if1 .taken))
 
--- src/collected.rt:88:1
 returns-3 : tie.Need-returns-3
 returns-3 c =
     let c3 = c .before .before .before in

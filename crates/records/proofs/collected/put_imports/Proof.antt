@@ -1,3 +1,5 @@
+-- `put_imports`: the invariant says that with the imports from here on those of the whole row are written.
+-- `imports-more` splits off one item. The measure is the length of `work` less at.
 use mathlib.Core.Path.{sym, _∙_}
 use Prim.Native.Nat.{_-_, _≤_}
 use lib.ListN.{length}
@@ -13,10 +15,6 @@ use Rattle.records.proofs.SpecifierLaws.{if-none, row-start, row-step, 
 use Rattle.records.proofs.CollectedLaws.{imports-past, imports-none, imports-more}
 use Rattle.records.proofs.collected.put_imports.Statement.{statement}
 use Rattle.records.proofs.collected.put_imports.Tie as tie
-use Rattle.records.proofs.collected.put_imports.Reads as reads
-use Rattle.records.proofs.collected.put_imports.Lts as lts
-use Rattle.records.proofs.collected.put_import.Reads as put-import-reads
-use Rattle.tree.proofs.access.extent.Reads as extent-reads
 
 abbrev Inv-loop : tie.InvT-loop
 Inv-loop work source namespaces records₀ o at₀ to₀ records at to =
@@ -26,33 +24,26 @@ Inv-loop work source namespaces records₀ o at₀ to₀ records at to =
 abbrev μ-loop : tie.MeasureT-loop
 μ-loop work source namespaces records₀ o at₀ to₀ records at to = length work - at
 
--- src/collected.rt:74:9
 returns : tie.Need-returns Inv-loop μ-loop
 returns c =
     let c3 = c .before .before .before in
     if-none (imports-past (c3 .args .namespaces) (two (c3 .args .source)) (c3 .args .work .now) 3 (length (c3 .args .work .now)) (c .if1 .taken))
 
--- src/collected.rt:78:5
 loop-holds : tie.Need-loop-holds Inv-loop μ-loop
 loop-holds c = (row-start, omega arith, omega arith)
 
--- src/collected.rt:79:33
 extent-requires : tie.Need-extent-requires Inv-loop μ-loop
 extent-requires c κs = omega arith
 
--- src/collected.rt:79:25
 enum-known-stop : tie.Need-enum-known-stop Inv-loop μ-loop
 enum-known-stop c = search needs
 
--- src/collected.rt:80:13
 enum-told : tie.Need-enum-told Inv-loop μ-loop
 enum-told c = search needs
 
--- src/collected.rt:80:13
 same-length : tie.Need-same-length Inv-loop μ-loop
 same-length c = c .before .before .before .loop .inv .0 .size
 
--- src/collected.rt:80:13
 returns-2 : tie.Need-returns-2 Inv-loop μ-loop
 returns-2 c =
     let c3 = c .before .before .before in
@@ -61,7 +52,6 @@ returns-2 c =
     (imports-none (c7 .args .namespaces) (two (c7 .args .source)) (c7 .args .work .now) (c3 .loop .at) (length (c7 .args .work .now))
     (c3 .loop .inv .2) (sym (c .before .before .extent .ensures) ∙ c .enum-told .given .1))
 
--- src/collected.rt:82:9
 put-import-requires : tie.Need-put-import-requires Inv-loop μ-loop
 put-import-requires c κs =
     let c4 = c .before .before .before .before in
@@ -69,7 +59,6 @@ put-import-requires c κs =
     let c9 = c5 .before .before .before .before in
     let i = extent-upto (c9 .args .work .now) (c5 .loop .at) (length (c9 .args .work .now)) (c5 .loop .inv .2) (sym (c4 .extent .ensures) ∙ c .before .before .stop .given .1) in omega arith
 
--- src/collected.rt:78:5
 loop-less : tie.Need-loop-less Inv-loop μ-loop
 loop-less c =
     let c5 = c .before .before .before .before .before in
@@ -78,7 +67,6 @@ loop-less c =
     let c12 = c8 .before .before .before .before in
     let i = extent-upto (c12 .args .work .now) (c8 .loop .at) (length (c12 .args .work .now)) (c8 .loop .inv .2) (sym (c7 .extent .ensures) ∙ c5 .stop .given .1) in omega arith
 
--- src/collected.rt:78:5
 loop-again : tie.Need-loop-again Inv-loop μ-loop
 loop-again c =
     let c5 = c .before .before .before .before .before in

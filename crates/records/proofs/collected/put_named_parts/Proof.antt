@@ -1,3 +1,5 @@
+-- `put_named_parts`: each return has its law of CollectedLaws: fixed bytes not whole, a first specifier that is a 20, or not.
+-- `parts-read` says that the parts of a field that was read are read.
 use mathlib.Core.Path.{sym, _∙_}
 use Prim.Native.Nat.{_+_}
 use native.Mathlib.Omega.{arith}
@@ -7,46 +9,33 @@ use Rattle.records.proofs.CollectedLaws.{if-as, if-from, parts-read, na
 use borrow.Author.Needs.{needs}
 use Rattle.records.proofs.collected.put_named_parts.Statement.{statement}
 use Rattle.records.proofs.collected.put_named_parts.Tie as tie
-use Rattle.records.proofs.collected.put_named_parts.Reads as reads
-use Rattle.records.proofs.collected.put_named_parts.Lts as lts
-use Rattle.records.proofs.parts.put_specifiers.Reads as put-specifiers-reads
-use Rattle.records.proofs.parts.starts_named.Reads as starts-named-reads
-use Rattle.tree.proofs.access.fixed.Reads as fixed-reads
 
--- src/collected.rt:194:15
 shared-slice-read-tag : tie.Need-shared-slice-read-tag
 shared-slice-read-tag c = search needs
 
--- src/collected.rt:195:45
 add-fixed : tie.Need-add-fixed
 add-fixed c = search needs
 
--- src/collected.rt:195:29
 fixed-requires : tie.Need-fixed-requires
 fixed-requires c κs = search needs
 
--- src/collected.rt:195:21
 enum-known-from : tie.Need-enum-known-from
 enum-known-from c = search needs
 
--- src/collected.rt:196:9
 enum-told : tie.Need-enum-told
 enum-told c = search needs
 
--- src/collected.rt:196:9
 returns : tie.Need-returns
 returns c =
     let c6 = c .before .before .before .before .before .before in
     if-none (named-short (c6 .args .namespaces) (c6 .args .out .now) (c6 .args .at) (c6 .args .stop) (sym (c .before .before .fixed .ensures) ∙ c .enum-told .given .1))
 
--- src/collected.rt:198:8
 starts-named-requires : tie.Need-starts-named-requires
 starts-named-requires c κs =
     let c3 = c .before .before .before in
     let c7 = c3 .before .before .before .before in
     let j = upto-in (c7 .args .out .now) _ (c7 .args .at + 3) (c7 .args .stop) (c7 .pre .0) (sym (c3 .fixed .ensures) ∙ c .before .from .given .1) in omega arith
 
--- src/collected.rt:199:9
 put-specifiers-requires : tie.Need-put-specifiers-requires
 put-specifiers-requires c κs =
     let c4 = c .before .before .before .before in
@@ -54,11 +43,9 @@ put-specifiers-requires c κs =
     let c10 = c6 .before .before .before .before in
     let j = upto-in (c10 .args .out .now) _ (c10 .args .at + 3) (c10 .args .stop) (c10 .pre .0) (sym (c6 .fixed .ensures) ∙ c4 .from .given .1) in omega arith
 
--- src/collected.rt:183:1
 same-length : tie.Need-same-length
 same-length c = search needs
 
--- src/collected.rt:183:1
 returns-2 : tie.Need-returns-2
 returns-2 c =
     let c4 = c .before .before .before .before in
@@ -70,7 +57,6 @@ returns-2 c =
     (named-is (c13 .args .namespaces) (c13 .args .out .now) (c13 .args .at) (c13 .args .stop) _ (sym (c9 .fixed .ensures) ∙ c7 .from .given .1)
     (sym (c5 .starts-named .ensures) ∙ c4 .if1 .taken))
 
--- src/collected.rt:183:1
 returns-3 : tie.Need-returns-3
 returns-3 c =
     let c3 = c .before .before .before in

@@ -1,3 +1,4 @@
+-- `put_pair`: by whether the import is whole: then what was taken is its named parts (`pair-is`), otherwise nothing (`pair-other`).
 use mathlib.Core.Path.{sym, _∙_}
 use Rattle.tree.specs.Standing.{treeAt}
 use Rattle.state.specs.Cells.{idOf}
@@ -6,24 +7,16 @@ use Rattle.records.proofs.CollectedLaws.{if-as, pair-is, pair-other}
 use borrow.Author.Needs.{needs}
 use Rattle.records.proofs.collected.put_pair.Statement.{statement}
 use Rattle.records.proofs.collected.put_pair.Tie as tie
-use Rattle.records.proofs.collected.put_pair.Reads as reads
-use Rattle.records.proofs.collected.put_pair.Lts as lts
-use Rattle.records.proofs.collected.is_whole.Reads as is-whole-reads
-use Rattle.records.proofs.collected.put_named_parts.Reads as put-named-parts-reads
 
--- src/collected.rt:160:8
 is-whole-requires : tie.Need-is-whole-requires
 is-whole-requires c κs = search needs
 
--- src/collected.rt:161:9
 put-named-parts-requires : tie.Need-put-named-parts-requires
 put-named-parts-requires c κs = search needs
 
--- src/collected.rt:145:1
 same-length : tie.Need-same-length
 same-length c = search needs
 
--- src/collected.rt:145:1
 returns : tie.Need-returns
 returns c =
     let c4 = c .before .before .before .before in
@@ -33,7 +26,6 @@ returns c =
     (pair-is (c9 .args .namespaces) (idOf (c9 .args .literal)) (treeAt (c9 .args .work .now) (c9 .args .at) (c9 .args .stop))
     (treeAt (c9 .args .out .now) (c9 .args .made) (c9 .args .until)) (sym (c5 .is-whole .ensures) ∙ c4 .if1 .taken))
 
--- src/collected.rt:145:1
 returns-2 : tie.Need-returns-2
 returns-2 c =
     let c5 = c .before .before .before .before .before in

@@ -1,46 +1,31 @@
+-- `put_record`: one way; `record-written` joins the literal, the imports' specifiers and what was taken into the record's encoding.
 use native.Mathlib.Omega.{arith}
 use Rattle.records.proofs.CollectedLaws.{record-written}
 use borrow.Author.Needs.{needs}
 use Rattle.records.proofs.collected.put_record.Statement.{statement}
 use Rattle.records.proofs.collected.put_record.Tie as tie
-use Rattle.records.proofs.collected.put_record.Reads as reads
-use Rattle.records.proofs.collected.put_record.Lts as lts
-use Rattle.state.proofs.ident.name_of.Reads as name-of-reads
-use Rattle.state.proofs.ident.put_id.Reads as put-id-reads
-use Rattle.records.proofs.collected.put_imports.Reads as put-imports-reads
-use Rattle.records.proofs.collected.put_taken.Reads as put-taken-reads
-use Rattle.writer.proofs.close_field.Reads as close-field-reads
-use Rattle.writer.proofs.open_field.Reads as open-field-reads
 
--- src/collected.rt:61:9
 open-field-requires : tie.Need-open-field-requires
 open-field-requires c κs = search needs
 
--- src/collected.rt:62:9
 put-id-requires : tie.Need-put-id-requires
 put-id-requires c κs = search needs
 
--- src/collected.rt:63:31
 name-of-requires : tie.Need-name-of-requires
 name-of-requires c κs = search needs
 
--- src/collected.rt:63:9
 put-imports-requires : tie.Need-put-imports-requires
 put-imports-requires c κs = search needs
 
--- src/collected.rt:64:9
 put-taken-requires : tie.Need-put-taken-requires
 put-taken-requires c κs = search needs
 
--- src/collected.rt:65:5
 close-field-requires : tie.Need-close-field-requires
 close-field-requires c κs = search needs
 
--- src/collected.rt:50:1
 same-length : tie.Need-same-length
 same-length c = search needs
 
--- src/collected.rt:50:1
 returns : tie.Need-returns
 returns c =
     let c6 = c .before .before .before .before .before .before in

@@ -1,3 +1,5 @@
+-- `put_taken`: the invariant says that with what is taken of the items from here on in both trees, what is taken of all is written.
+-- `taken-more` splits off one item of each; the loop ends where either row ends. The measure is the length of `work` less at.
 use mathlib.Core.Path.{sym, _∙_}
 use Prim.Native.Nat.{_-_, _≤_}
 use lib.ListN.{length}
@@ -13,10 +15,6 @@ use Rattle.records.proofs.SpecifierLaws.{if-none, row-start, row-step, 
 use Rattle.records.proofs.CollectedLaws.{taken-past, taken-past-out, taken-none, taken-none-out, taken-more}
 use Rattle.records.proofs.collected.put_taken.Statement.{statement}
 use Rattle.records.proofs.collected.put_taken.Tie as tie
-use Rattle.records.proofs.collected.put_taken.Reads as reads
-use Rattle.records.proofs.collected.put_taken.Lts as lts
-use Rattle.records.proofs.collected.put_pair.Reads as put-pair-reads
-use Rattle.tree.proofs.access.extent.Reads as extent-reads
 
 abbrev Inv-loop : tie.InvT-loop
 Inv-loop work out literal namespaces records₀ o at₀ made₀ to₀ records at made to =
@@ -27,13 +25,11 @@ Inv-loop work out literal namespaces records₀ o at₀ made₀ to₀ records at
 abbrev μ-loop : tie.MeasureT-loop
 μ-loop work out literal namespaces records₀ o at₀ made₀ to₀ records at made to = length work - at
 
--- src/collected.rt:123:9
 returns : tie.Need-returns Inv-loop μ-loop
 returns c =
     let c4 = c .before .before .before .before in
     if-none (taken-past (c4 .args .namespaces) (idOf (c4 .args .literal)) (c4 .args .work .now) 3 (length (c4 .args .work .now)) (c4 .args .out .now) 3 (length (c4 .args .out .now)) (c .if1 .taken))
 
--- src/collected.rt:126:9
 returns-2 : tie.Need-returns-2 Inv-loop μ-loop
 returns-2 c =
     let c5 = c .before .before .before .before .before in
@@ -41,27 +37,21 @@ returns-2 c =
     (taken-past-out (c5 .args .namespaces) (idOf (c5 .args .literal)) (c5 .args .work .now) 3 (length (c5 .args .work .now)) (c5 .args .out .now)
     3 (length (c5 .args .out .now)) (c .if2 .taken))
 
--- src/collected.rt:131:5
 loop-holds : tie.Need-loop-holds Inv-loop μ-loop
 loop-holds c = (row-start, omega arith, omega arith)
 
--- src/collected.rt:132:33
 extent-requires : tie.Need-extent-requires Inv-loop μ-loop
 extent-requires c κs = omega arith
 
--- src/collected.rt:132:25
 enum-known-stop : tie.Need-enum-known-stop Inv-loop μ-loop
 enum-known-stop c = search needs
 
--- src/collected.rt:133:13
 enum-told : tie.Need-enum-told Inv-loop μ-loop
 enum-told c = search needs
 
--- src/collected.rt:133:13
 same-length : tie.Need-same-length Inv-loop μ-loop
 same-length c = c .before .before .before .loop .inv .0 .size
 
--- src/collected.rt:133:13
 returns-3 : tie.Need-returns-3 Inv-loop μ-loop
 returns-3 c =
     let c3 = c .before .before .before in
@@ -71,23 +61,18 @@ returns-3 c =
     (c9 .args .out .now) (c3 .loop .made) (length (c9 .args .out .now)) (c3 .loop .inv .1)
     (sym (c .before .before .extent .ensures) ∙ c .enum-told .given .1))
 
--- src/collected.rt:135:34
 extent-requires-2 : tie.Need-extent-requires-2 Inv-loop μ-loop
 extent-requires-2 c κs = omega arith
 
--- src/collected.rt:135:25
 enum-known-until : tie.Need-enum-known-until Inv-loop μ-loop
 enum-known-until c = search needs
 
--- src/collected.rt:136:13
 enum-told-2 : tie.Need-enum-told-2 Inv-loop μ-loop
 enum-told-2 c = search needs
 
--- src/collected.rt:136:13
 same-length-2 : tie.Need-same-length-2 Inv-loop μ-loop
 same-length-2 c = c .before .before .before .before .before .before .before .loop .inv .0 .size
 
--- src/collected.rt:136:13
 returns-4 : tie.Need-returns-4 Inv-loop μ-loop
 returns-4 c =
     let c7 = c .before .before .before .before .before .before .before in
@@ -97,7 +82,6 @@ returns-4 c =
     (c13 .args .out .now) (c7 .loop .made) (length (c13 .args .out .now)) (c7 .loop .inv .2)
     (sym (c .before .before .extent2 .ensures) ∙ c .enum-told2 .given .1))
 
--- src/collected.rt:138:9
 put-pair-requires : tie.Need-put-pair-requires Inv-loop μ-loop
 put-pair-requires c κs =
     let c4 = c .before .before .before .before in
@@ -111,7 +95,6 @@ put-pair-requires c κs =
     extent-upto (c15 .args .out .now) (c9 .loop .made) (length (c15 .args .out .now)) (c9 .loop .inv .2)
     (sym (c4 .extent2 .ensures) ∙ c .before .before .until .given .1) in (i .0, i .1, j .0, j .1, c15 .pre)
 
--- src/collected.rt:131:5
 loop-less : tie.Need-loop-less Inv-loop μ-loop
 loop-less c =
     let c9 = c .before .before .before .before .before .before .before .before .before in
@@ -120,7 +103,6 @@ loop-less c =
     let c18 = c12 .before .before .before .before .before .before in
     let i = extent-upto (c18 .args .work .now) (c12 .loop .at) (length (c18 .args .work .now)) (c12 .loop .inv .1) (sym (c11 .extent .ensures) ∙ c9 .stop .given .1) in omega arith
 
--- src/collected.rt:131:5
 loop-again : tie.Need-loop-again Inv-loop μ-loop
 loop-again c =
     let c5 = c .before .before .before .before .before in

@@ -1,3 +1,5 @@
+-- `put_forced`: the invariant says that with the sources from i on all of them are written; `forced-more` splits off the one at i.
+-- The measure is n - i.
 use Prim.Native.Nat.{_-_, _≤_}
 use lib.ListN.{drop}
 use native.Mathlib.Omega.{arith}
@@ -10,13 +12,6 @@ use Rattle.records.proofs.OnwardLaws.{onward-start, onward-step, onward
 use Rattle.records.proofs.LazyLaws.{forced-more, forced-none, forced-field}
 use Rattle.records.proofs.lazy.put_forced.Statement.{statement}
 use Rattle.records.proofs.lazy.put_forced.Tie as tie
-use Rattle.records.proofs.lazy.put_forced.Reads as reads
-use Rattle.records.proofs.lazy.put_forced.Lts as lts
-use Rattle.state.proofs.forced.count_forced.Reads as count-forced-reads
-use Rattle.state.proofs.forced.forced_at.Reads as forced-at-reads
-use Rattle.writer.proofs.close_field.Reads as close-field-reads
-use Rattle.writer.proofs.open_field.Reads as open-field-reads
-use Rattle.writer.proofs.put_u16.Reads as put-u16-reads
 
 abbrev Inv-loop : tie.InvT-loop
 Inv-loop t records₀ o n i₀ to₀ records i to =
@@ -26,42 +21,33 @@ Inv-loop t records₀ o n i₀ to₀ records i to =
 abbrev μ-loop : tie.MeasureT-loop
 μ-loop t records₀ o n i₀ to₀ records i to = n - i
 
--- src/lazy.rt:90:9
 count-forced-requires : tie.Need-count-forced-requires Inv-loop μ-loop
 count-forced-requires c κs = c .before .before .pre
 
--- src/lazy.rt:93:5
 loop-holds : tie.Need-loop-holds Inv-loop μ-loop
 loop-holds c = (onward-start, omega arith)
 
--- src/lazy.rt:94:13
 open-field-requires : tie.Need-open-field-requires Inv-loop μ-loop
 open-field-requires c κs = search needs
 
--- src/lazy.rt:95:50
 forced-at-requires : tie.Need-forced-at-requires Inv-loop μ-loop
 forced-at-requires c κs =
     let c7 = c .before .before .before .before .before .before .before in
     let c10 = c7 .before .before .before in
     (c10 .pre, let e = c7 .count-forced .ensures .1 in omega arith)
 
--- src/lazy.rt:95:13
 put-u16-requires : tie.Need-put-u16-requires Inv-loop μ-loop
 put-u16-requires c κs = search needs
 
--- src/lazy.rt:96:9
 close-field-requires : tie.Need-close-field-requires Inv-loop μ-loop
 close-field-requires c κs = search needs
 
--- src/lazy.rt:98:9
 add-i : tie.Need-add-i Inv-loop μ-loop
 add-i c = omega arith
 
--- src/lazy.rt:93:5
 loop-less : tie.Need-loop-less Inv-loop μ-loop
 loop-less c = omega arith
 
--- src/lazy.rt:93:5
 loop-again : tie.Need-loop-again Inv-loop μ-loop
 loop-again c =
     let c6 = c .before .before .before .before .before .before in
@@ -74,11 +60,9 @@ loop-again c =
       omega arith,
     )
 
--- src/lazy.rt:86:1
 same-length : tie.Need-same-length Inv-loop μ-loop
 same-length c = c .before .loop .inv .0 .size
 
--- src/lazy.rt:86:1
 returns : tie.Need-returns Inv-loop μ-loop
 returns c =
     onward-end (c .before .loop .inv .0)

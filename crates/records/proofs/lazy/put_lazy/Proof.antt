@@ -1,36 +1,25 @@
+-- `put_lazy`: the writes follow one another (`wrote-then`), and opening and closing around them frames the field (`wrote-field`).
 use Rattle.writer.proofs.Wrote.{wrote-then, wrote-as, wrote-field}
 use Rattle.metadata.proofs.EncodeLaws.{framed-field}
 use borrow.Author.Needs.{needs}
 use Rattle.records.proofs.lazy.put_lazy.Statement.{statement}
 use Rattle.records.proofs.lazy.put_lazy.Tie as tie
-use Rattle.records.proofs.lazy.put_lazy.Reads as reads
-use Rattle.records.proofs.lazy.put_lazy.Lts as lts
-use Rattle.state.proofs.ident.put_id.Reads as put-id-reads
-use Rattle.records.proofs.lazy.put_placed.Reads as put-placed-reads
-use Rattle.writer.proofs.close_field.Reads as close-field-reads
-use Rattle.writer.proofs.open_field.Reads as open-field-reads
 
--- src/lazy.rt:51:9
 open-field-requires : tie.Need-open-field-requires
 open-field-requires c κs = search needs
 
--- src/lazy.rt:52:9
 put-id-requires : tie.Need-put-id-requires
 put-id-requires c κs = search needs
 
--- src/lazy.rt:53:9
 put-placed-requires : tie.Need-put-placed-requires
 put-placed-requires c κs = search needs
 
--- src/lazy.rt:54:5
 close-field-requires : tie.Need-close-field-requires
 close-field-requires c κs = search needs
 
--- src/lazy.rt:40:1
 same-length : tie.Need-same-length
 same-length c = search needs
 
--- src/lazy.rt:40:1
 returns : tie.Need-returns
 returns c =
     let c6 = c .before .before .before .before .before .before in

@@ -1,3 +1,4 @@
+-- `put_pattern`: each return has its law of LazyLaws: a place past the end, no field there, or a field whose bindings are written.
 use mathlib.Core.Path.{sym, _∙_}
 use native.Mathlib.Omega.{arith}
 use Rattle.tree.proofs.AccessLaws.{extent-upto}
@@ -5,24 +6,16 @@ use Rattle.records.proofs.LazyLaws.{pattern-past, pattern-none, pattern
 use borrow.Author.Needs.{needs}
 use Rattle.records.proofs.lazy.put_pattern.Statement.{statement}
 use Rattle.records.proofs.lazy.put_pattern.Tie as tie
-use Rattle.records.proofs.lazy.put_pattern.Reads as reads
-use Rattle.records.proofs.lazy.put_pattern.Lts as lts
-use Rattle.records.proofs.bindings.put_bindings.Reads as put-bindings-reads
-use Rattle.tree.proofs.access.extent.Reads as extent-reads
 
--- src/lazy.rt:77:9
 returns : tie.Need-returns
 returns c = pattern-past (c .before .before .before .args .s .now) (c .before .before .before .args .at) (c .if1 .taken)
 
--- src/lazy.rt:79:11
 extent-requires : tie.Need-extent-requires
 extent-requires c κs = search needs
 
--- src/lazy.rt:80:21
 enum-known-stop : tie.Need-enum-known-stop
 enum-known-stop c = search needs
 
--- src/lazy.rt:80:30
 put-bindings-requires : tie.Need-put-bindings-requires
 put-bindings-requires c κs =
     let c4 = c .before .before .before .before in
@@ -30,15 +23,12 @@ put-bindings-requires c κs =
     let c8 = c5 .before .before .before in
     let i = extent-upto (c8 .args .s .now) (c8 .args .at) _ (c5 .if1 .left) (sym (c4 .extent .ensures) ∙ c .before .before .stop .given .1) in omega arith
 
--- src/lazy.rt:81:25
 enum-told : tie.Need-enum-told
 enum-told c = search needs
 
--- src/lazy.rt:73:1
 same-length : tie.Need-same-length
 same-length c = search needs
 
--- src/lazy.rt:73:1
 returns-2 : tie.Need-returns-2
 returns-2 c =
     let c5 = c .before .before .before .before .before in
@@ -47,7 +37,6 @@ returns-2 c =
     let c11 = c8 .before .before .before in
     pattern-here (c11 .args .s .now) (c11 .args .at) (c8 .if1 .left) (sym (c7 .extent .ensures) ∙ c5 .stop .given .1) (c .before .before .put-bindings .ensures)
 
--- src/lazy.rt:73:1
 returns-3 : tie.Need-returns-3
 returns-3 c =
     let c3 = c .before .before .before in

@@ -1,30 +1,23 @@
+-- `put_placed`: by the place: 0, in the lent tree, or in the tree after the first pass; each has its law of LazyLaws.
 use Rattle.records.proofs.LazyLaws.{placed-none, placed-tree, placed-work}
 use borrow.Author.Needs.{needs}
 use Rattle.records.proofs.lazy.put_placed.Statement.{statement}
 use Rattle.records.proofs.lazy.put_placed.Tie as tie
-use Rattle.records.proofs.lazy.put_placed.Reads as reads
-use Rattle.records.proofs.lazy.put_placed.Lts as lts
-use Rattle.records.proofs.lazy.put_pattern.Reads as put-pattern-reads
 
--- src/lazy.rt:63:9
 returns : tie.Need-returns
 returns c =
     let c4 = c .before .before .before .before in
     placed-none (c4 .args .tree .now) (c4 .args .work .now) (c4 .args .place) (c .if1 .taken)
 
--- src/lazy.rt:66:9
 put-pattern-requires : tie.Need-put-pattern-requires
 put-pattern-requires c κs = search needs
 
--- src/lazy.rt:68:9
 put-pattern-requires-2 : tie.Need-put-pattern-requires-2
 put-pattern-requires-2 c κs = search needs
 
--- src/lazy.rt:59:1
 same-length : tie.Need-same-length
 same-length c = search needs
 
--- src/lazy.rt:59:1
 returns-2 : tie.Need-returns-2
 returns-2 c =
     let c4 = c .before .before .before .before in
@@ -32,11 +25,9 @@ returns-2 c =
     let c9 = c5 .before .before .before .before in
     placed-tree (c9 .args .tree .now) (c9 .args .work .now) (c9 .args .place) (c5 .if1 .left) (c4 .if2 .taken) (c .before .before .put-pattern .ensures)
 
--- src/lazy.rt:59:1
 same-length-2 : tie.Need-same-length-2
 same-length-2 c = search needs
 
--- src/lazy.rt:59:1
 returns-3 : tie.Need-returns-3
 returns-3 c =
     let c4 = c .before .before .before .before in

@@ -1,3 +1,5 @@
+-- `is_bare`: the invariant says that the fields from here on answer as those from `from` on do. The measure is end - at.
+-- `row-skips` passes over a 2F; `row-takes` says that any other field is a specifier.
 use mathlib.Core.Path.{_≡_, refl, sym, _∙_}
 use Prim.Native.Nat.{_-_, _≤_}
 use native.Mathlib.Omega.{arith}
@@ -9,10 +11,6 @@ use Rattle.records.specs.Writes.{isNone}
 use Rattle.records.proofs.SpecifierLaws.{row-ends, row-skips, row-takes}
 use Rattle.records.proofs.parts.is_bare.Statement.{statement}
 use Rattle.records.proofs.parts.is_bare.Tie as tie
-use Rattle.records.proofs.parts.is_bare.Reads as reads
-use Rattle.records.proofs.parts.is_bare.Lts as lts
-use Rattle.records.proofs.parts.tag_of.Reads as tag-of-reads
-use Rattle.tree.proofs.access.extent.Reads as extent-reads
 
 abbrev Inv-loop : tie.InvT-loop
 Inv-loop s from end at₀ at = (isNone (specifiersIn (rowAt s from end)) ≡ isNone (specifiersIn (rowAt s at end))) × (from ≤ at) × (at ≤ end)
@@ -20,30 +18,24 @@ Inv-loop s from end at₀ at = (isNone (specifiersIn (rowAt s from end)) ≡ isN
 abbrev μ-loop : tie.MeasureT-loop
 μ-loop s from end at₀ at = end - at
 
--- src/parts.rt:36:5
 loop-holds : tie.Need-loop-holds Inv-loop μ-loop
 loop-holds c = (refl, omega arith, omega arith)
 
--- src/parts.rt:37:33
 extent-requires : tie.Need-extent-requires Inv-loop μ-loop
 extent-requires c κs = omega arith
 
--- src/parts.rt:37:25
 enum-known-stop : tie.Need-enum-known-stop Inv-loop μ-loop
 enum-known-stop c = search needs
 
--- src/parts.rt:38:13
 enum-told : tie.Need-enum-told Inv-loop μ-loop
 enum-told c = search needs
 
--- src/parts.rt:38:13
 returns : tie.Need-returns Inv-loop μ-loop
 returns c =
     let c3 = c .before .before .before in
     let c5 = c3 .before .before in
     sym (c3 .loop .inv .0 ∙ row-ends (c5 .args .s .now) (c3 .loop .at) (c5 .args .end) (c3 .loop .inv .2) isNone (sym (c .before .before .extent .ensures) ∙ c .enum-told .given .1))
 
--- src/parts.rt:40:12
 tag-of-requires : tie.Need-tag-of-requires Inv-loop μ-loop
 tag-of-requires c κs =
     let c3 = c .before .before .before in
@@ -51,7 +43,6 @@ tag-of-requires c κs =
     let c6 = c4 .before .before in
     let i = extent-upto (c6 .args .s .now) (c4 .loop .at) (c6 .args .end) (c4 .loop .inv .2) (sym (c3 .extent .ensures) ∙ c .before .stop .given .1) in omega arith
 
--- src/parts.rt:41:13
 returns-2 : tie.Need-returns-2 Inv-loop μ-loop
 returns-2 c =
     let c3 = c .before .before .before in
@@ -62,7 +53,6 @@ returns-2 c =
     ∙ row-takes (c8 .args .s .now) (c6 .loop .at) (c8 .args .end) (c6 .loop .inv .2) isNone _ (sym (c5 .extent .ensures) ∙ c3 .stop .given .1)
     (λ e. c .if1 .taken (c .before .tag-of .ensures ∙ e)))
 
--- src/parts.rt:36:5
 loop-less : tie.Need-loop-less Inv-loop μ-loop
 loop-less c =
     let c3 = c .before .before .before in
@@ -71,7 +61,6 @@ loop-less c =
     let c8 = c6 .before .before in
     let i = extent-upto (c8 .args .s .now) (c6 .loop .at) (c8 .args .end) (c6 .loop .inv .2) (sym (c5 .extent .ensures) ∙ c3 .stop .given .1) in omega arith
 
--- src/parts.rt:36:5
 loop-again : tie.Need-loop-again Inv-loop μ-loop
 loop-again c =
     let c3 = c .before .before .before in

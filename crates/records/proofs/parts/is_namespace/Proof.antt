@@ -1,3 +1,5 @@
+-- `is_namespace`: the invariant says that the fields from here on answer as those from `from` on do. The measure is end - at.
+-- `row-skips` passes over a 2F; at the first specifier `namespace-then` and `namespace-no` give the answer.
 use mathlib.Core.Path.{_≡_, refl, sym, _∙_}
 use Prim.Native.Nat.{_-_, _≤_}
 use native.Mathlib.Omega.{arith}
@@ -11,11 +13,6 @@ use Rattle.records.specs.Model.{isNamespace}
 use Rattle.records.proofs.SpecifierLaws.{row-ends, row-skips, row-takes, sole-none, namespace-then, namespace-no}
 use Rattle.records.proofs.parts.is_namespace.Statement.{statement}
 use Rattle.records.proofs.parts.is_namespace.Tie as tie
-use Rattle.records.proofs.parts.is_namespace.Reads as reads
-use Rattle.records.proofs.parts.is_namespace.Lts as lts
-use Rattle.records.proofs.parts.is_bare.Reads as is-bare-reads
-use Rattle.records.proofs.parts.tag_of.Reads as tag-of-reads
-use Rattle.tree.proofs.access.extent.Reads as extent-reads
 
 abbrev Inv-loop : tie.InvT-loop
 Inv-loop s from end at₀ at = (isNamespace (sole (specifiersIn (rowAt s from end))) ≡ isNamespace (sole (specifiersIn (rowAt s at end)))) × (from ≤ at) × (at ≤ end)
@@ -23,23 +20,18 @@ Inv-loop s from end at₀ at = (isNamespace (sole (specifiersIn (rowAt s from en
 abbrev μ-loop : tie.MeasureT-loop
 μ-loop s from end at₀ at = end - at
 
--- src/parts.rt:53:5
 loop-holds : tie.Need-loop-holds Inv-loop μ-loop
 loop-holds c = (refl, omega arith, omega arith)
 
--- src/parts.rt:54:33
 extent-requires : tie.Need-extent-requires Inv-loop μ-loop
 extent-requires c κs = omega arith
 
--- src/parts.rt:54:25
 enum-known-stop : tie.Need-enum-known-stop Inv-loop μ-loop
 enum-known-stop c = search needs
 
--- src/parts.rt:55:13
 enum-told : tie.Need-enum-told Inv-loop μ-loop
 enum-told c = search needs
 
--- src/parts.rt:55:13
 returns : tie.Need-returns Inv-loop μ-loop
 returns c =
     let c3 = c .before .before .before in
@@ -48,7 +40,6 @@ returns c =
     ∙ row-ends (c5 .args .s .now) (c3 .loop .at) (c5 .args .end) (c3 .loop .inv .2) (λ (fs : Fields). isNamespace (sole fs))
     (sym (c .before .before .extent .ensures) ∙ c .enum-told .given .1) ∙ sole-none)
 
--- src/parts.rt:57:13
 tag-of-requires : tie.Need-tag-of-requires Inv-loop μ-loop
 tag-of-requires c κs =
     let c3 = c .before .before .before in
@@ -56,7 +47,6 @@ tag-of-requires c κs =
     let c6 = c4 .before .before in
     let i = extent-upto (c6 .args .s .now) (c4 .loop .at) (c6 .args .end) (c4 .loop .inv .2) (sym (c3 .extent .ensures) ∙ c .before .stop .given .1) in omega arith
 
--- src/parts.rt:60:17
 is-bare-requires : tie.Need-is-bare-requires Inv-loop μ-loop
 is-bare-requires c κs =
     let c4 = c .before .before .before .before in
@@ -65,7 +55,6 @@ is-bare-requires c κs =
     let c9 = c7 .before .before in
     let i = extent-upto (c9 .args .s .now) (c7 .loop .at) (c9 .args .end) (c7 .loop .inv .2) (sym (c6 .extent .ensures) ∙ c4 .stop .given .1) in omega arith
 
--- src/parts.rt:60:17
 returns-2 : tie.Need-returns-2 Inv-loop μ-loop
 returns-2 c =
     let c3 = c .before .before .before in
@@ -81,7 +70,6 @@ returns-2 c =
     ∙ row-takes (c10 .args .s .now) (c8 .loop .at) (c10 .args .end) (c8 .loop .inv .2) (λ (fs : Fields). isNamespace (sole fs)) _
     (sym (c7 .extent .ensures) ∙ c5 .stop .given .1) (λ e. c .before .before .if1 .taken (c3 .tag-of .ensures ∙ e)))
 
--- src/parts.rt:62:13
 returns-3 : tie.Need-returns-3 Inv-loop μ-loop
 returns-3 c =
     let c4 = c .before .before .before .before in
@@ -95,7 +83,6 @@ returns-3 c =
     ∙ row-takes (c9 .args .s .now) (c7 .loop .at) (c9 .args .end) (c7 .loop .inv .2) (λ (fs : Fields). isNamespace (sole fs)) _
     (sym (c6 .extent .ensures) ∙ c4 .stop .given .1) (λ e. c .before .if1 .taken (c .before .before .tag-of .ensures ∙ e)))
 
--- src/parts.rt:53:5
 loop-less : tie.Need-loop-less Inv-loop μ-loop
 loop-less c =
     let c3 = c .before .before .before in
@@ -104,7 +91,6 @@ loop-less c =
     let c8 = c6 .before .before in
     let i = extent-upto (c8 .args .s .now) (c6 .loop .at) (c8 .args .end) (c6 .loop .inv .2) (sym (c5 .extent .ensures) ∙ c3 .stop .given .1) in omega arith
 
--- src/parts.rt:53:5
 loop-again : tie.Need-loop-again Inv-loop μ-loop
 loop-again c =
     let c3 = c .before .before .before in

@@ -1,33 +1,25 @@
+-- `put_specifier`: by the tag and by whether namespaces are kept; the laws of SpecifierLaws say whether the part is copied or left out.
 use mathlib.Core.Path.{sym, _∙_}
 use Rattle.tree.specs.Standing.{treeAt}
 use Rattle.records.proofs.SpecifierLaws.{if-none, if-copied, part-attributes, part-namespace, part-any, part-named}
 use borrow.Author.Needs.{needs}
 use Rattle.records.proofs.parts.put_specifier.Statement.{statement}
 use Rattle.records.proofs.parts.put_specifier.Tie as tie
-use Rattle.records.proofs.parts.put_specifier.Reads as reads
-use Rattle.records.proofs.parts.put_specifier.Lts as lts
-use Rattle.records.proofs.parts.tag_of.Reads as tag-of-reads
-use Rattle.writer.proofs.copy.Reads as copy-reads
 
--- src/parts.rt:116:9
 tag-of-requires : tie.Need-tag-of-requires
 tag-of-requires c κs = search needs
 
--- src/parts.rt:118:9
 returns : tie.Need-returns
 returns c =
     let c4 = c .before .before .before .before in
     if-none (part-attributes (c4 .args .namespaces) (treeAt (c4 .args .s .now) (c4 .args .at) (c4 .args .stop)) (sym (c .before .tag-of .ensures) ∙ c .if1 .taken))
 
--- src/parts.rt:121:9
 copy-requires : tie.Need-copy-requires
 copy-requires c κs = search needs
 
--- src/parts.rt:121:9
 same-length : tie.Need-same-length
 same-length c = search needs
 
--- src/parts.rt:121:9
 returns-2 : tie.Need-returns-2
 returns-2 c =
     let c4 = c .before .before .before .before in
@@ -39,7 +31,6 @@ returns-2 c =
     (part-any (c9 .args .namespaces) (treeAt (c9 .args .s .now) (c9 .args .at) (c9 .args .stop)) (λ e. c5 .if1 .left (c6 .tag-of .ensures ∙ e))
     (c4 .if2 .taken)) (c .before .before .copy .ensures)
 
--- src/parts.rt:124:9
 returns-3 : tie.Need-returns-3
 returns-3 c =
     let c3 = c .before .before .before in
@@ -48,15 +39,12 @@ returns-3 c =
     (part-namespace (c6 .args .namespaces) (treeAt (c6 .args .s .now) (c6 .args .at) (c6 .args .stop))
     (λ e. c .before .before .if1 .left (c3 .tag-of .ensures ∙ e)) (c .before .if2 .left) (sym (c3 .tag-of .ensures) ∙ c .if3 .taken))
 
--- src/parts.rt:126:5
 copy-requires-2 : tie.Need-copy-requires-2
 copy-requires-2 c κs = search needs
 
--- src/parts.rt:105:1
 same-length-2 : tie.Need-same-length-2
 same-length-2 c = search needs
 
--- src/parts.rt:105:1
 returns-4 : tie.Need-returns-4
 returns-4 c =
     let c4 = c .before .before .before .before in

@@ -1,3 +1,5 @@
+-- `put_specifiers`: the invariant says that with the specifiers from here on all of them are written; `bytes-more` splits off one part.
+-- The measure is end - at.
 use mathlib.Core.Path.{sym, _∙_}
 use Prim.Native.Nat.{_-_, _≤_}
 use native.Mathlib.Omega.{arith}
@@ -10,10 +12,6 @@ use Rattle.records.specs.Writes.{sieve, RowOnward}
 use Rattle.records.proofs.SpecifierLaws.{bytes-none, bytes-more, row-start, row-step, row-stop}
 use Rattle.records.proofs.parts.put_specifiers.Statement.{statement}
 use Rattle.records.proofs.parts.put_specifiers.Tie as tie
-use Rattle.records.proofs.parts.put_specifiers.Reads as reads
-use Rattle.records.proofs.parts.put_specifiers.Lts as lts
-use Rattle.records.proofs.parts.put_specifier.Reads as put-specifier-reads
-use Rattle.tree.proofs.access.extent.Reads as extent-reads
 
 abbrev Inv-loop : tie.InvT-loop
 Inv-loop s from end namespaces records₀ o at₀ to₀ records at to =
@@ -23,27 +21,21 @@ Inv-loop s from end namespaces records₀ o at₀ to₀ records at to =
 abbrev μ-loop : tie.MeasureT-loop
 μ-loop s from end namespaces records₀ o at₀ to₀ records at to = end - at
 
--- src/parts.rt:143:5
 loop-holds : tie.Need-loop-holds Inv-loop μ-loop
 loop-holds c = (row-start, omega arith, omega arith)
 
--- src/parts.rt:144:33
 extent-requires : tie.Need-extent-requires Inv-loop μ-loop
 extent-requires c κs = omega arith
 
--- src/parts.rt:144:25
 enum-known-stop : tie.Need-enum-known-stop Inv-loop μ-loop
 enum-known-stop c = search needs
 
--- src/parts.rt:145:13
 enum-told : tie.Need-enum-told Inv-loop μ-loop
 enum-told c = search needs
 
--- src/parts.rt:145:13
 same-length : tie.Need-same-length Inv-loop μ-loop
 same-length c = c .before .before .before .loop .inv .0 .size
 
--- src/parts.rt:145:13
 returns : tie.Need-returns Inv-loop μ-loop
 returns c =
     let c3 = c .before .before .before in
@@ -52,7 +44,6 @@ returns c =
     (bytes-none (c6 .args .s .now) (c3 .loop .at) (c6 .args .end) (c3 .loop .inv .2) (c6 .args .namespaces)
     (sym (c .before .before .extent .ensures) ∙ c .enum-told .given .1))
 
--- src/parts.rt:147:9
 put-specifier-requires : tie.Need-put-specifier-requires Inv-loop μ-loop
 put-specifier-requires c κs =
     let c4 = c .before .before .before .before in
@@ -60,7 +51,6 @@ put-specifier-requires c κs =
     let c8 = c5 .before .before .before in
     let i = extent-upto (c8 .args .s .now) (c5 .loop .at) (c8 .args .end) (c5 .loop .inv .2) (sym (c4 .extent .ensures) ∙ c .before .before .stop .given .1) in omega arith
 
--- src/parts.rt:143:5
 loop-less : tie.Need-loop-less Inv-loop μ-loop
 loop-less c =
     let c5 = c .before .before .before .before .before in
@@ -69,7 +59,6 @@ loop-less c =
     let c11 = c8 .before .before .before in
     let i = extent-upto (c11 .args .s .now) (c8 .loop .at) (c11 .args .end) (c8 .loop .inv .2) (sym (c7 .extent .ensures) ∙ c5 .stop .given .1) in omega arith
 
--- src/parts.rt:143:5
 loop-again : tie.Need-loop-again Inv-loop μ-loop
 loop-again c =
     let c5 = c .before .before .before .before .before in

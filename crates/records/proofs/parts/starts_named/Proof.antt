@@ -1,3 +1,5 @@
+-- `starts_named`: the invariant says that the fields from here on answer as those from `from` on do. The measure is end - at.
+-- `row-skips` passes over a 2F; at the first specifier `row-takes` gives the answer.
 use mathlib.Core.Path.{_≡_, refl, sym, _∙_}
 use Prim.Native.Nat.{_-_, _≤_}
 use native.Mathlib.Omega.{arith}
@@ -10,10 +12,6 @@ use Rattle.records.specs.Model.{startsNamed}
 use Rattle.records.proofs.SpecifierLaws.{row-ends, row-skips, row-takes}
 use Rattle.records.proofs.parts.starts_named.Statement.{statement}
 use Rattle.records.proofs.parts.starts_named.Tie as tie
-use Rattle.records.proofs.parts.starts_named.Reads as reads
-use Rattle.records.proofs.parts.starts_named.Lts as lts
-use Rattle.records.proofs.parts.tag_of.Reads as tag-of-reads
-use Rattle.tree.proofs.access.extent.Reads as extent-reads
 
 abbrev Inv-loop : tie.InvT-loop
 Inv-loop s from end at₀ at = (startsNamed (specifiersIn (rowAt s from end)) ≡ startsNamed (specifiersIn (rowAt s at end))) × (from ≤ at) × (at ≤ end)
@@ -21,30 +19,24 @@ Inv-loop s from end at₀ at = (startsNamed (specifiersIn (rowAt s from end)) �
 abbrev μ-loop : tie.MeasureT-loop
 μ-loop s from end at₀ at = end - at
 
--- src/parts.rt:74:5
 loop-holds : tie.Need-loop-holds Inv-loop μ-loop
 loop-holds c = (refl, omega arith, omega arith)
 
--- src/parts.rt:75:33
 extent-requires : tie.Need-extent-requires Inv-loop μ-loop
 extent-requires c κs = omega arith
 
--- src/parts.rt:75:25
 enum-known-stop : tie.Need-enum-known-stop Inv-loop μ-loop
 enum-known-stop c = search needs
 
--- src/parts.rt:76:13
 enum-told : tie.Need-enum-told Inv-loop μ-loop
 enum-told c = search needs
 
--- src/parts.rt:76:13
 returns : tie.Need-returns Inv-loop μ-loop
 returns c =
     let c3 = c .before .before .before in
     let c5 = c3 .before .before in
     sym (c3 .loop .inv .0 ∙ row-ends (c5 .args .s .now) (c3 .loop .at) (c5 .args .end) (c3 .loop .inv .2) startsNamed (sym (c .before .before .extent .ensures) ∙ c .enum-told .given .1))
 
--- src/parts.rt:78:13
 tag-of-requires : tie.Need-tag-of-requires Inv-loop μ-loop
 tag-of-requires c κs =
     let c3 = c .before .before .before in
@@ -52,7 +44,6 @@ tag-of-requires c κs =
     let c6 = c4 .before .before in
     let i = extent-upto (c6 .args .s .now) (c4 .loop .at) (c6 .args .end) (c4 .loop .inv .2) (sym (c3 .extent .ensures) ∙ c .before .stop .given .1) in omega arith
 
--- src/parts.rt:81:17
 returns-2 : tie.Need-returns-2 Inv-loop μ-loop
 returns-2 c =
     let c4 = c .before .before .before .before in
@@ -64,7 +55,6 @@ returns-2 c =
     (sym (c6 .extent .ensures) ∙ c4 .stop .given .1) (λ e. c .before .if1 .taken (c .before .before .tag-of .ensures ∙ e))
     ∙ eq-eqb _ 0x20 (sym (c .before .before .tag-of .ensures) ∙ c .if2 .taken))
 
--- src/parts.rt:83:13
 returns-3 : tie.Need-returns-3 Inv-loop μ-loop
 returns-3 c =
     let c4 = c .before .before .before .before in
@@ -76,7 +66,6 @@ returns-3 c =
     (sym (c6 .extent .ensures) ∙ c4 .stop .given .1) (λ e. c .before .if1 .taken (c .before .before .tag-of .ensures ∙ e))
     ∙ ne-eqb _ 0x20 (λ e. c .if2 .left (c .before .before .tag-of .ensures ∙ e)))
 
--- src/parts.rt:74:5
 loop-less : tie.Need-loop-less Inv-loop μ-loop
 loop-less c =
     let c3 = c .before .before .before in
@@ -85,7 +74,6 @@ loop-less c =
     let c8 = c6 .before .before in
     let i = extent-upto (c8 .args .s .now) (c6 .loop .at) (c8 .args .end) (c6 .loop .inv .2) (sym (c5 .extent .ensures) ∙ c3 .stop .given .1) in omega arith
 
--- src/parts.rt:74:5
 loop-again : tie.Need-loop-again Inv-loop μ-loop
 loop-again c =
     let c3 = c .before .before .before in

@@ -1,39 +1,30 @@
+-- `tag_of`: by whether the fixed bytes are whole; `tag-upto` and `tag-short` say which tag the tree then has.
 use mathlib.Core.Path.{sym, _∙_}
 use Rattle.records.proofs.SpecifierLaws.{tag-upto, tag-short}
 use borrow.Author.Needs.{needs}
 use Rattle.records.proofs.parts.tag_of.Statement.{statement}
 use Rattle.records.proofs.parts.tag_of.Tie as tie
-use Rattle.records.proofs.parts.tag_of.Reads as reads
-use Rattle.records.proofs.parts.tag_of.Lts as lts
-use Rattle.tree.proofs.access.fixed.Reads as fixed-reads
 
--- src/parts.rt:23:15
 shared-slice-read-tag : tie.Need-shared-slice-read-tag
 shared-slice-read-tag c = search needs
 
--- src/parts.rt:24:25
 add-fixed : tie.Need-add-fixed
 add-fixed c = search needs
 
--- src/parts.rt:24:11
 fixed-requires : tie.Need-fixed-requires
 fixed-requires c κs = search needs
 
--- src/parts.rt:25:27
 enum-told : tie.Need-enum-told
 enum-told c = search needs
 
--- src/parts.rt:26:25
 enum-told-2 : tie.Need-enum-told-2
 enum-told-2 c = search needs
 
--- src/parts.rt:19:1
 returns : tie.Need-returns
 returns c =
     let c5 = c .before .before .before .before .before in
     tag-upto (c5 .args .s .now) (c5 .args .at) (c5 .args .stop) _ (sym (c .before .before .fixed .ensures) ∙ c .enum-told .given .1)
 
--- src/parts.rt:19:1
 returns-2 : tie.Need-returns-2
 returns-2 c =
     let c5 = c .before .before .before .before .before in

@@ -1,4 +1,4 @@
--- `replay::line::replay` meets its contract.
+-- `replay`: `AnswerIn`, which `respond` ensures, bounds the part of `answer`; the rest is `search needs`.
 use native.Mathlib.Omega.{arith}
 use lib.ListN.{length}
 use mathlib.Core.Path.{subst}

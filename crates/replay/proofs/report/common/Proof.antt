@@ -1,4 +1,4 @@
--- `replay::report::common` meets its contract. The invariant: the place is within a.
+-- `replay::report::common`: the invariant: the place is within a.
 use Prim.Native.Nat.{_-_, _≤_}
 use lib.ListN.{length}
 use native.Mathlib.Omega.{arith}

@@ -1,4 +1,4 @@
--- `request_fields::lists::read_asked` meets its contract.
+-- `read_asked`: the contracts of `read_lists` and `read_lengths`, with their answers put in, are what is asked; the rest is `search needs`.
 use native.Mathlib.Omega.{arith}
 use mathlib.Core.Path.{subst}
 use Rattle.request_fields.specs.Places.{ListsIn, LengthsIn}

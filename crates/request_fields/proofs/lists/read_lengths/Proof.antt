@@ -1,4 +1,4 @@
--- `request_fields::lists::read_lengths` meets its contract.
+-- `read_lengths`: `RoomIn`, which `room_at` ensures, bounds each length; the rest is `search needs`.
 use native.Mathlib.Omega.{arith}
 use mathlib.Core.Path.{subst}
 use Rattle.request_fields.specs.Places.{RoomIn}

@@ -1,4 +1,4 @@
--- `request_fields::lists::read_lists` meets its contract.
+-- `read_lists`: each read starts where the one before it ended; `BytesIn` says that it ends no earlier and within the buffer.
 use native.Mathlib.Omega.{arith}
 use lib.ListN.{length}
 use mathlib.Core.Path.{subst}

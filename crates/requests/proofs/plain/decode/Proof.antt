@@ -1,4 +1,4 @@
--- `requests::plain::decode` meets its contract.
+-- `decode`: `BytesIn`, which `bytes_at` ensures, bounds the part of `lent`; the rest is `search needs`.
 use native.Mathlib.Omega.{arith}
 use lib.ListN.{length}
 use mathlib.Core.Path.{subst}

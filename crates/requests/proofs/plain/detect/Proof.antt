@@ -1,4 +1,4 @@
--- `requests::plain::detect` meets its contract.
+-- `detect`: `BytesIn`, which `bytes_at` ensures, bounds the part of `lent`; the rest is `search needs`.
 use native.Mathlib.Omega.{arith}
 use lib.ListN.{length}
 use mathlib.Core.Path.{subst}

@@ -1,4 +1,5 @@
--- `requests::plain::encode_with` meets its contract.
+-- `encode_with`: `BytesIn` and `RoomIn`, which `bytes_at` and `room_at` ensure, bound the parts of `lent` and `out`.
+-- The rest is `search needs`.
 use native.Mathlib.Omega.{arith}
 use lib.ListN.{length}
 use mathlib.Core.Path.{subst}

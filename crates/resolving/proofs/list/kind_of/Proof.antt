@@ -1,11 +1,9 @@
--- `resolving::list::kind_of` meets its contract.
+-- `kind_of`: by the tag: 80, 81 or another; the rule's test of the tag then computes to the answer.
 use mathlib.Core.Path.{sym, ap}
 use borrow.Author.Tests.{ne-eqb}
 use Rattle.resolving_rules.specs.Resolve.{kindByte}
 use Rattle.resolving.proofs.list.kind_of.Statement.{statement}
 use Rattle.resolving.proofs.list.kind_of.Tie as tie
-use Rattle.resolving.proofs.list.kind_of.Reads as reads
-use Rattle.resolving.proofs.list.kind_of.Lts as lts
 
 returns : tie.Need-returns
 returns c = sym (ap kindByte (c .match .keys1))

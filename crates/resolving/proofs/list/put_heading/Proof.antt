@@ -1,4 +1,4 @@
--- `resolving::list::put_heading` meets its contract.
+-- `put_heading`: the writes follow one another (`wrote-then`); `heading-bytes` says that their bytes are those of the heading.
 use mathlib.Core.Path.{ap}
 use native.Mathlib.Omega.{arith}
 use lib.Seq.{slice}
@@ -8,14 +8,6 @@ use Rattle.resolving.proofs.ListLaws.{heading-bytes}
 use borrow.Author.Needs.{needs}
 use Rattle.resolving.proofs.list.put_heading.Statement.{statement}
 use Rattle.resolving.proofs.list.put_heading.Tie as tie
-use Rattle.resolving.proofs.list.put_heading.Reads as reads
-use Rattle.resolving.proofs.list.put_heading.Lts as lts
-use Rattle.scope.proofs.id.ModuleId.export_ctxt.Reads as export-ctxt-reads
-use Rattle.scope.proofs.id.ModuleId.local_ctxt.Reads as local-ctxt-reads
-use Rattle.writer.proofs.copy.Reads as copy-reads
-use Rattle.writer.proofs.put.Reads as put-reads
-use Rattle.writer.proofs.put_u16.Reads as put-u16-reads
-use Rattle.writer.proofs.put_u32.Reads as put-u32-reads
 
 put-requires : tie.Need-put-requires
 put-requires c κs = search needs

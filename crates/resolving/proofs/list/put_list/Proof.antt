@@ -1,14 +1,9 @@
--- `resolving::list::put_list` meets its contract.
+-- `put_list`: by whether `put_records` refused. `puts-field` frames the records as a 03; `puts-parts` passes the refusal on.
 use Rattle.writer.proofs.Wrote.{wrote-none}
 use Rattle.resolving.proofs.WritesLaws.{puts-field, puts-parts}
 use borrow.Author.Needs.{needs}
 use Rattle.resolving.proofs.list.put_list.Statement.{statement}
 use Rattle.resolving.proofs.list.put_list.Tie as tie
-use Rattle.resolving.proofs.list.put_list.Reads as reads
-use Rattle.resolving.proofs.list.put_list.Lts as lts
-use Rattle.resolving.proofs.list.put_records.Reads as put-records-reads
-use Rattle.writer.proofs.close_field.Reads as close-field-reads
-use Rattle.writer.proofs.open_field.Reads as open-field-reads
 
 open-field-requires : tie.Need-open-field-requires
 open-field-requires c κs = search needs

@@ -1,4 +1,5 @@
--- `resolving::list::put_record` meets its contract.
+-- `put_record`: a source that the table does not name is refused (`record-nowhere`). Otherwise `record-file` splits the rule's field
+-- into its heading and its specifiers, and `module-again` says that asking again gives the number that the source has.
 use mathlib.Core.Path.{refl, sym, ap, _∙_}
 use native.Mathlib.Omega.{arith}
 use Rattle.inputs.specs.Table.{rowsIn}
@@ -12,17 +13,6 @@ use Rattle.resolving.proofs.ListLaws.{module-again, source-file, record
 use borrow.Author.Needs.{needs}
 use Rattle.resolving.proofs.list.put_record.Statement.{statement}
 use Rattle.resolving.proofs.list.put_record.Tie as tie
-use Rattle.resolving.proofs.list.put_record.Reads as reads
-use Rattle.resolving.proofs.list.put_record.Lts as lts
-use Rattle.inputs.proofs.resolve.Reads as resolve-reads
-use Rattle.resolving.proofs.list.kind_of.Reads as kind-of-reads
-use Rattle.resolving.proofs.list.put_heading.Reads as put-heading-reads
-use Rattle.resolving.proofs.sources.is_forced.Reads as is-forced-reads
-use Rattle.resolving.proofs.specifiers.put_specifiers.Reads as put-specifiers-reads
-use Rattle.scope.proofs.Scope.gen_id.Reads as gen-id-reads
-use Rattle.tree.proofs.layout.literal_value.Reads as literal-value-reads
-use Rattle.writer.proofs.close_field.Reads as close-field-reads
-use Rattle.writer.proofs.open_field.Reads as open-field-reads
 
 add-literal-value : tie.Need-add-literal-value
 add-literal-value c = search needs

@@ -1,4 +1,4 @@
--- `resolving::list::put_records` meets its contract. The invariant: with the records from here on, all of them are written; their
+-- `resolving::list::put_records`: the invariant: with the records from here on, all of them are written; their
 -- sources have numbers.
 use mathlib.Core.Path.{sym, _∙_}
 use native.Mathlib.Omega.{arith}
@@ -17,10 +17,6 @@ use Rattle.resolving.proofs.WritesLaws.{onward-all, onward-end, onward-
 use Rattle.resolving.proofs.ListLaws.{list-end, list-more, numbers-next}
 use Rattle.resolving.proofs.list.put_records.Statement.{statement}
 use Rattle.resolving.proofs.list.put_records.Tie as tie
-use Rattle.resolving.proofs.list.put_records.Reads as reads
-use Rattle.resolving.proofs.list.put_records.Lts as lts
-use Rattle.resolving.proofs.list.put_record.Reads as put-record-reads
-use Rattle.resolving.proofs.sources.source_end.Reads as source-end-reads
 
 abbrev Inv-loop : tie.InvT-loop
 Inv-loop scope table records list₀ o at₀ to₀ list at to =

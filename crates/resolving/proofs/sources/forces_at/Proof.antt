@@ -1,12 +1,9 @@
--- `resolving::sources::forces_at` meets its contract.
+-- `forces_at`: by whether the tag is an 83; the definition of `forcesAt` then computes to the answer.
 use borrow.Author.Tests.{eq-eqb, ne-eqb}
 use Rattle.resolving.specs.Records.{forcesAt}
 use borrow.Author.Needs.{needs}
 use Rattle.resolving.proofs.sources.forces_at.Statement.{statement}
 use Rattle.resolving.proofs.sources.forces_at.Tie as tie
-use Rattle.resolving.proofs.sources.forces_at.Reads as reads
-use Rattle.resolving.proofs.sources.forces_at.Lts as lts
-use Rattle.tree.proofs.layout.atom_at.Reads as atom-at-reads
 
 shared-slice-read-if1 : tie.Need-shared-slice-read-if1
 shared-slice-read-if1 c = search needs

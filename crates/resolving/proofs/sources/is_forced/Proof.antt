@@ -1,4 +1,4 @@
--- `resolving::sources::is_forced` meets its contract. The invariant: whether the source is forced is what the records from here on say.
+-- `resolving::sources::is_forced`: the invariant: whether the source is forced is what the records from here on say.
 use mathlib.Core.Path.{_≡_, refl, sym, ap, _∙_}
 use mathlib.Core.Bool.{Bool, _||_}
 use native.Mathlib.Omega.{arith}
@@ -14,10 +14,6 @@ use Rattle.resolving.specs.Records.{RecordsFrom, recordsIn}
 use Rattle.resolving.proofs.RecordsLaws.{records-next, forced-end, forced-inside, forced-step}
 use Rattle.resolving.proofs.sources.is_forced.Statement.{statement}
 use Rattle.resolving.proofs.sources.is_forced.Tie as tie
-use Rattle.resolving.proofs.sources.is_forced.Reads as reads
-use Rattle.resolving.proofs.sources.is_forced.Lts as lts
-use Rattle.resolving.proofs.sources.forces_at.Reads as forces-at-reads
-use Rattle.tree.proofs.access.extent.Reads as extent-reads
 
 abbrev Inv-loop : tie.InvT-loop
 Inv-loop records source at₀ at = (among (two source) (forcedIn (recordsIn records)) ≡ among (two source) (forcedIn (rowAt records at (length records)))) × RecordsFrom records at

@@ -1,4 +1,4 @@
--- `resolving::sources::number_source` meets its contract.
+-- `number_source`: by whether the source resolves, and then by whether a number was left; each return has its law of NumbersLaws.
 use mathlib.Core.Path.{sym, ap, _∙_}
 use Rattle.inputs.specs.Table.{rowsIn}
 use Rattle.inputs.specs.ResolvedValue.{fileBy}
@@ -8,10 +8,6 @@ use Rattle.resolving.proofs.NumbersLaws.{number-nowhere, number-given, 
 use borrow.Author.Needs.{needs}
 use Rattle.resolving.proofs.sources.number_source.Statement.{statement}
 use Rattle.resolving.proofs.sources.number_source.Tie as tie
-use Rattle.resolving.proofs.sources.number_source.Reads as reads
-use Rattle.resolving.proofs.sources.number_source.Lts as lts
-use Rattle.inputs.proofs.resolve.Reads as resolve-reads
-use Rattle.scope.proofs.Scope.gen_id.Reads as gen-id-reads
 
 resolve-requires : tie.Need-resolve-requires
 resolve-requires c κs = search needs

@@ -1,4 +1,4 @@
--- `resolving::sources::number_sources` meets its contract. The invariant: numbering from here on gives what numbering from the
+-- `resolving::sources::number_sources`: the invariant: numbering from here on gives what numbering from the
 -- start gives.
 use mathlib.Core.Path.{_≡_, refl, sym, ap, _∙_}
 use native.Mathlib.Omega.{arith}
@@ -16,11 +16,6 @@ use Rattle.resolving.proofs.RecordsLaws.{source-stands}
 use Rattle.resolving.proofs.NumbersLaws.{numbers-end, numbers-more, numbers-stop}
 use Rattle.resolving.proofs.sources.number_sources.Statement.{statement}
 use Rattle.resolving.proofs.sources.number_sources.Tie as tie
-use Rattle.resolving.proofs.sources.number_sources.Reads as reads
-use Rattle.resolving.proofs.sources.number_sources.Lts as lts
-use Rattle.resolving.proofs.sources.number_source.Reads as number-source-reads
-use Rattle.resolving.proofs.sources.source_end.Reads as source-end-reads
-use Rattle.tree.proofs.layout.literal_value.Reads as literal-value-reads
 
 abbrev Inv-loop : tie.InvT-loop
 Inv-loop scope₀ table records at₀ scope at =

@@ -1,4 +1,4 @@
--- `resolving::sources::source_end` meets its contract.
+-- `source_end`: by whether a field stands at `at`, and whether it is an 83; the definition of `sourceEnd` then computes to the answer.
 use native.Mathlib.Omega.{arith}
 use mathlib.Core.Path.{sym, _∙_}
 use borrow.Author.Tests.{eq-eqb, ne-eqb}
@@ -7,9 +7,6 @@ use Rattle.resolving.specs.Records.{sourceOn, sourceEnd}
 use borrow.Author.Needs.{needs}
 use Rattle.resolving.proofs.sources.source_end.Statement.{statement}
 use Rattle.resolving.proofs.sources.source_end.Tie as tie
-use Rattle.resolving.proofs.sources.source_end.Reads as reads
-use Rattle.resolving.proofs.sources.source_end.Lts as lts
-use Rattle.tree.proofs.access.extent.Reads as extent-reads
 
 extent-requires : tie.Need-extent-requires
 extent-requires c κs = search needs

@@ -1,12 +1,10 @@
--- `resolving::specifiers::outside_at` meets its contract.
+-- `outside_at`: by the kind byte: 0, 2 or another; the definition of `outsideOf` then computes to the answer.
 use mathlib.Core.Path.{sym, ap}
 use borrow.Author.Tests.{ne-eqb}
 use Rattle.resolving.specs.Specifiers.{outsideOf}
 use borrow.Author.Needs.{needs}
 use Rattle.resolving.proofs.specifiers.outside_at.Statement.{statement}
 use Rattle.resolving.proofs.specifiers.outside_at.Tie as tie
-use Rattle.resolving.proofs.specifiers.outside_at.Reads as reads
-use Rattle.resolving.proofs.specifiers.outside_at.Lts as lts
 
 shared-slice-read-match : tie.Need-shared-slice-read-match
 shared-slice-read-match c = search needs

@@ -1,18 +1,11 @@
--- `resolving::specifiers::put_default` meets its contract.
+-- `put_default`: the writes follow one another (`wrote-then`), and opening and closing around them frames the field (`wrote-field`).
+-- `default-bytes` says that these are the bytes of the default's 91.
 use lib.Seq.{slice}
 use Rattle.resolving.proofs.SpecifiersLaws.{default-bytes}
 use Rattle.writer.proofs.Wrote.{wrote-as, wrote-then, wrote-field}
 use borrow.Author.Needs.{needs}
 use Rattle.resolving.proofs.specifiers.put_default.Statement.{statement}
 use Rattle.resolving.proofs.specifiers.put_default.Tie as tie
-use Rattle.resolving.proofs.specifiers.put_default.Reads as reads
-use Rattle.resolving.proofs.specifiers.put_default.Lts as lts
-use Rattle.writer.proofs.close_field.Reads as close-field-reads
-use Rattle.writer.proofs.copy.Reads as copy-reads
-use Rattle.writer.proofs.open_field.Reads as open-field-reads
-use Rattle.writer.proofs.put.Reads as put-reads
-use Rattle.writer.proofs.put_u16.Reads as put-u16-reads
-use Rattle.writer.proofs.put_u32.Reads as put-u32-reads
 
 open-field-requires : tie.Need-open-field-requires
 open-field-requires c κs = search needs

@@ -1,4 +1,4 @@
--- `resolving::specifiers::put_named` meets its contract.
+-- `put_named`: by the outside name: none and an identifier are written as they stand (`puts-done`), a string is refused (`puts-refused`).
 use mathlib.Core.Path.{refl, ap}
 use lib.Seq.{slice}
 use Rattle.resolving.specs.declared.specifiers.Outside.{Outside}
@@ -7,9 +7,6 @@ use Rattle.resolving.proofs.WritesLaws.{puts-done, puts-refused}
 use borrow.Author.Needs.{needs}
 use Rattle.resolving.proofs.specifiers.put_named.Statement.{statement}
 use Rattle.resolving.proofs.specifiers.put_named.Tie as tie
-use Rattle.resolving.proofs.specifiers.put_named.Reads as reads
-use Rattle.resolving.proofs.specifiers.put_named.Lts as lts
-use Rattle.resolving.proofs.specifiers.put_plain.Reads as put-plain-reads
 
 enum-told : tie.Need-enum-told
 enum-told c = search needs

@@ -1,4 +1,4 @@
--- `resolving::specifiers::put_namespace` meets its contract.
+-- `put_namespace`: the writes follow one another (`wrote-then`), and opening and closing around them frames the field (`wrote-field`).
 use mathlib.Core.Path.{ap, _∙_}
 use mathlib.Core.List.{_∷_, [], _++_}
 use Prim.Native.Nat.{ℕ}
@@ -9,13 +9,6 @@ use Rattle.resolving.proofs.WritesLaws.{framed-leaf}
 use borrow.Author.Needs.{needs}
 use Rattle.resolving.proofs.specifiers.put_namespace.Statement.{statement}
 use Rattle.resolving.proofs.specifiers.put_namespace.Tie as tie
-use Rattle.resolving.proofs.specifiers.put_namespace.Reads as reads
-use Rattle.resolving.proofs.specifiers.put_namespace.Lts as lts
-use Rattle.resolving.proofs.specifiers.all_byte.Reads as all-byte-reads
-use Rattle.writer.proofs.close_field.Reads as close-field-reads
-use Rattle.writer.proofs.copy.Reads as copy-reads
-use Rattle.writer.proofs.open_field.Reads as open-field-reads
-use Rattle.writer.proofs.put.Reads as put-reads
 
 open-field-requires : tie.Need-open-field-requires
 open-field-requires c κs = search needs

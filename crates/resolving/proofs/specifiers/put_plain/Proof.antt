@@ -1,14 +1,9 @@
--- `resolving::specifiers::put_plain` meets its contract.
+-- `put_plain`: opening and closing around the copy frames the field (`wrote-field`).
 use Rattle.writer.proofs.Wrote.{wrote-as, wrote-field}
 use Rattle.resolving.proofs.WritesLaws.{framed-leaf}
 use borrow.Author.Needs.{needs}
 use Rattle.resolving.proofs.specifiers.put_plain.Statement.{statement}
 use Rattle.resolving.proofs.specifiers.put_plain.Tie as tie
-use Rattle.resolving.proofs.specifiers.put_plain.Reads as reads
-use Rattle.resolving.proofs.specifiers.put_plain.Lts as lts
-use Rattle.writer.proofs.close_field.Reads as close-field-reads
-use Rattle.writer.proofs.copy.Reads as copy-reads
-use Rattle.writer.proofs.open_field.Reads as open-field-reads
 
 open-field-requires : tie.Need-open-field-requires
 open-field-requires c κs = search needs

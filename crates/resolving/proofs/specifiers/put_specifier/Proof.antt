@@ -1,4 +1,5 @@
--- `resolving::specifiers::put_specifier` meets its contract.
+-- `put_specifier`: fixed bytes that are not whole contradict the precondition (`read-short`).
+-- Otherwise by the specifier: `specifier-by` says what the rule makes of each kind. `named-inside` says that a 20 has its kind byte.
 use mathlib.Core.Path.{sym, _∙_}
 use native.Mathlib.Omega.{arith}
 use Prim.Native.Nat.{_+_}
@@ -8,13 +9,6 @@ use Rattle.resolving.proofs.SpecifiersLaws.{read-short, named-inside, s
 use borrow.Author.Needs.{needs}
 use Rattle.resolving.proofs.specifiers.put_specifier.Statement.{statement}
 use Rattle.resolving.proofs.specifiers.put_specifier.Tie as tie
-use Rattle.resolving.proofs.specifiers.put_specifier.Reads as reads
-use Rattle.resolving.proofs.specifiers.put_specifier.Lts as lts
-use Rattle.resolving.proofs.specifiers.put_default.Reads as put-default-reads
-use Rattle.resolving.proofs.specifiers.put_named.Reads as put-named-reads
-use Rattle.resolving.proofs.specifiers.put_namespace.Reads as put-namespace-reads
-use Rattle.resolving.proofs.specifiers.specifier_at.Reads as specifier-at-reads
-use Rattle.tree.proofs.access.fixed.Reads as fixed-reads
 
 shared-slice-read-fixed : tie.Need-shared-slice-read-fixed
 shared-slice-read-fixed c = search needs

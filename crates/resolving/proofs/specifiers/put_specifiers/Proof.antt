@@ -1,4 +1,4 @@
--- `resolving::specifiers::put_specifiers` meets its contract. The invariant: with the specifiers from here on, all of them are
+-- `resolving::specifiers::put_specifiers`: the invariant: with the specifiers from here on, all of them are
 -- written.
 use borrow.Author.Needs.{needs}
 use mathlib.Core.Path.{sym, _∙_}
@@ -14,10 +14,6 @@ use Rattle.resolving.proofs.WritesLaws.{onward-all, onward-end, onward-
 use Rattle.resolving.proofs.SpecifiersLaws.{specifiers-end, specifiers-more}
 use Rattle.resolving.proofs.specifiers.put_specifiers.Statement.{statement}
 use Rattle.resolving.proofs.specifiers.put_specifiers.Tie as tie
-use Rattle.resolving.proofs.specifiers.put_specifiers.Reads as reads
-use Rattle.resolving.proofs.specifiers.put_specifiers.Lts as lts
-use Rattle.resolving.proofs.specifiers.put_specifier.Reads as put-specifier-reads
-use Rattle.tree.proofs.access.extent.Reads as extent-reads
 
 abbrev Inv-loop : tie.InvT-loop
 Inv-loop s from end all list₀ o at₀ to₀ list at to = Onward (resolvedSpecifiers all (rowAt s from end) from) (resolvedSpecifiers all (rowAt s at end) at) list₀ o list to × FieldsRead s at end

@@ -1,13 +1,10 @@
--- `resolving::specifiers::specifier_at` meets its contract.
+-- `specifier_at`: by the tag: 20, 21 or another; the definition of `specifierAt` then computes to the answer.
 use native.Mathlib.Omega.{arith}
 use borrow.Author.Tests.{eq-eqb, ne-eqb}
 use Rattle.resolving.specs.Specifiers.{specifierAt}
 use borrow.Author.Needs.{needs}
 use Rattle.resolving.proofs.specifiers.specifier_at.Statement.{statement}
 use Rattle.resolving.proofs.specifiers.specifier_at.Tie as tie
-use Rattle.resolving.proofs.specifiers.specifier_at.Reads as reads
-use Rattle.resolving.proofs.specifiers.specifier_at.Lts as lts
-use Rattle.resolving.proofs.specifiers.outside_at.Reads as outside-at-reads
 
 shared-slice-read-match : tie.Need-shared-slice-read-match
 shared-slice-read-match c = search needs

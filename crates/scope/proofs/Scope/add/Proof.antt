@@ -1,4 +1,4 @@
--- `scope::Scope::add` meets its contract.
+-- `add`: `from-added` says what the five stores and the count do: the modules before n stay, and module n is an unmarked one of this file.
 use native.Mathlib.Omega.{arith}
 use Rattle.scope.specs.ScopeValue.{modulesOf}
 use Rattle.scope.proofs.ScopeValueLaws.{from-added}

@@ -1,4 +1,5 @@
--- `scope::Scope::from_cells` meets its contract.
+-- `from_cells`: the invariant says that the first k modules of the arrays are the first k in the cells.
+-- `cells-taken` adds module k: its five stores touch no module before it. At the end k is n, which is at most 256.
 use mathlib.Core.Path.{_≡_, refl}
 use Prim.Native.Nat.{_≤_, _-_, min}
 use native.Mathlib.Omega.{arith}

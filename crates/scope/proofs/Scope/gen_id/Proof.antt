@@ -1,4 +1,5 @@
--- `scope::Scope::gen_id` meets its contract.
+-- `gen_id`: `found-number` says that what the search found is the file's number by the rule. Then the rule's three cases:
+-- a known file (`gen-known`), a new one (`modules-added`), and a new one where there are 256 modules (`gen-refused`).
 use mathlib.Core.Path.{sym, _∙_, ap}
 use native.Mathlib.Omega.{arith}
 use borrow.Author.Needs.{length-unmapped, needs}

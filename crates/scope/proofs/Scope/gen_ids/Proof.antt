@@ -1,4 +1,5 @@
--- `scope::Scope::gen_ids` meets its contract.
+-- `gen_ids`: the invariant says that asking the scope so far for the files from i on gives what asking for the whole list gives.
+-- A file that is given is `list-goes-on`, one that is refused `list-stops`; with fewer than two bytes left it is `list-ends`.
 use mathlib.Core.Path.{_≡_, refl, sym, _∙_}
 use Prim.Native.Nat.{_≤_, _-_, _+_, _*_}
 use native.Mathlib.Omega.{arith}

@@ -1,4 +1,4 @@
--- `scope::Scope::get_mark` meets its contract.
+-- `get_mark`: `slot` promises the place that the definition reads; the rest is congruence.
 use borrow.Author.Needs.{needs}
 use Rattle.scope.proofs.Scope.get_mark.Statement.{statement}
 use Rattle.scope.proofs.Scope.get_mark.Tie as tie

@@ -1,4 +1,5 @@
--- `scope::Scope::has_mark` meets its contract.
+-- `has_mark`: by the test against the count, which is the number of modules (`modules-length`). Below it the cell that is read is the
+-- module's mark (`modules-marked`); from it on the rule refuses too (`read-refused`).
 use mathlib.Core.Path.{sym, _∙_, ap}
 use native.Mathlib.Omega.{arith}
 use Rattle.scope.specs.Modules.{done}

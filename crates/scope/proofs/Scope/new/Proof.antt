@@ -1,4 +1,4 @@
--- `scope::Scope::new` meets its contract.
+-- `new`: a count of 0 stands for no modules, by computation.
 use mathlib.Core.Path.{refl}
 use Rattle.scope.specs.ScopeValue.{modulesFrom, modulesOf}
 use Rattle.scope.proofs.Scope.new.Statement.{statement}

@@ -1,4 +1,4 @@
--- `scope::Scope::put_mark` meets its contract.
+-- `put_mark`: `slot` promises the place that the definition writes; the rest is congruence.
 use borrow.Author.Needs.{needs}
 use Rattle.scope.proofs.Scope.put_mark.Statement.{statement}
 use Rattle.scope.proofs.Scope.put_mark.Tie as tie

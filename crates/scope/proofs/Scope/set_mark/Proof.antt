@@ -1,4 +1,5 @@
--- `scope::Scope::set_mark` meets its contract.
+-- `set_mark`: by the test against the count, which is the number of modules (`modules-length`). Below it the store sets this mark of this
+-- module and no other (`modules-set`); from it on the rule refuses too (`marking-refused`).
 use mathlib.Core.Path.{sym}
 use native.Mathlib.Omega.{arith}
 use borrow.Author.Needs.{length-unmapped, needs}

@@ -1,4 +1,5 @@
--- `scope::Scope::to_cells` meets its contract.
+-- `to_cells`: the invariant says that the first k modules in the cells are the first k of the scope, and that only cells from base up to
+-- base + 512 were written. `cells-put` adds module k, whose marks `four_bits` lets be read back; `rewrites-set` allows the two stores.
 use mathlib.Core.Path.{_≡_, refl, _∙_}
 use Prim.Native.Nat.{_≤_, _-_, _+_}
 use native.Mathlib.Omega.{arith}

@@ -1,4 +1,5 @@
--- `scope::Scope::wrapped_esm_id` meets its contract.
+-- `wrapped_esm_id`: where a reading of the two marks is refused, the rule refuses (`esm-refused`). Two values determine the rule's answer
+-- (`esm-read`); then a split on each of them.
 use Rattle.scope.specs.declared.id.SyntaxContext.{SyntaxContext}
 use mathlib.Core.Path.{sym, _∙_, ap}
 use mathlib.Core.Bool.{Bool, true}

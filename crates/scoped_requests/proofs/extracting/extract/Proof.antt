@@ -1,4 +1,5 @@
--- `scoped_requests::extracting::extract` meets its contract.
+-- `extract`: `AskedIn`, which `read_asked` ensures, bounds the parts of the buffers and is what `extract_into` asks.
+-- The rest is `search needs`.
 use native.Mathlib.Omega.{arith}
 use mathlib.Core.Path.{subst}
 use Rattle.request_fields.specs.Places.{AskedIn}

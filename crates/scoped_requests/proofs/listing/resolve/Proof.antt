@@ -1,4 +1,5 @@
--- `scoped_requests::listing::resolve` meets its contract.
+-- `resolve`: each read starts where the one before it ended; `BytesIn` says that it ends no earlier and within `lent`.
+-- `RoomIn`, which `room_at` ensures, bounds the part of `list`; the rest is arithmetic or `search needs`.
 use native.Mathlib.Omega.{arith}
 use lib.ListN.{length}
 use mathlib.Core.Path.{subst}

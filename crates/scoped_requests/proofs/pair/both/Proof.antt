@@ -1,4 +1,5 @@
--- `scoped_requests::pair::both` meets its contract.
+-- `both`: `AskedIn`, which `read_asked` ensures, bounds three parts and is what `both_into` asks; `RoomIn` bounds the part of `list`.
+-- The rest is `search needs`.
 use native.Mathlib.Omega.{arith}
 use lib.ListN.{length}
 use mathlib.Core.Path.{subst}

@@ -1,4 +1,4 @@
--- `show::fields::open_at` meets its contract. The invariant: the depth only falls.
+-- `show::fields::open_at`: the invariant: the depth only falls.
 use Prim.Native.Nat.{_≤_}
 use native.Mathlib.Omega.{arith}
 use Rattle.show.proofs.fields.open_at.Statement.{statement}

@@ -1,4 +1,5 @@
--- `show::fields::show` meets its contract. The invariant: the depth is within the ends that are kept; the place rises, since a field's head takes three bytes.
+-- `show`: the invariant says that the depth is within the ends that are kept. The place rises, since a field's head takes three bytes
+-- (`SpotIn`): what is left of the bytes is the measure.
 use Prim.Native.Nat.{_<_, _-_}
 use borrow.Author.Needs.{needs}
 use mathlib.Core.Path.{subst}

@@ -1,4 +1,4 @@
--- `show::fields::spot_of` meets its contract.
+-- `spot_of`: the field ends inside (`extent-in`), and its parts start within it, as `fixed_of` promises.
 use Prim.Native.Nat.{_+_}
 use borrow.Author.Needs.{needs}
 use mathlib.Core.Path.{sym, subst, _∙_}

@@ -1,4 +1,4 @@
--- `show::line::indent` meets its contract. The invariant: the place is within the line.
+-- `show::line::indent`: the invariant: the place is within the line.
 use Prim.Native.Nat.{_≤_, _-_}
 use lib.ListN.{length}
 use mathlib.Core.Path.{_≡_}

@@ -1,4 +1,4 @@
--- `show::line::is_plain` meets its contract.
+-- `is_plain`: no contract; the loop's test keeps each index inside, and what is left of the bytes is the measure.
 use Prim.Native.Nat.{_-_}
 use lib.ListN.{length}
 use native.Mathlib.Omega.{arith}

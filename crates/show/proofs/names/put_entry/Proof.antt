@@ -1,4 +1,4 @@
--- `show::names::put_entry` meets its contract. The invariant: the place is at most one past the names.
+-- `show::names::put_entry`: the invariant: the place is at most one past the names.
 use Prim.Native.Nat.{_≤_, _-_, _+_}
 use lib.ListN.{length}
 use mathlib.Core.Path.{_≡_}

@@ -1,4 +1,4 @@
--- `show::resolved::fixed_of` meets its contract.
+-- `fixed_of`: for 90, 91 and 92 it is arithmetic; for every other tag the fixed bytes end inside the field (`fixed-in`).
 use mathlib.Core.Path.{sym, subst}
 use native.Mathlib.Omega.{arith}
 use Rattle.tree.proofs.AccessLaws.{ReachIn, fixed-in}

@@ -1,3 +1,5 @@
+-- `force_id`: after `forget`, by what `holder` found in the array: no record, and nothing is forced (`forced-none`), or the record whose
+-- source `force_source` then forces (`forced-some`).
 use mathlib.Core.Path.{ap, subst}
 use Rattle.inputs.specs.Lists.{find}
 use Rattle.extraction_rules.specs.First.{holdsNamespace}
@@ -7,33 +9,22 @@ use Rattle.state.proofs.ForcedLaws.{forced-none, forced-some}
 use borrow.Author.Needs.{needs}
 use Rattle.state.proofs.forced.force_id.Statement.{statement}
 use Rattle.state.proofs.forced.force_id.Tie as tie
-use Rattle.state.proofs.forced.force_id.Reads as reads
-use Rattle.state.proofs.forced.force_id.Lts as lts
-use Rattle.state.proofs.forced.force_source.Reads as force-source-reads
-use Rattle.state.proofs.imported.forget.Reads as forget-reads
-use Rattle.state.proofs.records.holder.Reads as holder-reads
 
--- src/forced.rt:47:5
 forget-requires : tie.Need-forget-requires
 forget-requires c κs = search needs
 
--- src/forced.rt:48:32
 holder-requires : tie.Need-holder-requires
 holder-requires c κs = search needs
 
--- src/forced.rt:48:22
 enum-known-source : tie.Need-enum-known-source
 enum-known-source c = search needs
 
--- src/forced.rt:49:9
 enum-told : tie.Need-enum-told
 enum-told c = search needs
 
--- src/forced.rt:49:9
 same-length : tie.Need-same-length
 same-length c = search needs
 
--- src/forced.rt:49:9
 returns : tie.Need-returns
 returns c =
     let c6 = c .before .before .before .before .before .before in
@@ -42,15 +33,12 @@ returns c =
     (subst (Tells (λ s. sourceOf (find (holdsNamespace (idOf (c9 .args .id))) (s .collected))) (c6 .forget .last .0))
     (ap sourceBy (c .enum-told .given .1)) (c .before .before .holder .ensures))
 
--- src/forced.rt:51:5
 force-source-requires : tie.Need-force-source-requires
 force-source-requires c κs = search needs
 
--- src/forced.rt:43:1
 same-length-2 : tie.Need-same-length-2
 same-length-2 c = search needs
 
--- src/forced.rt:43:1
 returns-2 : tie.Need-returns-2
 returns-2 c =
     let c5 = c .before .before .before .before .before in

@@ -1,3 +1,5 @@
+-- `force_source`: forced before (`force-again`), new with room (`force-new`), or new without room. A full table shows no state that asks
+-- for more (`force-full`): forced sources are sources of collected records, each once, and no more than 256 records are collected.
 use mathlib.Core.Path.{subst}
 use native.Mathlib.Omega.{arith}
 use Rattle.tree.specs.Layout.{two}
@@ -8,45 +10,32 @@ use Rattle.state.proofs.ForcedLaws.{force-again, force-new, force-full}
 use borrow.Author.Needs.{needs}
 use Rattle.state.proofs.forced.force_source.Statement.{statement}
 use Rattle.state.proofs.forced.force_source.Tie as tie
-use Rattle.state.proofs.forced.force_source.Reads as reads
-use Rattle.state.proofs.forced.force_source.Lts as lts
-use Rattle.state.proofs.forced.is_forced.Reads as is-forced-reads
-use Rattle.tables.proofs.count_of.Reads as count-of-reads
-use Rattle.tables.proofs.push.Reads as push-reads
 
--- src/forced.rt:34:8
 is-forced-requires : tie.Need-is-forced-requires
 is-forced-requires c κs = search needs
 
--- src/forced.rt:35:9
 same-length : tie.Need-same-length
 same-length c = search needs
 
--- src/forced.rt:35:9
 returns : tie.Need-returns
 returns c =
     let c4 = c .before .before .before .before in
     force-again (c4 .args .source .0) (c4 .pre) (subst (Tells (λ s. among (two (c4 .args .source .0)) (s .forced)) (c4 .args .t .now)) (c .if1 .taken) (c .before .is-forced .ensures))
 
--- src/forced.rt:37:8
 count-of-requires : tie.Need-count-of-requires
 count-of-requires c κs = c .before .before .before .before .before .pre .lies forces
 
--- src/forced.rt:38:33
 cast-push : tie.Need-cast-push
 cast-push c = search needs
 
--- src/forced.rt:38:9
 push-requires : tie.Need-push-requires
 push-requires c κs =
     let c9 = c .before .before .before .before .before .before .before .before .before in
     (c9 .pre .lies forces, omega arith)
 
--- src/forced.rt:30:1
 same-length-2 : tie.Need-same-length-2
 same-length-2 c = search needs
 
--- src/forced.rt:30:1
 returns-2 : tie.Need-returns-2
 returns-2 c =
     let c8 = c .before .before .before .before .before .before .before .before in
@@ -56,11 +45,9 @@ returns-2 c =
     (subst (Tells (λ s. among (two (c12 .args .source .0)) (s .forced)) (c12 .args .t .now)) (c8 .if1 .left) (c9 .is-forced .ensures))
     (omega arith) (c .before .before .push .ensures .0) (c .before .before .push .ensures .1)
 
--- src/forced.rt:30:1
 same-length-3 : tie.Need-same-length-3
 same-length-3 c = search needs
 
--- src/forced.rt:30:1
 returns-3 : tie.Need-returns-3
 returns-3 c =
     let c3 = c .before .before .before in

@@ -1,21 +1,16 @@
+-- `forced_at`: the row's key is the forced source at this place (`forced-source`). It fits two bytes (`forced-small`), as the cast needs.
 use Rattle.state.specs.Cells.{forces}
 use Rattle.state.proofs.PlaceLaws.{forced-small, forced-source}
 use native.Mathlib.Omega.{arith}
 use Rattle.state.proofs.forced.forced_at.Statement.{statement}
 use Rattle.state.proofs.forced.forced_at.Tie as tie
-use Rattle.state.proofs.forced.forced_at.Reads as reads
-use Rattle.state.proofs.forced.forced_at.Lts as lts
-use Rattle.tables.proofs.key_of.Reads as key-of-reads
 
--- src/forced.rt:68:10
 key-of-requires : tie.Need-key-of-requires
 key-of-requires c κs = (c .before .pre .0 .lies forces, c .before .pre .1)
 
--- src/forced.rt:68:10
 cast-t5 : tie.Need-cast-t5
 cast-t5 c = let b = forced-small (c .before .before .pre .0) (c .before .before .pre .1) (c .key-of .ensures) in omega arith
 
--- src/forced.rt:64:1
 returns : tie.Need-returns
 returns c = forced-source (c .before .before .pre .1) (c .key-of .ensures)
 

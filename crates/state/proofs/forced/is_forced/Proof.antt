@@ -1,4 +1,4 @@
--- `state::forced::is_forced` meets its contract.
+-- `is_forced`: `forced-told` says that a row with this key is found just where the source is among the forced ones, in both cases.
 use native.Mathlib.Omega.{arith}
 use mathlib.Core.Path.{sym, ap, _∙_}
 use Rattle.tables.specs.Rows.{placeBy}

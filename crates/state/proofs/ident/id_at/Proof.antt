@@ -1,4 +1,4 @@
--- `state::ident::id_at` meets its contract.
+-- `id_at`: `id-stands` says that the atom's number and the context's number at this place make the six bytes that stand there.
 use mathlib.Core.Path.{_∙_, ap₂}
 use mathlib.Core.List.{_++_}
 use Prim.Native.Nat.{ℕ}

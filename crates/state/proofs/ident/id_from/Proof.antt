@@ -1,4 +1,4 @@
--- `state::ident::id_from` meets its contract.
+-- `id_from`: `id-made` says that of name * 2^32 + context, the context below 2^32, the id is the name's bytes and the context's.
 use native.Mathlib.Omega.{arith}
 use Rattle.state.proofs.IdentLaws.{id-made}
 use borrow.Author.Needs.{needs}

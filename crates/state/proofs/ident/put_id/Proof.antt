@@ -1,4 +1,5 @@
--- `state::ident::put_id` meets its contract.
+-- `put_id`: two writes, one behind the other (`wrote-then`); `id-written` says that the quotient's two bytes and the remainder's four are
+-- the id.
 use mathlib.Core.Path.{ap, _∙_}
 use mathlib.Core.List.{_++_}
 use Prim.Native.Nat.{ℕ, _%_}

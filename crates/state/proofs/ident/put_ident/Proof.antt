@@ -1,4 +1,5 @@
--- `state::ident::put_ident` meets its contract.
+-- `put_ident`: a field is opened, the id written, and the field closed (`wrote-field`); what stands there encodes a 60 without parts
+-- (`framed-leaf`).
 use Rattle.writer.proofs.Wrote.{wrote-as, wrote-field}
 use borrow.Author.Needs.{needs}
 use Rattle.state.proofs.ident.put_ident.Statement.{statement}

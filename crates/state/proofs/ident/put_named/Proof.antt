@@ -1,4 +1,5 @@
--- `state::ident::put_named` meets its contract.
+-- `put_named`: a field is opened, the id and a 0 written, and the field closed (`wrote-field`); what stands there encodes a 20 without
+-- parts (`framed-leaf`).
 use Rattle.writer.proofs.Wrote.{wrote-then, wrote-as, wrote-field}
 use borrow.Author.Needs.{needs}
 use Rattle.state.proofs.ident.put_named.Statement.{statement}

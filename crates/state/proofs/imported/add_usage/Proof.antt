@@ -1,10 +1,10 @@
--- `state::imported::add_usage` meets its contract.
+-- `add_usage`: by the room: with room the row that is pushed is the usage appended (`usage-made`), without it the rule refuses with 8
+-- (`usage-full`).
 use Rattle.state.specs.Cells.{uses}
 use native.Mathlib.Omega.{arith}
 use Rattle.state.proofs.UsageLaws.{usage-made, usage-full}
 use borrow.Author.Needs.{needs}
 use Rattle.state.proofs.imported.add_usage.Statement.{statement}
--- `state::imported::add_usage` meets its contract.
 use Rattle.state.proofs.imported.add_usage.Tie as tie
 
 count-of-requires : tie.Need-count-of-requires

@@ -1,4 +1,4 @@
--- `state::imported::count_usages` meets its contract.
+-- `count_usages`: the table's rows are the usages of every state that the array shows (`usages-counted`).
 use Rattle.state.specs.Cells.{uses}
 use Rattle.state.proofs.UsageLaws.{usages-counted}
 use Rattle.state.proofs.imported.count_usages.Statement.{statement}

@@ -1,9 +1,9 @@
--- `state::imported::forget` meets its contract.
+-- `forget`: the first drop leaves the tables good (`uses-dropped`), so the second may be made; `forgotten` says that both together drop the
+-- id's usages and its imported entry.
 use Rattle.state.specs.Cells.{imports, uses}
 use Rattle.state.proofs.UsageLaws.{uses-dropped, forgotten}
 use borrow.Author.Needs.{needs}
 use Rattle.state.proofs.imported.forget.Statement.{statement}
--- `state::imported::forget` meets its contract.
 use Rattle.state.proofs.imported.forget.Tie as tie
 
 drop-key-requires : tie.Need-drop-key-requires

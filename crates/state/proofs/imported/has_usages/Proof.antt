@@ -1,4 +1,4 @@
--- `state::imported::has_usages` meets its contract.
+-- `has_usages`: `usages-told` says that a row with this key is found just where the id has usages, in both cases.
 use mathlib.Core.Path.{sym, ap, _∙_}
 use Rattle.tables.specs.Rows.{placeBy}
 use Rattle.state.specs.Cells.{uses}

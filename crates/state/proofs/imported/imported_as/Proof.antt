@@ -1,4 +1,5 @@
--- `state::imported::imported_as` meets its contract.
+-- `imported_as`: `context-told` says that the value of the first row with this key is the id's context, and no row that it has none.
+-- The row stands in the table (`first-below`), and its value is below the table's limit (`below-row`), so the cast keeps it.
 use native.Mathlib.Omega.{arith}
 use mathlib.Core.Path.{sym, ap, subst, _∙_}
 use mathlib.Core.Option.{some}

@@ -1,4 +1,5 @@
--- `state::imported::note_id` meets its contract.
+-- `note_id`: the id has an entry, which gets the context (`noted-again`); it has none and there is room (`noted-new`); or there is no room,
+-- and the rule refuses with 8 (`noted-full`).
 use mathlib.Core.Path.{_∙_, sym, ap}
 use Rattle.tables.specs.Rows.{placeBy}
 use Rattle.state.specs.Cells.{imports}
@@ -7,7 +8,6 @@ use Rattle.state.proofs.ListLaws.{first-below}
 use Rattle.state.proofs.ImportedLaws.{noted-again, noted-new, noted-full}
 use borrow.Author.Needs.{needs}
 use Rattle.state.proofs.imported.note_id.Statement.{statement}
--- `state::imported::note_id` meets its contract.
 use Rattle.state.proofs.imported.note_id.Tie as tie
 
 find-requires : tie.Need-find-requires

@@ -1,4 +1,5 @@
--- `state::imported::usage_at` meets its contract.
+-- `usage_at`: by whether the row's key is the id: its value is then the next usage in the list (`listed-is`), else the list goes on without
+-- it (`listed-other`).
 use mathlib.Core.Path.{sym, subst, _∙_}
 use Prim.Native.Nat.{ℕ}
 use Rattle.state.specs.Cells.{uses, idOf}

@@ -1,4 +1,5 @@
--- `state::modules::load` meets its contract.
+-- `load`: `to_cells` writes only cells of the modules' table, so with the count stored the array shows these modules and all else as
+-- before (`modules-loaded`).
 use native.Mathlib.Omega.{arith}
 use Rattle.state.specs.Cells.{modules}
 use Rattle.state.proofs.ModulesLaws.{modules-loaded}

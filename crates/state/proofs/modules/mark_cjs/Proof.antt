@@ -1,4 +1,4 @@
--- `state::modules::mark_cjs` meets its contract.
+-- `mark_cjs`: the table as a scope, one mark in it, and back: `module-marked` joins the three contracts, also for a number not given.
 use Rattle.scope.specs.declared.Mark.the-variants.{Cjs}
 use Rattle.state.proofs.ModulesLaws.{module-marked}
 use borrow.Author.Needs.{needs}

@@ -1,4 +1,5 @@
--- `state::modules::module_for` meets its contract.
+-- `module_for`: by what `resolve` found, which is what the rule finds: a file is requested, and without one the state stays
+-- (`source-unresolved`).
 use mathlib.Core.Path.{sym, ap, subst, _∙_}
 use mathlib.Core.Option.{Option}
 use Prim.Native.Nat.{ℕ}

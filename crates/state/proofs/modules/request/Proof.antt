@@ -1,4 +1,5 @@
--- `state::modules::request` meets its contract.
+-- `request`: by the scope's answer: given, and the modules are loaded back (`request-made`); a 257th file, and the rule refuses with 5
+-- (`request-full`).
 use Rattle.state.proofs.ModulesLaws.{request-made, request-full}
 use borrow.Author.Needs.{needs}
 use Rattle.state.proofs.modules.request.Statement.{statement}

@@ -1,4 +1,4 @@
--- `state::modules::scope_of` meets its contract.
+-- `scope_of`: the cells that `from_cells` reads are the rows of the modules' table (`modules-told`).
 use native.Mathlib.Omega.{arith}
 use Rattle.state.specs.Cells.{modules}
 use Rattle.state.proofs.ModulesLaws.{modules-told}

@@ -1,3 +1,5 @@
+-- `add_namespace`: a full table shows no state that may get one more (`extended-full`). Else the push keeps the records (`met-records`);
+-- then by the record's value: 0, and this is its first namespace (`extended-first`), or it has one (`extended-again`).
 use mathlib.Core.Path.{sym, ap, _∙_}
 use native.Mathlib.Omega.{arith}
 use lib.ListN.{length}
@@ -6,32 +8,21 @@ use Rattle.state.proofs.ExtendLaws.{met-good, met-records, extended-aga
 use borrow.Author.Needs.{needs}
 use Rattle.state.proofs.records.add_namespace.Statement.{statement}
 use Rattle.state.proofs.records.add_namespace.Tie as tie
-use Rattle.state.proofs.records.add_namespace.Reads as reads
-use Rattle.state.proofs.records.add_namespace.Lts as lts
-use Rattle.tables.proofs.count_of.Reads as count-of-reads
-use Rattle.tables.proofs.push.Reads as push-reads
-use Rattle.tables.proofs.set_value.Reads as set-value-reads
-use Rattle.tables.proofs.value_of.Reads as value-of-reads
 
--- src/records.rt:88:16
 count-of-requires : tie.Need-count-of-requires
 count-of-requires c κs = c .before .before .pre .0 .lies namespaces
 
--- src/records.rt:89:9
 same-length : tie.Need-same-length
 same-length c = search needs
 
--- src/records.rt:89:9
 returns : tie.Need-returns
 returns c =
     let c4 = c .before .before .before .before in
     extended-full (c4 .args .i) (idOf (c4 .args .id)) (c4 .pre .0) (omega arith)
 
--- src/records.rt:91:5
 push-requires : tie.Need-push-requires
 push-requires c κs = (c .before .before .before .before .before .pre .0 .lies namespaces, omega arith)
 
--- src/records.rt:92:8
 value-of-requires : tie.Need-value-of-requires
 value-of-requires c κs =
     let c3 = c .before .before .before in
@@ -44,11 +35,9 @@ value-of-requires c κs =
           (c3 .push .ensures .1)) in let b = c9 .pre .1 in omega arith,
     )
 
--- src/records.rt:93:42
 add-set-value : tie.Need-add-set-value
 add-set-value c = search needs
 
--- src/records.rt:93:9
 set-value-requires : tie.Need-set-value-requires
 set-value-requires c κs =
     let c6 = c .before .before .before .before .before .before in
@@ -61,11 +50,9 @@ set-value-requires c κs =
           (c6 .push .ensures .1)) in let b = c12 .pre .1 in omega arith,
     )
 
--- src/records.rt:84:1
 same-length-2 : tie.Need-same-length-2
 same-length-2 c = search needs
 
--- src/records.rt:84:1
 returns-2 : tie.Need-returns-2
 returns-2 c =
     let c4 = c .before .before .before .before in
@@ -76,11 +63,9 @@ returns-2 c =
     (c9 .push .ensures .1) (sym (c5 .value-of .ensures) ∙ c4 .if2 .taken) (c .before .before .set-value .ensures .0)
     (c .before .before .set-value .ensures .1)
 
--- src/records.rt:84:1
 same-length-3 : tie.Need-same-length-3
 same-length-3 c = search needs
 
--- src/records.rt:84:1
 returns-3 : tie.Need-returns-3
 returns-3 c =
     let c5 = c .before .before .before .before .before in

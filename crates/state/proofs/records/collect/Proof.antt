@@ -1,4 +1,5 @@
--- `state::records::collect` meets its contract.
+-- `collect`: the range of keys is that of all literals with this value. A record in it (`collected-again`), none and room
+-- (`collected-new`), or none and no room, where the rule refuses with 8 (`collected-full`).
 use mathlib.Core.Path.{_∙_, sym, ap}
 use Rattle.tables.specs.Rows.{placeBy}
 use Rattle.state.specs.Cells.{records}
@@ -6,7 +7,6 @@ use native.Mathlib.Omega.{arith}
 use Rattle.state.proofs.CollectLaws.{collected-again, collected-new, collected-full}
 use borrow.Author.Needs.{needs}
 use Rattle.state.proofs.records.collect.Statement.{statement}
--- `state::records::collect` meets its contract.
 use Rattle.state.proofs.records.collect.Tie as tie
 
 sub-low : tie.Need-sub-low

@@ -1,16 +1,12 @@
+-- `count_records`: the table's rows are the collected records of every state that the array shows (`records-counted`).
 use Rattle.state.specs.Cells.{records}
 use Rattle.state.proofs.PlaceLaws.{records-counted}
 use Rattle.state.proofs.records.count_records.Statement.{statement}
 use Rattle.state.proofs.records.count_records.Tie as tie
-use Rattle.state.proofs.records.count_records.Reads as reads
-use Rattle.state.proofs.records.count_records.Lts as lts
-use Rattle.tables.proofs.count_of.Reads as count-of-reads
 
--- src/records.rt:103:5
 count-of-requires : tie.Need-count-of-requires
 count-of-requires c κs = c .before .pre .lies records
 
--- src/records.rt:99:1
 returns : tie.Need-returns
 returns c = (records-counted (c .count-of .ensures .0), c .count-of .ensures .0)
 

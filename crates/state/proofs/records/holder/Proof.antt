@@ -1,3 +1,5 @@
+-- `holder`: the least value among the id's rows is the place of the first record that holds it (`holder-told`); a place past the records
+-- is shown by no state (`holder-past`).
 use mathlib.Core.Path.{_≡_, sym, ap, subst, _∙_}
 use native.Mathlib.Omega.{arith}
 use Rattle.tables.specs.Rows.{leastBy}
@@ -9,36 +11,25 @@ use Rattle.state.proofs.RecordLaws.{holder-past, holder-told}
 use borrow.Author.Needs.{needs}
 use Rattle.state.proofs.records.holder.Statement.{statement}
 use Rattle.state.proofs.records.holder.Tie as tie
-use Rattle.state.proofs.records.holder.Reads as reads
-use Rattle.state.proofs.records.holder.Lts as lts
-use Rattle.state.proofs.records.source_at.Reads as source-at-reads
-use Rattle.tables.proofs.count_of.Reads as count-of-reads
-use Rattle.tables.proofs.least_value.Reads as least-value-reads
 
--- src/records.rt:51:9
 least-value-requires : tie.Need-least-value-requires
 least-value-requires c κs = c .before .pre .0 .lies namespaces
 
--- src/records.rt:53:21
 enum-known-least : tie.Need-enum-known-least
 enum-known-least c = search needs
 
--- src/records.rt:53:45
 count-of-requires : tie.Need-count-of-requires
 count-of-requires c κs = c .before .before .before .before .before .pre .0 .lies records
 
--- src/records.rt:54:13
 source-at-requires : tie.Need-source-at-requires
 source-at-requires c κs =
     let c3 = c .before .before .before in
     let c7 = c3 .before .before .before .before in
     (c7 .pre .0, λ i e. let z : c3 .least .given .0 .0 ≡ i = cc in omega arith)
 
--- src/records.rt:58:24
 enum-told : tie.Need-enum-told
 enum-told c = search needs
 
--- src/records.rt:47:1
 returns : tie.Need-returns
 returns c =
     let c4 = c .before .before .before .before in
@@ -47,7 +38,6 @@ returns c =
     subst (Tells (λ s. sourceOf (find (holdsNamespace (idOf (c8 .args .id))) (s .collected))) (c8 .args .t .now)) (sym (c .source-at .ensures))
     (holder-told (c8 .pre .1) (ap leastBy (sym (c4 .least .given .1)) ∙ c6 .least-value .ensures))
 
--- src/records.rt:47:1
 returns-2 : tie.Need-returns-2
 returns-2 c =
     let c3 = c .before .before .before in
@@ -55,7 +45,6 @@ returns-2 c =
     let c7 = c5 .before .before in
     holder-past (c7 .pre .1) (ap leastBy (sym (c3 .least .given .1)) ∙ c5 .least-value .ensures) (omega arith)
 
--- src/records.rt:47:1
 returns-3 : tie.Need-returns-3
 returns-3 c = holder-told (c .before .before .before .before .pre .1) (ap leastBy (sym (c .enum-told .given .1)) ∙ c .before .before .least-value .ensures)
 

@@ -1,16 +1,12 @@
+-- `record_literal`: the row's key is the literal of the record at this place, and below the table's limit (`record-at`).
 use Rattle.state.specs.Cells.{records}
 use Rattle.state.proofs.PlaceLaws.{record-at}
 use Rattle.state.proofs.records.record_literal.Statement.{statement}
 use Rattle.state.proofs.records.record_literal.Tie as tie
-use Rattle.state.proofs.records.record_literal.Reads as reads
-use Rattle.state.proofs.records.record_literal.Lts as lts
-use Rattle.tables.proofs.key_of.Reads as key-of-reads
 
--- src/records.rt:111:5
 key-of-requires : tie.Need-key-of-requires
 key-of-requires c κs = (c .before .pre .0 .lies records, c .before .pre .1)
 
--- src/records.rt:107:1
 returns : tie.Need-returns
 returns c = record-at (c .before .before .pre .0) (c .before .before .pre .1) (c .key-of .ensures)
 

@@ -1,4 +1,5 @@
--- `state::records::source_at` meets its contract.
+-- `source_at`: a split on the place. The key is below its limit (`below-row`), so the cast of its upper part keeps it; that part is the
+-- literal's value (`id-name`).
 use mathlib.Core.Path.{sym, ap, _∙_}
 use mathlib.Core.Option.{some}
 use Prim.Native.Nat.{ℕ, _/_}

@@ -1,4 +1,5 @@
--- `state::records::used_record` meets its contract.
+-- `used_record`: by whether the id's context is the own local one: then a range of values is searched, which is that of all ids with this
+-- name (`used-name`), else this id alone (`used-id`). A row that is found stands in the table (`first-value-below`).
 use Rattle.tables.specs.Rows.{rows}
 use mathlib.Core.Path.{sym, ap, subst, _∙_}
 use native.Mathlib.Omega.{arith}

@@ -1,10 +1,10 @@
--- `state::rest::add_lazy` meets its contract.
+-- `add_lazy`: by the room: with room the row that is pushed is the lazy record appended (`lazy-made`), without it the rule refuses with 8
+-- (`lazy-full`).
 use Rattle.state.proofs.RestLaws.{lazy-made, lazy-full}
 use Rattle.state.specs.Cells.{lazies}
 use native.Mathlib.Omega.{arith}
 use borrow.Author.Needs.{needs}
 use Rattle.state.proofs.rest.add_lazy.Statement.{statement}
--- `state::rest::add_lazy` meets its contract.
 use Rattle.state.proofs.rest.add_lazy.Tie as tie
 
 count-of-requires : tie.Need-count-of-requires

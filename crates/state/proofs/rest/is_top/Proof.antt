@@ -1,4 +1,4 @@
--- `state::rest::is_top` meets its contract.
+-- `is_top`: the cell holds 1 just where the flag is set in the state (`top-told`).
 use native.Mathlib.Omega.{arith}
 use Rattle.state.specs.Cells.{imports}
 use Rattle.state.proofs.RestLaws.{top-told}

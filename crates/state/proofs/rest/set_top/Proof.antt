@@ -1,4 +1,4 @@
--- `state::rest::set_top` meets its contract.
+-- `set_top`: `top-set` says that storing a flag's number in its cell sets it in the state and changes no table; once for each flag.
 use Rattle.state.proofs.RestLaws.{top-set}
 use native.Mathlib.Omega.{arith}
 use mathlib.Core.Path.{subst, sym}
@@ -9,7 +9,6 @@ use Rattle.state.specs.Cells.{imports}
 use Rattle.state.specs.Does.{Turns}
 use borrow.Author.Needs.{needs}
 use Rattle.state.proofs.rest.set_top.Statement.{statement}
--- `state::rest::set_top` meets its contract.
 use Rattle.state.proofs.rest.set_top.Tie as tie
 
 slice-write-t : tie.Need-slice-write-t

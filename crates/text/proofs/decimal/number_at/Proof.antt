@@ -1,4 +1,5 @@
--- `text::decimal::number_at` meets its contract.
+-- `number_at`: the span that `field` found is the definition's: without one the answer is Bad; else `read_decimal` reads the span, which
+-- lies within the text.
 use mathlib.Core.Path.{subst, sym, refl, _∙_}
 use native.Mathlib.Omega.{arith}
 use borrow.Author.Needs.{needs}

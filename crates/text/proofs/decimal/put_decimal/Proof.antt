@@ -1,4 +1,4 @@
--- `text::decimal::put_decimal` meets its contract.
+-- `put_decimal`: `io::decimal` promises the fewest digits that hold n, and `put_all` writes them.
 use borrow.Author.Needs.{needs}
 use Rattle.text.proofs.WriteLaws.{written-as}
 use Rattle.text.proofs.decimal.put_decimal.Statement.{statement}

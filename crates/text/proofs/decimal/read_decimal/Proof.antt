@@ -1,4 +1,4 @@
--- `text::decimal::read_decimal` meets its contract. The invariant: the characters so far are the digits of the number so far.
+-- `text::decimal::read_decimal`: the invariant: the characters so far are the digits of the number so far.
 use Prim.Native.Nat.{_-_, _^_, _≤_, _<_}
 use borrow.Author.Needs.{needs}
 use lib.Seq.{slice}

@@ -1,4 +1,4 @@
--- `text::fields::field` meets its contract. The invariant: the field that is looked for is the one with the number that is left, from the place reached on.
+-- `field`: the invariant says that the field number `left` from the place reached is the field number k from the start; `left` falls.
 use Prim.Native.Nat.{_≤_}
 use mathlib.Core.Path.{_≡_, refl, sym, _∙_}
 use native.Mathlib.Omega.{arith}

@@ -1,4 +1,4 @@
--- `text::fields::find` meets its contract. The invariant: the place so far and what is left before the first b make the place that is looked for.
+-- `find`: the invariant says that i and the distance from it to the first b (or to the end) add up to the place that is looked for.
 use Prim.Native.Nat.{_+_, _-_, _≤_}
 use lib.Seq.{slice}
 use mathlib.Core.Path.{_≡_, refl}

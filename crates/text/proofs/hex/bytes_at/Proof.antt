@@ -1,4 +1,5 @@
--- `text::hex::bytes_at` meets its contract.
+-- `bytes_at`: the span that `field` found is the definition's: without one the answer is Bad; else `read_bytes` reads the span, which lies
+-- within the text. What was read lies within the buffer (`bytes-in`).
 use mathlib.Core.Path.{subst, sym, refl, _∙_}
 use native.Mathlib.Omega.{arith}
 use borrow.Author.Needs.{needs}

@@ -1,4 +1,4 @@
--- `text::hex::digit_of` meets its contract.
+-- `digit_of`: the two ranges are those of the digits (`digit-low`, `digit-high`); every way to the last arm lies outside both (`no-digit`).
 use borrow.Author.Needs.{needs}
 use native.Mathlib.Omega.{arith}
 use Rattle.text.proofs.HexLaws.{digit-low, digit-high, no-digit}

@@ -1,4 +1,4 @@
--- `text::hex::glyph_of` meets its contract.
+-- `glyph_of`: a split at 10, as in the definition (`glyph-low`, `glyph-high`).
 use borrow.Author.Needs.{needs}
 use mathlib.Core.Path.{sym}
 use Rattle.text.proofs.HexLaws.{glyph-low, glyph-high}

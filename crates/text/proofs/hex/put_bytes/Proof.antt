@@ -1,4 +1,4 @@
--- `text::hex::put_bytes` meets its contract.
+-- `put_bytes`: no bytes are spelt `-` (`spelt-none`), others by their digits (`spelt-some`).
 use borrow.Author.Needs.{needs}
 use mathlib.Core.Path.{sym}
 use Rattle.text.proofs.HexLaws.{spelt-none, spelt-some}

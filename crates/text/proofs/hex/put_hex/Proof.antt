@@ -1,4 +1,4 @@
--- `text::hex::put_hex` meets its contract. The invariant: what writing the rest leaves is what writing all the bytes leaves.
+-- `text::hex::put_hex`: the invariant: what writing the rest leaves is what writing all the bytes leaves.
 use Prim.Native.Nat.{ℕ, _-_, _≤_}
 use lib.ListN.{length, drop}
 use mathlib.Core.List.{List}

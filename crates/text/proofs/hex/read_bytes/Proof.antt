@@ -1,4 +1,5 @@
--- `text::hex::read_bytes` meets its contract.
+-- `read_bytes`: an empty text spells nothing (`field-none`), `-` alone no bytes (`field-dash`), a longer text that starts with `-` nothing
+-- (`field-longer`), and any other what its digits spell (`field-digits`).
 use borrow.Author.Needs.{needs}
 use native.Mathlib.Omega.{arith}
 use Rattle.text.proofs.HexLaws.{field-none, field-dash, field-longer, field-digits}

@@ -1,4 +1,4 @@
--- `text::hex::read_hex` meets its contract. The invariant: what reading the rest answers is what reading the whole answers.
+-- `text::hex::read_hex`: the invariant: what reading the rest answers is what reading the whole answers.
 use Prim.Native.Nat.{ℕ, _-_, _≤_}
 use borrow.Author.Needs.{needs}
 use lib.ListN.{length, length-set}

@@ -1,4 +1,4 @@
--- `text::write::put` meets its contract.
+-- `put`: inside the buffer the store is the definition's; at its end a store changes nothing (`set-out`).
 use borrow.Author.Needs.{needs}
 use lib.Seq.{set-out}
 use mathlib.Core.Path.{sym}

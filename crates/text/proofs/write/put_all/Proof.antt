@@ -1,4 +1,4 @@
--- `text::write::put_all` meets its contract. The invariant: what writing the rest leaves is what writing all of s leaves.
+-- `text::write::put_all`: the invariant: what writing the rest leaves is what writing all of s leaves.
 use Prim.Native.Nat.{ℕ, _-_, _≤_}
 use lib.ListN.{length, drop}
 use mathlib.Core.List.{List}

@@ -1,4 +1,4 @@
--- `choice_of` meets its contract: each arm is an entry of the piece's list of kinds, and the last arm none of them.
+-- `choice_of`: each arm is an entry of the piece's list of kinds, and the last arm none of them.
 use mathlib.Core.Path.{sym}
 use Rattle.tree.proofs.Table.{find-rest}
 use Rattle.tree.specs.Access.{choiceOf, kinds}

@@ -1,4 +1,4 @@
--- `extent` meets its contract: two length bytes, each below 256, and the definition's test.
+-- `extent`: two length bytes, each below 256, and the definition's test.
 use Rattle.tree.specs.Access.{extentAt, lengthAt}
 use mathlib.Core.Path.{sym}
 use Prim.Native.Nat.{_+_}

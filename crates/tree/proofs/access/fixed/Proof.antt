@@ -1,4 +1,4 @@
--- `fixed` meets its contract: the second piece starts where the first ends, which is inside.
+-- `fixed`: the second piece starts where the first ends, which is inside.
 use mathlib.Core.Path.{sym, _∙_, subst}
 use native.Mathlib.Omega.{arith}
 use Rattle.tree.specs.Access.{fixedAt, thenPiece}

@@ -1,4 +1,4 @@
--- `key_end` meets its contract: the definition makes the same tests.
+-- `key_end`: the definition makes the same tests.
 use mathlib.Core.Path.{subst}
 use Prim.Native.Nat.{ℕ, _≤_, _<_, _-_, _+_}
 use borrow.Author.Tests.{le-leb, lt-leb, lt-ltb, le-ltb}

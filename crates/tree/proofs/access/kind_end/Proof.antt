@@ -1,4 +1,4 @@
--- `kind_end` meets its contract: the definition makes the same test and the same choice.
+-- `kind_end`: the definition makes the same test and the same choice.
 use mathlib.Core.Path.{sym, _∙_}
 use borrow.Author.Tests.{lt-ltb, le-ltb}
 use Rattle.tree.specs.Access.{kindAt, onChoice}

@@ -1,4 +1,4 @@
--- `piece_end` meets its contract: each piece by its own line of the definition.
+-- `piece_end`: each piece by its own line of the definition.
 use Rattle.tree.specs.Access.{pieceAt}
 use borrow.Author.Needs.{needs}
 use Rattle.tree.proofs.access.piece_end.Statement.{statement}

@@ -1,4 +1,4 @@
--- `value_end` meets its contract: each value by its own line of the definition.
+-- `value_end`: each value by its own line of the definition.
 use Rattle.tree.specs.Access.{valueAt}
 use borrow.Author.Needs.{needs}
 use Rattle.tree.proofs.access.value_end.Statement.{statement}

@@ -1,4 +1,4 @@
--- `between` meets its contract: the definition makes the same tests.
+-- `between`: the definition makes the same tests.
 use borrow.Author.Tests.{le-leb, lt-leb}
 use Rattle.tree.specs.Grammar.{within}
 use Rattle.tree.proofs.grammar.between.Statement.{statement}

@@ -1,4 +1,4 @@
--- `expression_rule` meets its contract: each arm is an entry of the table, and the last arm none of them.
+-- `expression_rule`: each arm is an entry of the table, and the last arm none of them.
 use mathlib.Core.Path.{sym, ap, _∙_}
 use Rattle.tree.proofs.Table.{find-rest}
 use Prim.Native.Nat.{ℕ}

@@ -1,4 +1,4 @@
--- `holds` meets its contract: each set by its own line of the definition.
+-- `holds`: each set by its own line of the definition.
 use Rattle.tree.specs.Grammar.{holdsAt}
 use borrow.Author.Tests.{eq-eqb, ne-eqb}
 use borrow.Author.Needs.{needs}

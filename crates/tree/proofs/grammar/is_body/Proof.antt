@@ -1,4 +1,4 @@
--- `is_body` meets its contract: a block, or an expression.
+-- `is_body`: a block, or an expression.
 use borrow.Author.Tests.{eq-eqb, ne-eqb}
 use Rattle.tree.specs.Grammar.{holdsAt}
 use borrow.Author.Needs.{needs}

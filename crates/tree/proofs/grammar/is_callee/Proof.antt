@@ -1,4 +1,4 @@
--- `is_callee` meets its contract: an expression, or one range.
+-- `is_callee`: an expression, or one range.
 use mathlib.Core.Path.{sym, _∙_}
 use Rattle.tree.specs.Grammar.{holdsAt}
 use borrow.Author.Needs.{needs}

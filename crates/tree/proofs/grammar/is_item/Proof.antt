@@ -1,4 +1,4 @@
--- `is_item` meets its contract: one range, or a statement.
+-- `is_item`: one range, or a statement.
 use mathlib.Core.Path.{sym, _∙_}
 use Rattle.tree.specs.Grammar.{holdsAt}
 use borrow.Author.Needs.{needs}

@@ -1,4 +1,4 @@
--- `is_statement` meets its contract: one range or the other.
+-- `is_statement`: one range or the other.
 use mathlib.Core.Path.{sym, _∙_}
 use borrow.Author.Needs.{needs}
 use Rattle.tree.proofs.grammar.is_statement.Statement.{statement}

@@ -1,4 +1,4 @@
--- `pieces_of` meets its contract: each arm is an entry of the table, and the last arm none of them.
+-- `pieces_of`: each arm is an entry of the table, and the last arm none of them.
 use mathlib.Core.Path.{sym, ap, _∙_}
 use Rattle.tree.proofs.Table.{find-rest}
 use Rattle.tree.specs.Grammar.{piecesOf, fixedParts, only}

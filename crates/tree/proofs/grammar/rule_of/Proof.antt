@@ -1,4 +1,4 @@
--- `rule_of` meets its contract: a range leads to its table, every other arm is an entry of the fourth, and the last arm none of them.
+-- `rule_of`: a range leads to its table, every other arm is an entry of the fourth, and the last arm none of them.
 use Rattle.tree.proofs.GrammarLaws.{rule-statement, rule-pattern, rule-expression, rule-other}
 use native.Mathlib.Omega.{arith}
 use mathlib.Core.Logic.{⊎-elim}

@@ -1,4 +1,4 @@
--- `slot_fit` meets its contract: each kind of slot by its own line of the definition.
+-- `slot_fit`: each kind of slot by its own line of the definition.
 use mathlib.Core.Path.{sym, _∙_}
 use Rattle.tree.specs.Grammar.{slotAt}
 use borrow.Author.Needs.{needs}

@@ -1,4 +1,4 @@
--- `step_by` meets its contract. The loop's invariant: the slots that are left answer as the whole rule does.
+-- `step_by`: the loop's invariant: the slots that are left answer as the whole rule does.
 use Prim.Native.Nat.{_-_}
 use mathlib.Core.Path.{_≡_, refl, sym, _∙_, ap}
 use native.Mathlib.Omega.{arith}

@@ -1,4 +1,4 @@
--- `atom_at` meets its contract: two bytes, each below 256, fit a u16.
+-- `atom_at`: two bytes, each below 256, fit a u16.
 use Prim.Native.Nat.{_+_}
 use native.Mathlib.Omega.{arith}
 use borrow.Author.Needs.{needs}

@@ -1,4 +1,4 @@
--- `literal_end` meets its contract: it is `skip` by a literal's width.
+-- `literal_end`: it is `skip` by a literal's width.
 use Rattle.tree.specs.Layout.{literalEnd}
 use borrow.Author.Needs.{needs}
 use Rattle.tree.proofs.layout.literal_end.Statement.{statement}

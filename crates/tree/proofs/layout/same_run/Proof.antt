@@ -1,4 +1,4 @@
--- `same_run` meets its contract. The loop's invariant: the runs are the same just where what is left of them is.
+-- `same_run`: the loop's invariant: the runs are the same just where what is left of them is.
 use mathlib.Core.Path.{_≡_, sym, _∙_, ap₂}
 use Prim.Native.Nat.{ℕ, _+_, _-_, _≤_}
 use native.Mathlib.Omega.{arith}

@@ -1,4 +1,4 @@
--- `skip` meets its contract: the definition makes the same test.
+-- `skip`: the definition makes the same test.
 use borrow.Author.Tests.{le-leb, lt-leb}
 use Rattle.tree.specs.Layout.{skipAt}
 use borrow.Author.Needs.{needs}

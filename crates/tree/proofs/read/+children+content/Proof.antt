@@ -1,5 +1,6 @@
--- `children` and `content` meet their contracts. The loop's invariant: the verdict from here is the verdict from the start.
--- A row's measure is its length and one more, a field's its length: a field is shorter than the row around it, and its parts are shorter than the field.
+-- `children` and `content`: the loop's invariant: the verdict from here is the verdict from the start.
+-- The measure is a field's length, and a row's length and one more: a field is no longer than the row around it, and its parts start
+-- behind its head of three bytes.
 use mathlib.Core.Path.{_≡_, refl, sym, _∙_, ap}
 use Prim.Native.Nat.{_+_, _-_, _≤_}
 use native.Mathlib.Omega.{arith}

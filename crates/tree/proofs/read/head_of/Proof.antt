@@ -1,4 +1,4 @@
--- `head_of` meets its contract: the definition makes the same tests in the same order.
+-- `head_of`: the definition makes the same tests in the same order.
 use mathlib.Core.Path.{sym, _∙_}
 use borrow.Author.Tests.{lt-ltb, le-ltb, eq-eqb, ne-eqb}
 use Rattle.tree.specs.Read.{headAt, onStep, onExtent}

@@ -1,4 +1,4 @@
--- `read_tree` meets its contract: no bytes are cut off, and others are read as parts of a field around them.
+-- `read_tree`: no bytes are cut off, and others are read as parts of a field around them.
 use borrow.Author.Tests.{eq-eqb, ne-eqb}
 use Rattle.tree.specs.Read.{read}
 use borrow.Author.Needs.{needs}

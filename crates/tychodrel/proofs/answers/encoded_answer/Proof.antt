@@ -1,4 +1,4 @@
--- `tychodrel::answers::encoded_answer` meets its contract.
+-- `encoded_answer`: by the answer; the rule's number then computes to what `pack` and `number_of` give.
 use borrow.Author.Needs.{needs}
 use Rattle.tychodrel.proofs.answers.encoded_answer.Statement.{statement}
 use Rattle.tychodrel.proofs.answers.encoded_answer.Tie as tie

@@ -1,4 +1,4 @@
--- `tychodrel::answers::extract_answer` meets its contract.
+-- `extract_answer`: by the answer; the rule's number then computes to what `pack`, `number_of` and `walk_number` give.
 use borrow.Author.Needs.{needs}
 use Rattle.tychodrel.proofs.answers.extract_answer.Statement.{statement}
 use Rattle.tychodrel.proofs.answers.extract_answer.Tie as tie

@@ -1,4 +1,4 @@
--- `tychodrel::answers::resolve_answer` meets its contract.
+-- `resolve_answer`: by the answer; the rule's number then computes to what `pack` and `list_number` give.
 use borrow.Author.Needs.{needs}
 use Rattle.tychodrel.proofs.answers.resolve_answer.Statement.{statement}
 use Rattle.tychodrel.proofs.answers.resolve_answer.Tie as tie

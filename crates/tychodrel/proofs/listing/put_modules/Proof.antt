@@ -1,4 +1,5 @@
--- `tychodrel::listing::put_modules` meets its contract.
+-- `put_modules`: the invariant says that with the modules from i on all n are written; `module-written` splits off the one at i.
+-- The measure is n - i.
 use Prim.Native.Nat.{ℕ, _-_, _*_}
 use mathlib.Core.Path.{_≡_, refl, _∙_}
 use mathlib.Core.List.{List}

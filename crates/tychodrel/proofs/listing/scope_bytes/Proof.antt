@@ -1,4 +1,4 @@
--- `tychodrel::listing::scope_bytes` meets its contract.
+-- `scope_bytes`: one way; `scope-written` says that the count and the modules, written over 770 zeros, are the scope's bytes.
 use Rattle.scope.specs.ScopeValue.{modulesOf}
 use Rattle.tychodrel.proofs.ListingLaws.{scope-written}
 use borrow.Author.Needs.{needs}
