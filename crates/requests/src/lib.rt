@@ -1,4 +1,4 @@
-// Answers a request as the vectors have it: those with a scope by the crate scoped, the others here. `lent` gets the bytes that a
+// Answers a request as the vectors have it: those with a scope by the crate scoped_requests, the others here. `lent` gets the bytes that a
 // request spells; `work`, `out`, `records` and `list` lend a call its buffers.
 mod plain; // detect, encode, decode
 
