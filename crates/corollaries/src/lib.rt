@@ -49,7 +49,10 @@ pub fn extract_and_resolve(
     records: &mut [u8],
     list: &mut [u8],
 ) -> Pair
-    ensures { λ p. ⌜ Pairs (lentAs (file .0) config (now (externals .entry)) (now (table .entry)) (now (tree .entry))) (roomIn (now (work .entry)) (now (out .entry)) (now (records .entry))) (length (now (list .entry))) scope (now (out .exit)) (now (records .exit)) (now (list .exit)) p ⌝ }
+    ensures { λ p.
+        ⌜ Pairs (lentAs (file .0) config (now (externals .entry)) (now (table .entry)) (now (tree .entry)))
+        (roomIn (now (work .entry)) (now (out .entry)) (now (records .entry))) (length (now (list .entry))) scope (now (out .exit))
+        (now (records .exit)) (now (list .exit)) p ⌝ }
 {
     let r = extract_import_info(
         scope,
@@ -195,7 +198,10 @@ pub fn extract(
     out: &mut [u8],
     records: &mut [u8],
 ) -> Scope
-    ensures { λ r. ⌜ HandsBack (extracts (lentAs (file .0) config (now (externals .entry)) (now (table .entry)) (now (tree .entry))) (roomIn (now (work .entry)) (now (out .entry)) (now (records .entry)))) scope r ⌝ }
+    ensures { λ r.
+        ⌜ HandsBack
+        (extracts (lentAs (file .0) config (now (externals .entry)) (now (table .entry)) (now (tree .entry)))
+        (roomIn (now (work .entry)) (now (out .entry)) (now (records .entry)))) scope r ⌝ }
 {
     let e = extract_import_info(
         scope,

@@ -33,23 +33,39 @@ mark-as-wrapping-required-requires c κs = search needs
 
 returns : tie.Need-returns
 returns c =
-    let c4 = c .before .before .before .before in
-    (c .before .mark-as-loaded .result, c .before .mark-as-loaded .ensures ∙ ap (λ (k : Mark). marking k (c4 .args .id) (modulesOf (c4 .args .scope))) (sym (c .before .before .enum-told .given .1)), refl)
+    let c4 = c .before .before .before .before in (
+      c .before .mark-as-loaded .result,
+      c .before .mark-as-loaded .ensures
+          ∙ ap (λ (k : Mark). marking k (c4 .args .id) (modulesOf (c4 .args .scope))) (sym (c .before .before .enum-told .given .1)),
+      refl,
+    )
 
 returns-2 : tie.Need-returns-2
 returns-2 c =
-    let c4 = c .before .before .before .before in
-    (c .before .store-module .result, c .before .store-module .ensures ∙ ap (λ (k : Mark). marking k (c4 .args .id) (modulesOf (c4 .args .scope))) (sym (c .before .before .enum-told2 .given .1)), refl)
+    let c4 = c .before .before .before .before in (
+      c .before .store-module .result,
+      c .before .store-module .ensures
+          ∙ ap (λ (k : Mark). marking k (c4 .args .id) (modulesOf (c4 .args .scope))) (sym (c .before .before .enum-told2 .given .1)),
+      refl,
+    )
 
 returns-3 : tie.Need-returns-3
 returns-3 c =
-    let c4 = c .before .before .before .before in
-    (c .before .mark-as-cjs .result, c .before .mark-as-cjs .ensures ∙ ap (λ (k : Mark). marking k (c4 .args .id) (modulesOf (c4 .args .scope))) (sym (c .before .before .enum-told3 .given .1)), refl)
+    let c4 = c .before .before .before .before in (
+      c .before .mark-as-cjs .result,
+      c .before .mark-as-cjs .ensures
+          ∙ ap (λ (k : Mark). marking k (c4 .args .id) (modulesOf (c4 .args .scope))) (sym (c .before .before .enum-told3 .given .1)),
+      refl,
+    )
 
 returns-4 : tie.Need-returns-4
 returns-4 c =
-    let c4 = c .before .before .before .before in
-    (c .before .mark-as-wrapping-required .result, c .before .mark-as-wrapping-required .ensures ∙ ap (λ (k : Mark). marking k (c4 .args .id) (modulesOf (c4 .args .scope))) (sym (c .before .before .enum-told4 .given .1)), refl)
+    let c4 = c .before .before .before .before in (
+      c .before .mark-as-wrapping-required .result,
+      c .before .mark-as-wrapping-required .ensures
+          ∙ ap (λ (k : Mark). marking k (c4 .args .id) (modulesOf (c4 .args .scope))) (sym (c .before .before .enum-told4 .given .1)),
+      refl,
+    )
 
 pub set-mark-spec : {M : Type 1} → statement M
 set-mark-spec =
