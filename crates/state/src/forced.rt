@@ -9,8 +9,8 @@ ghost use Rattle.state.specs.Cells.{id-limit, Good, idOf, forces, held};
 ghost use Rattle.state.specs.Does.{Tells, Holds, Turns, Forces};
 use crate::FORCES;
 use crate::Source;
+use crate::collected::holder;
 use crate::imported::forget;
-use crate::records::holder;
 use scope::id::Atom;
 use tables::Found;
 

@@ -1,7 +1,7 @@
 // What the walk keeps: its tables in one lent array, and the functions of which the rules are made. Callers see the rules' state alone.
 pub mod ident; // ids and literals as numbers
 pub mod imported; // imported ids and usages
-pub mod records; // collected records and their namespaces
+pub mod collected; // collected records and their namespaces
 pub mod forced; // forced sources
 pub mod rest; // lazy records, and the flag top
 pub mod modules; // the scope's modules

@@ -10,8 +10,8 @@ use Rattle.state.specs.Does.{Tells, sourceOf}
 use Rattle.state.proofs.IndexLaws.{first-value-below}
 use Rattle.state.proofs.RecordLaws.{used-name, used-id}
 use borrow.Author.Needs.{needs}
-use Rattle.state.proofs.records.used_record.Statement.{statement}
-use Rattle.state.proofs.records.used_record.Tie as tie
+use Rattle.state.proofs.collected.used_record.Statement.{statement}
+use Rattle.state.proofs.collected.used_record.Tie as tie
 
 local-ctxt-requires : tie.Need-local-ctxt-requires
 local-ctxt-requires c κs = search needs

@@ -9,8 +9,8 @@ use Rattle.state.specs.Cells.{records, namespaces, idOf}
 use Rattle.state.specs.Does.{Tells, sourceOf}
 use Rattle.state.proofs.RecordLaws.{holder-past, holder-told}
 use borrow.Author.Needs.{needs}
-use Rattle.state.proofs.records.holder.Statement.{statement}
-use Rattle.state.proofs.records.holder.Tie as tie
+use Rattle.state.proofs.collected.holder.Statement.{statement}
+use Rattle.state.proofs.collected.holder.Tie as tie
 
 least-value-requires : tie.Need-least-value-requires
 least-value-requires c κs = c .before .pre .0 .lies namespaces

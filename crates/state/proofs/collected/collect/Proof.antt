@@ -6,8 +6,8 @@ use Rattle.state.specs.Cells.{records}
 use native.Mathlib.Omega.{arith}
 use Rattle.state.proofs.CollectLaws.{collected-again, collected-new, collected-full}
 use borrow.Author.Needs.{needs}
-use Rattle.state.proofs.records.collect.Statement.{statement}
-use Rattle.state.proofs.records.collect.Tie as tie
+use Rattle.state.proofs.collected.collect.Statement.{statement}
+use Rattle.state.proofs.collected.collect.Tie as tie
 
 sub-low : tie.Need-sub-low
 sub-low c = search needs

@@ -1,8 +1,8 @@
 -- `record_literal`: the row's key is the literal of the record at this place, and below the table's limit (`record-at`).
 use Rattle.state.specs.Cells.{records}
 use Rattle.state.proofs.PlaceLaws.{record-at}
-use Rattle.state.proofs.records.record_literal.Statement.{statement}
-use Rattle.state.proofs.records.record_literal.Tie as tie
+use Rattle.state.proofs.collected.record_literal.Statement.{statement}
+use Rattle.state.proofs.collected.record_literal.Tie as tie
 
 key-of-requires : tie.Need-key-of-requires
 key-of-requires c κs = (c .before .pre .0 .lies records, c .before .pre .1)

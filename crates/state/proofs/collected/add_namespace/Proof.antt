@@ -6,8 +6,8 @@ use lib.ListN.{length}
 use Rattle.state.specs.Cells.{records, namespaces, idOf}
 use Rattle.state.proofs.ExtendLaws.{met-good, met-records, extended-again, extended-first, extended-full}
 use borrow.Author.Needs.{needs}
-use Rattle.state.proofs.records.add_namespace.Statement.{statement}
-use Rattle.state.proofs.records.add_namespace.Tie as tie
+use Rattle.state.proofs.collected.add_namespace.Statement.{statement}
+use Rattle.state.proofs.collected.add_namespace.Tie as tie
 
 count-of-requires : tie.Need-count-of-requires
 count-of-requires c κs = c .before .before .pre .0 .lies namespaces

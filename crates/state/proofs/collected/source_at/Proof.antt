@@ -12,8 +12,8 @@ use Rattle.state.specs.Does.{sourceAt}
 use Rattle.state.proofs.ListLaws.{below-row}
 use Rattle.state.proofs.IdLaws.{id-name}
 use borrow.Author.Needs.{needs}
-use Rattle.state.proofs.records.source_at.Statement.{statement}
-use Rattle.state.proofs.records.source_at.Tie as tie
+use Rattle.state.proofs.collected.source_at.Statement.{statement}
+use Rattle.state.proofs.collected.source_at.Tie as tie
 
 enum-known-found : tie.Need-enum-known-found
 enum-known-found c = search needs
