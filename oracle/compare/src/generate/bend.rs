@@ -124,9 +124,10 @@ fn damage_parts(rng: &mut Rng, root: &mut Field) {
         (1, Some(part)) => field.parts.insert(part, field.parts[part].clone()),
         (2, Some(part)) => field.parts.swap(0, part),
         (3, _) => drop(field.fixed.pop()),
-        (4, _) => match field.fixed.first_mut() {
-            Some(byte) => *byte = rng.below(4) as u8,
-            None => field.fixed.push(rng.byte()),
+        // Kind bytes stand at the front, behind another one, or behind an id.
+        (4, _) => match field.fixed.len() {
+            0 => field.fixed.push(rng.byte()),
+            length => field.fixed[rng.pick(&[0, 1, 6, 7]).min(length - 1)] = rng.below(4) as u8,
         },
         _ => field.tag = rng.pick(&TAGS),
     }
