@@ -258,11 +258,13 @@ pub request-all-more : (f : FileName) (fs : List ℕ) (ms : Modules) → gen f m
 unfolding requestAll gen
 request-all-more f fs ms e = onward (request (f .0) ms) (λ r. requestAll fs r) ms e
 
-stopped : (o : Option (ℕ × Modules)) (rest : Modules → Left) (ms : Modules) → generatedBy o ms .refusal ≡ some too-many-files → goOn o rest ms ≡ record { modules = generatedBy o ms .modules; refusal = some too-many-files }
+stopped : (o : Option (ℕ × Modules)) (rest : Modules → Left) (ms : Modules) → generatedBy o ms .refusal ≡ some too-many-files →
+    goOn o rest ms ≡ record { modules = generatedBy o ms .modules; refusal = some too-many-files }
 stopped (some r) rest ms e = absurd (let z : _≡_ {A = ℕ} 0 1 = cc in omega arith)
 stopped none rest ms e = refl
 
-pub request-all-stops : (f : FileName) (fs : List ℕ) (ms : Modules) → gen f ms .refusal ≡ some too-many-files → requestAll (f .0 ∷ fs) ms ≡ record { modules = gen f ms .modules; refusal = some too-many-files }
+pub request-all-stops : (f : FileName) (fs : List ℕ) (ms : Modules) → gen f ms .refusal ≡ some too-many-files →
+    requestAll (f .0 ∷ fs) ms ≡ record { modules = gen f ms .modules; refusal = some too-many-files }
 unfolding requestAll gen
 request-all-stops f fs ms e = stopped (request (f .0) ms) (λ r. requestAll fs r) ms e
 
@@ -283,7 +285,8 @@ unfolding readMark
 read-refused k m ms h = rw (le-ltb (m .0) (length ms) h)
 
 -- the id of a wrapped module is what reading its two marks says
-esm-by : (b x y w v : Bool) (m : ModuleId) → cond b (done x) (refused not-given) ≡ done w → cond b (done y) (refused not-given) ≡ done v → cond b (done (esmId x y m)) (refused not-given) ≡ done (esmId w v m)
+esm-by : (b x y w v : Bool) (m : ModuleId) → cond b (done x) (refused not-given) ≡ done w → cond b (done y) (refused not-given) ≡ done v →
+    cond b (done (esmId x y m)) (refused not-given) ≡ done (esmId w v m)
 esm-by true x y w v m p q = let a : x ≡ w = cc in let c : y ≡ v = cc in rw (a, c)
 esm-by false x y w v m p q = absurd (let z : _≡_ {A = ℕ} 0 1 = cc in omega arith)
 
