@@ -98,6 +98,10 @@ pub fn named(local: Id) -> Field {
     Field::new(0x20, fixed, Vec::new())
 }
 
+pub fn default(local: Id) -> Field {
+    Field::new(0x21, pair_bytes(local), Vec::new())
+}
+
 pub fn namespace(local: Id) -> Field {
     Field::new(0x22, pair_bytes(local), Vec::new())
 }

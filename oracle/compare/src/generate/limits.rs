@@ -17,7 +17,12 @@ use crate::{
 /// Makes a request at a limit, or one past it.
 type Shape = fn(rng: &mut Rng, over: bool) -> (Request, Expected);
 
-const SHAPES: [Shape; 24] = [
+const SHAPES: [Shape; 25] = [
+    results::work,
+    results::out,
+    results::records,
+    results::list,
+    results::attributes,
     nesting::extracted,
     nesting::detected,
     lengths::extracted_tree,
@@ -38,17 +43,13 @@ const SHAPES: [Shape; 24] = [
     tables::lazy_variables,
     tables::lazy_variables_in_block,
     tables::usages,
-    results::work,
-    results::out,
-    results::list,
-    results::attributes,
 ];
 
-/// The shapes take turns, at the limit and then past it.
+/// The shapes take turns, each at its limit and then past it.
 pub fn case(rng: &mut Rng, turn: u64) -> Case {
     let count = SHAPES.len() as u64;
-    let shape = SHAPES[(turn % count) as usize];
-    let over = turn / count % 2 == 1;
+    let shape = SHAPES[(turn / 2 % count) as usize];
+    let over = turn % 2 == 1;
     let (request, expected) = shape(rng, over);
     Case {
         kind: Kind::Limits,

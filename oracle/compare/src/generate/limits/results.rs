@@ -1,9 +1,9 @@
 //! Results whose content has 65,535 bytes, or one more.
 
-use super::{extract, past, plain, use_of_a, A, M, ROWS, UNRESOLVED, X};
+use super::{extract, numbers, past, plain, use_of_a, A, LOCAL, M, ROWS, UNRESOLVED, X};
 use crate::{
     field,
-    field::{attribute, import, list_bytes, named, namespace, pair_bytes, Field},
+    field::{attribute, default, import, list_bytes, named, namespace, pair_bytes, require, Field},
     request::{Expected, Request},
     rng::Rng,
 };
@@ -39,6 +39,23 @@ pub fn out(_: &mut Rng, over: bool) -> (Request, Expected) {
     items.extend(vec![use_of_a(X); uses]);
     let so_far = imports * (47 + 10 * uses) + 12 * uses;
     items.push(padding(content(over) - so_far));
+    (extract(plain(), items), past(over, 9))
+}
+
+/// A variable's pattern has each of its ids, of 9 bytes, named in two lazy records, there of 10; its call and the import
+/// have a record each.
+pub fn records(_: &mut Rng, over: bool) -> (Request, Expected) {
+    let (ids, specifiers) = match over {
+        true => (3_275, Vec::new()),
+        false => (3_274, vec![named(A), default(A)]),
+    };
+    let ids = numbers(ids).map(|atom| Field::new(0x50, pair_bytes((atom, LOCAL)), Vec::new()));
+    let pattern = Field::new(0x51, Vec::new(), ids.collect());
+    let declarator = Field::new(0x42, Vec::new(), vec![pattern, require(0, M)]);
+    let items = vec![
+        import(UNRESOLVED, specifiers),
+        Field::new(0x41, Vec::new(), vec![declarator]),
+    ];
     (extract(plain(), items), past(over, 9))
 }
 

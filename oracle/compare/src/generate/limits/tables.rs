@@ -2,9 +2,7 @@
 
 use super::{extract, numbers, past, past_at_last, plain, use_of_a, A, LOCAL, M, N};
 use crate::{
-    field::{
-        block, ident, import, named, namespace, pair_bytes, require, statement, variable, Field,
-    },
+    field::{block, default, ident, import, named, namespace, require, statement, variable, Field},
     request::{Expected, Request},
     rng::Rng,
 };
@@ -18,7 +16,7 @@ fn specifiers(rng: &mut Rng, count: usize) -> Vec<Field> {
     let specifier = |atom| match rng.below(3) {
         0 => named((atom, LOCAL)),
         1 => namespace((atom, LOCAL)),
-        _ => Field::new(0x21, pair_bytes((atom, LOCAL)), Vec::new()),
+        _ => default((atom, LOCAL)),
     };
     numbers(count).map(specifier).collect()
 }
