@@ -1,5 +1,5 @@
 /* Cards for the benchmark, built field by field in the byte form of document 01: a module each, with the table that is
-   lent with it. */
+   lent with it. A card has the size that is asked for: half the size has half of everything, the table's rows too. */
 #include <stdbool.h>
 #include <stddef.h>
 #include <stdint.h>
@@ -8,6 +8,7 @@
 
 struct card {
     const char *name;
+    size_t size; /* the room for the tree, at most CARD_MAX */
     uint8_t tree[CARD_MAX];
     size_t len;
     uint8_t table[4096];
@@ -145,7 +146,10 @@ static void end_all(struct card *c) {
     }
 }
 
-static bool has_room(const struct card *c, size_t bytes) { return c->len + bytes <= CARD_MAX; }
+static bool has_room(const struct card *c, size_t bytes) { return c->len + bytes <= c->size; }
+
+/* how many there are of what a card of 32 KiB has `count` of */
+static unsigned scaled(const struct card *c, unsigned count) { return (unsigned)(count * c->size / CARD_MAX); }
 
 /* rows that nothing asks for, in front of those that are asked for */
 static void idle_rows(struct card *c, unsigned count) {
@@ -155,7 +159,7 @@ static void idle_rows(struct card *c, unsigned count) {
 }
 
 /* A dozen imports (four namespaces, four with names, four defaults), then functions full of member uses. */
-static void typical(struct card *c, size_t size) {
+static void typical(struct card *c) {
     begin(c, 0x01);
     for (unsigned i = 0; i < 12; i++) {
         row(c, 20 + i, 10 + i);
@@ -170,7 +174,7 @@ static void typical(struct card *c, size_t size) {
         }
         end(c);
     }
-    for (unsigned k = 0; c->len + 700 < size; k += 6) {
+    for (unsigned k = 0; c->len + 700 < c->size; k += 6) {
         begin(c, 0x43);
         put_six(c, 3000 + k, 2);
         leaf_id(c, 0x50, 2000 + k % 900, 2);
@@ -181,23 +185,20 @@ static void typical(struct card *c, size_t size) {
         end(c);
         end(c);
     }
-    for (unsigned k = 0; c->len + 100 < size; k++) {
+    for (unsigned k = 0; c->len + 100 < c->size; k++) {
         statement(c, k);
     }
     end(c);
 }
 
-static void typical_4k(struct card *c) { typical(c, 4096); }
-
-static void typical_32k(struct card *c) { typical(c, CARD_MAX); }
-
 /* Hard for every search: 255 namespaces that all resolve through the last rows of a full table, `uses` usages of the
    last of them, and then nothing but ids that force, none of them imported, so that each searches every table to its
    end. */
 static void full(struct card *c, unsigned uses) {
-    idle_rows(c, 769);
+    unsigned namespaces = scaled(c, 255);
+    idle_rows(c, scaled(c, 769));
     begin(c, 0x01);
-    for (unsigned i = 0; i < 255; i++) {
+    for (unsigned i = 0; i < namespaces; i++) {
         row(c, 1000 + i, 10 + i);
         begin_import(c, 1000 + i);
         leaf_id(c, 0x22, 3000 + i, 2);
@@ -208,7 +209,7 @@ static void full(struct card *c, unsigned uses) {
     }
     begin_array(c);
     for (unsigned i = 0; i < uses; i++) {
-        member(c, 3254, 5000 + i);
+        member(c, 3000 + namespaces - 1, 5000 + i);
     }
     for (unsigned i = 0; has_room(c, 9); i++) {
         ident(c, 9000 + i);
@@ -218,21 +219,22 @@ static void full(struct card *c, unsigned uses) {
 
 static void full_tables(struct card *c) { full(c, 0); }
 
-static void full_tables_used(struct card *c) { full(c, 600); }
+static void full_tables_used(struct card *c) { full(c, scaled(c, 600)); }
 
 /* Hard for finding the namespace that an id forces: 1,790 namespaces of an import that does not resolve, and ids of the
    same names in another context, which force none of them. */
 static void namespaces_not_forced(struct card *c) {
+    unsigned namespaces = scaled(c, 1790);
     begin(c, 0x01);
     namespace_of(c, 1000, 3000);
     begin_import(c, 1001);
-    for (unsigned i = 0; i < 1790; i++) {
+    for (unsigned i = 0; i < namespaces; i++) {
         leaf_id(c, 0x22, 5000 + i, 2);
     }
     end(c);
     begin_array(c);
     for (unsigned i = 0; has_room(c, 9); i++) {
-        leaf_id(c, 0x60, 5000 + i % 1790, 7);
+        leaf_id(c, 0x60, 5000 + i % namespaces, 7);
     }
     end_all(c);
 }
@@ -240,8 +242,9 @@ static void namespaces_not_forced(struct card *c) {
 /* Hard for writing the records, which have their specifiers from all over the module: imports of 255 sources, then
    thousands of the smallest items, and one import behind them. */
 static void imports_far_apart(struct card *c) {
+    unsigned sources = scaled(c, 255);
     begin(c, 0x01);
-    for (unsigned i = 0; i < 255; i++) {
+    for (unsigned i = 0; i < sources; i++) {
         row(c, 1000 + i, 10 + i);
         begin_import(c, 1000 + i);
         end(c);
@@ -257,9 +260,10 @@ static void imports_far_apart(struct card *c) {
 /* Hard for merging imports into records: as many as fit (3,640), without specifiers, of 256 sources in turn. They do
    not resolve, since no buffer has room for the metadata of so many. */
 static void imports_merged(struct card *c) {
+    unsigned sources = scaled(c, 256);
     begin(c, 0x01);
     for (unsigned i = 0; has_room(c, 9); i++) {
-        begin_import(c, 1000 + i % 256);
+        begin_import(c, 1000 + i % sources);
         end(c);
     }
     end_all(c);
@@ -267,29 +271,32 @@ static void imports_merged(struct card *c) {
 
 /* Hard for dropping usages: one namespace with as many usages as fit, then 511 other imported ids, each forced. */
 static void imported_ids_forced(struct card *c) {
+    unsigned others = scaled(c, 511);
     row(c, 1000, 10);
     begin(c, 0x01);
     begin_import(c, 1000);
     leaf_id(c, 0x22, 3000, 2);
-    for (unsigned i = 0; i < 511; i++) {
+    for (unsigned i = 0; i < others; i++) {
         leaf_id(c, 0x21, 4000 + i, 2);
     }
     end(c);
     begin_array(c);
-    for (unsigned i = 0; has_room(c, 17 + 511 * 9); i++) {
+    for (unsigned i = 0; has_room(c, 17 + others * 9); i++) {
         member(c, 3000, 5000 + i);
     }
-    for (unsigned i = 0; i < 511; i++) {
+    for (unsigned i = 0; i < others; i++) {
         ident(c, 4000 + i);
     }
     end_all(c);
 }
 
-/* Hard for finding a usage's file: nothing but usages of a namespace whose source has the last row of a full table. */
+/* Hard for finding a usage's file: nothing but usages of a namespace whose source has the last row of a full table, and
+   the lower ten bits of the first row's. */
 static void usages_resolved_last(struct card *c) {
-    idle_rows(c, 1023);
+    row(c, 5000, 9);
+    idle_rows(c, scaled(c, 1022));
     begin(c, 0x01);
-    namespace_of(c, 5000, 3000);
+    namespace_of(c, 5000 + 1024, 3000);
     begin_array(c);
     for (unsigned i = 0; has_room(c, 17); i++) {
         member(c, 3000, 5000 + i);
@@ -320,7 +327,7 @@ static void member_chains(struct card *c) {
 
 /* Hard for finding a require's file: calls of require, all of one source, which has the last row of a full table. */
 static void requires_of_one_source(struct card *c) {
-    idle_rows(c, 1023);
+    idle_rows(c, scaled(c, 1023));
     row(c, 5000, 10);
     begin(c, 0x01);
     begin_array(c);
@@ -333,11 +340,12 @@ static void requires_of_one_source(struct card *c) {
 /* Hard for resolving: as many lazy records as there may be, each with a row of its own, and as many files as a scope
    has room for. */
 static void requires_of_all_rows(struct card *c) {
+    unsigned rows = scaled(c, 1024), files = scaled(c, 255);
     begin(c, 0x01);
     begin(c, 0x45);
     begin_array(c);
-    for (unsigned i = 0; i < 1024; i++) {
-        row(c, 5000 + i, 10 + i % 255);
+    for (unsigned i = 0; i < rows; i++) {
+        row(c, 5000 + i, 10 + i % files);
         require(c, 5000 + i);
     }
     end_all(c);
@@ -347,8 +355,7 @@ static const struct {
     const char *name;
     void (*build)(struct card *);
 } cards[] = {
-    {"typical-4k", typical_4k},
-    {"typical-32k", typical_32k},
+    {"typical", typical},
     {"full-tables", full_tables},
     {"full-tables-used", full_tables_used},
     {"namespaces-not-forced", namespaces_not_forced},
