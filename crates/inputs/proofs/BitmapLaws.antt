@@ -58,7 +58,7 @@ others-kept x j k h =
 abbrev cellWith : List ℕ → ℕ → ℕ
 cellWith cells n = bitOr (getD cells (n / 64) 0) (1 * 2 ^ (n % 64))
 
-module _ (cells : List ℕ) (n : ℕ) (g : n < 65536) (h : length cells ≡ 1024) where
+module _ (cells : List ℕ) (n : ℕ) (h : n / 64 < length cells) where
   bit-of : (m : ℕ) → isSet (set cells (n / 64) (cellWith cells n)) m ≡ (isSet cells m || eqb m n)
   unfolding isSet
   bit-of m = by (eqb (m / 64) (n / 64)) (eqb (m % 64) (n % 64)) refl refl
@@ -69,11 +69,11 @@ module _ (cells : List ℕ) (n : ℕ) (g : n < 65536) (h : length cells ≡ 1024
       by true true e f =
           let p = eqb-true (m / 64) (n / 64) e in
           let q = eqb-true (m % 64) (n % 64) f in
-          rw (p, q, getD-set-same cells (n / 64) (cellWith cells n) 0 (omega arith), one-set, eq-eqb m n (omega arith), or-true)
+          rw (p, q, getD-set-same cells (n / 64) (cellWith cells n) 0 h, one-set, eq-eqb m n (omega arith), or-true)
       by true false e f =
           let p = eqb-true (m / 64) (n / 64) e in
           let q = eqb-false (m % 64) (n % 64) f in
-          rw (p, getD-set-same cells (n / 64) (cellWith cells n) 0 (omega arith), others-kept _ _ _ q, ne-eqb m n (λ r. q (ap (λ (k : ℕ). k % 64) r)), or-false)
+          rw (p, getD-set-same cells (n / 64) (cellWith cells n) 0 h, others-kept _ _ _ q, ne-eqb m n (λ r. q (ap (λ (k : ℕ). k % 64) r)), or-false)
       by false b e f =
           let p = eqb-false (m / 64) (n / 64) e in
           rw (getD-set-other cells (n / 64) (m / 64) (cellWith cells n) 0 p, ne-eqb m n (λ r. p (ap (λ (k : ℕ). k / 64) r)), or-false)

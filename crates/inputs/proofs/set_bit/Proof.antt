@@ -1,4 +1,5 @@
 -- `set_bit`: an `or` with a shifted 1 sets the one bit (`with-bit`).
+use native.Mathlib.Omega.{arith}
 use Rattle.inputs.proofs.BitmapLaws.{with-bit}
 use borrow.Author.Needs.{needs}
 use Rattle.inputs.proofs.set_bit.Statement.{statement}
@@ -26,7 +27,7 @@ element-write-cells : tie.Need-element-write-cells
 element-write-cells c = search needs
 
 returns : tie.Need-returns
-returns c = with-bit (c .before .args .cells .now) (c .before .args .n) (c .before .fits .n .fits) (c .before .pre)
+returns c = with-bit (c .before .args .cells .now) (c .before .args .n) (omega arith)
 
 pub set-bit-spec : {M : Type 1} → statement M
 set-bit-spec =
