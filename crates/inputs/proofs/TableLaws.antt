@@ -1,31 +1,31 @@
 -- The entries of lent lists, two or four bytes at a time, and the searches among them step by step.
 use Prim.Native.Nat.{ℕ, suc, _+_, _*_, _/_, _%_, _≤_, _<_}
 use native.Mathlib.Omega.{arith}
-use mathlib.Core.Path.{_≡_, refl, sym, ap, _∙_}
+use mathlib.Core.Path.{_≡_, refl, ap, _∙_}
 use mathlib.Core.Bool.{true, false}
 use mathlib.Core.List.{List, [], _∷_}
-use mathlib.Core.Option.{Option, none, some}
+use mathlib.Core.Option.{none, some}
 use lib.Dec.{eqb}
 use lib.ListN.{length, getD, drop, length-drop}
 use lib.Seq.{drop-cons}
 use borrow.Author.Tests.{eq-eqb, ne-eqb}
 use Rattle.tree.specs.Layout.{two, twoAt, same}
 use Rattle.tree.proofs.LayoutLaws.{same-two}
-use Rattle.inputs.specs.Lists.{find, isSome, mapped, among}
-use Rattle.inputs.specs.Table.{Row, atomsIn, rowsIn, rowOf, fileOf, repeats}
+use Rattle.inputs.specs.Lists.{find, among}
+use Rattle.inputs.specs.Table.{atomsIn, rowsIn, rowOf, fileOf}
 
 -- two bytes are those of their number
-bytes-two : (a b : ℕ) → a < 256 → b < 256 → a ∷ b ∷ [] ≡ two (a * 256 + b)
+pub bytes-two : (a b : ℕ) → a < 256 → b < 256 → a ∷ b ∷ [] ≡ two (a * 256 + b)
 bytes-two a b p q =
     let x : a ≡ (a * 256 + b) / 256 % 256 = omega arith in
     let y : b ≡ (a * 256 + b) % 256 = omega arith in
     cc
 
-small : (a b : ℕ) → a < 256 → b < 256 → a * 256 + b < 65536
+pub small : (a b : ℕ) → a < 256 → b < 256 → a * 256 + b < 65536
 small a b p q = omega arith
 
 -- two bytes are the atom m just where their number is m
-atom-is : (a b m : ℕ) → a < 256 → b < 256 → m < 65536 → same (a ∷ b ∷ []) (two m) ≡ eqb (a * 256 + b) m
+pub atom-is : (a b m : ℕ) → a < 256 → b < 256 → m < 65536 → same (a ∷ b ∷ []) (two m) ≡ eqb (a * 256 + b) m
 atom-is a b m p q h = ap (λ (x : List ℕ). same x (two m)) (bytes-two a b p q) ∙ same-two (a * 256 + b) m (small a b p q) h
 
 is-atom : (a b m : ℕ) → a < 256 → b < 256 → m < 65536 → same (two m) (a ∷ b ∷ []) ≡ eqb m (a * 256 + b)
@@ -67,7 +67,7 @@ external-end l i m h = rw (short-atoms (drop i l) (simp length-drop (omega arith
 
 -- ---- The table
 
-rows-step : (l : List ℕ) (i : ℕ) → i + 4 ≤ length l →
+pub rows-step : (l : List ℕ) (i : ℕ) → i + 4 ≤ length l →
     rowsIn (drop i l) ≡ record { source = getD l i 0 ∷ getD l (i + 1) 0 ∷ []; file = twoAt l (i + 2) } ∷ rowsIn (drop (i + 4) l)
 unfolding rowsIn
 rows-step l i h =
@@ -84,7 +84,7 @@ short-rows (a ∷ (b ∷ [])) h = refl
 short-rows (a ∷ (b ∷ (c ∷ []))) h = refl
 short-rows (a ∷ (b ∷ (c ∷ (d ∷ l)))) h = absurd (omega arith)
 
-rows-end : (l : List ℕ) (i : ℕ) → length l < i + 4 → rowsIn (drop i l) ≡ []
+pub rows-end : (l : List ℕ) (i : ℕ) → length l < i + 4 → rowsIn (drop i l) ≡ []
 rows-end l i h = short-rows (drop i l) (simp length-drop (omega arith))
 
 module _ (l : List ℕ) (i m : ℕ) (h : i + 4 ≤ length l) (p : getD l i 0 < 256) (q : getD l (i + 1) 0 < 256) (s : m < 65536) where
@@ -99,29 +99,3 @@ module _ (l : List ℕ) (i m : ℕ) (h : i + 4 ≤ length l) (p : getD l i 0 < 2
 pub file-end : (l : List ℕ) (i m : ℕ) → length l < i + 4 → fileOf (two m) (rowsIn (drop i l)) ≡ none
 unfolding fileOf rowOf find
 file-end l i m h = rw (rows-end l i h)
-
--- a source has a file just where it has a row
-some-row : (o : Option Row) → isSome (mapped (λ (r : Row). r .file) o) ≡ isSome o
-some-row none = refl
-some-row (some r) = refl
-
-row-file : (a : List ℕ) (rows : List Row) → isSome (rowOf a rows) ≡ isSome (fileOf a rows)
-unfolding fileOf
-row-file a rows = sym (some-row (rowOf a rows))
-
-module _ (l : List ℕ) (i : ℕ) (h : i + 4 ≤ length l) (p : getD l i 0 < 256) (q : getD l (i + 1) 0 < 256) where
-  named : isSome (rowOf (getD l i 0 ∷ getD l (i + 1) 0 ∷ []) (rowsIn (drop (i + 4) l))) ≡ isSome (fileOf (two (twoAt l i)) (rowsIn (drop (i + 4) l)))
-  named =
-      ap (λ (x : List ℕ). isSome (rowOf x (rowsIn (drop (i + 4) l)))) (bytes-two (getD l i 0) (getD l (i + 1) 0) p q) ∙ row-file (two (twoAt l i)) (rowsIn (drop (i + 4) l))
-
-  pub twice-here : (f : ℕ) → some f ≡ fileOf (two (twoAt l i)) (rowsIn (drop (i + 4) l)) → repeats (rowsIn (drop i l)) ≡ true
-  unfolding repeats
-  twice-here f e = rw (rows-step l i h, named, ← e)
-
-  pub twice-on : none ≡ fileOf (two (twoAt l i)) (rowsIn (drop (i + 4) l)) → repeats (rowsIn (drop i l)) ≡ repeats (rowsIn (drop (i + 4) l))
-  unfolding repeats
-  twice-on e = rw (rows-step l i h, named, ← e)
-
-pub twice-end : (l : List ℕ) (i : ℕ) → length l < i + 4 → repeats (rowsIn (drop i l)) ≡ false
-unfolding repeats
-twice-end l i h = rw (rows-end l i h)

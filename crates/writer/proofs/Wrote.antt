@@ -40,6 +40,10 @@ sets-patch l body o t hi lo =
 pub wrote-none : {l : List ℕ} {o : ℕ} → Wrote l o [] l o
 wrote-none = record { at = omega arith; bytes = λ h. refl; size = refl }
 
+-- a byte is stored
+pub wrote-byte : (l : List ℕ) (o b : ℕ) → Wrote l o (b ∷ []) (set l o b) (o + 1)
+wrote-byte l o b = record { at = refl; bytes = λ h. refl; size = length-set l o b }
+
 -- a run, and one from where it ends
 pub wrote-then : {l m k xs ys : List ℕ} {o p q : ℕ} → Wrote l o xs m p → Wrote m p ys k q → Wrote l o (xs ++ ys) k q
 wrote-then {l} {m} {k} {xs} {ys} {o} {p} {q} v w =

@@ -3,7 +3,7 @@
 // tests, once, whether the whole stands in the buffer.
 ghost use mathlib.Core.Path.{_≡_};
 ghost use mathlib.Core.List.{[], _∷_};
-ghost use Prim.Native.Nat.{_+_, _≤_};
+ghost use Prim.Native.Nat.{_+_, _-_, _≤_};
 ghost use lib.ListN.{length, set};
 ghost use lib.Seq.{slice};
 ghost use Rattle.writer.specs.Bytes.{twoBytes, fourBytes};
@@ -39,7 +39,10 @@ fn store(out: &mut [u8], o: usize, b: u8)
 pub fn put(out: &mut [u8], o: usize, b: u8) -> usize
     ensures { λ p. ⌜ Wrote (now (out .entry)) o (b ∷ []) (now (out .exit)) p ⌝ }
 {
-    store(out, o, b);
+    if o < out.len() {
+        out[o] = b;
+        return o + 1;
+    }
     advance(o, 1)
 }
 
@@ -59,8 +62,8 @@ pub fn put_u32(out: &mut [u8], o: usize, n: u32) -> usize
     put_u16(out, low, (n % 65536) as u16)
 }
 
-// Writes the bytes of s from `from` up to `end`.
-pub fn copy(out: &mut [u8], o: usize, s: &[u8], from: usize, end: usize) -> usize
+// Writes the bytes of s from `from` up to `end`, one by one, as far as there is room.
+fn copy_part(out: &mut [u8], o: usize, s: &[u8], from: usize, end: usize) -> usize
     requires { ⌜ end ≤ length (now s) ⌝ }
     ensures { λ p. ⌜ Wrote (now (out .entry)) o (slice from end (now (s .entry))) (now (out .exit)) p ⌝ }
 {
@@ -71,6 +74,36 @@ pub fn copy(out: &mut [u8], o: usize, s: &[u8], from: usize, end: usize) -> usiz
         at += 1;
     }
     to
+}
+
+// The same where there is room for all: no byte is tested, so that the compiler moves many at a time.
+fn copy_whole(out: &mut [u8], o: usize, s: &[u8], from: usize, end: usize) -> usize
+    requires { ⌜ (from ≤ end) × (end ≤ length (now s)) × (o + (end - from) ≤ length (now out)) ⌝ }
+    ensures { λ p. ⌜ Wrote (now (out .entry)) o (slice from end (now (s .entry))) (now (out .exit)) p ⌝ }
+{
+    let n = end - from;
+    let mut i = 0;
+    while i < n {
+        out[o + i] = s[from + i];
+        i += 1;
+    }
+    o + n
+}
+
+// Writes the bytes of s from `from` up to `end`.
+pub fn copy(out: &mut [u8], o: usize, s: &[u8], from: usize, end: usize) -> usize
+    requires { ⌜ end ≤ length (now s) ⌝ }
+    ensures { λ p. ⌜ Wrote (now (out .entry)) o (slice from end (now (s .entry))) (now (out .exit)) p ⌝ }
+{
+    if end <= from {
+        return o;
+    }
+    if o <= out.len() {
+        if end - from <= out.len() - o {
+            return copy_whole(out, o, s, from, end);
+        }
+    }
+    copy_part(out, o, s, from, end)
 }
 
 // Writes all bytes of s.

@@ -1,4 +1,4 @@
--- `resolve_from`: the invariant says that the source's file in the rows from `from` on is its file in the rows from i on.
+-- `resolve`: the invariant says that the source's file in the table is its file in the rows from i on.
 -- A row of the source has it (`file-here`), another is passed (`file-on`), and with fewer than four bytes left there is none (`file-end`).
 use mathlib.Core.Path.{_≡_, refl, sym, ap, _∙_}
 use mathlib.Core.Option.{some}
@@ -8,14 +8,14 @@ use lib.ListN.{length, drop}
 use Rattle.tree.specs.Layout.{two}
 use Rattle.inputs.specs.Table.{rowsIn, fileOf}
 use Rattle.inputs.proofs.TableLaws.{file-here, file-on, file-end}
-use Rattle.inputs.proofs.resolve_from.Statement.{statement}
-use Rattle.inputs.proofs.resolve_from.Tie as tie
+use Rattle.inputs.proofs.resolve.Statement.{statement}
+use Rattle.inputs.proofs.resolve.Tie as tie
 
 abbrev Inv-loop : tie.InvT-loop
-Inv-loop table from source i₀ i = (fileOf (two source) (rowsIn (drop from table)) ≡ fileOf (two source) (rowsIn (drop i table))) × (i ≤ length table)
+Inv-loop table source i₀ i = (fileOf (two source) (rowsIn table) ≡ fileOf (two source) (rowsIn (drop i table))) × (i ≤ length table)
 
 abbrev μ-loop : tie.MeasureT-loop
-μ-loop table from source i₀ i = length table - i
+μ-loop table source i₀ i = length table - i
 
 loop-holds : tie.Need-loop-holds Inv-loop μ-loop
 loop-holds c = (refl, omega arith)
@@ -64,8 +64,8 @@ returns-2 c =
     let c3 = c .before .before .before in
     sym (c .before .loop .inv .0 ∙ file-end (c3 .args .table .now) (c .before .loop .i) (c3 .args .source) (omega arith))
 
-pub resolve-from-spec : {M : Type 1} → statement M
-resolve-from-spec =
+pub resolve-spec : {M : Type 1} → statement M
+resolve-spec =
     tie.close
     (tie.spec
     Inv-loop
