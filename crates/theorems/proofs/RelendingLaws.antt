@@ -213,10 +213,14 @@ numbers-after : (ms : Modules) (o : Outcome Numbered) → Of o (λ q. Lendable (
 numbers-after ms (done q) h k = h
 numbers-after ms (refused n p) h k = k
 
+pub resolving-lendable : (l : LentRecords) (room : ℕ) (ms : Modules) → Lendable ms → Lendable (resolving l room ms .modules)
+unfolding resolving
+resolving-lendable l room ms h = numbers-after ms (numbered l ms) (numbered-lendable l ms h) h
+
 -- ---- Lists of calls
 
 call-lendable : (c : Call) (ms : Modules) → Lendable ms → Lendable (after c ms)
-unfolding after gen marking resolving
+unfolding after gen marking
 call-lendable (requests f) ms h = gen-lendable (f .0) ms (request (f .0) ms) refl h
 call-lendable (requestsAll files) ms h = requestAll-lendable (filesIn files) ms h
 call-lendable (sets k m) ms h = go (given m ms)
@@ -227,7 +231,7 @@ call-lendable (sets k m) ms h = go (given m ms)
 call-lendable (reads k m) ms h = h
 call-lendable (readsEsm m) ms h = h
 call-lendable (extracts l room) ms h = extraction-lendable l room ms h
-call-lendable (resolves l room) ms h = numbers-after ms (numbered l ms) (numbered-lendable l ms h) h
+call-lendable (resolves l room) ms h = resolving-lendable l room ms h
 
 list-lendable : (calls : List Call) (ms : Modules) → Lendable ms → Lendable (afterAll calls ms)
 unfolding afterAll
