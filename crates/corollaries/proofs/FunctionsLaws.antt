@@ -14,26 +14,33 @@ use Rattle.scope.specs.declared.id.ModuleId.{ModuleId}
 use Rattle.scope.specs.Modules.{Modules, Generated, Left as Requesting, done as tells, refused as untold, given, not-given, isMarked, readMark}
 use Rattle.scope.specs.ScopeValue.{modulesOf}
 use Rattle.tree.specs.declared.grammar.Set.the-variants.{Module, Records}
-use Rattle.tree.specs.Tree.{Field, encode, size}
+use Rattle.tree.specs.Layout.{valueOf, Bytes}
+use Rattle.tree.specs.Tree.{Field, field, Fields, none, more, encode, size}
 use Rattle.tree.specs.Read.{read}
 use Rattle.writer.specs.Finished.{hasRoom}
 use Rattle.inputs.specs.Outcome.{Outcome, done}
 use Rattle.tree.specs.Layout.{fieldIn}
 use Rattle.inputs.specs.Buffer.{bufferOf}
+use Rattle.inputs.specs.Lists.{among}
+use Rattle.inputs.specs.Table.{rowsIn, atomsIn}
 use Rattle.inputs.proofs.AcceptedLaws.{refusal-none}
 use Rattle.inputs.proofs.BufferLaws.{delivered-holds}
 use Rattle.extraction_rules.specs.Call.{Lent, Lengths, Extracted, Left, modulesAfter, extracted, extraction}
 use Rattle.extraction_rules.proofs.ExtractedLaws.{call-room}
 use Rattle.extraction_rules.proofs.ReadableLaws.{call-readable}
 use Rattle.extraction_rules.proofs.RecordsLaws.{call-records}
-use Rattle.extraction.specs.Answer.{answerRefusal}
+use Rattle.extraction.specs.Answer.{answerRefusal, left}
 use Rattle.resolving_rules.specs.Call.{Lent as LentRecords, Resolved, Left as LeftList, resolved, resolving}
 use Rattle.resolving_rules.proofs.ResolvedLaws.{call-room as list-room, call-modules}
-use Rattle.resolving.specs.Answer.{lentAs, answerRefusal as listRefusal}
+use Rattle.resolving.specs.Answer.{lentAs, answerRefusal as listRefusal, left as leftList}
+use Rattle.theorems.specs.Stands.{stands}
+use Rattle.theorems.specs.Demand.{Declares, takes, Ends, handedOn}
+use Rattle.theorems.specs.Relending.{withoutMarks}
 use Rattle.theorems.specs.Lists.{Call, requests, requestsAll, sets, reads, readsEsm, extracts, resolves, after, afterAll, wrapsAny}
-use Rattle.corollaries.specs.Functions.{HandsBack, HandOn, AnswersExactly, FunctionsKeepOrPart}
+use Rattle.corollaries.specs.Functions.{HandsBack, HandOn, AnswersExactly, KeepOrPart, WellPlaced, FunctionsKeepOrPart}
 use Rattle.theorems.proofs.ListsLaws.{marked-exactly}
 use Rattle.theorems.proofs.DemandLaws.{kept-whole-or-apart}
+use Rattle.theorems.proofs.UnmarkedLaws.{kept-or-apart-unmarked}
 
 -- ---- The sentence on lists
 
@@ -130,29 +137,54 @@ module _ (l : LentRecords) (room : ℕ) (ms : Modules) {x : LeftList} (e : x ≡
 
 -- ---- Kept whole or taken apart
 
-pub functions-keep-or-part : FunctionsKeepOrPart
-functions-keep-or-part l room s r w o k n q g e a f b bs items p =
-    let x = extraction-accepted l room (modulesOf s) e (ap answerRefusal a) in
-    let t = x .0 in
-    let records = extraction-records l room (modulesOf s) t e (x .1) in
-    let modules = extraction-modules l room (modulesOf s) t e (x .1) in
-    let given = lentAs (l .table) (fieldIn k) in
-    let y = resolving-accepted given n (modulesOf (r .scope)) f (ap listRefusal b) in
-    let u = y .0 in (
+-- what is to be shown of every namespace import
+abbrev Sentence : Lent → Fields → Extracted → Resolved → Type 0
+Sentence l items t u =
+    (k : ℕ) (x i : List ℕ) → Declares items k x (more (field 0x22 i none) none) → among (valueOf x) (atomsIn (l .externals)) ≡ false →
+    Ends (takes (rowsIn (l .table)) x (stands items i)) i x k (stands items i) items l t u
+
+-- of what accepted calls leave, where the sentence holds of what the rules gave; resolving has the modules c
+pub keep-or-part : (l : Lent) (room : Lengths) (ms : Modules) (x : Left) (n : ℕ) (c : Modules) (y : LeftList) (items : Fields) →
+    x ≡ extraction l room ms → x .refusal ≡ nothing → y ≡ resolving (lentAs (l .table) (fieldIn (x .records))) n c → y .refusal ≡ nothing → Bytes (l .tree) →
+    ((t : Extracted) (u : Resolved) → extracted l room ms ≡ done t → x .modules ≡ t .modules → resolved (handedOn l t) n c ≡ done u → Sentence l items t u) →
+    KeepOrPart l room n items ms (x .modules) c (y .modules) (x .out) (x .records) (y .list)
+keep-or-part l room ms x n c y items e a f b bs sentence =
+    let v = extraction-accepted l room ms e a in
+    let t = v .0 in
+    let records = extraction-records l room ms t e (v .1) in
+    let modules = extraction-modules l room ms t e (v .1) in
+    let given = lentAs (l .table) (fieldIn (x .records)) in
+    let w = resolving-accepted given n c f b in
+    let u = w .0 in (
       t,
       u,
-      x .1,
-      y .1,
+      v .1,
+      w .1,
       record {
-        out = ap (read Module) (extraction-out l room (modulesOf s) t e (x .1)) ∙ call-readable l room (modulesOf s) bs t (x .1) .1;
-        records = ap (read Records) records ∙ call-records l room (modulesOf s) bs t (x .1);
-        list = resolving-list given n (modulesOf (r .scope)) f u (y .1);
+        out = ap (read Module) (extraction-out l room ms t e (v .1)) ∙ call-readable l room ms bs t (v .1) .1;
+        records = ap (read Records) records ∙ call-records l room ms bs t (v .1);
+        list = resolving-list given n c f u (w .1);
         extracted = modules;
-        resolved = resolving-modules given n (modulesOf (r .scope)) f u (y .1);
+        resolved = resolving-modules given n c f u (w .1);
       },
-      λ k x' i d inside.
-          kept-whole-or-apart l room (modulesOf s) t n u items (p .own) (x .1)
-          (sym (ap (λ (ms : Modules). resolved (lentAs (l .table) (encode (t .records))) n ms) modules)
-          ∙ sym (ap (λ (z : List ℕ). resolved (lentAs (l .table) z) n (modulesOf (r .scope))) records) ∙ y .1)
-          bs (p .reading) (p .requesting) (p .placed) k x' i d inside,
+      sentence t u (v .1) modules (sym (ap (λ (z : List ℕ). resolved (lentAs (l .table) z) n c) records) ∙ w .1),
     )
+
+-- resolving in the scope that extraction handed back
+pub functions-keep-or-part : FunctionsKeepOrPart
+functions-keep-or-part l room s r w o k n q g e a f b bs items p =
+    keep-or-part l room (modulesOf s) (left r w o k) n (modulesOf (r .scope)) (leftList q g) items e (ap answerRefusal a) f (ap listRefusal b) bs
+    (λ t u d modules v k x i h inside.
+    kept-whole-or-apart l room (modulesOf s) t n u items (p .own) d (sym (ap (λ (ms : Modules). resolved (handedOn l t) n ms) modules) ∙ v) bs
+    (p .reading) (p .requesting) (p .placed) k x i h inside)
+
+-- resolving in a scope with its files, without marks
+pub keep-or-part-unmarked : (l : Lent) (room : Lengths) (ms : Modules) (x : Left) (n : ℕ) (y : LeftList) (items : Fields) →
+    x ≡ extraction l room ms → x .refusal ≡ nothing → y ≡ resolving (lentAs (l .table) (fieldIn (x .records))) n (withoutMarks (x .modules)) →
+    y .refusal ≡ nothing → Bytes (l .tree) → WellPlaced l ms items →
+    KeepOrPart l room n items ms (x .modules) (withoutMarks (x .modules)) (y .modules) (x .out) (x .records) (y .list)
+keep-or-part-unmarked l room ms x n y items e a f b bs p =
+    keep-or-part l room ms x n (withoutMarks (x .modules)) y items e a f b bs
+    (λ t u d modules v k i h inside.
+    kept-or-apart-unmarked l room ms t n u items (p .own) d (sym (ap (λ (ms : Modules). resolved (handedOn l t) n (withoutMarks ms)) modules) ∙ v) bs
+    (p .reading) (p .requesting) (p .placed) k i h inside)

@@ -69,30 +69,34 @@ pub record Exact (m : ModuleId) (t : Scope) (r : ReadAnswer) : Type 0 where
 
 -- ---- Kept whole or taken apart
 
--- the trees that the buffers hold as read back, and the scopes' modules: a and b are the scopes after extraction and after resolving,
+-- the trees that the buffers hold as read back, and the scopes' modules: a and b are those after extraction and after resolving,
 -- o and k *out* and the records, g the resolved list
-pub record Holds (a b : Scope) (o k g : List ℕ) (t : Extracted) (u : Resolved) : Type 0 where
+pub record Holds (a b : Modules) (o k g : List ℕ) (t : Extracted) (u : Resolved) : Type 0 where
   pub out : read Module (fieldIn o) ≡ fine (more (t .out) none)
   pub records : read Records (fieldIn k) ≡ fine (more (t .records) none)
   pub list : fieldIn g ≡ encode (u .list)
-  pub extracted : modulesOf a ≡ t .modules
-  pub resolved : modulesOf b ≡ u .modules
+  pub extracted : a ≡ t .modules
+  pub resolved : b ≡ u .modules
 
--- the rules gave t, and u of the records that stand in their buffer; the buffers hold both; and every namespace import with a
--- non-external source is taken apart or kept as demand 3 says
-abbrev pub KeepOrPart : Lent → Lengths → ℕ → Fields → Scope → Scope → Scope → List ℕ → List ℕ → List ℕ → Type 0
-KeepOrPart l room n items s a b o k g =
-    (t : Extracted) × (u : Resolved) × (extracted l room (modulesOf s) ≡ done t)
-    × (resolved (lentAs (l .table) (fieldIn k)) n (modulesOf a) ≡ done u)
+-- the rules gave t with the modules ms, and with the modules c they gave u of the records that stand in their buffer; the buffers hold
+-- both; and every namespace import with a non-external source is taken apart or kept as demand 3 says
+abbrev pub KeepOrPart : Lent → Lengths → ℕ → Fields → Modules → Modules → Modules → Modules → List ℕ → List ℕ → List ℕ → Type 0
+KeepOrPart l room n items ms a c b o k g =
+    (t : Extracted) × (u : Resolved) × (extracted l room ms ≡ done t)
+    × (resolved (lentAs (l .table) (fieldIn k)) n c ≡ done u)
     × Holds a b o k g t u
     × ((k : ℕ) (x i : List ℕ) → Declares items k x (more (field 0x22 i none) none) → among (valueOf x) (atomsIn (l .externals)) ≡ false →
     Ends (takes (rowsIn (l .table)) x (stands items i)) i x k (stands items i) items l t u)
 
--- the items of a well placed tree, in the scope s
-pub record WellPlaced (l : Lent) (s : Scope) (items : Fields) : Type 0 where
+-- the same of scopes: s before both calls, a and b after extraction, in whose scope resolving goes on, and after resolving
+abbrev pub InScopes : Lent → Lengths → ℕ → Fields → Scope → Scope → Scope → List ℕ → List ℕ → List ℕ → Type 0
+InScopes l room n items s a b o k g = KeepOrPart l room n items (modulesOf s) (modulesOf a) (modulesOf a) (modulesOf b) o k g
+
+-- the items of a well placed tree, with the modules ms
+pub record WellPlaced (l : Lent) (ms : Modules) (items : Fields) : Type 0 where
   pub own : ℕ × Modules
   pub reading : itemsRead (read Module (l .tree)) ≡ done items
-  pub requesting : request (l .file) (modulesOf s) ≡ some own
+  pub requesting : request (l .file) ms ≡ some own
   pub placed : wellPlaced (own .0) items ≡ true
 
 -- `extract_import_info` accepted a well placed tree, and `resolve_imports` the records that it left, with the same table and its scope:
@@ -102,12 +106,13 @@ FunctionsKeepOrPart =
     (l : Lent) (room : Lengths) (s : Scope) (r : Extraction) (w o k : List ℕ) (n : ℕ) (q : Resolution) (g : List ℕ) →
     left r w o k ≡ extraction l room (modulesOf s) → r .answer ≡ Accepted →
     leftList q g ≡ resolving (lentAs (l .table) (fieldIn k)) n (modulesOf (r .scope)) → q .answer ≡ Listed →
-    Bytes (l .tree) → (items : Fields) → WellPlaced l s items → KeepOrPart l room n items s (r .scope) (q .scope) o k g
+    Bytes (l .tree) → (items : Fields) → WellPlaced l (modulesOf s) items →
+    InScopes l room n items s (r .scope) (q .scope) o k g
 
 -- The same of `extract_and_resolve`, which makes both calls: o, k and g are what it leaves in *out*, the records and the list, n the
 -- list's room. It says that a call is refused only where the rules refuse it.
 pub record Pairs (l : Lent) (room : Lengths) (n : ℕ) (s : Scope) (o k g : List ℕ) (p : Pair) : Type 0 where
-  pub both : p .answer ≡ Both → (items : Fields) → WellPlaced l s items → KeepOrPart l room n items s (p .extracted) (p .resolved) o k g
+  pub both : p .answer ≡ Both → (items : Fields) → WellPlaced l (modulesOf s) items → InScopes l room n items s (p .extracted) (p .resolved) o k g
   pub unextracted : p .answer ≡ NotExtracted → extraction l room (modulesOf s) .refusal ≡ nothing → ⊥
   pub unlisted : p .answer ≡ NotListed → resolving (lentAs (l .table) (fieldIn k)) n (modulesOf (p .extracted)) .refusal ≡ nothing → ⊥
   pub records : k ≡ extraction l room (modulesOf s) .records

@@ -1,5 +1,7 @@
 // The theorems of the functions themselves. Each function here makes calls and ensures what a theorem says of them, so that the
 // sentence stands on the contracts of what it speaks of: where one is weakened, this crate is no longer proved. Nothing calls them.
+pub mod exported; // the exported calls, for hosts
+
 use extraction::ExtractAnswer;
 use extraction::extract_import_info;
 use resolving::Resolution;

@@ -1,5 +1,6 @@
 -- Proofs of what is claimed: the sentence on lists of calls (ListsLaws) and demand 3 (DemandLaws, from TopLaws): what well placed items say around
--- a namespace's import, what each pass leaves of it, of its uses and of its record, and what resolving makes of that.
+-- a namespace's import, what each pass leaves of it, of its uses and of its record, and what resolving makes of that. A scope's files,
+-- requested anew (RelendingLaws), and resolving with them (UnmarkedLaws).
 pub mod ListsLaws
 pub mod PlacedLaws
 pub mod EndsLaws
@@ -26,3 +27,5 @@ pub mod UsesLaws
 pub mod WaysLaws
 pub mod WorkedLaws
 pub mod DemandLaws
+pub mod RelendingLaws
+pub mod UnmarkedLaws
