@@ -44,7 +44,7 @@ returns c =
     let c7 = c6 .before in
     sym (c5 .loop .inv .0
     ∙ twice-here (c7 .args .table .now) (c5 .loop .i) (omega arith) (c6 .shared-slice-known .given (c5 .loop .i) .fits)
-    (c6 .shared-slice-known .given (c5 .loop .i + 1) .fits) (c .enum-told .given .0 .0)
+    (c6 .shared-slice-known .given (c5 .loop .i + 1) .fits) (c .enum-told .given .0 .0 .0)
     (sym (ap fileBy (c .enum-told .given .1)) ∙ c .before .before .resolve-from .ensures
     ∙ ap (λ (m : ℕ). fileOf (two m) (rowsIn (drop (c5 .loop .i + 4) (c7 .args .table .now)))) (c3 .atom-at .ensures)))
 
