@@ -73,7 +73,7 @@ pub fn required_at(
     let Literal::Is(literal) = sole_literal(s, callee, stop) else {
         return Literal::Other;
     };
-    if is_external(externals, name_of(literal)) {
+    if is_external(externals, Atom(name_of(literal))) {
         Literal::Other
     } else {
         Literal::Is(literal)
@@ -139,7 +139,7 @@ pub fn mark_required(literal: u64, table: &[u8], t: &mut [u64]) -> Required
     requires { ⌜ Good (now t) × (literal < id-limit) ⌝ }
     ensures { λ r. ⌜ Requires (idOf literal) (rowsIn (now (table .entry))) (now (t .entry)) (now (t .exit)) r ⌝ }
 {
-    match module_for(t, table, name_of(literal)) {
+    match module_for(t, table, Atom(name_of(literal))) {
         Module::Is(n) => {
             mark_cjs(t, n);
             Required::Marked(n)

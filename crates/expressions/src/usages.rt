@@ -79,7 +79,7 @@ fn use_from(
     let Source::From(source) = used_record(t, own, id) else {
         return Effect::Fine;
     };
-    match module_for(t, table, source.0) {
+    match module_for(t, table, source) {
         Module::Is(n) => use_property(s, at, member, end, id, n, t),
         Module::Unresolved => Effect::Fine,
         Module::TooMany => Effect::Refused(Why::TooManyFiles, at),

@@ -20,6 +20,7 @@ use inputs::names_twice;
 use passes::pass;
 use records::put_records;
 use scope::Scope;
+use scope::id::Atom;
 use scope::id::FileName;
 use scope::id::ModuleId;
 use state::CELLS;
@@ -261,7 +262,7 @@ fn wrap(table: &[u8], t: &mut [u64]) -> Effect
 {
     let mut i = 0;
     while i < count_forced(t) {
-        match wrap_source(forced_at(t, i).0, table, t) {
+        match wrap_source(forced_at(t, i), table, t) {
             Effect::Fine => i += 1,
             Effect::Refused(why, place) => return Effect::Refused(why, place),
         }
@@ -270,9 +271,9 @@ fn wrap(table: &[u8], t: &mut [u64]) -> Effect
 }
 
 // The module of a forced source gets the wrapping mark.
-fn wrap_source(source: u16, table: &[u8], t: &mut [u64]) -> Effect
+fn wrap_source(source: Atom, table: &[u8], t: &mut [u64]) -> Effect
     requires { ⌜ Good (now t) ⌝ }
-    ensures { λ k. ⌜ Wraps (now (table .entry)) (λ e. wrapOne e (twoOf source)) (now (t .entry)) (now (t .exit)) k ⌝ }
+    ensures { λ k. ⌜ Wraps (now (table .entry)) (λ e. wrapOne e (twoOf (source .0))) (now (t .entry)) (now (t .exit)) k ⌝ }
 {
     match module_for(t, table, source) {
         Module::Is(id) => {

@@ -18,6 +18,7 @@ use crate::note::put_context_attributes;
 use crate::parts::namespace_at;
 use crate::parts::specifiers_end;
 use inputs::is_external;
+use scope::id::Atom;
 use scope::id::ModuleId;
 use state::Module;
 use state::Place;
@@ -93,7 +94,7 @@ pub fn import_first(
         (importFirst (settingOf e (atomsIn (now (externals .entry))) (rowsIn (now (table .entry)))) (fixedOf (treeAt (now (s .entry)) at stop))
         (partsOf (treeAt (now (s .entry)) at stop)) at) (now (t .entry)) (now (out .entry)) o (now (t .exit)) (now (out .exit)) r ⌝ }
 {
-    let source = name_of(id_at(s, at + 3));
+    let source = Atom(name_of(id_at(s, at + 3)));
     if is_external(externals, source) {
         return Step::Done(writer::copy(out, o, s, at, stop));
     }

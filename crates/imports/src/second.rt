@@ -57,11 +57,11 @@ pub fn import_second(
         (importSecond (settingOf e (atomsIn (now (externals .entry))) rows) (fixedOf (treeAt (now (s .entry)) at stop))
         (partsOf (treeAt (now (s .entry)) at stop))) (now (t .entry)) (now (out .entry)) o (now (t .exit)) (now (out .exit)) r) ⌝ }
 {
-    let source = name_of(id_at(s, at + 3));
+    let source = Atom(name_of(id_at(s, at + 3)));
     if is_external(externals, source) {
         return Step::Done(writer::copy(out, o, s, at, stop));
     }
-    if is_forced(t, Atom(source)) {
+    if is_forced(t, source) {
         return Step::Done(writer::copy(out, o, s, at, stop));
     }
     match sole_namespace(s, from, stop) {

@@ -5,5 +5,5 @@ use Rattle.inputs.specs.declared.Resolved.{Resolved}
 use Rattle.inputs.specs.declared.Resolved.the-variants.{File, Nowhere}
 
 abbrev pub fileBy : Resolved → Option ℕ
-fileBy (File f) = some f
+fileBy (File f) = some (f .0)
 fileBy Nowhere = none

@@ -7,11 +7,13 @@ ghost use Rattle.inputs.specs.Lists.{among};
 ghost use Rattle.inputs.specs.Table.{atomsIn, rowsIn, fileOf, badExternals, badTable, repeats};
 ghost use Rattle.inputs.specs.ResolvedValue.{fileBy};
 ghost use Rattle.inputs.specs.Bitmap.{isSet, WithBit, halfOf};
+use scope::id::Atom;
+use scope::id::FileName;
 use tree::layout::atom_at;
 
 // The file that a table names for a source.
 pub enum Resolved {
-    File(u16),
+    File(FileName),
     Nowhere,
 }
 
@@ -38,12 +40,12 @@ pub fn bad_table(table: &[u8]) -> bool
 }
 
 // Whether an atom is among the externals.
-pub fn is_external(externals: &[u8], atom: u16) -> bool
-    ensures { λ r. ⌜ r ≡ among (two atom) (atomsIn (now (externals .entry))) ⌝ }
+pub fn is_external(externals: &[u8], atom: Atom) -> bool
+    ensures { λ r. ⌜ r ≡ among (two (atom .0)) (atomsIn (now (externals .entry))) ⌝ }
 {
     let mut i = 0;
     while 2 <= externals.len() - i {
-        if atom == atom_at(externals, i) {
+        if atom.0 == atom_at(externals, i) {
             return true;
         }
         i += 2;
@@ -52,13 +54,13 @@ pub fn is_external(externals: &[u8], atom: u16) -> bool
 }
 
 // The file that a table names for a source.
-pub fn resolve(table: &[u8], source: u16) -> Resolved
-    ensures { λ r. ⌜ fileBy r ≡ fileOf (two source) (rowsIn (now (table .entry))) ⌝ }
+pub fn resolve(table: &[u8], source: Atom) -> Resolved
+    ensures { λ r. ⌜ fileBy r ≡ fileOf (two (source .0)) (rowsIn (now (table .entry))) ⌝ }
 {
     let mut i = 0;
     while 4 <= table.len() - i {
-        if atom_at(table, i) == source {
-            return Resolved::File(atom_at(table, i + 2));
+        if atom_at(table, i) == source.0 {
+            return Resolved::File(FileName(atom_at(table, i + 2)));
         }
         i += 4;
     }

@@ -22,6 +22,7 @@ use crate::specifiers::Step;
 use crate::specifiers::Why;
 use crate::specifiers::put_specifiers;
 use scope::Scope;
+use scope::id::Atom;
 use scope::id::FileName;
 use scope::id::ModuleId;
 use tree::layout::Reach;
@@ -42,7 +43,7 @@ fn kind_of(tag: u8) -> u8
 fn put_heading(
     kind: u8,
     id: ModuleId,
-    file: u16,
+    file: FileName,
     records: &[u8],
     from: usize,
     end: usize,
@@ -52,12 +53,12 @@ fn put_heading(
     requires { ⌜ end ≤ length (now records) ⌝ }
     ensures { λ p.
         ⌜ Wrote (now (list .entry)) o
-        (kind ∷ two (id .0) ++ two file ++ four (local (id .0)) ++ four (export (id .0)) ++ slice from end (now (records .entry))) (now (list .exit))
+        (kind ∷ two (id .0) ++ two (file .0) ++ four (local (id .0)) ++ four (export (id .0)) ++ slice from end (now (records .entry))) (now (list .exit))
         p ⌝ }
 {
     let a = writer::put(list, o, kind);
     let b = writer::put_u16(list, a, id.0);
-    let c = writer::put_u16(list, b, file);
+    let c = writer::put_u16(list, b, file.0);
     let d = writer::put_u32(list, c, id.local_ctxt().0);
     let e = writer::put_u32(list, d, id.export_ctxt().0);
     writer::copy(list, e, records, from, end)
@@ -80,12 +81,12 @@ fn put_record(
         (forcedIn (recordsIn (now (records .entry)))) (modulesOf scope) (treeAt (now (records .entry)) at stop) at) (now (list .entry)) o
         (now (list .exit)) k ⌝ }
 {
-    let source = literal_value(records, at + 3);
+    let source = Atom(literal_value(records, at + 3));
     let inputs::Resolved::File(file) = inputs::resolve(table, source) else {
         return Step::Refused(Why::Unresolved, at);
     };
     let content = writer::open_field(list, o, 0x90);
-    let g = scope.gen_id(FileName(file));
+    let g = scope.gen_id(file);
     let id = g.id;
     let kind = kind_of(records[at]);
     let c = put_heading(kind, id, file, records, at + 3, at + 9, list, content);

@@ -11,7 +11,7 @@ ghost use Rattle.resolving.specs.Records.{RecordsRead, recordsIn, source
 ghost use Rattle.resolving.specs.Numbers.{numberBy};
 use scope::FileAnswer;
 use scope::Scope;
-use scope::id::FileName;
+use scope::id::Atom;
 use tree::access::extent;
 use tree::layout::Reach;
 use tree::layout::atom_at;
@@ -48,12 +48,12 @@ pub fn source_end(records: &[u8], at: usize) -> Reach
 }
 
 // Gives a source its number, if it resolves; the record stands at place.
-fn number_source(scope: Scope, table: &[u8], source: u16, place: usize) -> Numbering
-    ensures { λ r. ⌜ numberBy r ≡ numberOne (fileOf (two source) (rowsIn (now (table .entry)))) (modulesOf scope) place ⌝ }
+fn number_source(scope: Scope, table: &[u8], source: Atom, place: usize) -> Numbering
+    ensures { λ r. ⌜ numberBy r ≡ numberOne (fileOf (two (source .0)) (rowsIn (now (table .entry)))) (modulesOf scope) place ⌝ }
 {
     match inputs::resolve(table, source) {
         inputs::Resolved::File(file) => {
-            let g = scope.gen_id(FileName(file));
+            let g = scope.gen_id(file);
             let new = g.scope;
             let given = g.answer;
             match given {
@@ -87,7 +87,7 @@ pub fn number_sources(mut scope: Scope, table: &[u8], records: &[u8]) -> Numberi
                 answer: NumberAnswer::Given,
             };
         };
-        let n = number_source(scope, table, literal_value(records, at + 3), at);
+        let n = number_source(scope, table, Atom(literal_value(records, at + 3)), at);
         scope = n.scope;
         let answer = n.answer;
         match answer {
@@ -103,21 +103,21 @@ pub fn number_sources(mut scope: Scope, table: &[u8], records: &[u8]) -> Numberi
 }
 
 // Whether the record at `at` forces a source.
-fn forces_at(records: &[u8], at: usize, source: u16) -> bool
+fn forces_at(records: &[u8], at: usize, source: Atom) -> bool
     requires { ⌜ at + 5 ≤ length (now records) ⌝ }
-    ensures { λ r. ⌜ r ≡ forcesAt (now (records .entry)) at source ⌝ }
+    ensures { λ r. ⌜ r ≡ forcesAt (now (records .entry)) at (source .0) ⌝ }
 {
     if records[at] == 0x83 {
-        source == atom_at(records, at + 3)
+        source.0 == atom_at(records, at + 3)
     } else {
         false
     }
 }
 
 // Whether a source is forced.
-pub fn is_forced(records: &[u8], source: u16) -> bool
+pub fn is_forced(records: &[u8], source: Atom) -> bool
     requires { ⌜ RecordsRead (now records) ⌝ }
-    ensures { λ r. ⌜ r ≡ among (two source) (forcedIn (recordsIn (now (records .entry)))) ⌝ }
+    ensures { λ r. ⌜ r ≡ among (two (source .0)) (forcedIn (recordsIn (now (records .entry)))) ⌝ }
 {
     let mut at = START;
     loop {

@@ -14,6 +14,7 @@ use crate::Module;
 use inputs::Resolved;
 use scope::FileAnswer;
 use scope::Scope;
+use scope::id::Atom;
 use scope::id::FileName;
 use scope::id::ModuleId;
 
@@ -53,13 +54,13 @@ pub fn request(t: &mut [u64], file: FileName) -> Module
 }
 
 // The module of the file that a table names for a source.
-pub fn module_for(t: &mut [u64], table: &[u8], source: u16) -> Module
+pub fn module_for(t: &mut [u64], table: &[u8], source: Atom) -> Module
     requires { ⌜ Good (now t) ⌝ }
-    ensures { λ r. ⌜ Resolves (moduleOf (fileOf (two source) (rowsIn (now (table .entry))))) (now (t .entry)) (now (t .exit)) r ⌝ }
+    ensures { λ r. ⌜ Resolves (moduleOf (fileOf (two (source .0)) (rowsIn (now (table .entry))))) (now (t .entry)) (now (t .exit)) r ⌝ }
 {
     let resolved = inputs::resolve(table, source);
     match resolved {
-        Resolved::File(file) => request(t, FileName(file)),
+        Resolved::File(file) => request(t, file),
         Resolved::Nowhere => Module::Unresolved,
     }
 }

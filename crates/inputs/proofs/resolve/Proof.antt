@@ -12,7 +12,7 @@ use Rattle.inputs.proofs.resolve.Statement.{statement}
 use Rattle.inputs.proofs.resolve.Tie as tie
 
 abbrev Inv-loop : tie.InvT-loop
-Inv-loop table source i₀ i = (fileOf (two source) (rowsIn table) ≡ fileOf (two source) (rowsIn (drop i table))) × (i ≤ length table)
+Inv-loop table source i₀ i = (fileOf (two (source .0)) (rowsIn table) ≡ fileOf (two (source .0)) (rowsIn (drop i table))) × (i ≤ length table)
 
 abbrev μ-loop : tie.MeasureT-loop
 μ-loop table source i₀ i = length table - i
@@ -34,13 +34,13 @@ atom-at-requires-2 c κs = omega arith
 
 returns : tie.Need-returns Inv-loop μ-loop
 returns c =
-    let c4 = c .before .before .before .before in
+    let c4 = c .before .before .before .before .before in
     let c5 = c4 .before in
     let c6 = c5 .before in
     sym (c4 .loop .inv .0
-    ∙ file-here (c6 .args .table .now) (c4 .loop .i) (c6 .args .source) (omega arith) (c5 .shared-slice-known .given (c4 .loop .i) .fits)
-    (c5 .shared-slice-known .given (c4 .loop .i + 1) .fits) (c6 .fits .source .fits)
-    (sym (c .before .before .atom-at .ensures) ∙ c .before .if1 .taken) ∙ ap some (sym (c .atom-at2 .ensures)))
+    ∙ file-here (c6 .args .table .now) (c4 .loop .i) (c6 .args .source .0) (omega arith) (c5 .shared-slice-known .given (c4 .loop .i) .fits)
+    (c5 .shared-slice-known .given (c4 .loop .i + 1) .fits) (omega arith)
+    (sym (c .before .before .before .atom-at .ensures) ∙ c .before .if1 .taken) ∙ ap some (sym (c .atom-at2 .ensures)))
 
 add-i : tie.Need-add-i Inv-loop μ-loop
 add-i c = omega arith
@@ -50,19 +50,19 @@ loop-less c = omega arith
 
 loop-again : tie.Need-loop-again Inv-loop μ-loop
 loop-again c =
-    let c3 = c .before .before .before in
+    let c3 = c .before .before .before .before in
     let c4 = c3 .before in
     let c5 = c4 .before in (
       c3 .loop .inv .0
-          ∙ file-on (c5 .args .table .now) (c3 .loop .i) (c5 .args .source) (omega arith) (c4 .shared-slice-known .given (c3 .loop .i) .fits)
-          (c4 .shared-slice-known .given (c3 .loop .i + 1) .fits) (c5 .fits .source .fits) (λ e. c .if1 .left (c .before .atom-at .ensures ∙ e)),
+          ∙ file-on (c5 .args .table .now) (c3 .loop .i) (c5 .args .source .0) (omega arith) (c4 .shared-slice-known .given (c3 .loop .i) .fits)
+          (c4 .shared-slice-known .given (c3 .loop .i + 1) .fits) (omega arith) (λ e. c .if1 .left (c .before .before .atom-at .ensures ∙ e)),
       omega arith,
     )
 
 returns-2 : tie.Need-returns-2 Inv-loop μ-loop
 returns-2 c =
     let c3 = c .before .before .before in
-    sym (c .before .loop .inv .0 ∙ file-end (c3 .args .table .now) (c .before .loop .i) (c3 .args .source) (omega arith))
+    sym (c .before .loop .inv .0 ∙ file-end (c3 .args .table .now) (c .before .loop .i) (c3 .args .source .0) (omega arith))
 
 pub resolve-spec : {M : Type 1} → statement M
 resolve-spec =

@@ -51,8 +51,8 @@ returns c =
     (wrote-then
     (wrote-then (wrote-then (wrote-then (c24 .put .ensures) (c20 .put-u16 .ensures)) (c16 .put-u162 .ensures)) (c11 .put-u32 .ensures))
     (c6 .put-u322 .ensures)) (c .before .before .copy .ensures))
-    (heading-bytes (c28 .args .kind) (c28 .args .id .0) (c28 .args .file) _ _ (slice (c28 .args .from) (c28 .args .end) (c28 .args .records .now))
-    (omega (arith, c28 .good .1 .0)) (c28 .fits .file .fits) (ap (λ (x : SyntaxContext). x .0) (c12 .local-ctxt .ensures))
+    (heading-bytes (c28 .args .kind) (c28 .args .id .0) (c28 .args .file .0) _ _ (slice (c28 .args .from) (c28 .args .end) (c28 .args .records .now))
+    (omega (arith, c28 .good .1 .0)) (omega (arith, c28 .good .1 .1 .0)) (ap (λ (x : SyntaxContext). x .0) (c12 .local-ctxt .ensures))
     (ap (λ (x : SyntaxContext). x .0) (c7 .export-ctxt .ensures)))
 
 pub put-heading-spec : {M : Type 1} → statement M

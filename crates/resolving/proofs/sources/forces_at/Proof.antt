@@ -16,7 +16,7 @@ atom-at-requires c κs = search needs
 
 returns : tie.Need-returns
 unfolding forcesAt
-returns c = rw (eq-eqb _ 0x83 (c .before .if1 .taken), c .atom-at .ensures)
+returns c = rw (eq-eqb _ 0x83 (c .before .before .if1 .taken), c .before .atom-at .ensures)
 
 returns-2 : tie.Need-returns-2
 unfolding forcesAt

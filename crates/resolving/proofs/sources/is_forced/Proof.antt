@@ -16,7 +16,7 @@ use Rattle.resolving.proofs.sources.is_forced.Statement.{statement}
 use Rattle.resolving.proofs.sources.is_forced.Tie as tie
 
 abbrev Inv-loop : tie.InvT-loop
-Inv-loop records source at₀ at = (among (two source) (forcedIn (recordsIn records)) ≡ among (two source) (forcedIn (rowAt records at (length records)))) × RecordsFrom records at
+Inv-loop records source at₀ at = (among (two (source .0)) (forcedIn (recordsIn records)) ≡ among (two (source .0)) (forcedIn (rowAt records at (length records)))) × RecordsFrom records at
 
 abbrev μ-loop : tie.MeasureT-loop
 μ-loop records source at₀ at = length records - at
@@ -37,14 +37,14 @@ returns : tie.Need-returns Inv-loop μ-loop
 returns c =
     let c3 = c .before .before .before in
     let c5 = c3 .before .before in
-    sym (c3 .loop .inv .0 ∙ forced-end (c5 .args .source) (c5 .fits .source .fits) (c3 .loop .inv .1) (sym (c .before .before .extent .ensures) ∙ c .enum-told .given .1))
+    sym (c3 .loop .inv .0 ∙ forced-end (c5 .args .source .0) (omega (arith, c5 .good .1 .0)) (c3 .loop .inv .1) (sym (c .before .before .extent .ensures) ∙ c .enum-told .given .1))
 
 forces-at-requires : tie.Need-forces-at-requires Inv-loop μ-loop
 forces-at-requires c κs =
     let c3 = c .before .before .before in
     let c4 = c3 .before in
     let c6 = c4 .before .before in
-    forced-inside (c6 .args .source) (c6 .fits .source .fits) (c4 .loop .inv .1) (sym (c3 .extent .ensures) ∙ c .before .stop .given .1)
+    forced-inside (c6 .args .source .0) (omega (arith, c6 .good .1 .0)) (c4 .loop .inv .1) (sym (c3 .extent .ensures) ∙ c .before .stop .given .1)
 
 returns-2 : tie.Need-returns-2 Inv-loop μ-loop
 returns-2 c =
@@ -53,9 +53,9 @@ returns-2 c =
     let c6 = c5 .before in
     let c8 = c6 .before .before in
     sym (c6 .loop .inv .0
-    ∙ forced-step (c8 .args .source) (c8 .fits .source .fits) (c6 .loop .inv .1) (sym (c5 .extent .ensures) ∙ c3 .stop .given .1)
+    ∙ forced-step (c8 .args .source .0) (omega (arith, c8 .good .1 .0)) (c6 .loop .inv .1) (sym (c5 .extent .ensures) ∙ c3 .stop .given .1)
     ∙
-    ap (λ (b : Bool). b || among (two (c8 .args .source))
+    ap (λ (b : Bool). b || among (two (c8 .args .source .0))
     (forcedIn (rowAt (c8 .args .records .now) (c3 .stop .given .0 .0) (length (c8 .args .records .now)))))
     (sym (c .before .forces-at .ensures) ∙ c .if1 .taken))
 
@@ -73,9 +73,9 @@ loop-again c =
     let c5 = c3 .before .before in
     let c6 = c5 .before in
     let c8 = c6 .before .before in (
-      c6 .loop .inv .0 ∙ forced-step (c8 .args .source) (c8 .fits .source .fits) (c6 .loop .inv .1) (sym (c5 .extent .ensures) ∙ c3 .stop .given .1)
+      c6 .loop .inv .0 ∙ forced-step (c8 .args .source .0) (omega (arith, c8 .good .1 .0)) (c6 .loop .inv .1) (sym (c5 .extent .ensures) ∙ c3 .stop .given .1)
           ∙
-          ap (λ (b : Bool). b || among (two (c8 .args .source))
+          ap (λ (b : Bool). b || among (two (c8 .args .source .0))
           (forcedIn (rowAt (c8 .args .records .now) (c3 .stop .given .0 .0) (length (c8 .args .records .now)))))
           (sym (c .before .forces-at .ensures) ∙ c .if1 .left),
       records-next (c6 .loop .inv .1) (sym (c5 .extent .ensures) ∙ c3 .stop .given .1),

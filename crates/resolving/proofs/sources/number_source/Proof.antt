@@ -33,7 +33,7 @@ returns c =
     let c5 = c3 .before .before in
     let c7 = c5 .before .before in
     let c9 = c7 .before .before in
-    number-given (rowsIn (c9 .args .table .now)) (two (c9 .args .source)) (modulesOf (c9 .args .scope)) (c9 .args .place)
+    number-given (rowsIn (c9 .args .table .now)) (two (c9 .args .source .0)) (modulesOf (c9 .args .scope)) (c9 .args .place)
     (sym (c7 .resolve .ensures) ∙ ap fileBy (c5 .file .given .1)) (c3 .gen-id .ensures) (ap fileRefusal (c .enum-told .given .1))
 
 returns-2 : tie.Need-returns-2
@@ -42,13 +42,13 @@ returns-2 c =
     let c5 = c3 .before .before in
     let c7 = c5 .before .before in
     let c9 = c7 .before .before in
-    number-over (rowsIn (c9 .args .table .now)) (two (c9 .args .source)) (modulesOf (c9 .args .scope)) (c9 .args .place)
+    number-over (rowsIn (c9 .args .table .now)) (two (c9 .args .source .0)) (modulesOf (c9 .args .scope)) (c9 .args .place)
     (sym (c7 .resolve .ensures) ∙ ap fileBy (c5 .file .given .1)) (c3 .gen-id .ensures) (ap fileRefusal (c .enum-told2 .given .1))
 
 returns-3 : tie.Need-returns-3
 returns-3 c =
     let c4 = c .before .before .before .before in
-    number-nowhere (rowsIn (c4 .args .table .now)) (two (c4 .args .source)) (modulesOf (c4 .args .scope)) (c4 .args .place)
+    number-nowhere (rowsIn (c4 .args .table .now)) (two (c4 .args .source .0)) (modulesOf (c4 .args .scope)) (c4 .args .place)
     (sym (c .before .before .resolve .ensures) ∙ ap fileBy (c .enum-told3 .given .1))
 
 pub number-source-spec : {M : Type 1} → statement M
