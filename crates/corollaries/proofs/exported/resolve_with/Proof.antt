@@ -1,5 +1,6 @@
 -- `resolve_with`: one way; `lent-part` says that the part up to n is the files in the scope's bytes, and the part up to `end` the field at the
 -- front of the records' buffer.
+use native.Mathlib.Omega.{arith}
 use lib.ListN.{length}
 use Rattle.corollaries.proofs.FilesLaws.{lent-fits, lent-part}
 use borrow.Author.Needs.{needs}
@@ -25,7 +26,8 @@ part-tychodrel-resolve-end : tie.Need-part-tychodrel-resolve-end
 part-tychodrel-resolve-end c =
     let c3 = c .before .before .before in
     let c9 = c3 .before .before .before .before .before .before in
-    lent-fits (c9 .args .scope .now) (c9 .pre .0) (c3 .put-files .ensures)
+    let h = lent-fits (c9 .args .scope .now) (c9 .pre .0) (c3 .put-files .ensures) in
+    omega arith
 
 sub-tychodrel-resolve-2 : tie.Need-sub-tychodrel-resolve-2
 sub-tychodrel-resolve-2 c = search needs
