@@ -45,7 +45,7 @@ if-as w e = record { size = w .size; is = λ h. wrote-as (w .is h) e }
 pub if-from : {P Q : Type 0} {bs l l' : List ℕ} {o p : ℕ} → (Q → P) → WroteIf P bs l o l' p → WroteIf Q bs l o l' p
 if-from k w = record { size = w .size; is = λ h. w .is (k h) }
 
-sieve-nothing : (b : Bool) (fs : Fields) → fs ≡ none → encodes (sieve b fs) ≡ []
+pub sieve-nothing : (b : Bool) (fs : Fields) → fs ≡ none → encodes (sieve b fs) ≡ []
 sieve-nothing b fs e = ap (λ (gs : Fields). encodes (sieve b gs)) e ∙ ap encodes (sieve-none b) ∙ encodes-none
 
 sieve-bytes : (b : Bool) (fs gs : Fields) → encodes (sieve b (append fs gs)) ≡ encodes (sieve b fs) ++ encodes (sieve b gs)

@@ -6,7 +6,10 @@ ghost use Rattle.records.specs.Writes.{WroteFor, Placing, BothRead, reco
 mod bindings; // the binding ids of a pattern
 mod collected; // collected records
 mod lazy; // lazy records and forced sources
+mod namespaces; // what became of namespace imports
 mod parts; // the parts of an import
+mod places; // where the imports stand
+mod sources; // the imports of a source
 
 use collected::put_collected;
 use lazy::put_forced;

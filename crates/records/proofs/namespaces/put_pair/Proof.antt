@@ -5,8 +5,8 @@ use Rattle.state.specs.Cells.{idOf}
 use Rattle.records.proofs.SpecifierLaws.{if-none}
 use Rattle.records.proofs.CollectedLaws.{if-as, pair-is, pair-other}
 use borrow.Author.Needs.{needs}
-use Rattle.records.proofs.collected.put_pair.Statement.{statement}
-use Rattle.records.proofs.collected.put_pair.Tie as tie
+use Rattle.records.proofs.namespaces.put_pair.Statement.{statement}
+use Rattle.records.proofs.namespaces.put_pair.Tie as tie
 
 is-whole-requires : tie.Need-is-whole-requires
 is-whole-requires c κs = search needs

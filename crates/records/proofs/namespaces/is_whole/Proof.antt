@@ -4,8 +4,8 @@ use mathlib.Core.Path.{_∙_}
 use native.Mathlib.Omega.{arith}
 use Rattle.records.proofs.CollectedLaws.{whole-other, whole-is, whole-differs}
 use borrow.Author.Needs.{needs}
-use Rattle.records.proofs.collected.is_whole.Statement.{statement}
-use Rattle.records.proofs.collected.is_whole.Tie as tie
+use Rattle.records.proofs.namespaces.is_whole.Statement.{statement}
+use Rattle.records.proofs.namespaces.is_whole.Tie as tie
 
 import-at-requires : tie.Need-import-at-requires
 import-at-requires c κs = search needs

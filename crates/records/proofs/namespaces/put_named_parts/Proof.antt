@@ -7,8 +7,8 @@ use Rattle.tree.proofs.AccessLaws.{upto-in}
 use Rattle.records.proofs.SpecifierLaws.{if-none}
 use Rattle.records.proofs.CollectedLaws.{if-as, if-from, parts-read, named-short, named-is, named-other}
 use borrow.Author.Needs.{needs}
-use Rattle.records.proofs.collected.put_named_parts.Statement.{statement}
-use Rattle.records.proofs.collected.put_named_parts.Tie as tie
+use Rattle.records.proofs.namespaces.put_named_parts.Statement.{statement}
+use Rattle.records.proofs.namespaces.put_named_parts.Tie as tie
 
 shared-slice-read-tag : tie.Need-shared-slice-read-tag
 shared-slice-read-tag c = search needs

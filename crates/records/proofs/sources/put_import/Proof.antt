@@ -5,8 +5,8 @@ use native.Mathlib.Omega.{arith}
 use Rattle.records.proofs.SpecifierLaws.{if-none}
 use Rattle.records.proofs.CollectedLaws.{if-as, if-from, parts-read, gathered-none, gathered-is, gathered-differs}
 use borrow.Author.Needs.{needs}
-use Rattle.records.proofs.collected.put_import.Statement.{statement}
-use Rattle.records.proofs.collected.put_import.Tie as tie
+use Rattle.records.proofs.sources.put_import.Statement.{statement}
+use Rattle.records.proofs.sources.put_import.Tie as tie
 
 import-at-requires : tie.Need-import-at-requires
 import-at-requires c κs = search needs

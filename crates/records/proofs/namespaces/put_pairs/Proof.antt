@@ -1,4 +1,4 @@
--- `put_taken`: the invariant says that with what is taken of the items from here on in both trees, what is taken of all is written.
+-- `put_pairs`: the invariant says that with what is taken of the items from here on in both trees, what is taken of all is written.
 -- `taken-more` splits off one item of each; the loop ends where either row ends. The measure is the length of `work` less at.
 use mathlib.Core.Path.{sym, _∙_}
 use Prim.Native.Nat.{_-_, _≤_}
@@ -13,29 +13,31 @@ use Rattle.records.specs.Model.{taken}
 use Rattle.records.specs.Writes.{sieve, RowOnward}
 use Rattle.records.proofs.SpecifierLaws.{if-none, row-start, row-step, row-stop}
 use Rattle.records.proofs.CollectedLaws.{taken-past, taken-past-out, taken-none, taken-none-out, taken-more}
-use Rattle.records.proofs.collected.put_taken.Statement.{statement}
-use Rattle.records.proofs.collected.put_taken.Tie as tie
+use Rattle.records.proofs.namespaces.put_pairs.Statement.{statement}
+use Rattle.records.proofs.namespaces.put_pairs.Tie as tie
 
 abbrev Inv-loop : tie.InvT-loop
-Inv-loop work out literal namespaces records₀ o at₀ made₀ to₀ records at made to =
-    RowOnward out 3 made (length out) (encodes (sieve namespaces (taken (idOf literal) (rowAt work 3 (length work)) (rowAt out 3 (length out)))))
+Inv-loop work from out since literal namespaces records₀ o at₀ made₀ to₀ records at made to =
+    RowOnward out since made (length out) (encodes (sieve namespaces (taken (idOf literal) (rowAt work from (length work)) (rowAt out since (length out)))))
     (encodes (sieve namespaces (taken (idOf literal) (rowAt work at (length work)) (rowAt out made (length out))))) records₀ o records to
     × (at ≤ length work) × (made ≤ length out)
 
 abbrev μ-loop : tie.MeasureT-loop
-μ-loop work out literal namespaces records₀ o at₀ made₀ to₀ records at made to = length work - at
+μ-loop work from out since literal namespaces records₀ o at₀ made₀ to₀ records at made to = length work - at
 
 returns : tie.Need-returns Inv-loop μ-loop
 returns c =
     let c4 = c .before .before .before .before in
-    if-none (taken-past (c4 .args .namespaces) (idOf (c4 .args .literal)) (c4 .args .work .now) 3 (length (c4 .args .work .now)) (c4 .args .out .now) 3 (length (c4 .args .out .now)) (c .if1 .taken))
+    let a = c4 .args in
+    if-none (taken-past (a .namespaces) (idOf (a .literal)) (a .work .now) (a .from) (length (a .work .now)) (a .out .now) (a .since)
+    (length (a .out .now)) (c .if1 .taken))
 
 returns-2 : tie.Need-returns-2 Inv-loop μ-loop
 returns-2 c =
     let c5 = c .before .before .before .before .before in
     if-none
-    (taken-past-out (c5 .args .namespaces) (idOf (c5 .args .literal)) (c5 .args .work .now) 3 (length (c5 .args .work .now)) (c5 .args .out .now)
-    3 (length (c5 .args .out .now)) (c .if2 .taken))
+    (taken-past-out (c5 .args .namespaces) (idOf (c5 .args .literal)) (c5 .args .work .now) (c5 .args .from) (length (c5 .args .work .now)) (c5 .args .out .now)
+    (c5 .args .since) (length (c5 .args .out .now)) (c .if2 .taken))
 
 loop-holds : tie.Need-loop-holds Inv-loop μ-loop
 loop-holds c = (row-start, omega arith, omega arith)
@@ -125,8 +127,8 @@ loop-again c =
       j .1,
     )
 
-pub put-taken-spec : {M : Type 1} → statement M
-put-taken-spec =
+pub put-pairs-spec : {M : Type 1} → statement M
+put-pairs-spec =
     tie.close
     (tie.spec
     Inv-loop

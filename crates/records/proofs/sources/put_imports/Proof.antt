@@ -13,21 +13,21 @@ use Rattle.records.specs.Model.{gathered}
 use Rattle.records.specs.Writes.{sieve, RowOnward}
 use Rattle.records.proofs.SpecifierLaws.{if-none, row-start, row-step, row-stop}
 use Rattle.records.proofs.CollectedLaws.{imports-past, imports-none, imports-more}
-use Rattle.records.proofs.collected.put_imports.Statement.{statement}
-use Rattle.records.proofs.collected.put_imports.Tie as tie
+use Rattle.records.proofs.sources.put_imports.Statement.{statement}
+use Rattle.records.proofs.sources.put_imports.Tie as tie
 
 abbrev Inv-loop : tie.InvT-loop
-Inv-loop work source namespaces records₀ o at₀ to₀ records at to =
-    RowOnward work 3 at (length work) (encodes (sieve namespaces (gathered (two source) (rowAt work 3 (length work)))))
-    (encodes (sieve namespaces (gathered (two source) (rowAt work at (length work))))) records₀ o records to × (3 ≤ at) × (at ≤ length work)
+Inv-loop work from source namespaces records₀ o at₀ to₀ records at to =
+    RowOnward work from at (length work) (encodes (sieve namespaces (gathered (two source) (rowAt work from (length work)))))
+    (encodes (sieve namespaces (gathered (two source) (rowAt work at (length work))))) records₀ o records to × (from ≤ at) × (at ≤ length work)
 
 abbrev μ-loop : tie.MeasureT-loop
-μ-loop work source namespaces records₀ o at₀ to₀ records at to = length work - at
+μ-loop work from source namespaces records₀ o at₀ to₀ records at to = length work - at
 
 returns : tie.Need-returns Inv-loop μ-loop
 returns c =
     let c3 = c .before .before .before in
-    if-none (imports-past (c3 .args .namespaces) (two (c3 .args .source)) (c3 .args .work .now) 3 (length (c3 .args .work .now)) (c .if1 .taken))
+    if-none (imports-past (c3 .args .namespaces) (two (c3 .args .source)) (c3 .args .work .now) (c3 .args .from) (length (c3 .args .work .now)) (c .if1 .taken))
 
 loop-holds : tie.Need-loop-holds Inv-loop μ-loop
 loop-holds c = (row-start, omega arith, omega arith)
