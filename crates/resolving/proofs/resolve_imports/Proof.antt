@@ -1,0 +1,187 @@
+-- `resolve_imports`: the steps in their order; each return is the law of AnswerLaws for the answer of the step that it follows.
+-- Records that passed the tests were read (`records-good`), and once all sources have their numbers, `numbers-all` says that `listing` finds them.
+use mathlib.Core.Path.{sym, ap, _∙_}
+use Rattle.scope.specs.ScopeValue.{modulesOf}
+use Rattle.inputs.specs.Table.{rowsIn}
+use Rattle.resolving_rules.specs.Resolve.{sourcesIn}
+use Rattle.resolving.specs.declared.sources.NumberAnswer.{NumberAnswer}
+use Rattle.resolving.specs.Records.{recordsIn}
+use Rattle.resolving.specs.Numbers.{onNumber}
+use Rattle.resolving.proofs.NumbersLaws.{numbers-all}
+use Rattle.resolving.proofs.AnswerLaws.{records-good, refused-bad, refused-twice, refused-unread, refused-over, answers-listed, answers-turned, answers-short}
+use borrow.Author.Needs.{needs}
+use Rattle.resolving.proofs.resolve_imports.Statement.{statement}
+use Rattle.resolving.proofs.resolve_imports.Tie as tie
+
+lists-requires : tie.Need-lists-requires
+lists-requires c κs = search needs
+
+enum-told : tie.Need-enum-told
+enum-told c = search needs
+
+enum-told-2 : tie.Need-enum-told-2
+enum-told-2 c = search needs
+
+refuse-requires : tie.Need-refuse-requires
+refuse-requires c κs = search needs
+
+same-length : tie.Need-same-length
+same-length c = search needs
+
+returns : tie.Need-returns
+returns c =
+    let c4 = c .before .before .before .before in
+    let c6 = c4 .before .before in
+    let c10 = c6 .before .before .before .before in
+    refused-bad (c10 .args .table .now) (c10 .args .records .now) (c10 .args .scope) (c10 .args .list .now) (c6 .lists .ensures) (c4 .enum-told2 .given .1) (c .before .before .refuse .ensures)
+
+enum-told-3 : tie.Need-enum-told-3
+enum-told-3 c = search needs
+
+refuse-requires-2 : tie.Need-refuse-requires-2
+refuse-requires-2 c κs = search needs
+
+same-length-2 : tie.Need-same-length-2
+same-length-2 c = search needs
+
+returns-2 : tie.Need-returns-2
+returns-2 c =
+    let c4 = c .before .before .before .before in
+    let c6 = c4 .before .before in
+    let c10 = c6 .before .before .before .before in
+    refused-twice (c10 .args .table .now) (c10 .args .records .now) (c10 .args .scope) (c10 .args .list .now) (c6 .lists .ensures) (c4 .enum-told3 .given .1) (c .before .before .refuse2 .ensures)
+
+enum-known-why : tie.Need-enum-known-why
+enum-known-why c = search needs
+
+refuse-requires-3 : tie.Need-refuse-requires-3
+refuse-requires-3 c κs = search needs
+
+same-length-3 : tie.Need-same-length-3
+same-length-3 c = search needs
+
+returns-3 : tie.Need-returns-3
+returns-3 c =
+    let c5 = c .before .before .before .before .before in
+    let c7 = c5 .before .before in
+    let c11 = c7 .before .before .before .before in
+    refused-unread (c11 .args .table .now) (c11 .args .records .now) (c11 .args .scope) (c11 .args .list .now) (c7 .lists .ensures) (c5 .why .given .1) (c .before .before .refuse3 .ensures)
+
+number-sources-requires : tie.Need-number-sources-requires
+number-sources-requires c κs =
+    let c4 = c .before .before .before .before in
+    let c6 = c4 .before .before in
+    (records-good (c6 .args .table .now) (c6 .args .records .now) (c .before .before .lists .ensures) (c .enum-told .given .1) (λ i. c4 .shared-slice-known2 .given i .fits))
+
+enum-told-4 : tie.Need-enum-told-4
+enum-told-4 c = search needs
+
+enum-known-answer : tie.Need-enum-known-answer
+enum-known-answer c = search needs
+
+refuse-requires-4 : tie.Need-refuse-requires-4
+refuse-requires-4 c κs = search needs
+
+same-length-4 : tie.Need-same-length-4
+same-length-4 c = search needs
+
+returns-4 : tie.Need-returns-4
+returns-4 c =
+    let c5 = c .before .before .before .before .before in
+    let c8 = c5 .before .before .before in
+    let c9 = c8 .before in
+    let c11 = c9 .before .before in
+    let c15 = c11 .before .before .before .before in
+    refused-over (c15 .args .table .now) (c15 .args .records .now) (c15 .args .scope) (c15 .args .list .now) (c11 .lists .ensures) (c9 .enum-told .given .1) (sym (c8 .number-sources .ensures) ∙ ap (λ (e : NumberAnswer). onNumber e (modulesOf (c8 .number-sources .result .scope))) (c5 .answer .given .1)) (c .before .before .refuse4 .ensures)
+
+listing-requires : tie.Need-listing-requires
+listing-requires c κs =
+    let c4 = c .before .before .before .before in
+    let c5 = c4 .before in
+    let c7 = c5 .before .before in
+    let c9 = c7 .before .before in
+    let c11 = c9 .before .before in
+    ((records-good (c11 .args .table .now) (c11 .args .records .now) (c7 .lists .ensures) (c5 .enum-told .given .1) (λ i. c9 .shared-slice-known2 .given i .fits)), numbers-all (rowsIn (c11 .args .table .now)) (sourcesIn (recordsIn (c11 .args .records .now))) (modulesOf (c11 .args .scope)) _ 3 (sym (c4 .number-sources .ensures) ∙ ap (λ (e : NumberAnswer). onNumber e (modulesOf (c4 .number-sources .result .scope))) (c .before .enum-told4 .given .1)))
+
+enum-told-5 : tie.Need-enum-told-5
+enum-told-5 c = search needs
+
+enum-known-why-2 : tie.Need-enum-known-why-2
+enum-known-why-2 c = search needs
+
+enum-told-6 : tie.Need-enum-told-6
+enum-told-6 c = search needs
+
+same-length-5 : tie.Need-same-length-5
+same-length-5 c = search needs
+
+returns-5 : tie.Need-returns-5
+returns-5 c =
+    let c4 = c .before .before .before .before in
+    let c6 = c4 .before .before in
+    let c9 = c6 .before .before .before in
+    let c10 = c9 .before in
+    let c12 = c10 .before .before in
+    let c16 = c12 .before .before .before .before in
+    answers-listed (c16 .args .table .now) (c16 .args .records .now) (c16 .args .scope) (c16 .args .list .now) (c12 .lists .ensures) (c10 .enum-told .given .1) (c9 .number-sources .result .scope) (sym (c9 .number-sources .ensures) ∙ ap (λ (e : NumberAnswer). onNumber e (modulesOf (c9 .number-sources .result .scope))) (c6 .enum-told4 .given .1)) (c4 .listing .ensures) (c .enum-told5 .given .1)
+
+same-length-6 : tie.Need-same-length-6
+same-length-6 c = search needs
+
+returns-6 : tie.Need-returns-6
+returns-6 c =
+    let c5 = c .before .before .before .before .before in
+    let c7 = c5 .before .before in
+    let c10 = c7 .before .before .before in
+    let c11 = c10 .before in
+    let c13 = c11 .before .before in
+    let c17 = c13 .before .before .before .before in
+    answers-turned (c17 .args .table .now) (c17 .args .records .now) (c17 .args .scope) (c17 .args .list .now) (c13 .lists .ensures) (c11 .enum-told .given .1) (c10 .number-sources .result .scope) (sym (c10 .number-sources .ensures) ∙ ap (λ (e : NumberAnswer). onNumber e (modulesOf (c10 .number-sources .result .scope))) (c7 .enum-told4 .given .1)) (c5 .listing .ensures) (c .before .why2 .given .1)
+
+same-length-7 : tie.Need-same-length-7
+same-length-7 c = search needs
+
+returns-7 : tie.Need-returns-7
+returns-7 c =
+    let c4 = c .before .before .before .before in
+    let c6 = c4 .before .before in
+    let c9 = c6 .before .before .before in
+    let c10 = c9 .before in
+    let c12 = c10 .before .before in
+    let c16 = c12 .before .before .before .before in
+    answers-short (c16 .args .table .now) (c16 .args .records .now) (c16 .args .scope) (c16 .args .list .now) (c12 .lists .ensures) (c10 .enum-told .given .1) (c9 .number-sources .result .scope) (sym (c9 .number-sources .ensures) ∙ ap (λ (e : NumberAnswer). onNumber e (modulesOf (c9 .number-sources .result .scope))) (c6 .enum-told4 .given .1)) (c4 .listing .ensures) (c .enum-told6 .given .1)
+
+pub resolve-imports-spec : {M : Type 1} → statement M
+resolve-imports-spec =
+    tie.close
+    (tie.spec
+    lists-requires
+    enum-told
+    enum-told-2
+    refuse-requires
+    same-length
+    returns
+    enum-told-3
+    refuse-requires-2
+    same-length-2
+    returns-2
+    enum-known-why
+    refuse-requires-3
+    same-length-3
+    returns-3
+    number-sources-requires
+    enum-told-4
+    enum-known-answer
+    refuse-requires-4
+    same-length-4
+    returns-4
+    listing-requires
+    enum-told-5
+    enum-known-why-2
+    enum-told-6
+    same-length-5
+    returns-5
+    same-length-6
+    returns-6
+    same-length-7
+    returns-7)
