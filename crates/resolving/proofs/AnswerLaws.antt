@@ -220,9 +220,11 @@ module _ (table records : List ℕ) (scope : Scope) (l : List ℕ) {r : Tested} 
     pub refused-over : {l' : List ℕ} {a : ResolveAnswer} {p : ℕ} → numberAll (rowsIn table) (sourcesIn (recordsIn records)) (modulesOf scope) 3 ≡ refused 5 p →
         (a ≡ TooManyFiles p) × (l' ≡ zeroed l) → before scope l' a
     refused-over {p = p} q z =
-        answer-is scope (read Records records) (z .0)
-        (ap (leftBy (TooManyFiles p) (modulesOf scope)) (zeroed-is l (z .1))
-        ∙ sym (left-numbered table records (modulesOf scope) (length l) (said table records Passable d e .0) q), tt)
+        answer-is scope (read Records records) (z .0) (
+          ap (leftBy (TooManyFiles p) (modulesOf scope)) (zeroed-is l (z .1))
+              ∙ sym (left-numbered table records (modulesOf scope) (length l) (said table records Passable d e .0) q),
+          tt,
+        )
 
     -- the list, or 11, 6 or 9
     module _ (new : Scope) (q : numberAll (rowsIn table) (sourcesIn (recordsIn records)) (modulesOf scope) 3 ≡ done (modulesOf new)) {l' : List ℕ} {k : Listed}

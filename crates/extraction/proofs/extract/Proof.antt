@@ -22,7 +22,9 @@ enum-told-2 c = search needs
 returns : tie.Need-returns
 returns c =
     let c10 = c .before .before .before .before .before .before .before .before .before .before in
-    ends-bad (c10 .args .file .0) (c10 .args .config) (c10 .args .externals .now) (c10 .args .table .now) (c10 .args .tree .now) (roomIn (c10 .args .work .now) (c10 .args .out .now) (c10 .args .records .now)) (modulesOf (c10 .args .scope)) (c .before .before .lists .ensures) (c .enum-told2 .given .1)
+    let a = c10 .args in
+    let room = roomIn (a .work .now) (a .out .now) (a .records .now) in
+    ends-bad (a .file .0) (a .config) (a .externals .now) (a .table .now) (a .tree .now) room (modulesOf (a .scope)) (c .before .before .lists .ensures) (c .enum-told2 .given .1)
 
 enum-told-3 : tie.Need-enum-told-3
 enum-told-3 c = search needs
@@ -30,7 +32,9 @@ enum-told-3 c = search needs
 returns-2 : tie.Need-returns-2
 returns-2 c =
     let c10 = c .before .before .before .before .before .before .before .before .before .before in
-    ends-twice (c10 .args .file .0) (c10 .args .config) (c10 .args .externals .now) (c10 .args .table .now) (c10 .args .tree .now) (roomIn (c10 .args .work .now) (c10 .args .out .now) (c10 .args .records .now)) (modulesOf (c10 .args .scope)) (c .before .before .lists .ensures) (c .enum-told3 .given .1)
+    let a = c10 .args in
+    let room = roomIn (a .work .now) (a .out .now) (a .records .now) in
+    ends-twice (a .file .0) (a .config) (a .externals .now) (a .table .now) (a .tree .now) room (modulesOf (a .scope)) (c .before .before .lists .ensures) (c .enum-told3 .given .1)
 
 enum-known-why : tie.Need-enum-known-why
 enum-known-why c = search needs
@@ -39,7 +43,9 @@ returns-3 : tie.Need-returns-3
 returns-3 c =
     let c3 = c .before .before .before in
     let c11 = c3 .before .before .before .before .before .before .before .before in
-    ends-unread (c11 .args .file .0) (c11 .args .config) (c11 .args .externals .now) (c11 .args .table .now) (c11 .args .tree .now) (roomIn (c11 .args .work .now) (c11 .args .out .now) (c11 .args .records .now)) (modulesOf (c11 .args .scope)) (c3 .lists .ensures) (c .before .why .given .1)
+    let a = c11 .args in
+    let room = roomIn (a .work .now) (a .out .now) (a .records .now) in
+    ends-unread (a .file .0) (a .config) (a .externals .now) (a .table .now) (a .tree .now) room (modulesOf (a .scope)) (c3 .lists .ensures) (c .before .why .given .1)
 
 own-file-requires : tie.Need-own-file-requires
 own-file-requires c κs =
@@ -61,7 +67,10 @@ returns-4 c =
     let c6 = c4 .before .before in
     let c8 = c6 .before .before in
     let c16 = c8 .before .before .before .before .before .before .before .before in
-    ends-full (c16 .args .file .0) (c16 .args .config) (c16 .args .externals .now) (c16 .args .table .now) (c16 .args .tree .now) (roomIn (c16 .args .work .now) (c16 .args .out .now) (c16 .args .records .now)) (modulesOf (c16 .args .scope)) (c8 .lists .ensures) (c6 .enum-told .given .1) (c4 .own-file .ensures) (c .enum-told4 .given .1)
+    let a = c16 .args in
+    let room = roomIn (a .work .now) (a .out .now) (a .records .now) in
+    ends-full (a .file .0) (a .config) (a .externals .now) (a .table .now) (a .tree .now) room (modulesOf (a .scope)) (c8 .lists .ensures)
+    (c6 .enum-told .given .1) (c4 .own-file .ensures) (c .enum-told4 .given .1)
 
 first-pass-requires : tie.Need-first-pass-requires
 first-pass-requires c κs = search needs
@@ -87,7 +96,11 @@ returns-5 c =
     let c19 = c17 .before .before in
     let c24 = c19 .before .before .before .before .before in
     let c27 = c24 .before .before .before in
-    once-turned (c27 .args .out .now) (c27 .args .records .now) (begun (c27 .args .file .0) (c27 .args .config) (c27 .args .externals .now) (c27 .args .table .now) (c27 .args .tree .now) (roomIn (c27 .args .work .now) (c27 .args .out .now) (c27 .args .records .now)) (modulesOf (c27 .args .scope)) (c19 .lists .ensures) (c17 .enum-told .given .1) (λ i. c24 .shared-slice-known3 .given i .fits) (c27 .pre) (c15 .own-file .ensures) (c11 .own .given .0 .0) (c11 .own .given .1)) (c7 .first-pass .ensures) (c .before .why2 .given .1)
+    let a = c27 .args in
+    let room = roomIn (a .work .now) (a .out .now) (a .records .now) in
+    let b = begun (a .file .0) (a .config) (a .externals .now) (a .table .now) (a .tree .now) room (modulesOf (a .scope)) (c19 .lists .ensures)
+    (c17 .enum-told .given .1) (λ i. c24 .shared-slice-known3 .given i .fits) (c27 .pre) (c15 .own-file .ensures) (c11 .own .given .0 .0) (c11 .own .given .1) in
+    once-turned (a .out .now) (a .records .now) b (c7 .first-pass .ensures) (c .before .why2 .given .1)
 
 enum-told-5 : tie.Need-enum-told-5
 enum-told-5 c = search needs
@@ -107,7 +120,11 @@ returns-6 c =
     let c18 = c16 .before .before in
     let c23 = c18 .before .before .before .before .before in
     let c26 = c23 .before .before .before in
-    once-short (c26 .args .out .now) (c26 .args .records .now) (begun (c26 .args .file .0) (c26 .args .config) (c26 .args .externals .now) (c26 .args .table .now) (c26 .args .tree .now) (roomIn (c26 .args .work .now) (c26 .args .out .now) (c26 .args .records .now)) (modulesOf (c26 .args .scope)) (c18 .lists .ensures) (c16 .enum-told .given .1) (λ i. c23 .shared-slice-known3 .given i .fits) (c26 .pre) (c14 .own-file .ensures) (c10 .own .given .0 .0) (c10 .own .given .1)) (c6 .first-pass .ensures) (c .enum-told5 .given .1)
+    let a = c26 .args in
+    let room = roomIn (a .work .now) (a .out .now) (a .records .now) in
+    let b = begun (a .file .0) (a .config) (a .externals .now) (a .table .now) (a .tree .now) room (modulesOf (a .scope)) (c18 .lists .ensures)
+    (c16 .enum-told .given .1) (λ i. c23 .shared-slice-known3 .given i .fits) (c26 .pre) (c14 .own-file .ensures) (c10 .own .given .0 .0) (c10 .own .given .1) in
+    once-short (a .out .now) (a .records .now) b (c6 .first-pass .ensures) (c .enum-told5 .given .1)
 
 sub-second-pass : tie.Need-sub-second-pass
 sub-second-pass c = search needs
@@ -149,7 +166,12 @@ returns-7 c =
     let c31 = c29 .before .before in
     let c36 = c31 .before .before .before .before .before in
     let c39 = c36 .before .before .before in
-    again-turned (c39 .args .records .now) (halfway (c39 .args .out .now) (c39 .args .records .now) (begun (c39 .args .file .0) (c39 .args .config) (c39 .args .externals .now) (c39 .args .table .now) (c39 .args .tree .now) (roomIn (c39 .args .work .now) (c39 .args .out .now) (c39 .args .records .now)) (modulesOf (c39 .args .scope)) (c31 .lists .ensures) (c29 .enum-told .given .1) (λ i. c36 .shared-slice-known3 .given i .fits) (c39 .pre) (c27 .own-file .ensures) (c23 .own .given .0 .0) (c23 .own .given .1)) (c19 .first-pass .ensures) (c13 .n .given .0 .0) (c13 .n .given .1)) (c7 .second-pass .ensures) (c .before .why3 .given .1)
+    let a = c39 .args in
+    let room = roomIn (a .work .now) (a .out .now) (a .records .now) in
+    let b = begun (a .file .0) (a .config) (a .externals .now) (a .table .now) (a .tree .now) room (modulesOf (a .scope)) (c31 .lists .ensures)
+    (c29 .enum-told .given .1) (λ i. c36 .shared-slice-known3 .given i .fits) (c39 .pre) (c27 .own-file .ensures) (c23 .own .given .0 .0) (c23 .own .given .1) in
+    let h = halfway (a .out .now) (a .records .now) b (c19 .first-pass .ensures) (c13 .n .given .0 .0) (c13 .n .given .1) in
+    again-turned (a .records .now) h (c7 .second-pass .ensures) (c .before .why3 .given .1)
 
 enum-told-6 : tie.Need-enum-told-6
 enum-told-6 c = search needs
@@ -174,7 +196,12 @@ returns-8 c =
     let c30 = c28 .before .before in
     let c35 = c30 .before .before .before .before .before in
     let c38 = c35 .before .before .before in
-    again-short (c38 .args .records .now) (halfway (c38 .args .out .now) (c38 .args .records .now) (begun (c38 .args .file .0) (c38 .args .config) (c38 .args .externals .now) (c38 .args .table .now) (c38 .args .tree .now) (roomIn (c38 .args .work .now) (c38 .args .out .now) (c38 .args .records .now)) (modulesOf (c38 .args .scope)) (c30 .lists .ensures) (c28 .enum-told .given .1) (λ i. c35 .shared-slice-known3 .given i .fits) (c38 .pre) (c26 .own-file .ensures) (c22 .own .given .0 .0) (c22 .own .given .1)) (c18 .first-pass .ensures) (c12 .n .given .0 .0) (c12 .n .given .1)) (c6 .second-pass .ensures) (c .enum-told6 .given .1)
+    let a = c38 .args in
+    let room = roomIn (a .work .now) (a .out .now) (a .records .now) in
+    let b = begun (a .file .0) (a .config) (a .externals .now) (a .table .now) (a .tree .now) room (modulesOf (a .scope)) (c30 .lists .ensures)
+    (c28 .enum-told .given .1) (λ i. c35 .shared-slice-known3 .given i .fits) (c38 .pre) (c26 .own-file .ensures) (c22 .own .given .0 .0) (c22 .own .given .1) in
+    let h = halfway (a .out .now) (a .records .now) b (c18 .first-pass .ensures) (c12 .n .given .0 .0) (c12 .n .given .1) in
+    again-short (a .records .now) h (c6 .second-pass .ensures) (c .enum-told6 .given .1)
 
 sub-deliver-records : tie.Need-sub-deliver-records
 sub-deliver-records c = search needs
@@ -232,7 +259,13 @@ returns-9 c =
     let c41 = c39 .before .before in
     let c46 = c41 .before .before .before .before .before in
     let c49 = c46 .before .before .before in
-    ends-accepted (settled (c49 .args .records .now) (halfway (c49 .args .out .now) (c49 .args .records .now) (begun (c49 .args .file .0) (c49 .args .config) (c49 .args .externals .now) (c49 .args .table .now) (c49 .args .tree .now) (roomIn (c49 .args .work .now) (c49 .args .out .now) (c49 .args .records .now)) (modulesOf (c49 .args .scope)) (c41 .lists .ensures) (c39 .enum-told .given .1) (λ i. c46 .shared-slice-known3 .given i .fits) (c49 .pre) (c37 .own-file .ensures) (c33 .own .given .0 .0) (c33 .own .given .1)) (c29 .first-pass .ensures) (c23 .n .given .0 .0) (c23 .n .given .1)) (c17 .second-pass .ensures) (c11 .m .given .0 .0) (c11 .m .given .1)) (c3 .deliver-records .ensures) (c .if1 .taken)
+    let a = c49 .args in
+    let room = roomIn (a .work .now) (a .out .now) (a .records .now) in
+    let b = begun (a .file .0) (a .config) (a .externals .now) (a .table .now) (a .tree .now) room (modulesOf (a .scope)) (c41 .lists .ensures)
+    (c39 .enum-told .given .1) (λ i. c46 .shared-slice-known3 .given i .fits) (c49 .pre) (c37 .own-file .ensures) (c33 .own .given .0 .0) (c33 .own .given .1) in
+    let h = halfway (a .out .now) (a .records .now) b (c29 .first-pass .ensures) (c23 .n .given .0 .0) (c23 .n .given .1) in
+    let s = settled (a .records .now) h (c17 .second-pass .ensures) (c11 .m .given .0 .0) (c11 .m .given .1) in
+    ends-accepted s (c3 .deliver-records .ensures) (c .if1 .taken)
 
 same-length-16 : tie.Need-same-length-16
 same-length-16 c =
@@ -263,7 +296,13 @@ returns-10 c =
     let c41 = c39 .before .before in
     let c46 = c41 .before .before .before .before .before in
     let c49 = c46 .before .before .before in
-    ends-short (settled (c49 .args .records .now) (halfway (c49 .args .out .now) (c49 .args .records .now) (begun (c49 .args .file .0) (c49 .args .config) (c49 .args .externals .now) (c49 .args .table .now) (c49 .args .tree .now) (roomIn (c49 .args .work .now) (c49 .args .out .now) (c49 .args .records .now)) (modulesOf (c49 .args .scope)) (c41 .lists .ensures) (c39 .enum-told .given .1) (λ i. c46 .shared-slice-known3 .given i .fits) (c49 .pre) (c37 .own-file .ensures) (c33 .own .given .0 .0) (c33 .own .given .1)) (c29 .first-pass .ensures) (c23 .n .given .0 .0) (c23 .n .given .1)) (c17 .second-pass .ensures) (c11 .m .given .0 .0) (c11 .m .given .1)) (c3 .deliver-records .ensures) (c .if1 .left)
+    let a = c49 .args in
+    let room = roomIn (a .work .now) (a .out .now) (a .records .now) in
+    let b = begun (a .file .0) (a .config) (a .externals .now) (a .table .now) (a .tree .now) room (modulesOf (a .scope)) (c41 .lists .ensures)
+    (c39 .enum-told .given .1) (λ i. c46 .shared-slice-known3 .given i .fits) (c49 .pre) (c37 .own-file .ensures) (c33 .own .given .0 .0) (c33 .own .given .1) in
+    let h = halfway (a .out .now) (a .records .now) b (c29 .first-pass .ensures) (c23 .n .given .0 .0) (c23 .n .given .1) in
+    let s = settled (a .records .now) h (c17 .second-pass .ensures) (c11 .m .given .0 .0) (c11 .m .given .1) in
+    ends-short s (c3 .deliver-records .ensures) (c .if1 .left)
 
 pub extract-spec : {M : Type 1} → statement M
 extract-spec =

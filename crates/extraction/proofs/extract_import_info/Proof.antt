@@ -24,7 +24,9 @@ scope-of-requires : tie.Need-scope-of-requires
 scope-of-requires c κs =
     let c10 = c .before .before .before .before .before .before .before .before .before .before in
     let c21 = c10 .before .before .before .before .before .before .before .before .before .before .before in
-    accepted-good (lentAs (c21 .args .file .0) (c21 .args .config) (c21 .args .externals .now) (c21 .args .table .now) (c21 .args .tree .now)) (c21 .args .scope) (c10 .extract .result) (c10 .extract .ensures) (c .before .enum-told .given .1)
+    let a = c21 .args in
+    let l = lentAs (a .file .0) (a .config) (a .externals .now) (a .table .now) (a .tree .now) in
+    accepted-good l (a .scope) (c10 .extract .result) (c10 .extract .ensures) (c .before .enum-told .given .1)
 
 clear-requires : tie.Need-clear-requires
 clear-requires c κs = search needs
@@ -48,7 +50,9 @@ returns : tie.Need-returns
 returns c =
     let c11 = c .before .before .before .before .before .before .before .before .before .before .before in
     let c22 = c11 .before .before .before .before .before .before .before .before .before .before .before in
-    left-accepted (lentAs (c22 .args .file .0) (c22 .args .config) (c22 .args .externals .now) (c22 .args .table .now) (c22 .args .tree .now)) (c22 .args .scope) (c11 .extract .result) (c11 .extract .ensures) (c .scope-of .result) (c .before .before .enum-told .given .1) (c .scope-of .ensures)
+    let a = c22 .args in
+    let l = lentAs (a .file .0) (a .config) (a .externals .now) (a .table .now) (a .tree .now) in
+    left-accepted l (a .scope) (c11 .extract .result) (c11 .extract .ensures) (c .scope-of .result) (c .before .before .enum-told .given .1) (c .scope-of .ensures)
 
 same-length-4 : tie.Need-same-length-4
 same-length-4 c = search needs
@@ -66,7 +70,12 @@ returns-2 c =
     let c12 = c10 .before .before in
     let c20 = c12 .before .before .before .before .before .before .before .before in
     let c31 = c20 .before .before .before .before .before .before .before .before .before .before .before in
-    left-refused (lentAs (c31 .args .file .0) (c31 .args .config) (c31 .args .externals .now) (c31 .args .table .now) (c31 .args .tree .now)) (c31 .args .scope) (c20 .extract .result) (c20 .extract .ensures) (λ h. ⊎-elim (λ w. omega arith) (λ v. ⊎-elim (λ w. omega arith) (λ v2. ⊎-elim (λ w. omega arith) (λ v3. ⊎-elim (λ w. omega arith) (λ w. omega arith) v3) v2) v) (rw h at (c12 .match .keys2))) (c10 .clear .ensures) (c6 .clear2 .ensures) (c .before .before .clear3 .ensures) (c20 .extract .kept .1 .1 .1 .1 .1 .1 .1 .0) (c20 .extract .kept .1 .1 .1 .1 .1 .1 .1 .1 .0) (c20 .extract .kept .1 .1 .1 .1 .1 .1 .1 .1 .1 .0)
+    let a = c31 .args in
+    let l = lentAs (a .file .0) (a .config) (a .externals .now) (a .table .now) (a .tree .now) in
+    left-refused l (a .scope) (c20 .extract .result) (c20 .extract .ensures)
+    (λ h. ⊎-elim (λ w. omega arith) (λ v. ⊎-elim (λ w. omega arith) (λ v2. ⊎-elim (λ w. omega arith) (λ v3. ⊎-elim (λ w. omega arith) (λ w. omega arith) v3) v2) v) (rw h at (c12 .match .keys2)))
+    (c10 .clear .ensures) (c6 .clear2 .ensures) (c .before .before .clear3 .ensures)
+    (c20 .extract .kept .1 .1 .1 .1 .1 .1 .1 .0) (c20 .extract .kept .1 .1 .1 .1 .1 .1 .1 .1 .0) (c20 .extract .kept .1 .1 .1 .1 .1 .1 .1 .1 .1 .0)
 
 pub extract-import-info-spec : {M : Type 1} → statement M
 extract-import-info-spec =

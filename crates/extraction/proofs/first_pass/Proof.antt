@@ -28,7 +28,8 @@ returns c =
     let c6 = c3 .before .before .before in
     let c12 = c6 .before .before .before .before .before .before in
     let c20 = c12 .before .before .before .before .before .before .before .before in
-    once-fits (c20 .args .own) (c20 .args .config) (c20 .args .externals .now) (c20 .args .table .now) (c20 .args .tree .now) (c12 .pass .ensures) (c6 .n .given .1) (c3 .finish .ensures) (c .if1 .taken)
+    once-fits (c20 .args .own) (c20 .args .config) (c20 .args .externals .now) (c20 .args .table .now) (c20 .args .tree .now) (c12 .pass .ensures) (c6 .n .given .1)
+    (c3 .finish .ensures) (c .if1 .taken)
 
 same-length-3 : tie.Need-same-length-3
 same-length-3 c = search needs
@@ -42,7 +43,8 @@ returns-2 c =
     let c6 = c3 .before .before .before in
     let c12 = c6 .before .before .before .before .before .before in
     let c20 = c12 .before .before .before .before .before .before .before .before in
-    once-long (c20 .args .own) (c20 .args .config) (c20 .args .externals .now) (c20 .args .table .now) (c20 .args .tree .now) (c12 .pass .ensures) (c6 .n .given .1) (c3 .finish .ensures) (c .if1 .left)
+    once-long (c20 .args .own) (c20 .args .config) (c20 .args .externals .now) (c20 .args .table .now) (c20 .args .tree .now) (c12 .pass .ensures) (c6 .n .given .1)
+    (c3 .finish .ensures) (c .if1 .left)
 
 same-length-5 : tie.Need-same-length-5
 same-length-5 c = search needs

@@ -39,7 +39,8 @@ returns c =
     let c12 = c9 .before .before .before in
     let c18 = c12 .before .before .before .before .before .before in
     let c26 = c18 .before .before .before .before .before .before .before .before in
-    again-fits (c26 .args .own) (c26 .args .config) (c26 .args .externals .now) (c26 .args .table .now) (c18 .pass .ensures) (c12 .n .given .1) (c9 .wrap .ensures) (c5 .enum-told .given .1) (c3 .finish .ensures) (c .if1 .taken)
+    again-fits (c26 .args .own) (c26 .args .config) (c26 .args .externals .now) (c26 .args .table .now) (c18 .pass .ensures) (c12 .n .given .1) (c9 .wrap .ensures)
+    (c5 .enum-told .given .1) (c3 .finish .ensures) (c .if1 .taken)
 
 same-length-3 : tie.Need-same-length-3
 same-length-3 c = search needs
@@ -55,7 +56,8 @@ returns-2 c =
     let c12 = c9 .before .before .before in
     let c18 = c12 .before .before .before .before .before .before in
     let c26 = c18 .before .before .before .before .before .before .before .before in
-    again-long (c26 .args .own) (c26 .args .config) (c26 .args .externals .now) (c26 .args .table .now) (c18 .pass .ensures) (c12 .n .given .1) (c9 .wrap .ensures) (c5 .enum-told .given .1) (c3 .finish .ensures) (c .if1 .left)
+    again-long (c26 .args .own) (c26 .args .config) (c26 .args .externals .now) (c26 .args .table .now) (c18 .pass .ensures) (c12 .n .given .1) (c9 .wrap .ensures)
+    (c5 .enum-told .given .1) (c3 .finish .ensures) (c .if1 .left)
 
 same-length-5 : tie.Need-same-length-5
 same-length-5 c = search needs

@@ -37,7 +37,8 @@ returns-3 c =
     let c5 = c4 .before in
     let c6 = c5 .before in
     let c9 = c6 .before .before .before in
-    lists-read (c9 .args .table .now) (c9 .args .records .now) (c6 .bad-table .ensures) (c4 .names-twice .ensures) (c .before .before .read-tree .ensures) (c5 .if1 .left) (c3 .if2 .left) (c .enum-told .given .1)
+    lists-read (c9 .args .table .now) (c9 .args .records .now) (c6 .bad-table .ensures) (c4 .names-twice .ensures) (c .before .before .read-tree .ensures)
+    (c5 .if1 .left) (c3 .if2 .left) (c .enum-told .given .1)
 
 returns-4 : tie.Need-returns-4
 returns-4 c =
@@ -47,7 +48,8 @@ returns-4 c =
     let c6 = c5 .before in
     let c7 = c6 .before in
     let c10 = c7 .before .before .before in
-    lists-unread (c10 .args .table .now) (c10 .args .records .now) (c7 .bad-table .ensures) (c5 .names-twice .ensures) (c3 .read-tree .ensures) (c6 .if1 .left) (c4 .if2 .left) (c .before .why .given .1)
+    lists-unread (c10 .args .table .now) (c10 .args .records .now) (c7 .bad-table .ensures) (c5 .names-twice .ensures) (c3 .read-tree .ensures)
+    (c6 .if1 .left) (c4 .if2 .left) (c .before .why .given .1)
 
 pub lists-spec : {M : Type 1} → statement M
 lists-spec =

@@ -33,7 +33,8 @@ returns c =
     let c4 = c .before .before .before .before in
     let c6 = c4 .before .before in
     let c10 = c6 .before .before .before .before in
-    refused-bad (c10 .args .table .now) (c10 .args .records .now) (c10 .args .scope) (c10 .args .list .now) (c6 .lists .ensures) (c4 .enum-told2 .given .1) (c .before .before .refuse .ensures)
+    let a = c10 .args in
+    refused-bad (a .table .now) (a .records .now) (a .scope) (a .list .now) (c6 .lists .ensures) (c4 .enum-told2 .given .1) (c .before .before .refuse .ensures)
 
 enum-told-3 : tie.Need-enum-told-3
 enum-told-3 c = search needs
@@ -49,7 +50,8 @@ returns-2 c =
     let c4 = c .before .before .before .before in
     let c6 = c4 .before .before in
     let c10 = c6 .before .before .before .before in
-    refused-twice (c10 .args .table .now) (c10 .args .records .now) (c10 .args .scope) (c10 .args .list .now) (c6 .lists .ensures) (c4 .enum-told3 .given .1) (c .before .before .refuse2 .ensures)
+    let a = c10 .args in
+    refused-twice (a .table .now) (a .records .now) (a .scope) (a .list .now) (c6 .lists .ensures) (c4 .enum-told3 .given .1) (c .before .before .refuse2 .ensures)
 
 enum-known-why : tie.Need-enum-known-why
 enum-known-why c = search needs
@@ -65,13 +67,15 @@ returns-3 c =
     let c5 = c .before .before .before .before .before in
     let c7 = c5 .before .before in
     let c11 = c7 .before .before .before .before in
-    refused-unread (c11 .args .table .now) (c11 .args .records .now) (c11 .args .scope) (c11 .args .list .now) (c7 .lists .ensures) (c5 .why .given .1) (c .before .before .refuse3 .ensures)
+    let a = c11 .args in
+    refused-unread (a .table .now) (a .records .now) (a .scope) (a .list .now) (c7 .lists .ensures) (c5 .why .given .1) (c .before .before .refuse3 .ensures)
 
 number-sources-requires : tie.Need-number-sources-requires
 number-sources-requires c κs =
     let c4 = c .before .before .before .before in
     let c6 = c4 .before .before in
-    (records-good (c6 .args .table .now) (c6 .args .records .now) (c .before .before .lists .ensures) (c .enum-told .given .1) (λ i. c4 .shared-slice-known2 .given i .fits))
+    let a = c6 .args in
+    records-good (a .table .now) (a .records .now) (c .before .before .lists .ensures) (c .enum-told .given .1) (λ i. c4 .shared-slice-known2 .given i .fits)
 
 enum-told-4 : tie.Need-enum-told-4
 enum-told-4 c = search needs
@@ -92,7 +96,10 @@ returns-4 c =
     let c9 = c8 .before in
     let c11 = c9 .before .before in
     let c15 = c11 .before .before .before .before in
-    refused-over (c15 .args .table .now) (c15 .args .records .now) (c15 .args .scope) (c15 .args .list .now) (c11 .lists .ensures) (c9 .enum-told .given .1) (sym (c8 .number-sources .ensures) ∙ ap (λ (e : NumberAnswer). onNumber e (modulesOf (c8 .number-sources .result .scope))) (c5 .answer .given .1)) (c .before .before .refuse4 .ensures)
+    let a = c15 .args in
+    let new = c8 .number-sources .result .scope in
+    let over = sym (c8 .number-sources .ensures) ∙ ap (λ (e : NumberAnswer). onNumber e (modulesOf new)) (c5 .answer .given .1) in
+    refused-over (a .table .now) (a .records .now) (a .scope) (a .list .now) (c11 .lists .ensures) (c9 .enum-told .given .1) over (c .before .before .refuse4 .ensures)
 
 listing-requires : tie.Need-listing-requires
 listing-requires c κs =
@@ -101,7 +108,11 @@ listing-requires c κs =
     let c7 = c5 .before .before in
     let c9 = c7 .before .before in
     let c11 = c9 .before .before in
-    ((records-good (c11 .args .table .now) (c11 .args .records .now) (c7 .lists .ensures) (c5 .enum-told .given .1) (λ i. c9 .shared-slice-known2 .given i .fits)), numbers-all (rowsIn (c11 .args .table .now)) (sourcesIn (recordsIn (c11 .args .records .now))) (modulesOf (c11 .args .scope)) _ 3 (sym (c4 .number-sources .ensures) ∙ ap (λ (e : NumberAnswer). onNumber e (modulesOf (c4 .number-sources .result .scope))) (c .before .enum-told4 .given .1)))
+    let a = c11 .args in
+    let new = c4 .number-sources .result .scope in
+    let given = sym (c4 .number-sources .ensures) ∙ ap (λ (e : NumberAnswer). onNumber e (modulesOf new)) (c .before .enum-told4 .given .1) in
+    let good = records-good (a .table .now) (a .records .now) (c7 .lists .ensures) (c5 .enum-told .given .1) (λ i. c9 .shared-slice-known2 .given i .fits) in
+    (good, numbers-all (rowsIn (a .table .now)) (sourcesIn (recordsIn (a .records .now))) (modulesOf (a .scope)) (modulesOf new) 3 given)
 
 enum-told-5 : tie.Need-enum-told-5
 enum-told-5 c = search needs
@@ -123,7 +134,10 @@ returns-5 c =
     let c10 = c9 .before in
     let c12 = c10 .before .before in
     let c16 = c12 .before .before .before .before in
-    answers-listed (c16 .args .table .now) (c16 .args .records .now) (c16 .args .scope) (c16 .args .list .now) (c12 .lists .ensures) (c10 .enum-told .given .1) (c9 .number-sources .result .scope) (sym (c9 .number-sources .ensures) ∙ ap (λ (e : NumberAnswer). onNumber e (modulesOf (c9 .number-sources .result .scope))) (c6 .enum-told4 .given .1)) (c4 .listing .ensures) (c .enum-told5 .given .1)
+    let a = c16 .args in
+    let new = c9 .number-sources .result .scope in
+    let given = sym (c9 .number-sources .ensures) ∙ ap (λ (e : NumberAnswer). onNumber e (modulesOf new)) (c6 .enum-told4 .given .1) in
+    answers-listed (a .table .now) (a .records .now) (a .scope) (a .list .now) (c12 .lists .ensures) (c10 .enum-told .given .1) new given (c4 .listing .ensures) (c .enum-told5 .given .1)
 
 same-length-6 : tie.Need-same-length-6
 same-length-6 c = search needs
@@ -136,7 +150,10 @@ returns-6 c =
     let c11 = c10 .before in
     let c13 = c11 .before .before in
     let c17 = c13 .before .before .before .before in
-    answers-turned (c17 .args .table .now) (c17 .args .records .now) (c17 .args .scope) (c17 .args .list .now) (c13 .lists .ensures) (c11 .enum-told .given .1) (c10 .number-sources .result .scope) (sym (c10 .number-sources .ensures) ∙ ap (λ (e : NumberAnswer). onNumber e (modulesOf (c10 .number-sources .result .scope))) (c7 .enum-told4 .given .1)) (c5 .listing .ensures) (c .before .why2 .given .1)
+    let a = c17 .args in
+    let new = c10 .number-sources .result .scope in
+    let given = sym (c10 .number-sources .ensures) ∙ ap (λ (e : NumberAnswer). onNumber e (modulesOf new)) (c7 .enum-told4 .given .1) in
+    answers-turned (a .table .now) (a .records .now) (a .scope) (a .list .now) (c13 .lists .ensures) (c11 .enum-told .given .1) new given (c5 .listing .ensures) (c .before .why2 .given .1)
 
 same-length-7 : tie.Need-same-length-7
 same-length-7 c = search needs
@@ -149,7 +166,10 @@ returns-7 c =
     let c10 = c9 .before in
     let c12 = c10 .before .before in
     let c16 = c12 .before .before .before .before in
-    answers-short (c16 .args .table .now) (c16 .args .records .now) (c16 .args .scope) (c16 .args .list .now) (c12 .lists .ensures) (c10 .enum-told .given .1) (c9 .number-sources .result .scope) (sym (c9 .number-sources .ensures) ∙ ap (λ (e : NumberAnswer). onNumber e (modulesOf (c9 .number-sources .result .scope))) (c6 .enum-told4 .given .1)) (c4 .listing .ensures) (c .enum-told6 .given .1)
+    let a = c16 .args in
+    let new = c9 .number-sources .result .scope in
+    let given = sym (c9 .number-sources .ensures) ∙ ap (λ (e : NumberAnswer). onNumber e (modulesOf new)) (c6 .enum-told4 .given .1) in
+    answers-short (a .table .now) (a .records .now) (a .scope) (a .list .now) (c12 .lists .ensures) (c10 .enum-told .given .1) new given (c4 .listing .ensures) (c .enum-told6 .given .1)
 
 pub resolve-imports-spec : {M : Type 1} → statement M
 resolve-imports-spec =
