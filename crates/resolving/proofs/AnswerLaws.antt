@@ -35,7 +35,7 @@ use Rattle.resolving.specs.declared.Listed.the-variants.{Fits, Refused a
 use Rattle.resolving.specs.Records.{RecordsRead, recordsIn}
 use Rattle.resolving.specs.Writes.{Puts, listWith}
 use Rattle.resolving.specs.Answer.{whyNumber, UnreadAs, lentAs, leftBy, left}
-use Rattle.resolving.specs.Stages.{readAs, listsOf, leftIn, numberedAs, listedLeft}
+use Rattle.resolving.specs.Stages.{readAs, listsOf, listAnswer, leftIn, numberedAs, listedLeft}
 use Rattle.resolving.proofs.RecordsLaws.{records-read, records-sound}
 
 -- ---- '1, 2, 10'
@@ -193,6 +193,11 @@ answer-is : {a b : ResolveAnswer} (s : Scope) {l : List ℕ} {x : Left} (r : Rea
     (left (record { scope = s; answer = a }) l ≡ x) × UnreadAs a r
 answer-is s {l} {x} r e h = subst (λ (a : ResolveAnswer). (left (record { scope = s; answer = a }) l ≡ x) × UnreadAs a r) (sym e) h
 
+list-read : (k : Listed) (r : Reading Fields) → UnreadAs (listAnswer k) r
+list-read Fits r = tt
+list-read (NotListed w p) r = tt
+list-read Short r = tt
+
 module _ (table records : List ℕ) (scope : Scope) (l : List ℕ) {r : Tested} (d : r ≡ listsOf table records) where
   abbrev before : Scope → List ℕ → ResolveAnswer → Type 0
   before s l' a = (left (record { scope = s; answer = a }) l' ≡ resolving (lentAs table records) (length l) (modulesOf scope)) × UnreadAs a (read Records records)
@@ -227,19 +232,10 @@ module _ (table records : List ℕ) (scope : Scope) (l : List ℕ) {r : Tested} 
         )
 
     -- the list, or 11, 6 or 9
-    module _ (new : Scope) (q : numberAll (rowsIn table) (sourcesIn (recordsIn records)) (modulesOf scope) 3 ≡ done (modulesOf new)) {l' : List ℕ} {k : Listed}
+    module _ (new : Scope) (q : numberAll (rowsIn table) (sourcesIn (recordsIn records)) (modulesOf scope) 3 ≡ done (modulesOf new)) {l' : List ℕ} (k : Listed)
         (f : leftIn k (modulesOf new) l' ≡ listedLeft table records (length l) (modulesOf new)) where
-      listed-left : (a : Listed) → k ≡ a → leftIn a (modulesOf new) l' ≡ resolving (lentAs table records) (length l) (modulesOf scope)
+      pub answers-list : {a : ResolveAnswer} → a ≡ listAnswer k → before new l' a
       unfolding listedLeft
-      listed-left a h =
-          ap (λ (a : Listed). leftIn a (modulesOf new) l') (sym h) ∙ f
-          ∙ sym (left-numbered table records (modulesOf scope) (length l) (said table records Passable d e .0) q)
-
-      pub answers-listed : k ≡ Fits → before new l' Complete
-      answers-listed h = (listed-left Fits h, tt)
-
-      pub answers-turned : {w : Why} {p : ℕ} → k ≡ NotListed w p → before new l' (Refused w p)
-      answers-turned {w} {p} h = (listed-left (NotListed w p) h, tt)
-
-      pub answers-short : k ≡ Short → before new l' NoRoom
-      answers-short h = (listed-left Short h, tt)
+      answers-list h =
+          answer-is new (read Records records) h
+          (f ∙ sym (left-numbered table records (modulesOf scope) (length l) (said table records Passable d e .0) q), list-read k (read Records records))

@@ -7,15 +7,17 @@ use Rattle.tree.specs.declared.grammar.Set.the-variants.{Records}
 use Rattle.tree.specs.declared.read.Verdict.{Verdict}
 use Rattle.tree.specs.declared.read.Verdict.the-variants.{Good as Well, Refused as Broken}
 use Rattle.tree.specs.Read.{read, verdict}
-use Rattle.inputs.specs.Outcome.{Outcome, done, refused, refusalIn}
+use Rattle.inputs.specs.Outcome.{refusalIn}
 use Rattle.inputs.specs.Table.{rowsIn, badTable, repeats}
 use Rattle.inputs.specs.Buffer.{bufferOf}
 use Rattle.resolving_rules.specs.Call.{Numbered, listed, Left}
+use Rattle.resolving.specs.declared.ResolveAnswer.{ResolveAnswer}
+use Rattle.resolving.specs.declared.ResolveAnswer.the-variants.{Listed as Complete, Refused as NotListed, NoRoom as Short}
 use Rattle.resolving.specs.declared.Tested.{Tested}
 use Rattle.resolving.specs.declared.Tested.the-variants.{Good, BadTable, NamedTwice, Unread}
 use Rattle.resolving.specs.declared.Listed.{Listed}
 use Rattle.resolving.specs.declared.Listed.the-variants.{Fits, Refused, NoRoom}
-use Rattle.resolving.specs.Answer.{whyNumber}
+use Rattle.resolving.specs.Answer.{leftBy}
 use Rattle.resolving.specs.Records.{recordsIn}
 
 -- ---- '1, 2, 10'
@@ -29,13 +31,14 @@ listsOf table records = cond (badTable table) BadTable (cond (repeats (rowsIn ta
 
 -- ---- '11 or 6, then 9'
 
-abbrev pub listOutcome : {A : Type 0} → Listed → A → Outcome A
-listOutcome Fits a = done a
-listOutcome (Refused w p) a = refused (whyNumber w) p
-listOutcome NoRoom a = refused 9 0
+-- as the call answers it
+abbrev pub listAnswer : Listed → ResolveAnswer
+listAnswer Fits = Complete
+listAnswer (Refused w p) = NotListed w p
+listAnswer NoRoom = Short
 
 abbrev pub leftIn : Listed → Modules → List ℕ → Left
-leftIn r ms list = record { refusal = refusalIn (listOutcome r (tt {0})); modules = ms; list = list }
+leftIn r ms list = leftBy (listAnswer r) ms list
 
 -- the table and the records, with the modules of the numbered sources
 abbrev pub numberedAs : List ℕ → List ℕ → Modules → Numbered

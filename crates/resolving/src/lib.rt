@@ -12,7 +12,7 @@ ghost use Rattle.resolving_rules.specs.Resolve.{sourcesIn};
 ghost use Rattle.resolving.specs.Records.{RecordsRead, recordsIn};
 ghost use Rattle.resolving.specs.Numbers.{NumbersAll};
 ghost use Rattle.resolving.specs.Answer.{lentAs, left, UnreadAs};
-ghost use Rattle.resolving.specs.Stages.{listsOf, leftIn, listedLeft};
+ghost use Rattle.resolving.specs.Stages.{listsOf, leftIn, listAnswer, listedLeft};
 
 mod sources; // the records with a source, and their numbers
 pub mod specifiers; // specifiers, resolved
@@ -99,19 +99,10 @@ pub fn resolve_imports(scope: Scope, table: &[u8], records: &[u8], list: &mut [u
             answer: refuse(ResolveAnswer::TooManyFiles(place), list),
         },
     }
-    match listing(new, table, records, list) {
-        Listed::Fits => Resolution {
-            scope: new,
-            answer: ResolveAnswer::Listed,
-        },
-        Listed::Refused(why, place) => Resolution {
-            scope: new,
-            answer: ResolveAnswer::Refused(why, place),
-        },
-        Listed::NoRoom => Resolution {
-            scope: new,
-            answer: ResolveAnswer::NoRoom,
-        },
+    let listed = listing(new, table, records, list);
+    Resolution {
+        scope: new,
+        answer: list_answer(listed),
     }
 }
 
@@ -154,5 +145,15 @@ fn listing(scope: Scope, table: &[u8], records: &[u8], list: &mut [u8]) -> Liste
             writer::clear(list);
             Listed::Refused(why, place)
         },
+    }
+}
+
+fn list_answer(r: Listed) -> ResolveAnswer
+    ensures { λ a. ⌜ a ≡ listAnswer r ⌝ }
+{
+    match r {
+        Listed::Fits => ResolveAnswer::Listed,
+        Listed::Refused(why, place) => ResolveAnswer::Refused(why, place),
+        Listed::NoRoom => ResolveAnswer::NoRoom,
     }
 }

@@ -8,7 +8,7 @@ use Rattle.resolving.specs.declared.sources.NumberAnswer.{NumberAnswer}
 use Rattle.resolving.specs.Records.{recordsIn}
 use Rattle.resolving.specs.Numbers.{onNumber}
 use Rattle.resolving.proofs.NumbersLaws.{numbers-all}
-use Rattle.resolving.proofs.AnswerLaws.{records-good, refused-bad, refused-twice, refused-unread, refused-over, answers-listed, answers-turned, answers-short}
+use Rattle.resolving.proofs.AnswerLaws.{records-good, refused-bad, refused-twice, refused-unread, refused-over, answers-list}
 use borrow.Author.Needs.{needs}
 use Rattle.resolving.proofs.resolve_imports.Statement.{statement}
 use Rattle.resolving.proofs.resolve_imports.Tie as tie
@@ -114,62 +114,24 @@ listing-requires c κs =
     let good = records-good (a .table .now) (a .records .now) (c7 .lists .ensures) (c5 .enum-told .given .1) (λ i. c9 .shared-slice-known2 .given i .fits) in
     (good, numbers-all (rowsIn (a .table .now)) (sourcesIn (recordsIn (a .records .now))) (modulesOf (a .scope)) (modulesOf new) 3 given)
 
-enum-told-5 : tie.Need-enum-told-5
-enum-told-5 c = search needs
-
-enum-known-why-2 : tie.Need-enum-known-why-2
-enum-known-why-2 c = search needs
-
-enum-told-6 : tie.Need-enum-told-6
-enum-told-6 c = search needs
+list-answer-requires : tie.Need-list-answer-requires
+list-answer-requires c κs = search needs
 
 same-length-5 : tie.Need-same-length-5
 same-length-5 c = search needs
 
 returns-5 : tie.Need-returns-5
 returns-5 c =
-    let c4 = c .before .before .before .before in
-    let c6 = c4 .before .before in
-    let c9 = c6 .before .before .before in
-    let c10 = c9 .before in
-    let c12 = c10 .before .before in
-    let c16 = c12 .before .before .before .before in
-    let a = c16 .args in
-    let new = c9 .number-sources .result .scope in
-    let given = sym (c9 .number-sources .ensures) ∙ ap (λ (e : NumberAnswer). onNumber e (modulesOf new)) (c6 .enum-told4 .given .1) in
-    answers-listed (a .table .now) (a .records .now) (a .scope) (a .list .now) (c12 .lists .ensures) (c10 .enum-told .given .1) new given (c4 .listing .ensures) (c .enum-told5 .given .1)
-
-same-length-6 : tie.Need-same-length-6
-same-length-6 c = search needs
-
-returns-6 : tie.Need-returns-6
-returns-6 c =
-    let c5 = c .before .before .before .before .before in
-    let c7 = c5 .before .before in
-    let c10 = c7 .before .before .before in
-    let c11 = c10 .before in
-    let c13 = c11 .before .before in
-    let c17 = c13 .before .before .before .before in
-    let a = c17 .args in
-    let new = c10 .number-sources .result .scope in
-    let given = sym (c10 .number-sources .ensures) ∙ ap (λ (e : NumberAnswer). onNumber e (modulesOf new)) (c7 .enum-told4 .given .1) in
-    answers-turned (a .table .now) (a .records .now) (a .scope) (a .list .now) (c13 .lists .ensures) (c11 .enum-told .given .1) new given (c5 .listing .ensures) (c .before .why2 .given .1)
-
-same-length-7 : tie.Need-same-length-7
-same-length-7 c = search needs
-
-returns-7 : tie.Need-returns-7
-returns-7 c =
-    let c4 = c .before .before .before .before in
-    let c6 = c4 .before .before in
-    let c9 = c6 .before .before .before in
-    let c10 = c9 .before in
-    let c12 = c10 .before .before in
-    let c16 = c12 .before .before .before .before in
-    let a = c16 .args in
-    let new = c9 .number-sources .result .scope in
-    let given = sym (c9 .number-sources .ensures) ∙ ap (λ (e : NumberAnswer). onNumber e (modulesOf new)) (c6 .enum-told4 .given .1) in
-    answers-short (a .table .now) (a .records .now) (a .scope) (a .list .now) (c12 .lists .ensures) (c10 .enum-told .given .1) new given (c4 .listing .ensures) (c .enum-told6 .given .1)
+    let c3 = c .before .before .before in
+    let c5 = c3 .before .before in
+    let c8 = c5 .before .before .before in
+    let c9 = c8 .before in
+    let c11 = c9 .before .before in
+    let c15 = c11 .before .before .before .before in
+    let a = c15 .args in
+    let new = c8 .number-sources .result .scope in
+    let given = sym (c8 .number-sources .ensures) ∙ ap (λ (e : NumberAnswer). onNumber e (modulesOf new)) (c5 .enum-told4 .given .1) in
+    answers-list (a .table .now) (a .records .now) (a .scope) (a .list .now) (c11 .lists .ensures) (c9 .enum-told .given .1) new given (c3 .listing .result) (c3 .listing .ensures) (c .list-answer .ensures)
 
 pub resolve-imports-spec : {M : Type 1} → statement M
 resolve-imports-spec =
@@ -196,12 +158,6 @@ resolve-imports-spec =
     same-length-4
     returns-4
     listing-requires
-    enum-told-5
-    enum-known-why-2
-    enum-told-6
+    list-answer-requires
     same-length-5
-    returns-5
-    same-length-6
-    returns-6
-    same-length-7
-    returns-7)
+    returns-5)
