@@ -1,5 +1,6 @@
 -- Detection (document 01, 'Metadata and detection', last sentence): whether a module is an ES module, and the whole call with its refusals.
 use Prim.Native.Nat.{ℕ}
+use mathlib.Core.Path.{_≡_}
 use mathlib.Core.Bool.{Bool, true, false, not, _||_, cond}
 use mathlib.Core.List.{List, [], _∷_}
 use lib.Dec.{ltb, eqb}
@@ -77,6 +78,12 @@ abbrev pub outcomeOf : DetectAnswer → Outcome
 outcomeOf (Es6 b) = answers b
 outcomeOf TooLong = refuses 1 0
 outcomeOf (Unread w p) = refuses (refusalOf w) p
+
+-- an unread tree: why and where are those of its reading
+abbrev pub UnreadAs : DetectAnswer → Reading Fields → Type 0
+UnreadAs (Es6 b) r = Unit {0}
+UnreadAs TooLong r = Unit {0}
+UnreadAs (Unread w p) r = r ≡ refused w p
 
 abbrev pub onReading : Reading Fields → Bool → Outcome
 onReading (fine fs) config = answers (es6 config (itemsOf fs))

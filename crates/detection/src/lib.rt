@@ -2,8 +2,10 @@
 ghost use mathlib.Core.Path.{_≡_};
 ghost use Prim.Native.Nat.{_+_, _≤_};
 ghost use lib.ListN.{length};
+ghost use Rattle.tree.specs.declared.grammar.Set.the-variants.{Module as module-set};
+ghost use Rattle.tree.specs.Read.{read};
 ghost use Rattle.tree.specs.Standing.{treeAt, rowAt};
-ghost use Rattle.detection.specs.Detection.{firstIdent, moduleOrExports, otherHere, foundOther, foundOtherIn, forcedEs6, es6, outcomeOf, detect, Accepted};
+ghost use Rattle.detection.specs.Detection.{firstIdent, moduleOrExports, otherHere, foundOther, foundOtherIn, forcedEs6, es6, outcomeOf, UnreadAs, detect, Accepted};
 use scope::id::Atom;
 use tree::access::extent;
 use tree::access::fixed;
@@ -151,7 +153,7 @@ fn items_es6(config: bool, s: &[u8], from: usize, end: usize) -> bool
 
 // Whether a tree is an ES module. It is read first, also with config off.
 pub fn is_es6(config: bool, tree: &[u8]) -> DetectAnswer
-    ensures { λ r. ⌜ outcomeOf r ≡ detect config (now (tree .entry)) ⌝ }
+    ensures { λ r. ⌜ (outcomeOf r ≡ detect config (now (tree .entry))) × UnreadAs r (read module-set (now (tree .entry))) ⌝ }
 {
     if tree.len() > MOST {
         return DetectAnswer::TooLong;

@@ -2,12 +2,12 @@
 pub mod CellsLaws
 pub mod ItemLaws
 pub mod PassLaws
--- Laws of the call: its end (WrapLaws, EndLaws), modules that were read (ReadLaws), the second pass and what follows it (AgainLaws), the first
--- pass and the own file (OnceLaws), the lent lists (ListsLaws), and the whole (TopLaws).
+-- Laws of the call: the marks (WrapLaws), what is held to its buffer (HeldLaws), modules that were read (ReadLaws), the own file and the first
+-- pass (OnceLaws), the second pass (AgainLaws), the lent lists (ListsLaws), and the whole (TopLaws).
 pub mod WrapLaws
-pub mod EndLaws
+pub mod HeldLaws
 pub mod ReadLaws
-pub mod AgainLaws
 pub mod OnceLaws
+pub mod AgainLaws
 pub mod ListsLaws
 pub mod TopLaws

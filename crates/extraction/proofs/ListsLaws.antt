@@ -1,9 +1,8 @@
--- The lent lists, and the tree: what stands before the passes.
+-- The lent lists, and the tree: what each answer of `lists` says of the rules.
 use Prim.Native.Nat.{ℕ, _≤_, _<_}
-use mathlib.Core.Path.{_≡_, refl, sym, ap, _∙_}
-use mathlib.Core.Bool.{Bool, true, false, _||_}
+use mathlib.Core.Path.{_≡_, refl, sym, ap, subst, _∙_}
+use mathlib.Core.Bool.{Bool, true, false, _||_, cond}
 use mathlib.Core.List.{List}
-use native.Mathlib.Omega.{arith}
 use lib.Dec.{ltb}
 use lib.ListN.{length}
 use borrow.Author.Tests.{ltb-false, lt-ltb, le-ltb}
@@ -11,22 +10,18 @@ use Rattle.scope.specs.Modules.{Modules, request}
 use Rattle.tree.specs.declared.grammar.Set.the-variants.{Module}
 use Rattle.tree.specs.declared.read.Why.{Why as ReadWhy}
 use Rattle.tree.specs.declared.read.Verdict.{Verdict}
-use Rattle.tree.specs.declared.read.Verdict.the-variants.{Good as Well, Refused}
-use Rattle.tree.specs.Layout.{Bytes}
+use Rattle.tree.specs.declared.read.Verdict.the-variants.{Good as Well, Refused as Broken}
 use Rattle.tree.specs.Tree.{Fields}
-use Rattle.tree.specs.Read.{read, verdict, refusalOf as readRefusal}
-use Rattle.tree.proofs.ReadLaws.{good-fine, verdict-refused}
+use Rattle.tree.specs.Read.{Reading, fine, refused as unread, read, verdict, refusalOf as readRefusal}
 use Rattle.inputs.specs.Outcome.{Outcome, done, refused, onto, refuseIf}
 use Rattle.inputs.specs.Table.{Row, rowsIn, badExternals, badTable, repeats, tableOf}
 use Rattle.extraction_rules.specs.Call.{Lent, Lengths, Extracted, badLists, itemsRead, ownModule, passes, extracted}
-use Rattle.state.specs.Cells.{Good}
 use Rattle.records.specs.Writes.{itemsIn}
-use Rattle.extraction.specs.declared.ExtractAnswer.{ExtractAnswer}
-use Rattle.extraction.specs.declared.ExtractAnswer.the-variants.{Extracted as Accepted, BadLists, NamedTwice, Unread}
-use Rattle.extraction.specs.Answer.{lentAs, roomIn}
-use Rattle.extraction.specs.Stages.{ModuleRead, Calls, ownedBy}
-use Rattle.extraction.proofs.ReadLaws.{module-read, module-items}
-use Rattle.extraction.proofs.OnceLaws.{ends-as}
+use Rattle.extraction.specs.declared.Tested.{Tested}
+use Rattle.extraction.specs.declared.Tested.the-variants.{Good as Passable, Bad, NamedTwice, Unread}
+use Rattle.extraction.specs.Answer.{lentAs}
+use Rattle.extraction.specs.Stages.{readAs, listsOf}
+use Rattle.extraction.proofs.ReadLaws.{module-items}
 
 -- ---- 1
 
@@ -43,20 +38,42 @@ module _ (externals table tree : List ℕ) where
   unfolding badLists
   bad-second h e k d = rw (le-ltb 32768 (length tree) h, sym e ∙ k) d
 
--- a list that is none leaves the call no tree; whatever the file and the setting
-bad-same : (file : ℕ) (config : Bool) (externals table tree : List ℕ) → badLists (lentAs file config externals table tree) ≡ badLists (lentAs 0 false externals table tree)
-unfolding badLists
-bad-same file config externals table tree = refl
-
 or-first : (a b : Bool) → a || b ≡ false → a ≡ false
 or-first false b e = refl
 or-first true b e = e
 
-most : (externals table tree : List ℕ) → badLists (lentAs 0 false externals table tree) ≡ false → length tree ≤ 32768
+most : (l : Lent) → badLists l ≡ false → length (l .tree) ≤ 32768
 unfolding badLists
-most externals table tree e =
-    ltb-false 32768 (length tree)
-    (or-first (ltb 32768 (length tree)) (badExternals externals) (or-first (ltb 32768 (length tree) || badExternals externals) (badTable table) e))
+most l e =
+    let long = ltb 32768 (length (l .tree)) in
+    ltb-false 32768 (length (l .tree)) (or-first long (badExternals (l .externals)) (or-first (long || badExternals (l .externals)) (badTable (l .table)) e))
+
+-- ---- 1, 2, then reading
+
+module _ (externals table tree : List ℕ) where
+  abbrev lends : Lent
+  lends = lentAs 0 false externals table tree
+
+  -- the answer by the three tests
+  listed : (a b : Bool) (v : Verdict) → badLists lends ≡ a → repeats (rowsIn table) ≡ b → verdict (read Module tree) ≡ v →
+      listsOf lends ≡ cond a Bad (cond b NamedTwice (readAs v))
+  unfolding listsOf
+  listed a b v e f q = rw (e, f, q)
+
+  module _ {a : Bool} (bad : a ≡ badLists lends) where
+    pub lists-bad : a ≡ true → Bad ≡ listsOf lends
+    lists-bad e = sym (listed true (repeats (rowsIn table)) (verdict (read Module tree)) (sym bad ∙ e) refl refl)
+
+    module _ {b : Bool} (twice : b ≡ repeats (rowsIn table)) where
+      pub lists-twice : a ≡ false → b ≡ true → NamedTwice ≡ listsOf lends
+      lists-twice e f = sym (listed false true (verdict (read Module tree)) (sym bad ∙ e) (sym twice ∙ f) refl)
+
+      module _ {v : Verdict} (is : v ≡ verdict (read Module tree)) (e : a ≡ false) (f : b ≡ false) where
+        pub lists-read : v ≡ Well → Passable ≡ listsOf lends
+        lists-read q = sym (listed false false Well (sym bad ∙ e) (sym twice ∙ f) (sym is ∙ q))
+
+        pub lists-unread : {w : ReadWhy} {p : ℕ} → v ≡ Broken w p → Unread w p ≡ listsOf lends
+        lists-unread {w} {p} q = sym (listed false false (Broken w p) (sym bad ∙ e) (sym twice ∙ f) (sym is ∙ q))
 
 -- ---- The call up to the own file
 
@@ -88,59 +105,35 @@ module _ (l : Lent) (room : Lengths) (ms : Modules) where
       extracted l room ms ≡ onto m (owning (rowsIn (l .table)))
   called-read m e f q = called-by false e f ∙ ap (λ (z : Outcome Fields). onto z (owning (rowsIn (l .table)))) q
 
--- ---- The answers
+-- from the own file on
+abbrev pub ownedBy : Lent → Lengths → Modules → Outcome Extracted
+ownedBy l room ms = onto (ownModule (request (l .file) ms)) (passes l room (rowsIn (l .table)) (itemsIn (l .tree)))
 
-answered-1 : {A : Type 0} → BadLists ≡ Accepted → A
-answered-1 e = absurd (let z : _≡_ {A = ℕ} 0 1 = cc in omega arith)
+-- what each answer says: the tree was read, or the rules refuse
+abbrev pub Says : Lent → Lengths → Modules → Tested → Type 0
+Says l room ms Passable = (extracted l room ms ≡ ownedBy l room ms) × (length (l .tree) ≤ 32768) × ((fs : Fields) × (read Module (l .tree) ≡ fine fs))
+Says l room ms Bad = extracted l room ms ≡ refused 1 0
+Says l room ms NamedTwice = extracted l room ms ≡ refused 2 0
+Says l room ms (Unread w p) = (extracted l room ms ≡ refused (readRefusal w) p) × (read Module (l .tree) ≡ unread w p)
 
-answered-2 : {A : Type 0} → NamedTwice ≡ Accepted → A
-answered-2 e = absurd (let z : _≡_ {A = ℕ} 0 1 = cc in omega arith)
+lists-say : (l : Lent) (room : Lengths) (ms : Modules) → Says l room ms (listsOf l)
+unfolding listsOf
+lists-say l room ms = go (badLists l) (repeats (rowsIn (l .table))) (read Module (l .tree)) refl refl refl
+  where
+    go : (a b : Bool) (r : Reading Fields) → badLists l ≡ a → repeats (rowsIn (l .table)) ≡ b → read Module (l .tree) ≡ r →
+        Says l room ms (cond a Bad (cond b NamedTwice (readAs (verdict r))))
+    go true b r e f q = called-bad l room ms e
+    go false true r e f q = called-by l room ms true e f
+    go false false (fine fs) e f q = (called-read l room ms (done (itemsIn (l .tree))) e f (module-items (l .tree) fs q), most l e, (fs, q))
+    go false false (unread w p) e f q = (called-read l room ms (refused (readRefusal w) p) e f (ap itemsRead q), q)
 
-answered-3 : {A : Type 0} {w : ReadWhy} {p : ℕ} → Unread w p ≡ Accepted → A
-answered-3 {w = w} {p} e = absurd (let z : _≡_ {A = ℕ} 0 1 = cc in omega arith)
+-- the tests look neither at the file nor at the setting
+lists-same : (file : ℕ) (config : Bool) (externals table tree : List ℕ) → listsOf (lentAs file config externals table tree) ≡ listsOf (lentAs 0 false externals table tree)
+unfolding listsOf badLists
+lists-same file config externals table tree = refl
 
-module _ (file : ℕ) (config : Bool) (externals table tree : List ℕ) {b : Bool} (bad : b ≡ badLists (lentAs 0 false externals table tree)) where
-  bad-is : (c : Bool) → b ≡ c → badLists (lentAs file config externals table tree) ≡ c
-  bad-is c e = bad-same file config externals table tree ∙ sym bad ∙ e
-
-  pub lists-bad : {t work out records : List ℕ} → Good t → b ≡ true →
-      Calls (Bytes tree) (extracted (lentAs file config externals table tree) (roomIn work out records)) t work out records t work out records BadLists
-  lists-bad {work = work} {out} {records} g e =
-      record { good = g; is = λ ms w bs. record { accepted = λ a. answered-1 a; refused = λ _. called-bad (lentAs file config externals table tree) (roomIn work out records) ms (bad-is true e) } }
-
-  module _ {c : Bool} (twice : c ≡ repeats (rowsIn table)) where
-    pub lists-twice : {t work out records : List ℕ} → Good t → b ≡ false → c ≡ true →
-        Calls (Bytes tree) (extracted (lentAs file config externals table tree) (roomIn work out records)) t work out records t work out records NamedTwice
-    lists-twice {work = work} {out} {records} g e f =
-        record {
-          good = g;
-          is = λ ms w bs.
-              record { accepted = λ a. answered-2 a; refused = λ _. called-by (lentAs file config externals table tree) (roomIn work out records) ms true (bad-is false e) (sym twice ∙ f) };
-        }
-
-    pub lists-unread : {t work out records : List ℕ} {r : Verdict} {why : ReadWhy} {p : ℕ} → Good t → b ≡ false → c ≡ false →
-        r ≡ verdict (read Module tree) → r ≡ Refused why p →
-        Calls (Bytes tree) (extracted (lentAs file config externals table tree) (roomIn work out records)) t work out records t work out records (Unread why p)
-    lists-unread {work = work} {out} {records} {why = why} {p} g e f v q =
-        record {
-          good = g;
-          is = λ ms w bs.
-              record {
-                accepted = λ a. answered-3 a;
-                refused = λ _.
-                    called-read (lentAs file config externals table tree) (roomIn work out records) ms (refused (readRefusal why) p) (bad-is false e) (sym twice ∙ f)
-                    (ap itemsRead (verdict-refused (read Module tree) (sym v ∙ q)));
-              };
-        }
-
-    pub lists-read : {t work out records t2 work2 out2 records2 : List ℕ} {r : Verdict} {a : ExtractAnswer} → b ≡ false → c ≡ false → r ≡ verdict (read Module tree) → r ≡ Well →
-        Calls (ModuleRead tree) (ownedBy (lentAs file config externals table tree) (roomIn work out records)) t work out records t2 work2 out2 records2 a →
-        Calls (Bytes tree) (extracted (lentAs file config externals table tree) (roomIn work out records)) t work out records t2 work2 out2 records2 a
-    lists-read {work = work} {out} {records} e f v q z =
-        let fs = good-fine (read Module tree) (sym v ∙ q) in
-        record {
-          good = z .good;
-          is = λ ms w bs.
-              ends-as (z .is ms w (module-read tree (fs .0) bs (most externals table tree (sym bad ∙ e)) (fs .1)))
-              (called-read (lentAs file config externals table tree) (roomIn work out records) ms (done (itemsIn tree)) (bad-is false e) (sym twice ∙ f) (module-items tree (fs .0) (fs .1)));
-        }
+pub says : (file : ℕ) (config : Bool) (externals table tree : List ℕ) (room : Lengths) (ms : Modules) {r : Tested} (a : Tested) →
+    r ≡ listsOf (lentAs 0 false externals table tree) → r ≡ a → Says (lentAs file config externals table tree) room ms a
+says file config externals table tree room ms a d e =
+    let l = lentAs file config externals table tree in
+    subst (Says l room ms) (lists-same file config externals table tree ∙ sym d ∙ e) (lists-say l room ms)

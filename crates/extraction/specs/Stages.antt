@@ -1,76 +1,117 @@
--- What the stages of the call do, as the code has them: how each ends, what it asks and what it leaves. Only inner contracts cite this.
-use Prim.Native.Nat.{ℕ, _≤_}
+-- What the steps of the call do, as the code has them: what each answers and what it leaves. Only inner contracts cite this.
+use Prim.Native.Nat.{ℕ, _-_, _≤_}
 use mathlib.Core.Path.{_≡_}
-use mathlib.Core.Bool.{true, false}
-use mathlib.Core.List.{List, map}
-use lib.ListN.{length, drop}
+use mathlib.Core.Bool.{Bool, true, false, cond}
+use mathlib.Core.List.{List, []}
+use mathlib.Core.Option.{none as nothing, some}
+use lib.ListN.{length, take, drop}
 use Rattle.scope.specs.Modules.{Modules, request}
 use Rattle.tree.specs.declared.grammar.Set.the-variants.{Module}
+use Rattle.tree.specs.declared.read.Verdict.{Verdict}
+use Rattle.tree.specs.declared.read.Verdict.the-variants.{Good as Well, Refused as Broken}
 use Rattle.tree.specs.Grammar.{ruleOf}
-use Rattle.tree.specs.Tree.{Field, Fields, none, more, encode, size}
-use Rattle.tree.specs.Read.{fine, read}
+use Rattle.tree.specs.Tree.{Fields, none, more, encode, size}
+use Rattle.tree.specs.Read.{fine, read, verdict}
 use Rattle.tree.specs.Standing.{Row}
-use Rattle.writer.specs.Wrote.{Wrote}
-use Rattle.writer.specs.Finished.{hasRoom, delivered}
-use Rattle.inputs.specs.Outcome.{Outcome, done, refused, onto, placeless, numberIn, placeIn}
-use Rattle.inputs.specs.Table.{rowsIn}
-use Rattle.inputs.specs.Buffer.{fits}
-use Rattle.extraction_rules.specs.State.{State, Setting, Act, start, setTop}
+use Rattle.writer.specs.Finished.{hasRoom, delivered, Delivered}
+use Rattle.inputs.specs.Outcome.{Outcome, done, refused, onto}
+use Rattle.inputs.specs.Table.{rowsIn, repeats}
+use Rattle.extraction_rules.specs.State.{State, Pass, Setting, Act, start, setTop, setModules}
 use Rattle.extraction_rules.specs.First.{moduleFor}
 use Rattle.extraction_rules.specs.Second.{wrapModule, wrapAll}
-use Rattle.extraction_rules.specs.Walk.{walkAgain}
-use Rattle.extraction_rules.specs.Records.{recordsOf}
-use Rattle.extraction_rules.specs.Call.{Lent, Lengths, Extracted, ownModule, moduleWith, extractedFrom, passes}
-use Rattle.extraction_rules.proofs.OutcomeLaws.{After}
+use Rattle.extraction_rules.specs.Walk.{walkModule}
+use Rattle.extraction_rules.specs.Call.{Lent, Extracted, badLists, setting, moduleWith}
 use Rattle.extraction_rules.proofs.WalkLaws.{ImportsAll}
 use Rattle.extraction_rules.proofs.SanityLaws.{Known}
 use Rattle.extraction_rules.proofs.ReadableLaws.{Items}
 use Rattle.state.specs.Cells.{At, Good, Shows, sourcesIn}
+use Rattle.state.specs.Does.{Turns}
 use Rattle.steps.specs.declared.Effect.{Effect}
 use Rattle.steps.specs.Step.{Effects}
-use Rattle.records.specs.Model.{rebuilt}
-use Rattle.records.specs.Writes.{Placing, RowRead, itemsIn, recordsIn}
+use Rattle.steps.specs.Refusal.{refusalOf}
+use Rattle.records.specs.Writes.{Placing, BothRead, itemsIn, recordsIn}
 use Rattle.extraction.specs.declared.ExtractAnswer.{ExtractAnswer}
-use Rattle.extraction.specs.declared.ExtractAnswer.the-variants.{Extracted as Accepted}
-use Rattle.extraction.specs.Answer.{answerRefusal}
+use Rattle.extraction.specs.declared.ExtractAnswer.the-variants.{Extracted as Accepted, BadLists, NamedTwice, Unread, Refused as Turned, NoRoom as Short}
+use Rattle.extraction.specs.declared.Tested.{Tested}
+use Rattle.extraction.specs.declared.Tested.the-variants.{Good as Passable, Bad, NamedTwice as Twice, Unread as NotRead}
+use Rattle.extraction.specs.declared.Own.{Own}
+use Rattle.extraction.specs.declared.Own.the-variants.{Is, TooManyFiles}
+use Rattle.extraction.specs.declared.Passed.{Passed}
+use Rattle.extraction.specs.declared.Passed.the-variants.{Fits, Refused, NoRoom}
+use Rattle.extraction.specs.Answer.{lentAs, outcomeOf, UnreadAs}
 
--- ---- How a part of the call ends
+-- ---- The tests of what is lent
 
--- the number and the place alone, 0 and 0 where there is no refusal
-abbrev pub answerNumber : ExtractAnswer → ℕ
-answerNumber a = numberIn (answerRefusal a)
+abbrev pub readAs : Verdict → Tested
+readAs Well = Passable
+readAs (Broken w p) = NotRead w p
 
-abbrev pub answerPlace : ExtractAnswer → ℕ
-answerPlace a = placeIn (answerRefusal a)
+-- 1, then 2, then 3 or 4
+unfoldable pub listsOf : Lent → Tested
+listsOf l = cond (badLists l) Bad (cond (repeats (rowsIn (l .table))) Twice (readAs (verdict (read Module (l .tree)))))
 
--- the array shows a state with these modules
-pub record ShowsModules (t : List ℕ) (ms : Modules) : Type 0 where
-  pub at : At
+-- a module that was read
+pub record ModuleRead (tree : List ℕ) : Type 0 where
+  pub room : 3 ≤ length tree
+  pub row : Row tree 3 (length tree) (ruleOf 0x01)
+  pub items : Items (itemsIn tree)
+  pub most : length tree ≤ 32768
+
+-- ---- 'Own file's number first'
+
+-- the file has the number n, and the array shows the modules with it
+pub record Owned (file : ℕ) (ms : Modules) (t t' : List ℕ) (n : ℕ) : Type 0 where
+  pub modules : Modules
+  pub is : request file ms ≡ some (n, modules)
+  pub turns : Turns (setModules modules) t t'
+
+abbrev pub OwnIs : ℕ → Modules → List ℕ → List ℕ → Own → Type 0
+OwnIs file ms t t' (Is id) = Owned file ms t t' (id .0)
+OwnIs file ms t t' TooManyFiles = request file ms ≡ nothing
+
+pub record Owns (file : ℕ) (ms : Modules) (t t' : List ℕ) (r : Own) : Type 0 where
+  pub good : Good t'
+  pub is : OwnIs file ms t t' r
+
+-- ---- A pass, held to its buffer
+
+-- what the pass m gives stands in the first n bytes of the buffer, which was l
+pub record Held (x : At) (m : Outcome (Fields × State)) (l t' l' : List ℕ) (n : ℕ) : Type 0 where
+  pub items : Fields
   pub state : State
-  pub shows : Shows at t state
-  pub modules : state .modules ≡ ms
+  pub is : m ≡ done (items, state)
+  pub room : hasRoom (size (moduleWith items)) (length l) ≡ true
+  pub buffer : l' ≡ delivered (encode (moduleWith items)) (length l)
+  pub part : take (n - 0) (drop 0 l') ≡ encode (moduleWith items)
+  pub shows : Shows x t' state
 
--- the rules accept, and B is what the buffers hold
-pub record AcceptedAs (B : Extracted → Type 0) (m : Outcome Extracted) (t : List ℕ) : Type 0 where
-  pub result : Extracted
-  pub is : m ≡ done result
-  pub modules : ShowsModules t (result .modules)
-  pub buffers : B result
+-- it is too long
+pub record TooLong (m : Outcome (Fields × State)) (room : ℕ) : Type 0 where
+  pub items : Fields
+  pub state : State
+  pub is : m ≡ done (items, state)
+  pub short : hasRoom (size (moduleWith items)) room ≡ false
 
--- the answer to what the rules say from here on
-pub record Ends (B : Extracted → Type 0) (m : Outcome Extracted) (t : List ℕ) (a : ExtractAnswer) : Type 0 where
-  pub accepted : a ≡ Accepted → AcceptedAs B m t
-  pub refused : (a ≡ Accepted → ⊥) → m ≡ refused (answerNumber a) (answerPlace a)
+abbrev pub PassIs : At → Outcome (Fields × State) → List ℕ → List ℕ → List ℕ → Passed → Type 0
+PassIs x m l t' l' (Fits n) = Held x m l t' l' n
+PassIs x m l t' l' (Refused w p) = m ≡ refused (refusalOf w) p
+PassIs x m l t' l' NoRoom = TooLong m (length l)
 
--- the tree after the second pass and the records stand in their buffers
-pub record Last (l m l' m' : List ℕ) (r : Extracted) : Type 0 where
-  pub out : l' ≡ delivered (encode (r .out)) (length l)
-  pub records : m' ≡ delivered (encode (r .records)) (length m)
+abbrev pub Inside : Passed → ℕ → Type 0
+Inside (Fits n) room = n ≤ room
+Inside (Refused w p) room = Unit {0}
+Inside NoRoom room = Unit {0}
 
--- and so does the tree after the first pass
-pub record Whole (k l m k' l' m' : List ℕ) (r : Extracted) : Type 0 where
-  pub work : k' ≡ delivered (encode (r .work)) (length k)
-  pub last : Last l m l' m' r
+-- what a pass looks at, but for the tree
+abbrev pub settingIn : Pass → ℕ → Bool → List ℕ → List ℕ → Setting
+settingIn p own config externals table = setting p own (lentAs 0 config externals table []) (rowsIn table)
+
+-- the first pass, from the modules that the array shows
+pub record Firsts (e : Setting) (tree t work t' work' : List ℕ) (r : Passed) : Type 0 where
+  pub good : Good t'
+  pub inside : Inside r (length work)
+  pub is : {x : At} (ms : Modules) → Shows x t (setTop false (start ms)) → ModuleRead tree → (w : List ℕ) → Placing tree w x →
+      PassIs x (walkModule e (itemsIn tree) (setTop false (start ms))) work t' work' r
 
 -- ---- 'At the end forced sources get the wrapping mark if they resolve'
 
@@ -95,62 +136,61 @@ pub record Wrapping (table t₀ : List ℕ) (i : ℕ) (t : List ℕ) : Type 0 wh
   pub good : Good t
   pub rest : (t' : List ℕ) (k : Effect) → Wraps table (wrapFrom i) t t' k → Wraps table (wrapFrom 0) t₀ t' k
 
--- ---- The end
-
--- 9 on *out*, then on the records
-abbrev pub bothFit : Field → Field → ℕ → ℕ → Outcome (Unit {0})
-bothFit g k out records = onto (fits g out) (λ _. fits k records)
-
--- the field g was written in the buffer l, and k in the buffer m
-pub record Closed (g k : Field) (l m out' records' : List ℕ) (a : ExtractAnswer) : Type 0 where
-  pub accepted : a ≡ Accepted →
-      (bothFit g k (length l) (length m) ≡ done tt) × (out' ≡ delivered (encode g) (length l)) × (records' ≡ delivered (encode k) (length m))
-  pub refused : (a ≡ Accepted → ⊥) → bothFit g k (length l) (length m) ≡ refused (answerNumber a) (answerPlace a)
-
--- n bytes of *out* were written
-pub record Closes (tree work t out : List ℕ) (n : ℕ) (records out' records' : List ℕ) (a : ExtractAnswer) : Type 0 where
-  pub is : {x : At} (s : State) → Shows x t s → Placing tree work x → RowRead work 3 (length work) → {l : List ℕ} (g : Field) → Wrote l 0 (encode g) out n →
-      (hasRoom (size g) (length l) ≡ true → RowRead (encode g) 3 (length (encode g))) → Closed g (recordsIn work (encode g) s) l records out' records' a
-
 -- ---- The second pass
 
--- what the first pass leaves: items, whose sources are collected unless they are external; and what the second pass makes of them
-pub record Between (e : Setting) (works : Fields) (s : State) : Type 0 where
-  pub items : Items works
-  pub known : ImportsAll works (Known (e .externals) (sourcesIn (s .collected)))
-  pub outs : After (walkAgain e works s) (λ outs s'. Items outs × (s' .collected ≡ map (rebuilt works outs (s' .forced)) (s' .collected)))
+-- the walk, then the marks
+abbrev pub marking : Setting → Fields → Act Fields
+marking e works = λ s. onto (walkModule e works s) (λ r. onto (wrapFrom 0 e (r .1)) (λ u. done (r .0, u .1)))
 
--- the rules from the second pass on
-unfoldable pub secondly : Setting → ℕ → ℕ → Fields → State → Outcome Extracted
-secondly e out records works s =
-    onto (placeless (walkAgain e works s)) (λ two.
-    onto (fits (moduleWith (two .0)) out) (λ _.
-    onto (fits (recordsOf (two .1)) records) (λ _. done (extractedFrom works (two .0) (two .1)))))
-
--- *work* holds what the first pass left
-pub record Seconds (e : Setting) (tree t work out records t' out' records' : List ℕ) (a : ExtractAnswer) : Type 0 where
+-- *work* holds what the first pass left: items, whose sources are collected unless they are external
+pub record Seconds (e : Setting) (t work out t' out' : List ℕ) (r : Passed) : Type 0 where
   pub good : Good t'
-  pub is : {x : At} (s : State) → Shows x t s → Placing tree work x → (works : Fields) → read Module work ≡ fine (more (moduleWith works) none) →
-      length work ≤ 65538 → Between e works s → Ends (Last out records out' records') (secondly e (length out) (length records) works s) t' a
+  pub inside : Inside r (length out)
+  pub is : {x : At} (s : State) → Shows x t s → (tree : List ℕ) → Placing tree work x → (works : Fields) →
+      read Module work ≡ fine (more (moduleWith works) none) → length work ≤ 65538 → ImportsAll works (Known (e .externals) (sourcesIn (s .collected))) →
+      PassIs x (marking e works s) out t' out' r
 
--- ---- The first pass, and what stands before it
+-- ---- The records, held to their buffer
 
--- a module that was read
-pub record ModuleRead (tree : List ℕ) : Type 0 where
-  pub room : 3 ≤ length tree
-  pub row : Row tree 3 (length tree) (ruleOf 0x01)
-  pub items : Items (itemsIn tree)
-  pub most : length tree ≤ 32768
+pub record DeliversFor (tree work out t records records' : List ℕ) (b : Bool) : Type 0 where
+  pub is : {x : At} (s : State) → Shows x t s → Placing tree work x → BothRead work out → Delivered (encode (recordsIn work out s)) records b records'
 
--- from the modules of the scope that the array shows, where P holds
-pub record Calls (P : Type 0) (m : Modules → Outcome Extracted) (t work out records t' work' out' records' : List ℕ) (a : ExtractAnswer) : Type 0 where
-  pub good : Good t'
-  pub is : (ms : Modules) → ((x : At) → Shows x t (setTop false (start ms))) → P → Ends (Whole work out records work' out' records') (m ms) t' a
+-- ---- The steps together
 
--- the passes, with the own module's number
-abbrev pub passesBy : Lent → Lengths → ℕ → Modules → Outcome Extracted
-passesBy l room own ms = passes l room (rowsIn (l .table)) (itemsIn (l .tree)) (own, ms)
+-- the array shows a state with these modules
+pub record ShowsModules (t : List ℕ) (ms : Modules) : Type 0 where
+  pub at : At
+  pub state : State
+  pub shows : Shows at t state
+  pub modules : state .modules ≡ ms
 
--- 'Own file's number first.'
-abbrev pub ownedBy : Lent → Lengths → Modules → Outcome Extracted
-ownedBy l room ms = onto (ownModule (request (l .file) ms)) (passes l room (rowsIn (l .table)) (itemsIn (l .tree)))
+-- the three trees stand in their buffers
+pub record Whole (k l m k' l' m' : List ℕ) (r : Extracted) : Type 0 where
+  pub work : k' ≡ delivered (encode (r .work)) (length k)
+  pub out : l' ≡ delivered (encode (r .out)) (length l)
+  pub records : m' ≡ delivered (encode (r .records)) (length m)
+
+-- the rules accept, and B is what the buffers hold
+pub record AcceptedAs (B : Extracted → Type 0) (m : Outcome Extracted) (t : List ℕ) : Type 0 where
+  pub result : Extracted
+  pub is : m ≡ done result
+  pub good : Good t
+  pub modules : ShowsModules t (result .modules)
+  pub buffers : B result
+
+-- the rules refuse as the answer says
+pub record TurnedAs (m : Outcome Extracted) (tree : List ℕ) (a : ExtractAnswer) : Type 0 where
+  pub is : (r : Extracted) → m ≡ outcomeOf a r
+  pub why : UnreadAs a (read Module tree)
+
+abbrev pub EndIs : (Extracted → Type 0) → Outcome Extracted → List ℕ → List ℕ → ExtractAnswer → Type 0
+EndIs B m tree t Accepted = AcceptedAs B m t
+EndIs B m tree t BadLists = TurnedAs m tree BadLists
+EndIs B m tree t NamedTwice = TurnedAs m tree NamedTwice
+EndIs B m tree t (Unread w p) = TurnedAs m tree (Unread w p)
+EndIs B m tree t (Turned w p) = TurnedAs m tree (Turned w p)
+EndIs B m tree t Short = TurnedAs m tree Short
+
+-- the answer to what the rules say
+pub record Ends (B : Extracted → Type 0) (m : Outcome Extracted) (tree t : List ℕ) (a : ExtractAnswer) : Type 0 where
+  pub is : EndIs B m tree t a

@@ -1,16 +1,16 @@
 // Extraction of what a module imports. Port of swc_bundler's `import/mod.rs`.
 ghost use mathlib.Core.Path.{_≡_};
-ghost use Prim.Native.Nat.{_≤_};
 ghost use mathlib.Core.Bool.{false, true};
-ghost use lib.ListN.{length};
-ghost use Rattle.tree.specs.Layout.{two as twoOf, Bytes};
+ghost use lib.ListN.{length, replicate};
+ghost use Rattle.tree.specs.declared.grammar.Set.the-variants.{Module as module-set};
+ghost use Rattle.tree.specs.Layout.{two as twoOf};
+ghost use Rattle.tree.specs.Read.{read};
 ghost use Rattle.scope.specs.ScopeValue.{modulesOf};
-ghost use Rattle.extraction_rules.specs.State.{second as pass-two};
-ghost use Rattle.extraction_rules.specs.Call.{setting, badLists, extracted, extraction};
-ghost use Rattle.inputs.specs.Table.{rowsIn};
-ghost use Rattle.state.specs.Cells.{Good};
-ghost use Rattle.extraction.specs.Answer.{left, lentAs, roomIn};
-ghost use Rattle.extraction.specs.Stages.{wrapOne, wrapFrom, Wraps, Closes, Seconds, ModuleRead, Calls, passesBy, ownedBy};
+ghost use Rattle.extraction_rules.specs.State.{first as pass-one, second as pass-two};
+ghost use Rattle.extraction_rules.specs.Call.{badLists, extracted, extraction};
+ghost use Rattle.state.specs.Cells.{cells, Good};
+ghost use Rattle.extraction.specs.Answer.{left, lentAs, roomIn, UnreadAs};
+ghost use Rattle.extraction.specs.Stages.{listsOf, Owns, settingIn, Firsts, wrapOne, wrapFrom, Wraps, Seconds, DeliversFor, Whole, Ends};
 
 mod passes; // a pass over a module's items
 
@@ -19,6 +19,7 @@ use inputs::bad_table;
 use inputs::names_twice;
 use passes::pass;
 use records::put_records;
+use scope::FileAnswer;
 use scope::Scope;
 use scope::id::Atom;
 use scope::id::FileName;
@@ -30,7 +31,6 @@ use state::forced::forced_at;
 use state::modules::load;
 use state::modules::mark_wrapping;
 use state::modules::module_for;
-use state::modules::request;
 use state::modules::scope_of;
 use steps::Effect;
 use steps::Setting;
@@ -64,6 +64,30 @@ pub struct Extraction {
     pub answer: ExtractAnswer,
 }
 
+// What the tests of the lent lists and of the tree give.
+enum Tested {
+    Good,
+    Bad,
+    NamedTwice,
+    // no tree: why, and where
+    Unread(tree::read::Why, usize),
+}
+
+// What a request of the own file gives.
+enum Own {
+    Is(ModuleId),
+    TooManyFiles,
+}
+
+// What a pass gives, held to its buffer.
+enum Passed {
+    // the tree, in this many bytes
+    Fits(usize),
+    // the walk turned back: why, and where
+    Refused(Why, usize),
+    NoRoom,
+}
+
 // Extracts what a module imports: `work` then holds the tree after the first pass, `out` after the second, `records` the records.
 pub fn extract_import_info(
     scope: Scope,
@@ -77,13 +101,13 @@ pub fn extract_import_info(
     records: &mut [u8],
 ) -> Extraction
     ensures { λ r.
-        ⌜ left r (now (work .exit)) (now (out .exit)) (now (records .exit)) ≡ extraction
+        ⌜ (left r (now (work .exit)) (now (out .exit)) (now (records .exit)) ≡ extraction
         (lentAs (file .0) config (now (externals .entry)) (now (table .entry)) (now (tree .entry)))
-        (roomIn (now (work .entry)) (now (out .entry)) (now (records .entry))) (modulesOf scope) ⌝ }
+        (roomIn (now (work .entry)) (now (out .entry)) (now (records .entry))) (modulesOf scope)) × UnreadAs (r .answer) (read module-set (now (tree .entry))) ⌝ }
 {
     let mut t = [0u64; CELLS];
-    load(&mut t, scope);
-    let answer = lists(
+    let answer = extract(
+        scope,
         file,
         config,
         externals,
@@ -108,6 +132,51 @@ pub fn extract_import_info(
     }
 }
 
+// The steps of the call, in the order of the rules, with an array of zeros.
+fn extract(
+    scope: Scope,
+    file: FileName,
+    config: bool,
+    externals: &[u8],
+    table: &[u8],
+    tree: &[u8],
+    t: &mut [u64],
+    work: &mut [u8],
+    out: &mut [u8],
+    records: &mut [u8],
+) -> ExtractAnswer
+    requires { ⌜ now t ≡ replicate cells 0 ⌝ }
+    ensures { λ a.
+        ⌜ Ends (Whole (now (work .entry)) (now (out .entry)) (now (records .entry)) (now (work .exit)) (now (out .exit)) (now (records .exit)))
+        (extracted (lentAs (file .0) config (now (externals .entry)) (now (table .entry)) (now (tree .entry)))
+        (roomIn (now (work .entry)) (now (out .entry)) (now (records .entry))) (modulesOf scope)) (now (tree .entry)) (now (t .exit)) a ⌝ }
+{
+    match lists(externals, table, tree) {
+        Tested::Good => {}
+        Tested::Bad => return ExtractAnswer::BadLists,
+        Tested::NamedTwice => return ExtractAnswer::NamedTwice,
+        Tested::Unread(why, place) => return ExtractAnswer::Unread(why, place),
+    }
+    let Own::Is(own) = own_file(scope, file, t) else {
+        return ExtractAnswer::Refused(Why::TooManyFiles, 0);
+    };
+    let n = match first_pass(own, config, externals, table, tree, t, work) {
+        Passed::Fits(n) => n,
+        Passed::Refused(why, place) => return ExtractAnswer::Refused(why, place),
+        Passed::NoRoom => return ExtractAnswer::NoRoom,
+    };
+    let m = match second_pass(own, config, externals, table, &work[0..n], t, out) {
+        Passed::Fits(m) => m,
+        Passed::Refused(why, _) => return ExtractAnswer::Refused(why, 0),
+        Passed::NoRoom => return ExtractAnswer::NoRoom,
+    };
+    if deliver_records(tree, &work[0..n], &out[0..m], t, records) {
+        ExtractAnswer::Extracted
+    } else {
+        ExtractAnswer::NoRoom
+    }
+}
+
 // Whether a lent list is too long, or none.
 fn bad_lists(externals: &[u8], table: &[u8], tree: &[u8]) -> bool
     ensures { λ r. ⌜ r ≡ badLists (lentAs 0 false (now (externals .entry)) (now (table .entry)) (now (tree .entry))) ⌝ }
@@ -122,63 +191,40 @@ fn bad_lists(externals: &[u8], table: &[u8], tree: &[u8]) -> bool
 }
 
 // The lent lists are tested, and the tree is read.
-fn lists(
-    file: FileName,
-    config: bool,
-    externals: &[u8],
-    table: &[u8],
-    tree: &[u8],
-    t: &mut [u64],
-    work: &mut [u8],
-    out: &mut [u8],
-    records: &mut [u8],
-) -> ExtractAnswer
-    requires { ⌜ Good (now t) ⌝ }
-    ensures { λ a.
-        ⌜ Calls (Bytes (now (tree .entry)))
-        (extracted (lentAs (file .0) config (now (externals .entry)) (now (table .entry)) (now (tree .entry)))
-        (roomIn (now (work .entry)) (now (out .entry)) (now (records .entry)))) (now (t .entry)) (now (work .entry)) (now (out .entry))
-        (now (records .entry)) (now (t .exit)) (now (work .exit)) (now (out .exit)) (now (records .exit)) a ⌝ }
+fn lists(externals: &[u8], table: &[u8], tree: &[u8]) -> Tested
+    ensures { λ r. ⌜ r ≡ listsOf (lentAs 0 false (now (externals .entry)) (now (table .entry)) (now (tree .entry))) ⌝ }
 {
     if bad_lists(externals, table, tree) {
-        return ExtractAnswer::BadLists;
+        return Tested::Bad;
     }
     if names_twice(table) {
-        return ExtractAnswer::NamedTwice;
+        return Tested::NamedTwice;
     }
     match read_tree(tree, Set::Module) {
-        Verdict::Good => own_file(file, config, externals, table, tree, t, work, out, records),
-        Verdict::Refused(why, place) => ExtractAnswer::Unread(why, place),
+        Verdict::Good => Tested::Good,
+        Verdict::Refused(why, place) => Tested::Unread(why, place),
     }
 }
 
-// 'Own file's number first.'
-fn own_file(
-    file: FileName,
-    config: bool,
-    externals: &[u8],
-    table: &[u8],
-    tree: &[u8],
-    t: &mut [u64],
-    work: &mut [u8],
-    out: &mut [u8],
-    records: &mut [u8],
-) -> ExtractAnswer
+// 'Own file's number first': the array then shows the scope with it.
+fn own_file(scope: Scope, file: FileName, t: &mut [u64]) -> Own
     requires { ⌜ Good (now t) ⌝ }
-    ensures { λ a.
-        ⌜ Calls (ModuleRead (now (tree .entry)))
-        (ownedBy (lentAs (file .0) config (now (externals .entry)) (now (table .entry)) (now (tree .entry)))
-        (roomIn (now (work .entry)) (now (out .entry)) (now (records .entry)))) (now (t .entry)) (now (work .entry)) (now (out .entry))
-        (now (records .entry)) (now (t .exit)) (now (work .exit)) (now (out .exit)) (now (records .exit)) a ⌝ }
+    ensures { λ r. ⌜ Owns (file .0) (modulesOf scope) (now (t .entry)) (now (t .exit)) r ⌝ }
 {
-    match request(t, file) {
-        Module::Is(own) => first_pass(own, config, externals, table, tree, t, work, out, records),
-        Module::Unresolved => ExtractAnswer::Refused(Why::TooManyFiles, 0),
-        Module::TooMany => ExtractAnswer::Refused(Why::TooManyFiles, 0),
+    let g = scope.gen_id(file);
+    let answer = g.answer;
+    match answer {
+        FileAnswer::Given => {
+            let given = g.scope;
+            load(t, given);
+            let id = g.id;
+            Own::Is(id)
+        },
+        FileAnswer::TooManyFiles => Own::TooManyFiles,
     }
 }
 
-// The first pass, and what follows it.
+// The first pass, held to its buffer.
 fn first_pass(
     own: ModuleId,
     config: bool,
@@ -187,15 +233,11 @@ fn first_pass(
     tree: &[u8],
     t: &mut [u64],
     work: &mut [u8],
-    out: &mut [u8],
-    records: &mut [u8],
-) -> ExtractAnswer
+) -> Passed
     requires { ⌜ Good (now t) ⌝ }
-    ensures { λ a.
-        ⌜ Calls (ModuleRead (now (tree .entry)))
-        (passesBy (lentAs 0 config (now (externals .entry)) (now (table .entry)) (now (tree .entry)))
-        (roomIn (now (work .entry)) (now (out .entry)) (now (records .entry))) (own .0)) (now (t .entry)) (now (work .entry)) (now (out .entry))
-        (now (records .entry)) (now (t .exit)) (now (work .exit)) (now (out .exit)) (now (records .exit)) a ⌝ }
+    ensures { λ r.
+        ⌜ Firsts (settingIn pass-one (own .0) config (now (externals .entry)) (now (table .entry))) (now (tree .entry)) (now (t .entry))
+        (now (work .entry)) (now (t .exit)) (now (work .exit)) r ⌝ }
 {
     let e = Setting {
         second: false,
@@ -204,42 +246,28 @@ fn first_pass(
     };
     match pass(tree, e, externals, table, t, work) {
         Step::Done(n) => if writer::finish(work, n) {
-            second_pass(
-                own,
-                config,
-                externals,
-                table,
-                tree,
-                t,
-                &work[0..n],
-                out,
-                records,
-            )
+            Passed::Fits(n)
         } else {
-            ExtractAnswer::NoRoom
+            Passed::NoRoom
         },
-        Step::Refused(why, place) => ExtractAnswer::Refused(why, place),
+        Step::Refused(why, place) => Passed::Refused(why, place),
     }
 }
 
-// The second pass, over the tree that the first one left, and what follows it. Its places are 0.
+// The second pass, over the tree that the first one left, and the wrapping marks, held to its buffer.
 fn second_pass(
     own: ModuleId,
     config: bool,
     externals: &[u8],
     table: &[u8],
-    tree: &[u8],
-    t: &mut [u64],
     work: &[u8],
+    t: &mut [u64],
     out: &mut [u8],
-    records: &mut [u8],
-) -> ExtractAnswer
+) -> Passed
     requires { ⌜ Good (now t) ⌝ }
-    ensures { λ a.
-        ⌜ Seconds
-        (setting pass-two (own .0) (lentAs 0 config (now (externals .entry)) (now (table .entry)) (now (tree .entry))) (rowsIn (now (table .entry))))
-        (now (tree .entry)) (now (t .entry)) (now (work .entry)) (now (out .entry)) (now (records .entry)) (now (t .exit)) (now (out .exit))
-        (now (records .exit)) a ⌝ }
+    ensures { λ r.
+        ⌜ Seconds (settingIn pass-two (own .0) config (now (externals .entry)) (now (table .entry))) (now (t .entry)) (now (work .entry))
+        (now (out .entry)) (now (t .exit)) (now (out .exit)) r ⌝ }
 {
     let e = Setting {
         second: true,
@@ -248,10 +276,14 @@ fn second_pass(
     };
     match pass(work, e, externals, table, t, out) {
         Step::Done(n) => match wrap(table, t) {
-            Effect::Fine => ending(tree, t, work, n, out, records),
-            Effect::Refused(why, _) => ExtractAnswer::Refused(why, 0),
+            Effect::Fine => if writer::finish(out, n) {
+                Passed::Fits(n)
+            } else {
+                Passed::NoRoom
+            },
+            Effect::Refused(why, place) => Passed::Refused(why, place),
         },
-        Step::Refused(why, _) => ExtractAnswer::Refused(why, 0),
+        Step::Refused(why, place) => Passed::Refused(why, place),
     }
 }
 
@@ -285,26 +317,11 @@ fn wrap_source(source: Atom, table: &[u8], t: &mut [u64]) -> Effect
     }
 }
 
-// The tree after the second pass, n bytes, and then the records are held to their buffers.
-fn ending(
-    tree: &[u8],
-    t: &[u64],
-    work: &[u8],
-    n: usize,
-    out: &mut [u8],
-    records: &mut [u8],
-) -> ExtractAnswer
+// The records, held to their buffer: whether they fit.
+fn deliver_records(tree: &[u8], work: &[u8], out: &[u8], t: &[u64], records: &mut [u8]) -> bool
     requires { ⌜ Good (now t) ⌝ }
-    ensures { λ a. ⌜ Closes (now (tree .entry)) (now (work .entry)) (now (t .entry)) (now (out .entry)) n (now (records .entry)) (now (out .exit)) (now (records .exit)) a ⌝ }
+    ensures { λ b. ⌜ DeliversFor (now (tree .entry)) (now (work .entry)) (now (out .entry)) (now (t .entry)) (now (records .entry)) (now (records .exit)) b ⌝ }
 {
-    if writer::finish(out, n) {
-        let k = put_records(tree, work, &out[0..n], t, records);
-        if writer::finish(records, k) {
-            ExtractAnswer::Extracted
-        } else {
-            ExtractAnswer::NoRoom
-        }
-    } else {
-        ExtractAnswer::NoRoom
-    }
+    let n = put_records(tree, work, out, t, records);
+    writer::finish(records, n)
 }

@@ -1,18 +1,19 @@
--- The whole call: what is tested before it, the numbers, the list in its buffer, and what each leaves.
+-- The steps of the call in their order: what is tested first, the list in its buffer, the numbers, and what each answer leaves.
 use Prim.Native.Nat.{ℕ}
 use mathlib.Core.Path.{_≡_, refl, sym, ap, ap₂, subst, _∙_}
-use mathlib.Core.Bool.{Bool, true, false, not}
+use mathlib.Core.Bool.{Bool, true, false, not, cond}
 use mathlib.Core.List.{List, []}
 use lib.ListN.{length, replicate}
 use Rattle.scope.specs.Modules.{Modules}
+use Rattle.scope.specs.ScopeValue.{modulesOf}
+use Rattle.scope.specs.declared.Scope.{Scope}
 use Rattle.tree.specs.declared.grammar.Set.the-variants.{Records}
 use Rattle.tree.specs.declared.read.Why.{Why as ReadWhy}
 use Rattle.tree.specs.declared.read.Verdict.{Verdict}
-use Rattle.tree.specs.declared.read.Verdict.the-variants.{Good, Refused as Broken}
+use Rattle.tree.specs.declared.read.Verdict.the-variants.{Good as Well, Refused as Broken}
 use Rattle.tree.specs.Tree.{Field, field, Fields, encode, size}
 use Rattle.tree.specs.Layout.{Bytes}
 use Rattle.tree.specs.Read.{Reading, fine, refused as unread, read, verdict}
-use Rattle.tree.proofs.ReadLaws.{good-fine, verdict-refused}
 use Rattle.tree.proofs.TreeLaws.{size-encode}
 use Rattle.writer.specs.Finished.{hasRoom, zeroed, Finished, Delivered}
 use Rattle.writer.proofs.Finished.{delivered-none, delivers}
@@ -26,50 +27,73 @@ use Rattle.resolving.specs.declared.specifiers.Why.{Why}
 use Rattle.resolving.specs.declared.specifiers.Step.{Step}
 use Rattle.resolving.specs.declared.specifiers.Step.the-variants.{Done, Refused as Turned}
 use Rattle.resolving.specs.declared.ResolveAnswer.{ResolveAnswer}
-use Rattle.resolving.specs.declared.ResolveAnswer.the-variants.{Listed, BadTable, NamedTwice, Unread, TooManyFiles, Refused, NoRoom}
+use Rattle.resolving.specs.declared.ResolveAnswer.the-variants.{Listed as Complete, BadTable, NamedTwice, Unread, TooManyFiles, Refused, NoRoom}
+use Rattle.resolving.specs.declared.Tested.{Tested}
+use Rattle.resolving.specs.declared.Tested.the-variants.{Good as Passable, BadTable as Bad, NamedTwice as Twice, Unread as NotRead}
+use Rattle.resolving.specs.declared.Listed.{Listed}
+use Rattle.resolving.specs.declared.Listed.the-variants.{Fits, Refused as NotListed, NoRoom as Short}
 use Rattle.resolving.specs.Records.{RecordsRead, recordsIn}
 use Rattle.resolving.specs.Writes.{Puts, listWith}
-use Rattle.resolving.specs.Answer.{whyNumber}
-use Rattle.resolving.specs.Answer.{outcomeOf, lentAs, leftBy}
-use Rattle.resolving.specs.Stages.{tested, listedLeft, onNumbers, numberedLeft}
+use Rattle.resolving.specs.Answer.{whyNumber, UnreadAs, lentAs, leftBy, left}
+use Rattle.resolving.specs.Stages.{readAs, listsOf, listAnswer, leftIn, numberedAs, listedLeft}
 use Rattle.resolving.proofs.RecordsLaws.{records-read, records-sound}
 
 -- ---- '1, 2, 10'
 
-module _ (table records : List ℕ) {b : Bool} (bad : b ≡ badTable table) where
-  abbrev onTable : Bool → Bool → Outcome Fields
-  onTable c d = onto (refuseIf c 1) (λ _. onto (refuseIf d 2) (λ _. recordsRead (read Records records)))
+unfoldable tested : List ℕ → List ℕ → Outcome Fields
+tested table records =
+    onto (refuseIf (badTable table) 1) (λ _.
+    onto (refuseIf (repeats (rowsIn table)) 2) (λ _. recordsRead (read Records records)))
 
-  pub tested-bad : b ≡ true → refused 1 0 ≡ tested table records
-  unfolding tested
-  tested-bad e = sym (ap (λ (c : Bool). onTable c (repeats (rowsIn table))) (sym bad ∙ e))
+module _ (table records : List ℕ) where
+  -- the answer by the three tests
+  listed-by : (a b : Bool) (v : Verdict) → badTable table ≡ a → repeats (rowsIn table) ≡ b → verdict (read Records records) ≡ v →
+      listsOf table records ≡ cond a Bad (cond b Twice (readAs v))
+  unfolding listsOf
+  listed-by a b v e f q = rw (e, f, q)
 
-  module _ {d : Bool} (twice : d ≡ repeats (rowsIn table)) where
-    tested-by : {c : Bool} → b ≡ false → d ≡ c → onTable false c ≡ tested table records
-    unfolding tested
-    tested-by e f = sym (ap₂ onTable (sym bad ∙ e) (sym twice ∙ f))
+  module _ {a : Bool} (bad : a ≡ badTable table) where
+    pub lists-bad : a ≡ true → Bad ≡ listsOf table records
+    lists-bad e = sym (listed-by true (repeats (rowsIn table)) (verdict (read Records records)) (sym bad ∙ e) refl refl)
 
-    pub tested-twice : b ≡ false → d ≡ true → refused 2 0 ≡ tested table records
-    tested-twice e f = tested-by e f
+    module _ {b : Bool} (twice : b ≡ repeats (rowsIn table)) where
+      pub lists-twice : a ≡ false → b ≡ true → Twice ≡ listsOf table records
+      lists-twice e f = sym (listed-by false true (verdict (read Records records)) (sym bad ∙ e) (sym twice ∙ f) refl)
 
-    module _ {r : Verdict} (v : r ≡ verdict (read Records records)) (e : b ≡ false) (f : d ≡ false) where
-      pub tested-unread : {w : ReadWhy} {p : ℕ} → r ≡ Broken w p → refused 10 p ≡ tested table records
-      tested-unread q = sym (ap recordsRead (verdict-refused (read Records records) (sym v ∙ q))) ∙ tested-by e f
+      module _ {v : Verdict} (is : v ≡ verdict (read Records records)) (e : a ≡ false) (f : b ≡ false) where
+        pub lists-read : v ≡ Well → Passable ≡ listsOf table records
+        lists-read q = sym (listed-by false false Well (sym bad ∙ e) (sym twice ∙ f) (sym is ∙ q))
 
-      pub tested-read : r ≡ Good → done (recordsIn records) ≡ tested table records
-      tested-read q = let w = good-fine (read Records records) (sym v ∙ q) in sym (records-read records (w .0) (w .1)) ∙ tested-by e f
+        pub lists-unread : {w : ReadWhy} {p : ℕ} → v ≡ Broken w p → NotRead w p ≡ listsOf table records
+        lists-unread {w} {p} q = sym (listed-by false false (Broken w p) (sym bad ∙ e) (sym twice ∙ f) (sym is ∙ q))
+
+-- what each answer says: the records were read, or the rules refuse
+abbrev Says : List ℕ → List ℕ → Tested → Type 0
+Says table records Passable = (tested table records ≡ done (recordsIn records)) × ((fs : Fields) × (read Records records ≡ fine fs))
+Says table records Bad = tested table records ≡ refused 1 0
+Says table records Twice = tested table records ≡ refused 2 0
+Says table records (NotRead w p) = (tested table records ≡ refused 10 p) × (read Records records ≡ unread w p)
+
+lists-say : (table records : List ℕ) → Says table records (listsOf table records)
+unfolding listsOf tested
+lists-say table records = go (badTable table) (repeats (rowsIn table)) (read Records records) refl refl refl
+  where
+    on : Bool → Bool → Outcome Fields
+    on a b = onto (refuseIf a 1) (λ _. onto (refuseIf b 2) (λ _. recordsRead (read Records records)))
+
+    go : (a b : Bool) (r : Reading Fields) → badTable table ≡ a → repeats (rowsIn table) ≡ b → read Records records ≡ r →
+        Says table records (cond a Bad (cond b Twice (readAs (verdict r))))
+    go true b r e f q = ap (λ (c : Bool). on c (repeats (rowsIn table))) e
+    go false true r e f q = ap₂ on e f
+    go false false (fine fs) e f q = (ap₂ on e f ∙ records-read records fs q, (fs, q))
+    go false false (unread w p) e f q = (ap₂ on e f ∙ ap recordsRead q, q)
+
+said : (table records : List ℕ) {r : Tested} (a : Tested) → r ≡ listsOf table records → r ≡ a → Says table records a
+said table records a d e = subst (Says table records) (sym d ∙ e) (lists-say table records)
 
 -- what goes on was read
-pub tested-sound : (table records : List ℕ) {cs : Fields} → tested table records ≡ done cs → Bytes records → RecordsRead records
-unfolding tested
-tested-sound table records {cs} e bs =
-    let a = onto-done (refuseIf (badTable table) 1) _ cs e in
-    let b = onto-done (refuseIf (repeats (rowsIn table)) 2) _ cs (a .2) in
-    go (read Records records) refl (b .2)
-  where
-    go : (r : Reading Fields) → read Records records ≡ r → recordsRead r ≡ done cs → RecordsRead records
-    go (fine fs) q z = records-sound records fs q bs
-    go (unread w p) q z = done-refused z
+pub records-good : (table records : List ℕ) {r : Tested} → r ≡ listsOf table records → r ≡ Passable → Bytes records → RecordsRead records
+records-good table records d e bs = let s = said table records Passable d e in records-sound records (s .1 .0) (s .1 .1) bs
 
 -- ---- '11 or 6, then 9'
 
@@ -93,10 +117,10 @@ module _ (table records : List ℕ) (ms : Modules) where
   list-as room e = ap (λ (m : Outcome Fields). leftAs (onto m (made room)) room) e
 
   module _ {l l1 l2 : List ℕ} {k : Step} (w : Puts encode (listWith all) l 0 l1 k) where
-    pub list-turned : {v : Why} {q : ℕ} → k ≡ Turned v q → l2 ≡ zeroed l1 → leftBy (Refused v q) ms l2 ≡ listedLeft table records (length l) ms
+    pub list-turned : {v : Why} {q : ℕ} → k ≡ Turned v q → l2 ≡ zeroed l1 → leftIn (NotListed v q) ms l2 ≡ listedLeft table records (length l) ms
     unfolding zeroed
     list-turned {v} {q} e z =
-        ap (leftBy (Refused v q) ms) (z ∙ ap (λ (n : ℕ). replicate n 0) (w .size)) ∙ sym (list-as (length l) (back all (w .turned v q e)))
+        ap (leftIn (NotListed v q) ms) (z ∙ ap (λ (n : ℕ). replicate n 0) (w .size)) ∙ sym (list-as (length l) (back all (w .turned v q e)))
       where
         back : (m : Outcome Fields) → listWith m ≡ refused (whyNumber v) q → m ≡ refused (whyNumber v) q
         back (done gs) e = done-refused (sym e)
@@ -118,29 +142,16 @@ module _ (table records : List ℕ) (ms : Modules) where
           list-as (length l) (g .1)
           ∙ ap (λ (o : Outcome (Unit {0})). leftAs (onto o (λ _. done (record { modules = ms; list = h }))) (length l)) (fits-by h (length l) (sym (g .2 .room) ∙ z))
 
-      pub list-fits : r ≡ true → leftBy Listed ms l2 ≡ listedLeft table records (length l) ms
-      list-fits z = ap (leftBy Listed ms) (list-given .2 .buffer) ∙ sym (list-by z)
+      pub list-fits : r ≡ true → leftIn Fits ms l2 ≡ listedLeft table records (length l) ms
+      list-fits z = ap (leftIn Fits ms) (list-given .2 .buffer) ∙ sym (list-by z)
 
-      pub list-long : r ≡ false → leftBy NoRoom ms l2 ≡ listedLeft table records (length l) ms
+      pub list-long : r ≡ false → leftIn Short ms l2 ≡ listedLeft table records (length l) ms
       list-long z =
           let g = list-given in
           let d = g .2 in
-          ap (leftBy NoRoom ms) (d .buffer ∙ delivered-none (encode (field 0x03 [] (g .0))) (length l) (sym (d .room) ∙ z)) ∙ sym (list-by z)
+          ap (leftIn Short ms) (d .buffer ∙ delivered-none (encode (field 0x03 [] (g .0))) (length l) (sym (d .room) ∙ z)) ∙ sym (list-by z)
 
--- ---- '5'
-
-module _ (table records : List ℕ) (ms : Modules) where
-  pub numbers-listed : (room : ℕ) {new : Modules} {x : Left} → numberAll (rowsIn table) (sourcesIn (recordsIn records)) ms 3 ≡ done new →
-      x ≡ listedLeft table records room new → x ≡ numberedLeft table records room ms
-  unfolding numberedLeft
-  numbers-listed room e q = q ∙ sym (ap (λ (o : Outcome Modules). onNumbers o table records room ms) e)
-
-  pub numbers-over : (l : List ℕ) {l' : List ℕ} {p : ℕ} → numberAll (rowsIn table) (sourcesIn (recordsIn records)) ms 3 ≡ refused 5 p → l' ≡ zeroed l →
-      leftBy (TooManyFiles p) ms l' ≡ numberedLeft table records (length l) ms
-  unfolding numberedLeft zeroed
-  numbers-over l {p = p} e z = ap (leftBy (TooManyFiles p) ms) z ∙ sym (ap (λ (o : Outcome Modules). onNumbers o table records (length l) ms) e)
-
--- ---- The call
+-- ---- '5', and the call
 
 module _ (table records : List ℕ) (ms : Modules) (room : ℕ) where
   abbrev numberedBy : Outcome Fields → Outcome Numbered
@@ -168,25 +179,63 @@ module _ (table records : List ℕ) (ms : Modules) (room : ℕ) where
   unfolding resolving resolved
   left-from e = ap leftFrom (numbered-tested ∙ ap numberedBy e)
 
-  pub call-goes : tested table records ≡ done (recordsIn records) → numberedLeft table records room ms ≡ resolving (lentAs table records) room ms
-  unfolding numberedLeft listedLeft
-  call-goes e = go (numberAll (rowsIn table) (sourcesIn (recordsIn records)) ms 3) ∙ sym (left-from e)
-    where
-      go : (m : Outcome Modules) → onNumbers m table records room ms ≡ leftFrom (onto m (λ new. done (record { rows = rowsIn table; records = recordsIn records; modules = new })))
-      go (done new) = refl
-      go (refused n p) = refl
+  -- once the records are read, by what their sources get
+  left-numbered : {m : Outcome Modules} → tested table records ≡ done (recordsIn records) → numberAll (rowsIn table) (sourcesIn (recordsIn records)) ms 3 ≡ m →
+      resolving (lentAs table records) room ms ≡ leftFrom (onto m (λ new. done (numberedAs table records new)))
+  left-numbered e q = left-from e ∙ ap (λ (m : Outcome Modules). leftFrom (onto m (λ new. done (numberedAs table records new)))) q
 
-  -- an answer that does not go on is a refusal
-  turned-back : (a : ResolveAnswer) → (a ≡ Listed → ⊥) → leftBy a ms (replicate room 0) ≡ leftFrom (numberedBy (outcomeOf a (recordsIn records)))
-  turned-back Listed n = absurd (n refl)
-  turned-back BadTable n = refl
-  turned-back NamedTwice n = refl
-  turned-back (Unread w p) n = refl
-  turned-back (TooManyFiles p) n = refl
-  turned-back (Refused w p) n = refl
-  turned-back NoRoom n = refl
+zeroed-is : (l : List ℕ) {l' : List ℕ} → l' ≡ zeroed l → l' ≡ replicate (length l) 0
+unfolding zeroed
+zeroed-is l e = e
 
-  pub call-refused : (a : ResolveAnswer) (l : List ℕ) {l' : List ℕ} → outcomeOf a (recordsIn records) ≡ tested table records → (a ≡ Listed → ⊥) →
-      l' ≡ zeroed l → length l ≡ room → leftBy a ms l' ≡ resolving (lentAs table records) room ms
-  unfolding zeroed
-  call-refused a l e k z n = ap (leftBy a ms) (z ∙ ap (λ (i : ℕ). replicate i 0) n) ∙ turned-back a k ∙ sym (left-from (sym e))
+-- an answer's place in what is returned
+answer-is : {a b : ResolveAnswer} (s : Scope) {l : List ℕ} {x : Left} (r : Reading Fields) → a ≡ b → (left (record { scope = s; answer = b }) l ≡ x) × UnreadAs b r →
+    (left (record { scope = s; answer = a }) l ≡ x) × UnreadAs a r
+answer-is s {l} {x} r e h = subst (λ (a : ResolveAnswer). (left (record { scope = s; answer = a }) l ≡ x) × UnreadAs a r) (sym e) h
+
+list-read : (k : Listed) (r : Reading Fields) → UnreadAs (listAnswer k) r
+list-read Fits r = tt
+list-read (NotListed w p) r = tt
+list-read Short r = tt
+
+module _ (table records : List ℕ) (scope : Scope) (l : List ℕ) {r : Tested} (d : r ≡ listsOf table records) where
+  abbrev before : Scope → List ℕ → ResolveAnswer → Type 0
+  before s l' a = (left (record { scope = s; answer = a }) l' ≡ resolving (lentAs table records) (length l) (modulesOf scope)) × UnreadAs a (read Records records)
+
+  -- 1, 2 or 10
+  module _ {l' : List ℕ} {a : ResolveAnswer} where
+    pub refused-bad : r ≡ Bad → (a ≡ BadTable) × (l' ≡ zeroed l) → before scope l' a
+    refused-bad e z =
+        answer-is scope (read Records records) (z .0)
+        (ap (leftBy BadTable (modulesOf scope)) (zeroed-is l (z .1)) ∙ sym (left-from table records (modulesOf scope) (length l) (said table records Bad d e)), tt)
+
+    pub refused-twice : r ≡ Twice → (a ≡ NamedTwice) × (l' ≡ zeroed l) → before scope l' a
+    refused-twice e z =
+        answer-is scope (read Records records) (z .0)
+        (ap (leftBy NamedTwice (modulesOf scope)) (zeroed-is l (z .1)) ∙ sym (left-from table records (modulesOf scope) (length l) (said table records Twice d e)), tt)
+
+    pub refused-unread : {w : ReadWhy} {p : ℕ} → r ≡ NotRead w p → (a ≡ Unread w p) × (l' ≡ zeroed l) → before scope l' a
+    refused-unread {w} {p} e z =
+        let s = said table records (NotRead w p) d e in
+        answer-is scope (read Records records) (z .0)
+        (ap (leftBy (Unread w p) (modulesOf scope)) (zeroed-is l (z .1)) ∙ sym (left-from table records (modulesOf scope) (length l) (s .0)), s .1)
+
+  module _ (e : r ≡ Passable) where
+    -- 5
+    pub refused-over : {l' : List ℕ} {a : ResolveAnswer} {p : ℕ} → numberAll (rowsIn table) (sourcesIn (recordsIn records)) (modulesOf scope) 3 ≡ refused 5 p →
+        (a ≡ TooManyFiles p) × (l' ≡ zeroed l) → before scope l' a
+    refused-over {p = p} q z =
+        answer-is scope (read Records records) (z .0) (
+          ap (leftBy (TooManyFiles p) (modulesOf scope)) (zeroed-is l (z .1))
+              ∙ sym (left-numbered table records (modulesOf scope) (length l) (said table records Passable d e .0) q),
+          tt,
+        )
+
+    -- the list, or 11, 6 or 9
+    module _ (new : Scope) (q : numberAll (rowsIn table) (sourcesIn (recordsIn records)) (modulesOf scope) 3 ≡ done (modulesOf new)) {l' : List ℕ} (k : Listed)
+        (f : leftIn k (modulesOf new) l' ≡ listedLeft table records (length l) (modulesOf new)) where
+      pub answers-list : {a : ResolveAnswer} → a ≡ listAnswer k → before new l' a
+      unfolding listedLeft
+      answers-list h =
+          answer-is new (read Records records) h
+          (f ∙ sym (left-numbered table records (modulesOf scope) (length l) (said table records Passable d e .0) q), list-read k (read Records records))

@@ -1,9 +1,12 @@
 -- What the call's answer stands for, and what it leaves. Document 01, 'Where a call turns back'.
 use Prim.Native.Nat.{ℕ}
+use mathlib.Core.Path.{_≡_}
 use mathlib.Core.List.{List}
 use mathlib.Core.Option.{Option}
 use Rattle.scope.specs.Modules.{Modules}
 use Rattle.scope.specs.ScopeValue.{modulesOf}
+use Rattle.tree.specs.Tree.{Fields}
+use Rattle.tree.specs.Read.{Reading, refused as unread}
 use Rattle.inputs.specs.Outcome.{Outcome, done, refused, refusalIn}
 use Rattle.resolving_rules.specs.Call.{Lent, Left}
 use Rattle.resolving.specs.declared.specifiers.Why.{Why}
@@ -32,6 +35,16 @@ outcomeOf NoRoom a = refused 9 0
 -- the number and the place, none where the call is accepted
 abbrev pub answerRefusal : ResolveAnswer → Option (ℕ × ℕ)
 answerRefusal a = refusalIn (outcomeOf a (tt {0}))
+
+-- unread records: why and where are those of their reading
+abbrev pub UnreadAs : ResolveAnswer → Reading Fields → Type 0
+UnreadAs Listed r = Unit {0}
+UnreadAs BadTable r = Unit {0}
+UnreadAs NamedTwice r = Unit {0}
+UnreadAs (Unread w p) r = r ≡ unread w p
+UnreadAs (TooManyFiles p) r = Unit {0}
+UnreadAs (Refused w p) r = Unit {0}
+UnreadAs NoRoom r = Unit {0}
 
 -- what is lent, and what a call leaves
 abbrev pub lentAs : List ℕ → List ℕ → Lent

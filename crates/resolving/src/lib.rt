@@ -3,13 +3,16 @@
 ghost use mathlib.Core.Path.{_≡_};
 ghost use lib.ListN.{length};
 ghost use Rattle.scope.specs.ScopeValue.{modulesOf};
+ghost use Rattle.tree.specs.declared.grammar.Set.the-variants.{Records as records-set};
+ghost use Rattle.tree.specs.Read.{read};
 ghost use Rattle.inputs.specs.Table.{rowsIn};
+ghost use Rattle.writer.specs.Finished.{zeroed};
 ghost use Rattle.resolving_rules.specs.Call.{resolving};
 ghost use Rattle.resolving_rules.specs.Resolve.{sourcesIn};
 ghost use Rattle.resolving.specs.Records.{RecordsRead, recordsIn};
 ghost use Rattle.resolving.specs.Numbers.{NumbersAll};
-ghost use Rattle.resolving.specs.Answer.{outcomeOf, lentAs, leftBy, left};
-ghost use Rattle.resolving.specs.Stages.{tested, listedLeft, numberedLeft};
+ghost use Rattle.resolving.specs.Answer.{lentAs, left, UnreadAs};
+ghost use Rattle.resolving.specs.Stages.{listsOf, leftIn, listAnswer, listedLeft};
 
 mod sources; // the records with a source, and their numbers
 pub mod specifiers; // specifiers, resolved
@@ -48,73 +51,109 @@ pub struct Resolution {
     pub answer: ResolveAnswer,
 }
 
+// What the tests of the table and of the records give.
+enum Tested {
+    Good,
+    BadTable,
+    NamedTwice,
+    // no records: why, and where
+    Unread(tree::read::Why, usize),
+}
+
+// What the list gives, held to its buffer.
+enum Listed {
+    Fits,
+    // the list turned back: why, and where
+    Refused(Why, usize),
+    NoRoom,
+}
+
 // Resolves records: each source that resolves gets its number, and `list` then holds the resolved list.
 pub fn resolve_imports(scope: Scope, table: &[u8], records: &[u8], list: &mut [u8]) -> Resolution
-    ensures { λ r. ⌜ left r (now (list .exit)) ≡ resolving (lentAs (now (table .entry)) (now (records .entry))) (length (now (list .entry))) (modulesOf scope) ⌝ }
+    ensures { λ r.
+        ⌜ (left r (now (list .exit)) ≡ resolving (lentAs (now (table .entry)) (now (records .entry))) (length (now (list .entry))) (modulesOf scope))
+        × UnreadAs (r .answer) (read records-set (now (records .entry))) ⌝ }
 {
-    let answer = lists(table, records);
-    match answer {
-        ResolveAnswer::Listed => numbered(scope, table, records, list),
-        _ => {
-            writer::clear(list);
-            Resolution { scope, answer }
+    match lists(table, records) {
+        Tested::Good => {}
+        Tested::BadTable => return Resolution {
+            scope,
+            answer: refuse(ResolveAnswer::BadTable, list),
+        },
+        Tested::NamedTwice => return Resolution {
+            scope,
+            answer: refuse(ResolveAnswer::NamedTwice, list),
+        },
+        Tested::Unread(why, place) => return Resolution {
+            scope,
+            answer: refuse(ResolveAnswer::Unread(why, place), list),
         },
     }
-}
-
-// The table is tested, and the records are read.
-fn lists(table: &[u8], records: &[u8]) -> ResolveAnswer
-    ensures { λ a. ⌜ outcomeOf a (recordsIn (now (records .entry))) ≡ tested (now (table .entry)) (now (records .entry)) ⌝ }
-{
-    if inputs::bad_table(table) {
-        return ResolveAnswer::BadTable;
-    }
-    if inputs::names_twice(table) {
-        return ResolveAnswer::NamedTwice;
-    }
-    match read_tree(records, Set::Records) {
-        Verdict::Good => ResolveAnswer::Listed,
-        Verdict::Refused(why, place) => ResolveAnswer::Unread(why, place),
-    }
-}
-
-// The sources are numbered, and the list is made; a 257th file leaves the scope as it was.
-fn numbered(scope: Scope, table: &[u8], records: &[u8], list: &mut [u8]) -> Resolution
-    requires { ⌜ RecordsRead (now records) ⌝ }
-    ensures { λ r. ⌜ left r (now (list .exit)) ≡ numberedLeft (now (table .entry)) (now (records .entry)) (length (now (list .entry))) (modulesOf scope) ⌝ }
-{
     let n = number_sources(scope, table, records);
     let new = n.scope;
     let answer = n.answer;
     match answer {
-        NumberAnswer::Given => Resolution {
-            scope: new,
-            answer: listing(new, table, records, list),
+        NumberAnswer::Given => {}
+        NumberAnswer::TooManyFiles(place) => return Resolution {
+            scope,
+            answer: refuse(ResolveAnswer::TooManyFiles(place), list),
         },
-        NumberAnswer::TooManyFiles(place) => {
-            writer::clear(list);
-            Resolution {
-                scope,
-                answer: ResolveAnswer::TooManyFiles(place),
-            }
-        },
+    }
+    let listed = listing(new, table, records, list);
+    Resolution {
+        scope: new,
+        answer: list_answer(listed),
+    }
+}
+
+// The answer of a refused call, whose buffer is zeroed.
+fn refuse(answer: ResolveAnswer, list: &mut [u8]) -> ResolveAnswer
+    ensures { λ a. ⌜ (a ≡ answer) × (now (list .exit) ≡ zeroed (now (list .entry))) ⌝ }
+{
+    writer::clear(list);
+    answer
+}
+
+// The table is tested, and the records are read.
+fn lists(table: &[u8], records: &[u8]) -> Tested
+    ensures { λ r. ⌜ r ≡ listsOf (now (table .entry)) (now (records .entry)) ⌝ }
+{
+    if inputs::bad_table(table) {
+        return Tested::BadTable;
+    }
+    if inputs::names_twice(table) {
+        return Tested::NamedTwice;
+    }
+    match read_tree(records, Set::Records) {
+        Verdict::Good => Tested::Good,
+        Verdict::Refused(why, place) => Tested::Unread(why, place),
     }
 }
 
 // The list is made, and held to its buffer.
-fn listing(scope: Scope, table: &[u8], records: &[u8], list: &mut [u8]) -> ResolveAnswer
+fn listing(scope: Scope, table: &[u8], records: &[u8], list: &mut [u8]) -> Listed
     requires { ⌜ RecordsRead (now records) × NumbersAll (rowsIn (now table)) (modulesOf scope) (sourcesIn (recordsIn (now records))) ⌝ }
-    ensures { λ a. ⌜ leftBy a (modulesOf scope) (now (list .exit)) ≡ listedLeft (now (table .entry)) (now (records .entry)) (length (now (list .entry))) (modulesOf scope) ⌝ }
+    ensures { λ r. ⌜ leftIn r (modulesOf scope) (now (list .exit)) ≡ listedLeft (now (table .entry)) (now (records .entry)) (length (now (list .entry))) (modulesOf scope) ⌝ }
 {
     match put_list(scope, table, records, list) {
         Step::Done(n) => if writer::finish(list, n) {
-            ResolveAnswer::Listed
+            Listed::Fits
         } else {
-            ResolveAnswer::NoRoom
+            Listed::NoRoom
         },
         Step::Refused(why, place) => {
             writer::clear(list);
-            ResolveAnswer::Refused(why, place)
+            Listed::Refused(why, place)
         },
+    }
+}
+
+fn list_answer(r: Listed) -> ResolveAnswer
+    ensures { λ a. ⌜ a ≡ listAnswer r ⌝ }
+{
+    match r {
+        Listed::Fits => ResolveAnswer::Listed,
+        Listed::Refused(why, place) => ResolveAnswer::Refused(why, place),
+        Listed::NoRoom => ResolveAnswer::NoRoom,
     }
 }

@@ -1,5 +1,5 @@
--- `second_pass`: by whether the pass refused and then by whether `wrap` did; each return has its law of AgainLaws.
-use Rattle.extraction.proofs.AgainLaws.{again-pass-refused, again-wrap-refused, again-ends}
+-- `second_pass`: by whether the pass refused, then whether `wrap` did, then whether the tree fits; each return has its law of AgainLaws.
+use Rattle.extraction.proofs.AgainLaws.{again-refused, again-unmarked, again-fits, again-long}
 use borrow.Author.Needs.{needs}
 use Rattle.extraction.proofs.second_pass.Statement.{statement}
 use Rattle.extraction.proofs.second_pass.Tie as tie
@@ -16,8 +16,8 @@ wrap-requires c κs = search needs
 enum-told : tie.Need-enum-told
 enum-told c = search needs
 
-ending-requires : tie.Need-ending-requires
-ending-requires c κs = search needs
+finish-requires : tie.Need-finish-requires
+finish-requires c κs = search needs
 
 enum-known-why : tie.Need-enum-known-why
 enum-known-why c = search needs
@@ -31,46 +31,59 @@ same-length c = search needs
 same-length-2 : tie.Need-same-length-2
 same-length-2 c = search needs
 
-same-length-3 : tie.Need-same-length-3
-same-length-3 c = search needs
-
 returns : tie.Need-returns
 returns c =
-    let c4 = c .before .before .before .before in
-    let c8 = c4 .before .before .before .before in
-    let c12 = c8 .before .before .before .before in
-    let c15 = c12 .before .before .before in
-    let c21 = c15 .before .before .before .before .before .before in
-    let c31 = c21 .before .before .before .before .before .before .before .before .before .before in
-    again-ends (c31 .args .own) (c31 .args .config) (c31 .args .externals .now) (c31 .args .table .now) (c31 .args .tree .now) (c21 .pass .ensures)
-    (c15 .n .given .1) (c12 .wrap .ensures) (c8 .enum-told .given .1) (c4 .ending .ensures)
+    let c3 = c .before .before .before in
+    let c5 = c3 .before .before in
+    let c9 = c5 .before .before .before .before in
+    let c12 = c9 .before .before .before in
+    let c18 = c12 .before .before .before .before .before .before in
+    let c26 = c18 .before .before .before .before .before .before .before .before in
+    again-fits (c26 .args .own) (c26 .args .config) (c26 .args .externals .now) (c26 .args .table .now) (c18 .pass .ensures) (c12 .n .given .1) (c9 .wrap .ensures)
+    (c5 .enum-told .given .1) (c3 .finish .ensures) (c .if1 .taken)
+
+same-length-3 : tie.Need-same-length-3
+same-length-3 c = search needs
 
 same-length-4 : tie.Need-same-length-4
 same-length-4 c = search needs
 
-same-length-5 : tie.Need-same-length-5
-same-length-5 c = search needs
-
 returns-2 : tie.Need-returns-2
 returns-2 c =
-    let c5 = c .before .before .before .before .before in
-    let c8 = c5 .before .before .before in
-    let c14 = c8 .before .before .before .before .before .before in
-    let c24 = c14 .before .before .before .before .before .before .before .before .before .before in
-    again-wrap-refused (c24 .args .own) (c24 .args .config) (c24 .args .externals .now) (c24 .args .table .now) (c24 .args .tree .now)
-    (c14 .pass .ensures) (c8 .n .given .1) (c5 .wrap .ensures) (c .before .why .given .1)
+    let c3 = c .before .before .before in
+    let c5 = c3 .before .before in
+    let c9 = c5 .before .before .before .before in
+    let c12 = c9 .before .before .before in
+    let c18 = c12 .before .before .before .before .before .before in
+    let c26 = c18 .before .before .before .before .before .before .before .before in
+    again-long (c26 .args .own) (c26 .args .config) (c26 .args .externals .now) (c26 .args .table .now) (c18 .pass .ensures) (c12 .n .given .1) (c9 .wrap .ensures)
+    (c5 .enum-told .given .1) (c3 .finish .ensures) (c .if1 .left)
+
+same-length-5 : tie.Need-same-length-5
+same-length-5 c = search needs
 
 same-length-6 : tie.Need-same-length-6
 same-length-6 c = search needs
 
+returns-3 : tie.Need-returns-3
+returns-3 c =
+    let c5 = c .before .before .before .before .before in
+    let c8 = c5 .before .before .before in
+    let c14 = c8 .before .before .before .before .before .before in
+    let c22 = c14 .before .before .before .before .before .before .before .before in
+    again-unmarked (c22 .args .own) (c22 .args .config) (c22 .args .externals .now) (c22 .args .table .now) (c14 .pass .ensures) (c8 .n .given .1) (c5 .wrap .ensures) (c .before .why .given .1)
+
 same-length-7 : tie.Need-same-length-7
 same-length-7 c = search needs
 
-returns-3 : tie.Need-returns-3
-returns-3 c =
+same-length-8 : tie.Need-same-length-8
+same-length-8 c = search needs
+
+returns-4 : tie.Need-returns-4
+returns-4 c =
     let c7 = c .before .before .before .before .before .before .before in
-    let c17 = c7 .before .before .before .before .before .before .before .before .before .before in
-    again-pass-refused (c17 .args .own) (c17 .args .config) (c17 .args .externals .now) (c17 .args .table .now) (c17 .args .tree .now) (c7 .pass .ensures) (c .before .why2 .given .1)
+    let c15 = c7 .before .before .before .before .before .before .before .before in
+    again-refused (c15 .args .own) (c15 .args .config) (c15 .args .externals .now) (c15 .args .table .now) (c7 .pass .ensures) (c .before .why2 .given .1)
 
 pub second-pass-spec : {M : Type 1} → statement M
 second-pass-spec =
@@ -80,16 +93,18 @@ second-pass-spec =
     enum-known-n
     wrap-requires
     enum-told
-    ending-requires
+    finish-requires
     enum-known-why
     enum-known-why-2
     same-length
     same-length-2
-    same-length-3
     returns
+    same-length-3
     same-length-4
-    same-length-5
     returns-2
+    same-length-5
     same-length-6
+    returns-3
     same-length-7
-    returns-3)
+    same-length-8
+    returns-4)

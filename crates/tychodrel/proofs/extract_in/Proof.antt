@@ -25,7 +25,7 @@ same-length-3 c = search needs
 returns : tie.Need-returns
 returns c =
     let c9 = c .before .before .before .before .before .before .before .before .before in
-    leaves-extracted (c9 .extract-import-info .result) (c9 .extract-import-info .ensures) (c .before .scope-bytes .ensures) (c .extract-answer .ensures)
+    leaves-extracted (c9 .extract-import-info .result) (c9 .extract-import-info .ensures .0) (c .before .scope-bytes .ensures) (c .extract-answer .ensures)
 
 pub extract-in-spec : {M : Type 1} → statement M
 extract-in-spec =

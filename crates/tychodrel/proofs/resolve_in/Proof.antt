@@ -19,7 +19,7 @@ same-length c = search needs
 returns : tie.Need-returns
 returns c =
     let c5 = c .before .before .before .before .before in
-    leaves-resolved (c5 .resolve-imports .result) (c5 .resolve-imports .ensures) (c .before .scope-bytes .ensures) (c .resolve-answer .ensures)
+    leaves-resolved (c5 .resolve-imports .result) (c5 .resolve-imports .ensures .0) (c .before .scope-bytes .ensures) (c .resolve-answer .ensures)
 
 pub resolve-in-spec : {M : Type 1} → statement M
 resolve-in-spec =

@@ -36,16 +36,16 @@ pack-requires-2 c κs = search needs
 
 returns : tie.Need-returns
 returns c = c .bit-of .ensures ∙ sym (ap (λ (r : DetectAnswer). detectAnswer (outcomeOf r)) (c .before .before .es6 .given .1))
-    ∙ ap detectAnswer (c .before .before .before .before .is-es6 .ensures)
+    ∙ ap detectAnswer (c .before .before .before .before .is-es6 .ensures .0)
 
 returns-2 : tie.Need-returns-2
-returns-2 c = c .pack .ensures ∙ sym (ap (λ (r : DetectAnswer). detectAnswer (outcomeOf r)) (c .before .enum-told .given .1)) ∙ ap detectAnswer (c .before .before .before .is-es6 .ensures)
+returns-2 c = c .pack .ensures ∙ sym (ap (λ (r : DetectAnswer). detectAnswer (outcomeOf r)) (c .before .enum-told .given .1)) ∙ ap detectAnswer (c .before .before .before .is-es6 .ensures .0)
 
 returns-3 : tie.Need-returns-3
 returns-3 c =
     let c3 = c .before .before .before in
     let c5 = c3 .before .before in
-    rw (c .before .number-of .ensures) at (c .pack2 .ensures) ∙ sym (ap (λ (r : DetectAnswer). detectAnswer (outcomeOf r)) (c3 .why .given .1)) ∙ ap detectAnswer (c5 .is-es6 .ensures)
+    rw (c .before .number-of .ensures) at (c .pack2 .ensures) ∙ sym (ap (λ (r : DetectAnswer). detectAnswer (outcomeOf r)) (c3 .why .given .1)) ∙ ap detectAnswer (c5 .is-es6 .ensures .0)
 
 pub tychodrel-detect-spec : {M : Type 1} → statement M
 tychodrel-detect-spec =
