@@ -1,11 +1,11 @@
 -- A match's last arm against a list of entries: where the number is none of the keys, `find` gives the default.
-use Prim.Native.Nat.{ℕ}
+use Prim.Native.Nat.{ℕ, zero, suc, _<_}
 use mathlib.Core.Path.{_≡_, refl, ap, _∙_}
 use mathlib.Core.Bool.{Bool, true, false, _&&_, cond}
 use native.Mathlib.Omega.{arith}
 use mathlib.Core.List.{List, [], _∷_}
 use lib.Dec.{eqb}
-use borrow.Author.Tests.{ne-eqb, eqb-true}
+use borrow.Author.Tests.{ne-eqb, eqb-true, eqb-false}
 use Rattle.tree.specs.Grammar.{find}
 
 -- what `c .match .rest` holds: a tuple nested to the left, `X` innermost, an inequation for each key in order
@@ -39,3 +39,18 @@ find-passes g t [] d h k = k
 find-passes g t (e ∷ l) d h k =
     let p = both-true (g (e .0) (e .1)) (passes g l) h in
     found g t (e .0) (e .1) (find t l d) (eqb t (e .0)) refl (p .0) (find-passes g t l d (p .1) k)
+
+-- a test that every number below n passes
+abbrev pub allBelow : (ℕ → Bool) → ℕ → Bool
+allBelow f zero = true
+allBelow f (suc n) = f n && allBelow f n
+
+below-by : (f : ℕ → Bool) (n k : ℕ) → f n ≡ true → k < suc n → (k < n → f k ≡ true) → (b : Bool) → eqb k n ≡ b → f k ≡ true
+below-by f n k h l r true e = ap f (eqb-true k n e) ∙ h
+below-by f n k h l r false e = let d = eqb-false k n e in r (omega arith)
+
+pub below : (f : ℕ → Bool) (n : ℕ) → allBelow f n ≡ true → (k : ℕ) → k < n → f k ≡ true
+below f zero h k l = absurd (omega arith)
+below f (suc n) h k l =
+    let b = both-true (f n) (allBelow f n) h in
+    below-by f n k (b .0) l (below f n (b .1) k) (eqb k n) refl

@@ -14,10 +14,11 @@ use Rattle.tree.specs.declared.grammar.Value.{Value}
 use Rattle.tree.specs.declared.grammar.Value.the-variants.{Empty, Byte, Atom, Id, Literal, Number}
 use Rattle.tree.specs.declared.grammar.Piece.the-variants.{Plain}
 use Rattle.tree.specs.declared.grammar.Pieces.{Pieces}
-use Rattle.tree.specs.Layout.{skipAt, literalEnd, literalWidth}
+use Rattle.tree.specs.Layout.{skipAt, literalEnd}
 use Rattle.tree.specs.Tree.{field, Field, Fields, none, more}
 use Rattle.tree.specs.Grammar.{find, only, fixedParts, piecesOf, ruleOf}
 use Rattle.tree.specs.Access.{valueAt, pieceAt, thenPiece, fixedAt}
+use Rattle.tree.specs.Width.{valueWidth}
 use Rattle.tree.specs.Standing.{treeAt, rowAt, Row}
 use Rattle.tree.specs.Within.{Exact}
 use Rattle.tree.proofs.FixedLaws.{no-upto, upto-inj}
@@ -33,12 +34,7 @@ Plainly k v = find k fixedParts (only (Plain Empty)) ≡ only (Plain v)
 
 -- how many bytes a value takes
 abbrev pub widthOf : Value → ℕ
-widthOf Empty = 0
-widthOf Byte = 1
-widthOf Atom = 2
-widthOf Id = 6
-widthOf Literal = literalWidth
-widthOf Number = 8
+widthOf v = valueWidth v
 
 pub skip-ends : (at n stop b : ℕ) → skipAt at n stop ≡ Upto b → b ≡ at + n
 unfolding skipAt
@@ -50,7 +46,7 @@ skip-upto : (at n stop : ℕ) → at + n ≤ stop → skipAt at n stop ≡ Upto 
 unfolding skipAt
 skip-upto at n stop h = rw (le-leb n (stop - at) (omega arith))
 
-value-skips : (v : Value) (at stop : ℕ) → valueAt v at stop ≡ skipAt at (widthOf v) stop
+pub value-skips : (v : Value) (at stop : ℕ) → valueAt v at stop ≡ skipAt at (widthOf v) stop
 unfolding valueAt literalEnd
 value-skips Empty at stop = refl
 value-skips Byte at stop = refl

@@ -2,6 +2,8 @@
 ghost use mathlib.Core.Path.{_≡_};
 ghost use Prim.Native.Nat.{_+_, _≤_, _<_};
 ghost use lib.ListN.{length, getD};
+ghost use Rattle.tree.specs.Grammar.{find};
+ghost use Rattle.tree.specs.Width.{widthAt, rows};
 ghost use Rattle.tree.specs.Access.{valueAt, choiceOf, kindAt, keyAt, pieceAt, fixedAt, extentAt};
 use crate::grammar::Piece;
 use crate::grammar::Value;
@@ -119,8 +121,33 @@ fn piece_end(s: &[u8], p: Piece, at: usize, stop: usize) -> Reach
     }
 }
 
-// Where the fixed bytes from `at` of a field with this tag end: its parts start there.
-pub fn fixed(s: &[u8], tag: u8, at: usize, stop: usize) -> Reach
+// How many fixed bytes sixteen tags have, four bits for each tag.
+fn widths(h: u8) -> u64
+    ensures { λ r. ⌜ r ≡ find h rows 0 ⌝ }
+{
+    match h {
+        1 => 0x696,
+        2 => 0x69669,
+        3 => 0x9,
+        4 => 0x6000,
+        5 => 0x62006,
+        6 => 0x10100000000866,
+        7 => 0x260A00202,
+        8 => 0x2666,
+        _ => 0,
+    }
+}
+
+// How many fixed bytes a tag has: 9 where kinds choose, 10 for a spread byte.
+fn width_of(tag: u8) -> usize
+    ensures { λ r. ⌜ r ≡ widthAt tag ⌝ }
+{
+    let low = tag % 16;
+    ((widths(tag / 16) >> (4 * low)) % 16) as usize
+}
+
+// Where the fixed bytes from `at` of a field with this tag end, piece by piece.
+fn pieces_end(s: &[u8], tag: u8, at: usize, stop: usize) -> Reach
     requires { ⌜ (at ≤ stop) × (stop ≤ length (now s)) ⌝ }
     ensures { λ r. ⌜ r ≡ fixedAt (now (s .entry)) tag at stop ⌝ }
 {
@@ -131,6 +158,26 @@ pub fn fixed(s: &[u8], tag: u8, at: usize, stop: usize) -> Reach
         Reach::Upto(b) => piece_end(s, second, b, stop),
         Reach::Short => Reach::Short,
     }
+}
+
+// Where the fixed bytes from `at` of a field with this tag end: its parts start there.
+pub fn fixed(s: &[u8], tag: u8, at: usize, stop: usize) -> Reach
+    requires { ⌜ (at ≤ stop) × (stop ≤ length (now s)) ⌝ }
+    ensures { λ r. ⌜ r ≡ fixedAt (now (s .entry)) tag at stop ⌝ }
+{
+    let w = width_of(tag);
+    if w < 9 {
+        return skip(at, w, stop);
+    }
+    if w == 9 {
+        return pieces_end(s, tag, at, stop);
+    }
+    if at < stop {
+        if s[at] < 2 {
+            return Reach::Upto(at + 1);
+        }
+    }
+    Reach::Short
 }
 
 // Where the field at `at` ends, if it is whole inside `end`: the next one starts there.

@@ -2,16 +2,17 @@
 ghost use mathlib.Core.Path.{_≡_};
 ghost use Prim.Native.Nat.{_+_, _≤_};
 ghost use lib.ListN.{length};
+ghost use Rattle.tree.specs.Rules.{ruleBy, headOf};
 ghost use Rattle.tree.specs.Read.{headAt, childrenAt, contentAt, verdict, read};
 use crate::access::extent;
 use crate::access::fixed;
+use crate::grammar::Left;
 use crate::grammar::Rule;
 use crate::grammar::Set;
-use crate::grammar::Slot;
-use crate::grammar::Step;
-use crate::grammar::done;
-use crate::grammar::rule_of;
-use crate::grammar::step_by;
+use crate::grammar::is_full;
+use crate::grammar::left_of;
+use crate::grammar::one_of;
+use crate::grammar::slots_of;
 use crate::layout::Reach;
 
 // Why bytes are no tree.
@@ -44,28 +45,36 @@ pub enum Head {
     Child(Rule, usize),
 }
 
+// The same, with the rule in figures.
+pub enum Spot {
+    Over,
+    Lacks,
+    Wrong(Why),
+    Part(u32, usize),
+}
+
 // Tag, length, and depth are tested in this order.
-fn head_of(s: &[u8], at: usize, end: usize, depth: usize, rule: Rule) -> Head
+fn head_of(s: &[u8], at: usize, end: usize, depth: usize, rule: u32) -> Spot
     requires { ⌜ (at ≤ end) × (end ≤ length (now s)) ⌝ }
-    ensures { λ r. ⌜ r ≡ headAt (now (s .entry)) at end depth rule ⌝ }
+    ensures { λ r. ⌜ headOf r ≡ headAt (now (s .entry)) at end depth (ruleBy rule) ⌝ }
 {
     if at == end {
-        return if done(rule) {
-            Head::Done
+        return if is_full(rule) {
+            Spot::Over
         } else {
-            Head::Missing
+            Spot::Lacks
         };
     }
-    let Step::Go(next) = step_by(rule, s[at]) else {
-        return Head::Bad(Why::Misplaced);
+    let Left::Rest(next) = left_of(rule, s[at]) else {
+        return Spot::Wrong(Why::Misplaced);
     };
     let Reach::Upto(stop) = extent(s, at, end) else {
-        return Head::Bad(Why::Cut);
+        return Spot::Wrong(Why::Cut);
     };
     if depth < 64 {
-        Head::Child(next, stop)
+        Spot::Part(next, stop)
     } else {
-        Head::Bad(Why::Deep)
+        Spot::Wrong(Why::Deep)
     }
 }
 
@@ -75,25 +84,33 @@ fn content(s: &[u8], at: usize, stop: usize, depth: usize) -> Verdict
     ensures { λ r. ⌜ r ≡ verdict (contentAt (now (s .entry)) at stop depth) ⌝ }
 {
     let tag = s[at];
-    match fixed(s, tag, at + 3, stop) {
-        Reach::Upto(from) => children(s, from, stop, depth, rule_of(tag), at),
-        Reach::Short => Verdict::Refused(Why::Lacking, at),
+    let Reach::Upto(from) = fixed(s, tag, at + 3, stop) else {
+        return Verdict::Refused(Why::Lacking, at);
+    };
+    let rule = slots_of(tag);
+    if rule == 0 {
+        return if from == stop {
+            Verdict::Good
+        } else {
+            Verdict::Refused(Why::Misplaced, from)
+        };
     }
+    children(s, from, stop, depth, rule, at)
 }
 
 // The parts from `from` up to end of the field at place.
-fn children(s: &[u8], from: usize, end: usize, depth: usize, whole: Rule, place: usize) -> Verdict
+fn children(s: &[u8], from: usize, end: usize, depth: usize, whole: u32, place: usize) -> Verdict
     requires { ⌜ (from ≤ end) × (end ≤ length (now s)) × (depth ≤ 64) ⌝ }
-    ensures { λ r. ⌜ r ≡ verdict (childrenAt (now (s .entry)) from end depth whole place) ⌝ }
+    ensures { λ r. ⌜ r ≡ verdict (childrenAt (now (s .entry)) from end depth (ruleBy whole) place) ⌝ }
 {
     let mut at = from;
     let mut rule = whole;
     loop {
         match head_of(s, at, end, depth, rule) {
-            Head::Done => return Verdict::Good,
-            Head::Missing => return Verdict::Refused(Why::Lacking, place),
-            Head::Bad(why) => return Verdict::Refused(why, at),
-            Head::Child(next, stop) => {
+            Spot::Over => return Verdict::Good,
+            Spot::Lacks => return Verdict::Refused(Why::Lacking, place),
+            Spot::Wrong(why) => return Verdict::Refused(why, at),
+            Spot::Part(next, stop) => {
                 match content(s, at, stop, depth + 1) {
                     Verdict::Good => {
                         rule = next;
@@ -113,11 +130,5 @@ pub fn read_tree(s: &[u8], root: Set) -> Verdict
     if s.len() == 0 {
         return Verdict::Refused(Why::Cut, 0);
     }
-    let top = Rule {
-        first: Slot::One(root),
-        second: Slot::Nothing,
-        third: Slot::Nothing,
-        fourth: Slot::Nothing,
-    };
-    children(s, 0, s.len(), 0, top, 0)
+    children(s, 0, s.len(), 0, one_of(root), 0)
 }

@@ -1,14 +1,14 @@
--- `children` and `content` meet their contracts. The loop's invariant: the verdict from here is the verdict from the start.
--- A row's measure is its length and one more, a field's its length: a field is shorter than the row around it, and its parts are shorter than the field.
+-- `children` and `content` meet their contracts. The loop's invariant: the verdict from here is the verdict from the start. A field without parts is answered without reading any.
+use borrow.Author.Needs.{needs}
 use mathlib.Core.Path.{_≡_, refl, sym, _∙_, ap}
 use Prim.Native.Nat.{_+_, _-_, _≤_}
 use native.Mathlib.Omega.{arith}
-use borrow.Author.Needs.{needs}
-use Rattle.tree.specs.declared.grammar.Rule.{Rule}
 use Rattle.tree.specs.declared.read.Head.the-variants.{Done, Missing}
+use Rattle.tree.specs.Rules.{ruleBy, headOf}
 use Rattle.tree.specs.Read.{verdict, childrenAt}
 use Rattle.tree.proofs.AccessLaws.{upto-in}
-use Rattle.tree.proofs.ReadLaws.{child-in, content-short, content-upto, children-verdict, after-good, after-refused}
+use Rattle.tree.proofs.ReadLaws.{child-in, content-short, children-verdict, after-good, after-refused}
+use Rattle.tree.proofs.LeafLaws.{parts-read, leaf-good, leaf-bad}
 use Prim.Native.Nat.{ℕ, _<_}
 use borrow.Fn.Kinds.{In}
 use borrow.Fn.PlainCycle.{Measures, is, falls, and}
@@ -19,7 +19,7 @@ use Rattle.tree.proofs.read.content.Reads as content
 use Rattle.tree.proofs.read.content.Kinds as content-kinds
 use Rattle.tree.proofs.read.+children+content.Lts-content as content-lts
 use Rattle.tree.proofs.access.fixed.Reads as fixed-reads
-use Rattle.tree.proofs.grammar.rule_of.Reads as rule-of-reads
+use Rattle.tree.proofs.grammar.slots_of.Reads as slots-of-reads
 use Rattle.tree.proofs.read.head_of.Reads as head-of-reads
 use Rattle.tree.proofs.read.+children+content.{statement}
 use Rattle.tree.proofs.read.+children+content.Tie.{close}
@@ -44,16 +44,16 @@ abbrev content-below : ℕ → In 1 content-kinds.ps
 content-below t = and 1 content-kinds.ps (falls 1 content-kinds.ps _<_ μ-content t) content.Pre
 
 abbrev children-Inv-loop : children-lts.InvT-loop
-children-Inv-loop s from end depth place at₀ rule₀ at rule = (verdict (childrenAt s from end depth rule₀ place) ≡ verdict (childrenAt s at end depth rule place)) × (from ≤ at) × (at ≤ end)
+children-Inv-loop s from end depth whole place at₀ rule₀ at rule = (verdict (childrenAt s from end depth (ruleBy rule₀) place) ≡ verdict (childrenAt s at end depth (ruleBy rule) place)) × (from ≤ at) × (at ≤ end)
 
 abbrev children-μ-loop : children-lts.MeasureT-loop
-children-μ-loop s from end depth place at₀ rule₀ at rule = end - at
+children-μ-loop s from end depth whole place at₀ rule₀ at rule = end - at
 
 abbrev children-knows : ℕ → children-lts.Claims
 children-knows t = (head-of-reads.Asked, head-of-reads.Learnt, content-below t, content.Post)
 
 abbrev content-knows : ℕ → content-lts.Claims
-content-knows t = (fixed-reads.Asked, fixed-reads.Learnt, rule-of-reads.Asked, rule-of-reads.Learnt, children-below t, children.Post)
+content-knows t = (fixed-reads.Asked, fixed-reads.Learnt, slots-of-reads.Asked, slots-of-reads.Learnt, children-below t, children.Post)
 
 children-loop-holds : (t : ℕ) → children-lts.Need-loop-holds (children-knows t) (children-at t) children.Post children-Inv-loop children-μ-loop
 children-loop-holds t c = (refl, omega arith, omega arith)
@@ -65,43 +65,77 @@ children-enum-told : (t : ℕ) → children-lts.Need-enum-told (children-knows t
 children-enum-told t c = search needs
 
 children-returns : (t : ℕ) → children-lts.Need-returns (children-knows t) (children-at t) children.Post children-Inv-loop children-μ-loop
-children-returns t c = sym (c .before .before .before .loop .inv .0 ∙ children-verdict (c .before .before .before .before .before .args .s .now) (c .before .before .before .loop .at) (c .before .before .before .before .before .args .end) (c .before .before .before .before .before .args .depth) (c .before .before .before .loop .rule) (c .before .before .before .before .before .args .place) Done (c .before .before .before .loop .inv .2) (sym (c .before .before .head-of .ensures) ∙ c .enum-told .given .1))
+children-returns t c =
+    let c3 = c .before .before .before in
+    let c5 = c3 .before .before in
+    sym (c3 .loop .inv .0 ∙ children-verdict (c5 .args .s .now) (c3 .loop .at) (c5 .args .end) (c5 .args .depth) (ruleBy (c3 .loop .rule)) (c5 .args .place) Done (c3 .loop .inv .2) (sym (c .before .before .head-of .ensures) ∙ ap headOf (c .enum-told .given .1)))
 
 children-enum-told-2 : (t : ℕ) → children-lts.Need-enum-told-2 (children-knows t) (children-at t) children.Post children-Inv-loop children-μ-loop
 children-enum-told-2 t c = search needs
 
 children-returns-2 : (t : ℕ) → children-lts.Need-returns-2 (children-knows t) (children-at t) children.Post children-Inv-loop children-μ-loop
-children-returns-2 t c = sym (c .before .before .before .loop .inv .0 ∙ children-verdict (c .before .before .before .before .before .args .s .now) (c .before .before .before .loop .at) (c .before .before .before .before .before .args .end) (c .before .before .before .before .before .args .depth) (c .before .before .before .loop .rule) (c .before .before .before .before .before .args .place) Missing (c .before .before .before .loop .inv .2) (sym (c .before .before .head-of .ensures) ∙ c .enum-told2 .given .1))
+children-returns-2 t c =
+    let c3 = c .before .before .before in
+    let c5 = c3 .before .before in
+    sym (c3 .loop .inv .0 ∙ children-verdict (c5 .args .s .now) (c3 .loop .at) (c5 .args .end) (c5 .args .depth) (ruleBy (c3 .loop .rule)) (c5 .args .place) Missing (c3 .loop .inv .2) (sym (c .before .before .head-of .ensures) ∙ ap headOf (c .enum-told2 .given .1)))
 
 children-enum-known-why : (t : ℕ) → children-lts.Need-enum-known-why (children-knows t) (children-at t) children.Post children-Inv-loop children-μ-loop
 children-enum-known-why t c = search needs
 
 children-returns-3 : (t : ℕ) → children-lts.Need-returns-3 (children-knows t) (children-at t) children.Post children-Inv-loop children-μ-loop
-children-returns-3 t c = sym (c .before .before .before .before .loop .inv .0 ∙ children-verdict (c .before .before .before .before .before .before .args .s .now) (c .before .before .before .before .loop .at) (c .before .before .before .before .before .before .args .end) (c .before .before .before .before .before .before .args .depth) (c .before .before .before .before .loop .rule) (c .before .before .before .before .before .before .args .place) _ (c .before .before .before .before .loop .inv .2) (sym (c .before .before .before .head-of .ensures) ∙ c .before .why .given .1))
+children-returns-3 t c =
+    let c3 = c .before .before .before in
+    let c4 = c3 .before in
+    let c6 = c4 .before .before in
+    sym (c4 .loop .inv .0 ∙ children-verdict (c6 .args .s .now) (c4 .loop .at) (c6 .args .end) (c6 .args .depth) (ruleBy (c4 .loop .rule)) (c6 .args .place) _ (c4 .loop .inv .2) (sym (c3 .head-of .ensures) ∙ ap headOf (c .before .why .given .1)))
 
 children-enum-known-next : (t : ℕ) → children-lts.Need-enum-known-next (children-knows t) (children-at t) children.Post children-Inv-loop children-μ-loop
 children-enum-known-next t c = search needs
 
 children-add-content : (t : ℕ) → children-lts.Need-add-content (children-knows t) (children-at t) children.Post children-Inv-loop children-μ-loop
-children-add-content t c = let i = child-in (c .before .before .before .before .before .before .args .s .now) (c .before .before .before .before .loop .at) (c .before .before .before .before .before .before .args .end) (c .before .before .before .before .before .before .args .depth) (c .before .before .before .before .loop .rule) (c .before .before .before .before .loop .inv .2) (sym (c .before .before .before .head-of .ensures) ∙ c .before .next .given .1) in omega arith
+children-add-content t c =
+    let c3 = c .before .before .before in
+    let c4 = c3 .before in
+    let c6 = c4 .before .before in
+    let i = child-in (c6 .args .s .now) (c4 .loop .at) (c6 .args .end) (c6 .args .depth) (ruleBy (c4 .loop .rule)) (c4 .loop .inv .2) (sym (c3 .head-of .ensures) ∙ ap headOf (c .before .next .given .1)) in omega arith
 
 children-content-requires : (t : ℕ) → children-lts.Need-content-requires (children-knows t) (children-at t) children.Post children-Inv-loop children-μ-loop
-children-content-requires t c κs = let i = child-in (c .before .before .before .before .before .before .args .s .now) (c .before .before .before .before .loop .at) (c .before .before .before .before .before .before .args .end) (c .before .before .before .before .before .before .args .depth) (c .before .before .before .before .loop .rule) (c .before .before .before .before .loop .inv .2) (sym (c .before .before .before .head-of .ensures) ∙ c .before .next .given .1) in omega arith
+children-content-requires t c κs =
+    let c3 = c .before .before .before in
+    let c4 = c3 .before in
+    let c6 = c4 .before .before in
+    let i = child-in (c6 .args .s .now) (c4 .loop .at) (c6 .args .end) (c6 .args .depth) (ruleBy (c4 .loop .rule)) (c4 .loop .inv .2) (sym (c3 .head-of .ensures) ∙ ap headOf (c .before .next .given .1)) in omega arith
 
 children-enum-told-3 : (t : ℕ) → children-lts.Need-enum-told-3 (children-knows t) (children-at t) children.Post children-Inv-loop children-μ-loop
 children-enum-told-3 t c = search needs
 
 children-loop-less : (t : ℕ) → children-lts.Need-loop-less (children-knows t) (children-at t) children.Post children-Inv-loop children-μ-loop
-children-loop-less t c = let i = child-in (c .before .before .before .before .before .before .before .before .before .args .s .now) (c .before .before .before .before .before .before .before .loop .at) (c .before .before .before .before .before .before .before .before .before .args .end) (c .before .before .before .before .before .before .before .before .before .args .depth) (c .before .before .before .before .before .before .before .loop .rule) (c .before .before .before .before .before .before .before .loop .inv .2) (sym (c .before .before .before .before .before .before .head-of .ensures) ∙ c .before .before .before .before .next .given .1) in omega arith
+children-loop-less t c =
+    let c4 = c .before .before .before .before in
+    let c6 = c4 .before .before in
+    let c7 = c6 .before in
+    let c9 = c7 .before .before in
+    let i = child-in (c9 .args .s .now) (c7 .loop .at) (c9 .args .end) (c9 .args .depth) (ruleBy (c7 .loop .rule)) (c7 .loop .inv .2) (sym (c6 .head-of .ensures) ∙ ap headOf (c4 .next .given .1)) in omega arith
 
 children-loop-again : (t : ℕ) → children-lts.Need-loop-again (children-knows t) (children-at t) children.Post children-Inv-loop children-μ-loop
-children-loop-again t c = let i = child-in (c .before .before .before .before .before .before .before .before .before .args .s .now) (c .before .before .before .before .before .before .before .loop .at) (c .before .before .before .before .before .before .before .before .before .args .end) (c .before .before .before .before .before .before .before .before .before .args .depth) (c .before .before .before .before .before .before .before .loop .rule) (c .before .before .before .before .before .before .before .loop .inv .2) (sym (c .before .before .before .before .before .before .head-of .ensures) ∙ c .before .before .before .before .next .given .1) in (c .before .before .before .before .before .before .before .loop .inv .0 ∙ children-verdict (c .before .before .before .before .before .before .before .before .before .args .s .now) (c .before .before .before .before .before .before .before .loop .at) (c .before .before .before .before .before .before .before .before .before .args .end) (c .before .before .before .before .before .before .before .before .before .args .depth) (c .before .before .before .before .before .before .before .loop .rule) (c .before .before .before .before .before .before .before .before .before .args .place) _ (c .before .before .before .before .before .before .before .loop .inv .2) (sym (c .before .before .before .before .before .before .head-of .ensures) ∙ c .before .before .before .before .next .given .1) ∙ after-good _ (sym (c .before .before .content .ensures) ∙ c .enum-told3 .given .1), omega arith, omega arith)
+children-loop-again t c =
+    let c4 = c .before .before .before .before in
+    let c6 = c4 .before .before in
+    let c7 = c6 .before in
+    let c9 = c7 .before .before in
+    let i = child-in (c9 .args .s .now) (c7 .loop .at) (c9 .args .end) (c9 .args .depth) (ruleBy (c7 .loop .rule)) (c7 .loop .inv .2) (sym (c6 .head-of .ensures) ∙ ap headOf (c4 .next .given .1)) in (c7 .loop .inv .0 ∙ children-verdict (c9 .args .s .now) (c7 .loop .at) (c9 .args .end) (c9 .args .depth) (ruleBy (c7 .loop .rule)) (c9 .args .place) _ (c7 .loop .inv .2) (sym (c6 .head-of .ensures) ∙ ap headOf (c4 .next .given .1)) ∙ after-good _ (sym (c .before .before .content .ensures) ∙ c .enum-told3 .given .1), omega arith, omega arith)
 
 children-enum-known-why-2 : (t : ℕ) → children-lts.Need-enum-known-why-2 (children-knows t) (children-at t) children.Post children-Inv-loop children-μ-loop
 children-enum-known-why-2 t c = search needs
 
 children-returns-4 : (t : ℕ) → children-lts.Need-returns-4 (children-knows t) (children-at t) children.Post children-Inv-loop children-μ-loop
-children-returns-4 t c = sym (c .before .before .before .before .before .before .before .before .loop .inv .0 ∙ children-verdict (c .before .before .before .before .before .before .before .before .before .before .args .s .now) (c .before .before .before .before .before .before .before .before .loop .at) (c .before .before .before .before .before .before .before .before .before .before .args .end) (c .before .before .before .before .before .before .before .before .before .before .args .depth) (c .before .before .before .before .before .before .before .before .loop .rule) (c .before .before .before .before .before .before .before .before .before .before .args .place) _ (c .before .before .before .before .before .before .before .before .loop .inv .2) (sym (c .before .before .before .before .before .before .before .head-of .ensures) ∙ c .before .before .before .before .before .next .given .1) ∙ after-refused _ (sym (c .before .before .before .content .ensures) ∙ c .before .why2 .given .1))
+children-returns-4 t c =
+    let c3 = c .before .before .before in
+    let c5 = c3 .before .before in
+    let c7 = c5 .before .before in
+    let c8 = c7 .before in
+    let c10 = c8 .before .before in
+    sym (c8 .loop .inv .0 ∙ children-verdict (c10 .args .s .now) (c8 .loop .at) (c10 .args .end) (c10 .args .depth) (ruleBy (c8 .loop .rule)) (c10 .args .place) _ (c8 .loop .inv .2) (sym (c7 .head-of .ensures) ∙ ap headOf (c5 .next .given .1)) ∙ after-refused _ (sym (c3 .content .ensures) ∙ c .before .why2 .given .1))
 
 content-shared-slice-read-tag : (t : ℕ) → content-lts.Need-shared-slice-read-tag (content-knows t) (content-at t) content.Post
 content-shared-slice-read-tag t c = omega arith
@@ -115,20 +149,44 @@ content-fixed-requires t c κs = omega arith
 content-enum-known-from : (t : ℕ) → content-lts.Need-enum-known-from (content-knows t) (content-at t) content.Post
 content-enum-known-from t c = search needs
 
-content-rule-of-requires : (t : ℕ) → content-lts.Need-rule-of-requires (content-knows t) (content-at t) content.Post
-content-rule-of-requires t c κs = search needs
-
-content-children-requires : (t : ℕ) → content-lts.Need-children-requires (content-knows t) (content-at t) content.Post
-content-children-requires t c κs = let i = upto-in (c .before .before .before .before .before .before .before .args .s .now) _ (c .before .before .before .before .before .before .before .args .at + 3) (c .before .before .before .before .before .before .before .args .stop) (c .before .before .before .before .before .before .before .pre .1 .0) (sym (c .before .before .before .before .fixed .ensures) ∙ c .before .before .from .given .1) in omega arith
-
 content-enum-told : (t : ℕ) → content-lts.Need-enum-told (content-knows t) (content-at t) content.Post
 content-enum-told t c = search needs
 
 content-returns : (t : ℕ) → content-lts.Need-returns (content-knows t) (content-at t) content.Post
-content-returns t c = c .children .ensures ∙ ap (λ (r : Rule). verdict (childrenAt (c .before .before .before .before .before .before .before .before .args .s .now) (c .before .before .before .from .given .0 .0) (c .before .before .before .before .before .before .before .before .args .stop) (c .before .before .before .before .before .before .before .before .args .depth) r (c .before .before .before .before .before .before .before .before .args .at))) (c .before .rule-of .ensures) ∙ sym (content-upto (c .before .before .before .before .before .before .before .before .args .s .now) (c .before .before .before .before .before .before .before .before .args .at) (c .before .before .before .before .before .before .before .before .args .stop) (c .before .before .before .before .before .before .before .before .args .depth) _ (sym (c .before .before .before .before .before .fixed .ensures) ∙ c .before .before .before .from .given .1))
+content-returns t c =
+    let c5 = c .before .before .before .before .before in
+    sym (content-short (c5 .args .s .now) (c5 .args .at) (c5 .args .stop) (c5 .args .depth) (sym (c .before .before .fixed .ensures) ∙ c .enum-told .given .1))
+
+content-slots-of-requires : (t : ℕ) → content-lts.Need-slots-of-requires (content-knows t) (content-at t) content.Post
+content-slots-of-requires t c κs = search needs
 
 content-returns-2 : (t : ℕ) → content-lts.Need-returns-2 (content-knows t) (content-at t) content.Post
-content-returns-2 t c = sym (content-short (c .before .before .before .before .before .args .s .now) (c .before .before .before .before .before .args .at) (c .before .before .before .before .before .args .stop) (c .before .before .before .before .before .args .depth) (sym (c .before .before .fixed .ensures) ∙ c .enum-told .given .1))
+content-returns-2 t c =
+    let c4 = c .before .before .before .before in
+    let c6 = c4 .before .before in
+    let c9 = c6 .before .before .before in
+    sym (leaf-good (c9 .args .s .now) (c9 .args .at) (c9 .args .stop) (c9 .args .depth) (c .before .before .slots-of .result) (sym (c6 .fixed .ensures) ∙ c4 .from .given .1) (c .before .before .slots-of .ensures) (c .before .if1 .taken) (c .if2 .taken))
+
+content-returns-3 : (t : ℕ) → content-lts.Need-returns-3 (content-knows t) (content-at t) content.Post
+content-returns-3 t c =
+    let c4 = c .before .before .before .before in
+    let c6 = c4 .before .before in
+    let c9 = c6 .before .before .before in
+    let i = upto-in (c9 .args .s .now) _ (c9 .args .at + 3) (c9 .args .stop) (c9 .pre .1 .0) (sym (c6 .fixed .ensures) ∙ c4 .from .given .1) in sym (leaf-bad (c9 .args .s .now) (c9 .args .at) (c9 .args .stop) (c9 .args .depth) (c .before .before .slots-of .result) (sym (c6 .fixed .ensures) ∙ c4 .from .given .1) (c .before .before .slots-of .ensures) (c .before .if1 .taken) (i .1) (c .if2 .left))
+
+content-children-requires : (t : ℕ) → content-lts.Need-children-requires (content-knows t) (content-at t) content.Post
+content-children-requires t c κs =
+    let c3 = c .before .before .before in
+    let c5 = c3 .before .before in
+    let c8 = c5 .before .before .before in
+    let i = upto-in (c8 .args .s .now) _ (c8 .args .at + 3) (c8 .args .stop) (c8 .pre .1 .0) (sym (c5 .fixed .ensures) ∙ c3 .from .given .1) in omega arith
+
+content-returns-4 : (t : ℕ) → content-lts.Need-returns-4 (content-knows t) (content-at t) content.Post
+content-returns-4 t c =
+    let c4 = c .before .before .before .before in
+    let c6 = c4 .before .before in
+    let c9 = c6 .before .before .before in
+    c .children .ensures ∙ sym (parts-read (c9 .args .s .now) (c9 .args .at) (c9 .args .stop) (c9 .args .depth) (c .before .before .slots-of .result) (sym (c6 .fixed .ensures) ∙ c4 .from .given .1) (c .before .before .slots-of .ensures))
 
 pub +children+content-spec : {M : Type 1} → statement M
 +children+content-spec = close μ-children μ-content (λ t. children-lts.spec (children-knows t)
@@ -159,8 +217,10 @@ pub +children+content-spec : {M : Type 1} → statement M
     (content-add-fixed t)
     (content-fixed-requires t)
     (content-enum-known-from t)
-    (content-rule-of-requires t)
-    (content-children-requires t)
     (content-enum-told t)
     (content-returns t)
+    (content-slots-of-requires t)
     (content-returns-2 t)
+    (content-returns-3 t)
+    (content-children-requires t)
+    (content-returns-4 t)

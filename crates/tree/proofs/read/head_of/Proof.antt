@@ -1,27 +1,28 @@
 -- `head_of` meets its contract: the definition makes the same tests in the same order.
-use mathlib.Core.Path.{sym, _∙_}
+use mathlib.Core.Path.{sym, ap, _∙_}
 use borrow.Author.Tests.{lt-ltb, le-ltb, eq-eqb, ne-eqb}
+use Rattle.tree.specs.Rules.{stepOf}
 use Rattle.tree.specs.Read.{headAt, onStep, onExtent}
 use borrow.Author.Needs.{needs}
 use Rattle.tree.proofs.read.head_of.Statement.{statement}
 use Rattle.tree.proofs.read.head_of.Tie as tie
 
-done-requires : tie.Need-done-requires
-done-requires c κs = search needs
+is-full-requires : tie.Need-is-full-requires
+is-full-requires c κs = search needs
 
 returns : tie.Need-returns
 unfolding headAt
-returns c = rw (eq-eqb _ _ (c .before .before .if1 .taken), sym (c .before .done .ensures) ∙ c .if2 .taken)
+returns c = rw (eq-eqb _ _ (c .before .before .if1 .taken), sym (c .before .is-full .ensures) ∙ c .if2 .taken)
 
 returns-2 : tie.Need-returns-2
 unfolding headAt
-returns-2 c = rw (eq-eqb _ _ (c .before .before .if1 .taken), sym (c .before .done .ensures) ∙ c .if2 .left)
+returns-2 c = rw (eq-eqb _ _ (c .before .before .if1 .taken), sym (c .before .is-full .ensures) ∙ c .if2 .left)
 
-shared-slice-read-step-by : tie.Need-shared-slice-read-step-by
-shared-slice-read-step-by c = search needs
+shared-slice-read-left-of : tie.Need-shared-slice-read-left-of
+shared-slice-read-left-of c = search needs
 
-step-by-requires : tie.Need-step-by-requires
-step-by-requires c κs = search needs
+left-of-requires : tie.Need-left-of-requires
+left-of-requires c κs = search needs
 
 enum-known-next : tie.Need-enum-known-next
 enum-known-next c = search needs
@@ -31,7 +32,9 @@ enum-told c = search needs
 
 returns-3 : tie.Need-returns-3
 unfolding headAt onStep onExtent
-returns-3 c = rw (ne-eqb _ _ (c .before .before .before .before .if1 .left), sym (c .before .before .step-by .ensures) ∙ c .enum-told .given .1)
+returns-3 c =
+    let c4 = c .before .before .before .before in
+    rw (ne-eqb _ _ (c4 .if1 .left), sym (c .before .before .left-of .ensures) ∙ ap stepOf (c .enum-told .given .1))
 
 extent-requires : tie.Need-extent-requires
 extent-requires c κs = search needs
@@ -44,25 +47,39 @@ enum-told-2 c = search needs
 
 returns-4 : tie.Need-returns-4
 unfolding headAt onStep onExtent
-returns-4 c = rw (ne-eqb _ _ (c .before .before .before .before .before .before .before .before .if1 .left), sym (c .before .before .before .before .before .before .step-by .ensures) ∙ c .before .before .before .before .next .given .1, sym (c .before .before .extent .ensures) ∙ c .enum-told2 .given .1)
+returns-4 c =
+    let c4 = c .before .before .before .before in
+    let c6 = c4 .before .before in
+    let c8 = c6 .before .before in
+    rw (ne-eqb _ _ (c8 .if1 .left), sym (c6 .left-of .ensures) ∙ ap stepOf (c4 .next .given .1), sym (c .before .before .extent .ensures) ∙ c .enum-told2 .given .1)
 
 returns-5 : tie.Need-returns-5
 unfolding headAt onStep onExtent
-returns-5 c = rw (ne-eqb _ _ (c .before .before .before .before .before .before .before .before .before .before .if1 .left), sym (c .before .before .before .before .before .before .before .before .step-by .ensures) ∙ c .before .before .before .before .before .before .next .given .1, sym (c .before .before .before .before .extent .ensures) ∙ c .before .before .stop .given .1, lt-ltb _ _ (c .if3 .taken))
+returns-5 c =
+    let c4 = c .before .before .before .before in
+    let c6 = c4 .before .before in
+    let c8 = c6 .before .before in
+    let c10 = c8 .before .before in
+    rw (ne-eqb _ _ (c10 .if1 .left), sym (c8 .left-of .ensures) ∙ ap stepOf (c6 .next .given .1), sym (c4 .extent .ensures) ∙ c .before .before .stop .given .1, lt-ltb _ _ (c .if3 .taken))
 
 returns-6 : tie.Need-returns-6
 unfolding headAt onStep onExtent
-returns-6 c = rw (ne-eqb _ _ (c .before .before .before .before .before .before .before .before .before .before .if1 .left), sym (c .before .before .before .before .before .before .before .before .step-by .ensures) ∙ c .before .before .before .before .before .before .next .given .1, sym (c .before .before .before .before .extent .ensures) ∙ c .before .before .stop .given .1, le-ltb _ _ (c .if3 .left))
+returns-6 c =
+    let c4 = c .before .before .before .before in
+    let c6 = c4 .before .before in
+    let c8 = c6 .before .before in
+    let c10 = c8 .before .before in
+    rw (ne-eqb _ _ (c10 .if1 .left), sym (c8 .left-of .ensures) ∙ ap stepOf (c6 .next .given .1), sym (c4 .extent .ensures) ∙ c .before .before .stop .given .1, le-ltb _ _ (c .if3 .left))
 
 pub head-of-spec : {M : Type 1} → statement M
 head-of-spec =
     tie.close
     (tie.spec
-    done-requires
+    is-full-requires
     returns
     returns-2
-    shared-slice-read-step-by
-    step-by-requires
+    shared-slice-read-left-of
+    left-of-requires
     enum-known-next
     enum-told
     returns-3

@@ -1,0 +1,26 @@
+-- `record_entry` meets its contract: each arm is an entry of the table, and the last arm none of them.
+use mathlib.Core.Path.{sym, ap}
+use Prim.Native.Nat.{ℕ}
+use Rattle.tree.proofs.Table.{find-rest}
+use Rattle.tree.specs.Grammar.{find}
+use Rattle.tree.specs.Rules.{highs}
+use Rattle.tree.proofs.grammar.record_entry.Statement.{statement}
+use Rattle.tree.proofs.grammar.record_entry.Tie as tie
+
+returns : tie.Need-returns
+returns c = sym (ap (λ (t : ℕ). find t highs 0) (c .match .keys1))
+
+returns-2 : tie.Need-returns-2
+returns-2 c = sym (ap (λ (t : ℕ). find t highs 0) (c .match .keys2))
+
+returns-3 : tie.Need-returns-3
+returns-3 c = sym (ap (λ (t : ℕ). find t highs 0) (c .match .keys3))
+
+returns-4 : tie.Need-returns-4
+returns-4 c = sym (ap (λ (t : ℕ). find t highs 0) (c .match .keys4))
+
+returns-5 : tie.Need-returns-5
+returns-5 c = sym (find-rest _ highs 0 Unit (c .match .rest) .1)
+
+pub record-entry-spec : {M : Type 1} → statement M
+record-entry-spec = tie.close (tie.spec returns returns-2 returns-3 returns-4 returns-5)
