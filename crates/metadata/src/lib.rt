@@ -5,6 +5,7 @@ use decimal::Parsed;
 use scope::id::SyntaxContext;
 use tree::access::extent;
 use tree::access::fixed;
+use tree::access::pieces_end;
 use tree::grammar::Set;
 use tree::layout::Reach;
 use tree::layout::same_run;
@@ -170,7 +171,7 @@ impl ExportMetadata {
         requires { ⌜ (at + 3 ≤ stop) × (stop ≤ length (now s)) ⌝ }
         ensures { λ r. ⌜ metadataOf r ≡ told (fixedOf (treeAt (now (s .entry)) at stop)) ⌝ }
     {
-        match fixed(s, s[at], at + 3, stop) {
+        match pieces_end(s, s[at], at + 3, stop) {
             Reach::Upto(end) => ExportMetadata {
                 injected: tells_injected(s, at + 3, end),
                 export_ctxt: context_in(s, at + 3, end),

@@ -1,10 +1,10 @@
 -- The grammar's tables: which of them a tag is looked up in, and a step through a rule's slots.
-use Prim.Native.Nat.{ℕ, zero, suc, _-_, _≤_, _<_}
+use Prim.Native.Nat.{ℕ, _-_, _≤_, _<_}
 use mathlib.Core.Path.{_≡_, refl, sym, ap, subst, _∙_}
 use mathlib.Core.Bool.{Bool, true, false, cond}
 use native.Mathlib.Omega.{arith}
-use lib.Dec.{leb, eqb}
-use borrow.Author.Tests.{le-leb, lt-leb, leb-true, leb-false, eqb-true}
+use lib.Dec.{eqb}
+use borrow.Author.Tests.{le-leb, lt-leb, eqb-true}
 use Rattle.tree.specs.declared.grammar.Rule.{Rule}
 use Rattle.tree.specs.declared.grammar.Set.{Set}
 use Rattle.tree.specs.declared.grammar.Set.the-variants.{Module}
@@ -15,8 +15,7 @@ use Rattle.tree.specs.declared.grammar.Value.the-variants.{Empty}
 use Rattle.tree.specs.declared.grammar.Piece.the-variants.{Plain}
 use Rattle.tree.specs.declared.grammar.Pieces.{Pieces}
 use Rattle.tree.specs.Tree.{Field, Fields, none, more, tagOf}
-use Rattle.tree.specs.Grammar.{within, find, statements, patterns, expressions, others, parts0, parts3, parts4, ruleOf, restOf, onFit, slotAt}
-use Rattle.tree.specs.Grammar.{stepBy, stepAt, holdsAt, only, fixedParts, piecesOf}
+use Rattle.tree.specs.Grammar.{within, parts0, parts3, parts4, ruleOf, slotAt, stepBy, stepAt, holdsAt, only, fixedParts, piecesOf}
 use Rattle.tree.specs.Within.{Formed, FormedAll}
 use Rattle.tree.proofs.Table.{find-passes}
 use Rattle.tree.proofs.FixedLaws.{opens}
@@ -32,41 +31,6 @@ within-below lo hi t a = simp (lt-leb lo t a)
 pub within-above : (lo hi t : ℕ) → lo ≤ t → hi < t → within lo hi t ≡ false
 unfolding within
 within-above lo hi t a b = simp (le-leb lo t a, lt-leb t hi b)
-
-pub rule-statement : (t : ℕ) → 0x40 ≤ t → t ≤ 0x48 → ruleOf t ≡ find t statements parts0
-unfolding ruleOf
-rule-statement t a b = rw (within-true 0x40 0x48 t a b)
-
-pub rule-pattern : (t : ℕ) → 0x50 ≤ t → t ≤ 0x56 → ruleOf t ≡ find t patterns parts0
-unfolding ruleOf
-rule-pattern t a b = rw (within-above 0x40 0x48 t (omega arith) (omega arith), within-true 0x50 0x56 t a b)
-
-pub rule-expression : (t : ℕ) → 0x60 ≤ t → t ≤ 0x6e → ruleOf t ≡ find t expressions parts0
-unfolding ruleOf
-rule-expression t a b =
-    rw (within-above 0x40 0x48 t (omega arith) (omega arith), within-above 0x50 0x56 t (omega arith) (omega arith), within-true 0x60 0x6e t a b)
-
-outside : (lo hi t : ℕ) (b : Bool) → leb lo t ≡ b → (lo ≤ t → hi < t) → within lo hi t ≡ false
-outside lo hi t true e h = within-above lo hi t (leb-true lo t e) (h (leb-true lo t e))
-outside lo hi t false e h = within-below lo hi t (leb-false lo t e)
-
--- a tag in none of the ranges
-pub rule-other : (t : ℕ) → (0x40 ≤ t → 0x48 < t) → (0x50 ≤ t → 0x56 < t) → (0x60 ≤ t → 0x6e < t) →
-    ruleOf t ≡ find t others parts0
-unfolding ruleOf
-rule-other t a b c = rw (outside 0x40 0x48 t _ refl a, outside 0x50 0x56 t _ refl b, outside 0x60 0x6e t _ refl c)
-
--- the slots of a rule, one after the other
-pub step-more : (n : ℕ) (r : Rule) (t : ℕ) → 0 < n →
-    stepBy n r t ≡ onFit (slotAt (r .first) t) r (stepBy (n - 1) (restOf r) t)
-unfolding stepBy
-step-more zero r t h = absurd (omega arith)
-step-more (suc n) r t h = let e : n ≡ suc n - 1 = omega arith in ap (λ (m : ℕ). onFit (slotAt (r .first) t) r (stepBy m (restOf r) t)) e
-
-pub step-none : (n : ℕ) (r : Rule) (t : ℕ) → n ≤ 0 → stepBy n r t ≡ No
-unfolding stepBy
-step-none zero r t h = refl
-step-none (suc n) r t h = absurd (omega arith)
 
 -- the only tag whose fixed bytes take all up to the end is 30, and it has no parts
 closing : ℕ → Pieces → Bool

@@ -12,3 +12,6 @@ pub mod StandingLaws
 pub mod SoundLaws
 pub mod CompleteLaws
 pub mod WidthLaws
+pub mod TagWidthLaws
+pub mod PackedLaws
+pub mod LeafLaws

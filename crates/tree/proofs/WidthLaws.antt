@@ -14,10 +14,11 @@ use Rattle.tree.specs.declared.grammar.Value.{Value}
 use Rattle.tree.specs.declared.grammar.Value.the-variants.{Empty, Byte, Atom, Id, Literal, Number}
 use Rattle.tree.specs.declared.grammar.Piece.the-variants.{Plain}
 use Rattle.tree.specs.declared.grammar.Pieces.{Pieces}
-use Rattle.tree.specs.Layout.{skipAt, literalEnd, literalWidth}
+use Rattle.tree.specs.Layout.{skipAt, literalEnd}
 use Rattle.tree.specs.Tree.{field, Field, Fields, none, more}
 use Rattle.tree.specs.Grammar.{find, only, fixedParts, piecesOf, ruleOf}
 use Rattle.tree.specs.Access.{valueAt, pieceAt, thenPiece, fixedAt}
+use Rattle.tree.specs.Width.{valueWidth}
 use Rattle.tree.specs.Standing.{treeAt, rowAt, Row}
 use Rattle.tree.specs.Within.{Exact}
 use Rattle.tree.proofs.FixedLaws.{no-upto, upto-inj}
@@ -31,15 +32,6 @@ use Rattle.tree.specs.Read.{fine, read}
 abbrev pub Plainly : ℕ → Value → Type 0
 Plainly k v = find k fixedParts (only (Plain Empty)) ≡ only (Plain v)
 
--- how many bytes a value takes
-abbrev pub widthOf : Value → ℕ
-widthOf Empty = 0
-widthOf Byte = 1
-widthOf Atom = 2
-widthOf Id = 6
-widthOf Literal = literalWidth
-widthOf Number = 8
-
 pub skip-ends : (at n stop b : ℕ) → skipAt at n stop ≡ Upto b → b ≡ at + n
 unfolding skipAt
 skip-ends at n stop b =
@@ -50,7 +42,7 @@ skip-upto : (at n stop : ℕ) → at + n ≤ stop → skipAt at n stop ≡ Upto 
 unfolding skipAt
 skip-upto at n stop h = rw (le-leb n (stop - at) (omega arith))
 
-value-skips : (v : Value) (at stop : ℕ) → valueAt v at stop ≡ skipAt at (widthOf v) stop
+pub value-skips : (v : Value) (at stop : ℕ) → valueAt v at stop ≡ skipAt at (valueWidth v) stop
 unfolding valueAt literalEnd
 value-skips Empty at stop = refl
 value-skips Byte at stop = refl
@@ -71,7 +63,7 @@ then-upto at n stop s h =
     ap (λ (r : Reach). thenPiece r s (Plain Empty) stop) (skip-upto at n stop h) ∙ skip-upto (at + n) 0 stop (omega arith) ∙ ap Upto z
 
 fixed-plain : (k : ℕ) (v : Value) → Plainly k v → {t : ℕ} → t ≡ k → (s : List ℕ) (at stop : ℕ) →
-    fixedAt s t at stop ≡ thenPiece (skipAt at (widthOf v) stop) s (Plain Empty) stop
+    fixedAt s t at stop ≡ thenPiece (skipAt at (valueWidth v) stop) s (Plain Empty) stop
 unfolding fixedAt pieceAt piecesOf
 fixed-plain k v p q s at stop =
     ap (λ (x : Pieces). thenPiece (pieceAt s (x .first) at stop) s (x .second) stop) (ap piecesOf q ∙ p)
@@ -79,20 +71,20 @@ fixed-plain k v p q s at stop =
 
 -- ---- Where they end
 
-pub plain-ends : (k : ℕ) (v : Value) → Plainly k v → (s : List ℕ) (t at stop b : ℕ) → t ≡ k → fixedAt s t at stop ≡ Upto b → b ≡ at + widthOf v
-plain-ends k v p s t at stop b q e = then-ends at (widthOf v) stop b s (skipAt at (widthOf v) stop) refl (sym (fixed-plain k v p q s at stop) ∙ e)
+pub plain-ends : (k : ℕ) (v : Value) → Plainly k v → (s : List ℕ) (t at stop b : ℕ) → t ≡ k → fixedAt s t at stop ≡ Upto b → b ≡ at + valueWidth v
+plain-ends k v p s t at stop b q e = then-ends at (valueWidth v) stop b s (skipAt at (valueWidth v) stop) refl (sym (fixed-plain k v p q s at stop) ∙ e)
 
-pub plain-upto : (k : ℕ) (v : Value) → Plainly k v → (s : List ℕ) (t at stop : ℕ) → t ≡ k → at + widthOf v ≤ stop →
-    fixedAt s t at stop ≡ Upto (at + widthOf v)
-plain-upto k v p s t at stop q h = fixed-plain k v p q s at stop ∙ then-upto at (widthOf v) stop s h
+pub plain-upto : (k : ℕ) (v : Value) → Plainly k v → (s : List ℕ) (t at stop : ℕ) → t ≡ k → at + valueWidth v ≤ stop →
+    fixedAt s t at stop ≡ Upto (at + valueWidth v)
+plain-upto k v p s t at stop q h = fixed-plain k v p q s at stop ∙ then-upto at (valueWidth v) stop s h
 
 -- ---- How many they are
 
-pub plain-width : (k : ℕ) (v : Value) → Plainly k v → {t : ℕ} (x : List ℕ) → t ≡ k → Exact t x → length x ≡ widthOf v
+pub plain-width : (k : ℕ) (v : Value) → Plainly k v → {t : ℕ} (x : List ℕ) → t ≡ k → Exact t x → length x ≡ valueWidth v
 plain-width k v p {t} x q e = let h = plain-ends k v p x t 0 (length x) (length x) q e in omega arith
 
-pub plain-exact : (k : ℕ) (v : Value) → Plainly k v → (x : List ℕ) → length x ≡ widthOf v → Exact k x
-plain-exact k v p x e = let z : 0 + widthOf v ≡ length x = omega arith in plain-upto k v p x k 0 (length x) refl (omega arith) ∙ ap Upto z
+pub plain-exact : (k : ℕ) (v : Value) → Plainly k v → (x : List ℕ) → length x ≡ valueWidth v → Exact k x
+plain-exact k v p x e = let z : 0 + valueWidth v ≡ length x = omega arith in plain-upto k v p x k 0 (length x) refl (omega arith) ∙ ap Upto z
 
 -- ---- A tag without fixed bytes
 

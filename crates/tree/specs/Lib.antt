@@ -2,6 +2,8 @@ pub mod Layout
 pub mod Tree
 pub mod Grammar
 pub mod Access
+pub mod Width
+pub mod Packed
 pub mod Read
 pub mod Standing
 pub mod Within

@@ -2,6 +2,8 @@
 ghost use mathlib.Core.Path.{_≡_};
 ghost use Prim.Native.Nat.{_+_, _≤_, _<_};
 ghost use lib.ListN.{length};
+ghost use Rattle.tree.specs.Grammar.{find};
+ghost use Rattle.tree.specs.Width.{widthAt, widthRows};
 ghost use Rattle.tree.specs.Access.{valueAt, choiceOf, kindAt, keyAt, pieceAt, fixedAt, extentAt};
 use crate::grammar::Piece;
 use crate::grammar::Value;
@@ -111,17 +113,71 @@ fn piece_end(s: &[u8], p: Piece, at: usize, stop: usize) -> Reach
     }
 }
 
-// Where the fixed bytes from `at` of a field with this tag end: its parts start there.
-pub fn fixed(s: &[u8], tag: u8, at: usize, stop: usize) -> Reach
+// How many fixed bytes each of sixteen tags has, four bits for a tag, the first one lowest; 9 where a kind byte chooses.
+fn widths(row: u8) -> u64
+    ensures { λ r. ⌜ r ≡ find row widthRows 0 ⌝ }
+{
+    match row {
+        1 => 0x696,
+        2 => 0x69669,
+        3 => 0x9,
+        4 => 0x6000,
+        5 => 0x62006,
+        6 => 0x10100000000866,
+        7 => 0x260900202,
+        8 => 0x2666,
+        _ => 0,
+    }
+}
+
+fn width_of(tag: u8) -> usize
+    ensures { λ r. ⌜ r ≡ widthAt tag ⌝ }
+{
+    let column = tag % 16;
+    ((widths(tag / 16) >> (4 * column)) % 16) as usize
+}
+
+// Where the spread byte at `at` of a 75 ends.
+fn spread_end(s: &[u8], at: usize, stop: usize) -> Reach
+    requires { ⌜ stop ≤ length (now s) ⌝ }
+    ensures { λ r. ⌜ r ≡ fixedAt (now (s .entry)) 0x75 at stop ⌝ }
+{
+    if at < stop {
+        if s[at] < 2 {
+            return Reach::Upto(at + 1);
+        }
+    }
+    Reach::Short
+}
+
+// The same as `fixed`, piece by piece: for tags with a kind byte. It is called from more than one place, so that the compiler keeps it
+// out of `fixed`, which is then short enough to stand in its callers.
+pub fn pieces_end(s: &[u8], tag: u8, at: usize, stop: usize) -> Reach
     requires { ⌜ (at ≤ stop) × (stop ≤ length (now s)) ⌝ }
     ensures { λ r. ⌜ r ≡ fixedAt (now (s .entry)) tag at stop ⌝ }
 {
+    if tag == 0x75 {
+        return spread_end(s, at, stop);
+    }
     let ps = pieces_of(tag);
     let first = ps.first;
     let second = ps.second;
     match piece_end(s, first, at, stop) {
         Reach::Upto(b) => piece_end(s, second, b, stop),
         Reach::Short => Reach::Short,
+    }
+}
+
+// Where the fixed bytes from `at` of a field with this tag end: its parts start there.
+pub fn fixed(s: &[u8], tag: u8, at: usize, stop: usize) -> Reach
+    requires { ⌜ (at ≤ stop) × (stop ≤ length (now s)) ⌝ }
+    ensures { λ r. ⌜ r ≡ fixedAt (now (s .entry)) tag at stop ⌝ }
+{
+    let width = width_of(tag);
+    if width < 9 {
+        skip(at, width, stop)
+    } else {
+        pieces_end(s, tag, at, stop)
     }
 }
 

@@ -1,11 +1,9 @@
 // The grammar of document 01, section 'Tree': which fixed bytes and which parts a tag has.
 ghost use mathlib.Core.Path.{_≡_};
-ghost use Rattle.tree.specs.declared.grammar.Set.the-variants.{Item, Callee, Body};
-ghost use Rattle.tree.specs.Grammar.{within, statementTag, patternTag, expressionTag, holdsAt, slotAt, restOf, stepAt, fullAt, doneAt, parts0};
-ghost use Rattle.tree.specs.Grammar.{parts1, parts2, parts3, parts4, statements, patterns, expressions, find, ruleOf, only, pieces, piecesOf};
+ghost use Rattle.tree.specs.Read.{top};
+ghost use Rattle.tree.specs.Packed.{unpackRule, unpackStep, lowEntries, highEntries, entryAt, setsAt};
+ghost use Rattle.tree.specs.Grammar.{stepAt, doneAt, find, ruleOf, only, pieces, piecesOf};
 use crate::grammar::Piece::*;
-use crate::grammar::Set::*;
-use crate::grammar::Slot::*;
 use crate::grammar::Value::*;
 
 // Sets of tags.
@@ -97,318 +95,6 @@ pub struct Pieces {
     pub second: Piece,
 }
 
-fn between(tag: u8, lo: u8, hi: u8) -> bool
-    ensures { λ r. ⌜ r ≡ within lo hi tag ⌝ }
-{
-    if lo <= tag { tag <= hi } else { false }
-}
-
-pub fn is_statement(tag: u8) -> bool
-    ensures { λ r. ⌜ r ≡ statementTag tag ⌝ }
-{
-    if between(tag, 0x40, 0x41) {
-        true
-    } else {
-        between(tag, 0x43, 0x48)
-    }
-}
-
-pub fn is_pattern(tag: u8) -> bool
-    ensures { λ r. ⌜ r ≡ patternTag tag ⌝ }
-{
-    if between(tag, 0x50, 0x52) {
-        true
-    } else {
-        between(tag, 0x55, 0x56)
-    }
-}
-
-pub fn is_expression(tag: u8) -> bool
-    ensures { λ r. ⌜ r ≡ expressionTag tag ⌝ }
-{
-    between(tag, 0x60, 0x6E)
-}
-
-fn is_item(tag: u8) -> bool
-    ensures { λ r. ⌜ r ≡ holdsAt Item tag ⌝ }
-{
-    if between(tag, 0x10, 0x14) {
-        true
-    } else {
-        is_statement(tag)
-    }
-}
-
-fn is_callee(tag: u8) -> bool
-    ensures { λ r. ⌜ r ≡ holdsAt Callee tag ⌝ }
-{
-    if is_expression(tag) {
-        true
-    } else {
-        between(tag, 0x73, 0x74)
-    }
-}
-
-fn is_body(tag: u8) -> bool
-    ensures { λ r. ⌜ r ≡ holdsAt Body tag ⌝ }
-{
-    if tag == 0x45 {
-        true
-    } else {
-        is_expression(tag)
-    }
-}
-
-// Whether the tag is one of the set.
-pub fn holds(set: Set, tag: u8) -> bool
-    ensures { λ r. ⌜ r ≡ holdsAt set tag ⌝ }
-{
-    match set {
-        Set::Module => tag == 0x01,
-        Set::Item => is_item(tag),
-        Set::Specifier => between(tag, 0x20, 0x22),
-        Set::ExportSpecifier => between(tag, 0x23, 0x24),
-        Set::Attributes => tag == 0x2F,
-        Set::Attribute => tag == 0x30,
-        Set::Declaration => if tag == 0x41 { true } else { tag == 0x43 },
-        Set::Statement => is_statement(tag),
-        Set::Declarator => tag == 0x42,
-        Set::Block => tag == 0x45,
-        Set::Pattern => is_pattern(tag),
-        Set::PatternProperty => between(tag, 0x53, 0x54),
-        Set::Expression => is_expression(tag),
-        Set::Callee => is_callee(tag),
-        Set::Target => if tag == 0x50 { true } else { tag == 0x63 },
-        Set::Body => is_body(tag),
-        Set::Member => between(tag, 0x70, 0x72),
-        Set::SuperMember => between(tag, 0x70, 0x71),
-        Set::Argument => tag == 0x75,
-        Set::Property => between(tag, 0x77, 0x78),
-        Set::Records => tag == 0x02,
-        Set::Collected => tag == 0x80,
-        Set::Lazy => tag == 0x81,
-        Set::Dynamic => tag == 0x82,
-        Set::Forced => tag == 0x83,
-    }
-}
-
-fn slot_fit(x: Slot, tag: u8) -> Fit
-    ensures { λ r. ⌜ r ≡ slotAt x tag ⌝ }
-{
-    match x {
-        Slot::Nothing => Fit::Over,
-        Slot::One(set) => if holds(set, tag) { Fit::Used } else { Fit::No },
-        Slot::Maybe(set) => if holds(set, tag) {
-            Fit::Used
-        } else {
-            Fit::Over
-        },
-        Slot::Many(set) => if holds(set, tag) {
-            Fit::Stay
-        } else {
-            Fit::Over
-        },
-    }
-}
-
-// The rule without its first slot.
-fn rest_of(r: Rule) -> Rule
-    ensures { λ a. ⌜ a ≡ restOf r ⌝ }
-{
-    let second = r.second;
-    let third = r.third;
-    let fourth = r.fourth;
-    Rule {
-        first: second,
-        second: third,
-        third: fourth,
-        fourth: Slot::Nothing,
-    }
-}
-
-// What the rule says to the tag: its four slots are asked in turn.
-pub fn step_by(whole: Rule, tag: u8) -> Step
-    ensures { λ a. ⌜ a ≡ stepAt whole tag ⌝ }
-{
-    let mut rule = whole;
-    let mut left: usize = 4;
-    while left > 0 {
-        let first = rule.first;
-        match slot_fit(first, tag) {
-            Fit::Stay => return Step::Go(rule),
-            Fit::Used => return Step::Go(rest_of(rule)),
-            Fit::No => return Step::No,
-            Fit::Over => {
-                rule = rest_of(rule);
-                left -= 1;
-            }
-        }
-    }
-    Step::No
-}
-
-fn full(x: Slot) -> bool
-    ensures { λ r. ⌜ r ≡ fullAt x ⌝ }
-{
-    match x {
-        Slot::Nothing => true,
-        Slot::One(_) => false,
-        Slot::Maybe(_) => true,
-        Slot::Many(_) => true,
-    }
-}
-
-// Nothing is lacking.
-pub fn done(r: Rule) -> bool
-    ensures { λ a. ⌜ a ≡ doneAt r ⌝ }
-{
-    let first = r.first;
-    let second = r.second;
-    let third = r.third;
-    let fourth = r.fourth;
-    if full(first) {
-        if full(second) {
-            if full(third) { full(fourth) } else { false }
-        } else {
-            false
-        }
-    } else {
-        false
-    }
-}
-
-fn parts_none() -> Rule
-    ensures { λ r. ⌜ r ≡ parts0 ⌝ }
-{
-    Rule {
-        first: Nothing,
-        second: Nothing,
-        third: Nothing,
-        fourth: Nothing,
-    }
-}
-
-fn parts_1(a: Slot) -> Rule
-    ensures { λ r. ⌜ r ≡ parts1 a ⌝ }
-{
-    Rule {
-        first: a,
-        second: Nothing,
-        third: Nothing,
-        fourth: Nothing,
-    }
-}
-
-fn parts_2(a: Slot, b: Slot) -> Rule
-    ensures { λ r. ⌜ r ≡ parts2 a b ⌝ }
-{
-    Rule {
-        first: a,
-        second: b,
-        third: Nothing,
-        fourth: Nothing,
-    }
-}
-
-fn parts_3(a: Slot, b: Slot, c: Slot) -> Rule
-    ensures { λ r. ⌜ r ≡ parts3 a b c ⌝ }
-{
-    Rule {
-        first: a,
-        second: b,
-        third: c,
-        fourth: Nothing,
-    }
-}
-
-fn parts_4(a: Slot, b: Slot, c: Slot, d: Slot) -> Rule
-    ensures { λ r. ⌜ r ≡ parts4 a b c d ⌝ }
-{
-    Rule {
-        first: a,
-        second: b,
-        third: c,
-        fourth: d,
-    }
-}
-
-// What parts a tag has: 12, 20 to 24, 30, 70, 72 to 74, 77, 82 and 83 have none.
-pub fn rule_of(tag: u8) -> Rule
-    ensures { λ r. ⌜ r ≡ ruleOf tag ⌝ }
-{
-    match tag {
-        0x01 => parts_1(Many(Item)), // module
-        0x10 => parts_2(Many(Specifier), Maybe(Attributes)), // import
-        0x11 => parts_1(Many(ExportSpecifier)), // export
-        0x13 => parts_1(One(Declaration)), // exported declaration
-        0x14 => parts_1(One(Expression)), // default
-        0x2F => parts_1(Many(Attribute)), // attributes
-        0x40..=0x48 => statement_rule(tag),
-        0x50..=0x56 => pattern_rule(tag),
-        0x60..=0x6E => expression_rule(tag),
-        0x71 => parts_1(One(Expression)), // computed
-        0x75 => parts_1(One(Expression)), // argument
-        0x78 => parts_1(One(Expression)), // key and value
-        0x02 => parts_4(Many(Collected), Many(Lazy), Many(Dynamic), Many(Forced)), // records
-        0x80 => parts_1(Many(Specifier)), // collected
-        0x81 => parts_1(Many(Specifier)), // lazy
-        _ => parts_none(),
-    }
-}
-
-// A 40 has no parts.
-fn statement_rule(tag: u8) -> Rule
-    ensures { λ r. ⌜ r ≡ find tag statements parts0 ⌝ }
-{
-    match tag {
-        0x41 => parts_1(Many(Declarator)), // var
-        0x42 => parts_2(One(Pattern), Maybe(Expression)), // declarator
-        0x43 => parts_2(Many(Pattern), One(Block)), // function
-        0x44 => parts_1(One(Expression)), // expression
-        0x45 => parts_1(Many(Statement)), // block
-        0x46 => parts_3(One(Expression), One(Statement), Maybe(Statement)), // if
-        0x47 => parts_1(Maybe(Expression)), // return
-        0x48 => parts_2(One(Expression), One(Statement)), // while
-        _ => parts_none(),
-    }
-}
-
-// A 50 has no parts.
-fn pattern_rule(tag: u8) -> Rule
-    ensures { λ r. ⌜ r ≡ find tag patterns parts0 ⌝ }
-{
-    match tag {
-        0x51 => parts_1(Many(Pattern)), // array
-        0x52 => parts_1(Many(PatternProperty)), // object
-        0x53 => parts_1(One(Pattern)), // key and pattern
-        0x54 => parts_1(Maybe(Expression)), // shorthand
-        0x55 => parts_2(One(Pattern), One(Expression)), // with a default
-        0x56 => parts_1(One(Pattern)), // rest
-        _ => parts_none(),
-    }
-}
-
-// 60 to 62 have no parts.
-fn expression_rule(tag: u8) -> Rule
-    ensures { λ r. ⌜ r ≡ find tag expressions parts0 ⌝ }
-{
-    match tag {
-        0x63 => parts_2(One(Expression), One(Member)), // member
-        0x64 => parts_1(One(SuperMember)), // super
-        0x65 => parts_2(One(Callee), Many(Argument)), // call
-        0x66 => parts_2(One(Target), One(Expression)), // assignment
-        0x67 => parts_2(Many(Pattern), One(Body)), // arrow
-        0x68 => parts_2(Many(Pattern), One(Block)), // function
-        0x69 => parts_1(Many(Property)), // object
-        0x6A => parts_1(Many(Expression)), // array
-        0x6B => parts_2(One(Expression), One(Expression)), // binary
-        0x6C => parts_3(One(Expression), One(Expression), One(Expression)), // conditional
-        0x6D => parts_1(One(Expression)), // unary
-        0x6E => parts_1(One(Expression)), // parentheses
-        _ => parts_none(),
-    }
-}
-
 fn only_one(a: Piece) -> Pieces
     ensures { λ r. ⌜ r ≡ only a ⌝ }
 {
@@ -460,5 +146,191 @@ pub fn pieces_of(tag: u8) -> Pieces
         0x82 => only_one(Plain(Literal)), // dynamic
         0x83 => only_one(Plain(Atom)), // forced
         _ => only_one(Plain(Empty)),
+    }
+}
+
+// The code has rules packed: a byte for each slot, the first one lowest. A byte is the number of the slot's set, and 32 for one, 64 for
+// at most one, 96 for any number; 0 is no slot. What such a rule says to a tag: the rule that is left behind it, or refused.
+pub enum PackedStep {
+    Go(u32),
+    No,
+}
+
+// What the grammar says of a tag: a bit for each set that it is in, and above these 32 bits its packed rule. The bits from 25 on, which
+// are of no set, go with those of the first set, as in `unpackSet`.
+fn entry_of(tag: u8) -> u64
+    ensures { λ r. ⌜ r ≡ entryAt tag ⌝ }
+{
+    if tag < 0x80 {
+        low_entry(tag)
+    } else {
+        high_entry(tag)
+    }
+}
+
+// Tags below 80.
+fn low_entry(tag: u8) -> u64
+    ensures { λ r. ⌜ r ≡ find tag lowEntries 0 ⌝ }
+{
+    match tag {
+        0x01 => 0x61FE000001,
+        0x02 => 0x7877767500100000,
+        0x10 => 0x446200000002,
+        0x11 => 0x6300000002,
+        0x12 => 0x2,
+        0x13 => 0x2600000002,
+        0x14 => 0x2C00000002,
+        0x20 => 0x4,
+        0x21 => 0x4,
+        0x22 => 0x4,
+        0x23 => 0x8,
+        0x24 => 0x8,
+        0x2F => 0x6500000010,
+        0x30 => 0x20,
+        0x40 => 0x82,
+        0x41 => 0x68000000C2,
+        0x42 => 0x4C2A00000100,
+        0x43 => 0x296A000000C2,
+        0x44 => 0x2C00000082,
+        0x45 => 0x6700008282,
+        0x46 => 0x47272C00000082,
+        0x47 => 0x4C00000082,
+        0x48 => 0x272C00000082,
+        0x50 => 0x4400,
+        0x51 => 0x6A00000400,
+        0x52 => 0x6B00000400,
+        0x53 => 0x2A00000800,
+        0x54 => 0x4C00000800,
+        0x55 => 0x2C2A00000400,
+        0x56 => 0x2A00000400,
+        0x60 => 0xB000,
+        0x61 => 0xB000,
+        0x62 => 0xB000,
+        0x63 => 0x302C0000F000,
+        0x64 => 0x310000B000,
+        0x65 => 0x722D0000B000,
+        0x66 => 0x2C2E0000B000,
+        0x67 => 0x2F6A0000B000,
+        0x68 => 0x296A0000B000,
+        0x69 => 0x730000B000,
+        0x6A => 0x6C0000B000,
+        0x6B => 0x2C2C0000B000,
+        0x6C => 0x2C2C2C0000B000,
+        0x6D => 0x2C0000B000,
+        0x6E => 0x2C0000B000,
+        0x70 => 0x30000,
+        0x71 => 0x2C00030000,
+        0x72 => 0x10000,
+        0x73 => 0x2000,
+        0x74 => 0x2000,
+        0x75 => 0x2C00040000,
+        0x77 => 0x80000,
+        0x78 => 0x2C00080000,
+        _ => 0,
+    }
+}
+
+// Tags from 80 on. Apart, so that either table is dense.
+fn high_entry(tag: u8) -> u64
+    ensures { λ r. ⌜ r ≡ find tag highEntries 0 ⌝ }
+{
+    match tag {
+        0x80 => 0x6200200000,
+        0x81 => 0x6200400000,
+        0x82 => 0x800000,
+        0x83 => 0x1000000,
+        _ => 0,
+    }
+}
+
+// The sets that a tag is in, a bit for each.
+fn sets_of(tag: u8) -> u32
+    ensures { λ r. ⌜ r ≡ setsAt tag ⌝ }
+{
+    (entry_of(tag) % 4294967296) as u32
+}
+
+// The rule of a tag's parts.
+pub fn rule_of(tag: u8) -> u32
+    ensures { λ r. ⌜ unpackRule r ≡ ruleOf tag ⌝ }
+{
+    (entry_of(tag) / 4294967296) as u32
+}
+
+// What the rule says to the tag: its slots are asked in turn.
+pub fn step_by(whole: u32, tag: u8) -> PackedStep
+    ensures { λ r. ⌜ unpackStep r ≡ stepAt (unpackRule whole) tag ⌝ }
+{
+    let sets = sets_of(tag);
+    let mut rule = whole;
+    while rule != 0 {
+        let slot = rule % 256;
+        if slot == 0 {
+            rule = rule / 256;
+            continue;
+        }
+        if (sets >> (slot % 32)) % 2 == 1 {
+            if slot < 96 {
+                return PackedStep::Go(rule / 256);
+            }
+            return PackedStep::Go(rule);
+        }
+        if slot < 64 {
+            return PackedStep::No;
+        }
+        rule = rule / 256;
+    }
+    PackedStep::No
+}
+
+// Nothing is lacking.
+pub fn done(whole: u32) -> bool
+    ensures { λ r. ⌜ r ≡ doneAt (unpackRule whole) ⌝ }
+{
+    let mut rule = whole;
+    while rule != 0 {
+        let slot = rule % 256;
+        if slot == 0 {
+            rule = rule / 256;
+            continue;
+        }
+        if slot < 64 {
+            return false;
+        }
+        rule = rule / 256;
+    }
+    true
+}
+
+// The rule of one field of a set.
+pub fn root_rule(set: Set) -> u32
+    ensures { λ r. ⌜ unpackRule r ≡ top set ⌝ }
+{
+    match set {
+        Set::Module => 32,
+        Set::Item => 33,
+        Set::Specifier => 34,
+        Set::ExportSpecifier => 35,
+        Set::Attributes => 36,
+        Set::Attribute => 37,
+        Set::Declaration => 38,
+        Set::Statement => 39,
+        Set::Declarator => 40,
+        Set::Block => 41,
+        Set::Pattern => 42,
+        Set::PatternProperty => 43,
+        Set::Expression => 44,
+        Set::Callee => 45,
+        Set::Target => 46,
+        Set::Body => 47,
+        Set::Member => 48,
+        Set::SuperMember => 49,
+        Set::Argument => 50,
+        Set::Property => 51,
+        Set::Records => 52,
+        Set::Collected => 53,
+        Set::Lazy => 54,
+        Set::Dynamic => 55,
+        Set::Forced => 56,
     }
 }

@@ -1,49 +1,32 @@
--- `fixed`: the second piece starts where the first ends, which is inside.
-use mathlib.Core.Path.{sym, _∙_, subst}
-use native.Mathlib.Omega.{arith}
-use Rattle.tree.specs.Access.{fixedAt, thenPiece}
-use Rattle.tree.proofs.AccessLaws.{ReachIn, piece-in}
+-- `fixed`: a width below 9 is the number of bytes to skip; else the pieces are gone through.
+use mathlib.Core.Path.{sym, ap, _∙_, subst}
+use Prim.Native.Nat.{ℕ, _<_}
+use Rattle.tree.specs.Layout.{skipAt}
+use Rattle.tree.proofs.TagWidthLaws.{fixed-skip}
 use borrow.Author.Needs.{needs}
 use Rattle.tree.proofs.access.fixed.Statement.{statement}
 use Rattle.tree.proofs.access.fixed.Tie as tie
 
-pieces-of-requires : tie.Need-pieces-of-requires
-pieces-of-requires c κs = search needs
+width-of-requires : tie.Need-width-of-requires
+width-of-requires c κs = search needs
 
-piece-end-requires : tie.Need-piece-end-requires
-piece-end-requires c κs = search needs
+skip-requires : tie.Need-skip-requires
+skip-requires c κs = search needs
 
-enum-known-b : tie.Need-enum-known-b
-enum-known-b c = search needs
-
-piece-end-requires-2 : tie.Need-piece-end-requires-2
-piece-end-requires-2 c κs =
-    let c3 = c .before .before .before in
-    let c6 = c3 .before .before .before in
-    let r = subst (ReachIn (c6 .args .at) (c6 .args .stop)) (sym (c3 .piece-end .ensures) ∙ c .before .b .given .1) (piece-in _ _ _ _ (c6 .pre .0)) in omega arith
-
-enum-told : tie.Need-enum-told
-enum-told c = search needs
+pieces-end-requires : tie.Need-pieces-end-requires
+pieces-end-requires c κs = search needs
 
 returns : tie.Need-returns
-unfolding fixedAt thenPiece
 returns c =
     let c4 = c .before .before .before .before in
-    let c5 = c4 .before in
-    rw (sym (c5 .pieces-of .ensures), sym (c4 .piece-end .ensures) ∙ c .before .before .b .given .1) (c .piece-end2 .ensures)
+    let a = c4 .args in
+    let w = c .before .before .width-of .ensures in
+    c .skip .ensures
+    ∙ ap (λ (n : ℕ). skipAt (a .at) n (a .stop)) w
+    ∙ sym (fixed-skip (a .s .now) (a .at) (a .stop) (c4 .pre .0) (a .tag) (subst (λ (n : ℕ). n < 9) w (c .before .if1 .taken)))
 
 returns-2 : tie.Need-returns-2
-unfolding fixedAt thenPiece
-returns-2 c = rw (sym (c .before .before .before .pieces-of .ensures), sym (c .before .before .piece-end .ensures) ∙ c .enum-told .given .1)
+returns-2 c = search needs
 
 pub fixed-spec : {M : Type 1} → statement M
-fixed-spec =
-    tie.close
-    (tie.spec
-    pieces-of-requires
-    piece-end-requires
-    enum-known-b
-    piece-end-requires-2
-    enum-told
-    returns
-    returns-2)
+fixed-spec = tie.close (tie.spec width-of-requires skip-requires pieces-end-requires returns returns-2)

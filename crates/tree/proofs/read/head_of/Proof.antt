@@ -1,6 +1,7 @@
--- `head_of`: the definition makes the same tests in the same order.
-use mathlib.Core.Path.{sym, _∙_}
+-- `head_of`: the definition makes the same tests in the same order; what the packed rule says, unpacked, is what the rule says.
+use mathlib.Core.Path.{sym, ap, _∙_}
 use borrow.Author.Tests.{lt-ltb, le-ltb, eq-eqb, ne-eqb}
+use Rattle.tree.specs.Packed.{unpackStep}
 use Rattle.tree.specs.Read.{headAt, onStep, onExtent}
 use borrow.Author.Needs.{needs}
 use Rattle.tree.proofs.read.head_of.Statement.{statement}
@@ -31,7 +32,9 @@ enum-told c = search needs
 
 returns-3 : tie.Need-returns-3
 unfolding headAt onStep onExtent
-returns-3 c = rw (ne-eqb _ _ (c .before .before .before .before .if1 .left), sym (c .before .before .step-by .ensures) ∙ c .enum-told .given .1)
+returns-3 c =
+    let c4 = c .before .before .before .before in
+    rw (ne-eqb _ _ (c4 .if1 .left), sym (c .before .before .step-by .ensures) ∙ ap unpackStep (c .enum-told .given .1))
 
 extent-requires : tie.Need-extent-requires
 extent-requires c κs = search needs
@@ -48,7 +51,7 @@ returns-4 c =
     let c4 = c .before .before .before .before in
     let c6 = c4 .before .before in
     let c8 = c6 .before .before in
-    rw (ne-eqb _ _ (c8 .if1 .left), sym (c6 .step-by .ensures) ∙ c4 .next .given .1, sym (c .before .before .extent .ensures) ∙ c .enum-told2 .given .1)
+    rw (ne-eqb _ _ (c8 .if1 .left), sym (c6 .step-by .ensures) ∙ ap unpackStep (c4 .next .given .1), sym (c .before .before .extent .ensures) ∙ c .enum-told2 .given .1)
 
 returns-5 : tie.Need-returns-5
 unfolding headAt onStep onExtent
@@ -57,7 +60,7 @@ returns-5 c =
     let c6 = c4 .before .before in
     let c8 = c6 .before .before in
     let c10 = c8 .before .before in
-    rw (ne-eqb _ _ (c10 .if1 .left), sym (c8 .step-by .ensures) ∙ c6 .next .given .1, sym (c4 .extent .ensures) ∙ c .before .before .stop .given .1, lt-ltb _ _ (c .if3 .taken))
+    rw (ne-eqb _ _ (c10 .if1 .left), sym (c8 .step-by .ensures) ∙ ap unpackStep (c6 .next .given .1), sym (c4 .extent .ensures) ∙ c .before .before .stop .given .1, lt-ltb _ _ (c .if3 .taken))
 
 returns-6 : tie.Need-returns-6
 unfolding headAt onStep onExtent
@@ -66,7 +69,7 @@ returns-6 c =
     let c6 = c4 .before .before in
     let c8 = c6 .before .before in
     let c10 = c8 .before .before in
-    rw (ne-eqb _ _ (c10 .if1 .left), sym (c8 .step-by .ensures) ∙ c6 .next .given .1, sym (c4 .extent .ensures) ∙ c .before .before .stop .given .1, le-ltb _ _ (c .if3 .left))
+    rw (ne-eqb _ _ (c10 .if1 .left), sym (c8 .step-by .ensures) ∙ ap unpackStep (c6 .next .given .1), sym (c4 .extent .ensures) ∙ c .before .before .stop .given .1, le-ltb _ _ (c .if3 .left))
 
 pub head-of-spec : {M : Type 1} → statement M
 head-of-spec =
