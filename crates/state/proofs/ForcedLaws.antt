@@ -5,9 +5,7 @@ use mathlib.Core.Path.{_≡_, refl, sym, ap, subst, _∙_}
 use mathlib.Core.Bool.{Bool, true, false, cond, _||_}
 use mathlib.Core.List.{List, [], _∷_, _++_, map, map-append}
 use mathlib.Core.Option.{Option, none as nothing, some}
-use lib.Dec.{eqb}
 use lib.ListN.{length, length-map}
-use borrow.Author.Tests.{eqb-true, eqb-false, eq-eqb, ne-eqb}
 use Rattle.tables.specs.Rows.{Row, rows, next, between, firstIn}
 use Rattle.tables.specs.Only.{Only}
 use Rattle.tree.specs.Layout.{two, same, valueOf}
@@ -18,7 +16,7 @@ use Rattle.extraction_rules.specs.State.{Record, State, setForced}
 use Rattle.extraction_rules.specs.First.{holdsNamespace, forceSource, forceHolder, forget, forceId}
 use Rattle.state.specs.Cells.{At, records, forces, tableOf, Below, held, Good, atomOf, sourcesIn, Once, Sourced, Shows}
 use Rattle.state.specs.Does.{Tells, Turns, Forces, sourceOf}
-use Rattle.state.proofs.IdLaws.{between-one}
+use Rattle.state.proofs.IdLaws.{between-one, eqb-swap}
 use Rattle.state.proofs.ListLaws.{below-append, length-more}
 use Rattle.state.proofs.FrameLaws.{others-kept, good-kept, room-for, shows-forced}
 use Rattle.state.proofs.RecordLaws.{held-shown}
@@ -27,14 +25,7 @@ use Rattle.state.proofs.SourcedLaws.{find-among, sourced-force}
 -- ---- The search
 
 same-atom : (a n : ℕ) → a < 65536 → n < 65536 → same (two a) (two n) ≡ between a a n
-same-atom a n h k = same-two a n h k ∙ swap ∙ sym (between-one a n)
-  where
-    swap : eqb a n ≡ eqb n a
-    swap = by (eqb a n) refl
-      where
-        by : (b : Bool) → eqb a n ≡ b → b ≡ eqb n a
-        by true e = sym (eq-eqb n a (sym (eqb-true a n e)))
-        by false e = sym (ne-eqb n a (λ z. eqb-false a n e (sym z)))
+same-atom a n h k = same-two a n h k ∙ eqb-swap a n ∙ sym (between-one a n)
 
 among-rows : (a v : ℕ) (l : List Row) → a < 65536 → Below 65536 v l → among (two a) (map atomOf l) ≡ isSome (firstIn a a l)
 unfolding among firstIn Below

@@ -51,7 +51,7 @@ unfoldable pub Below : ℕ → ℕ → List Row → Type 0
 Below k v [] = Unit
 Below k v (r ∷ l) = (r .0 < k) × (r .1 < v) × Below k v l
 
--- keys and values of the tables; every number stands for a file and every number for marks
+-- keys and values of the tables; a file has two bytes, marks are four bits
 abbrev pub InLimits : Kind → List Row → Type 0
 InLimits imports l = Below id-limit 4294967296 l
 InLimits uses l = Below id-limit id-limit l
@@ -59,7 +59,7 @@ InLimits records l = Below id-limit 281474976710657 l
 InLimits namespaces l = Below id-limit 256 l
 InLimits lazies l = Below id-limit place-limit l
 InLimits forces l = Below 65536 1 l
-InLimits modules l = Unit
+InLimits modules l = Below 65536 16 l
 
 -- the tables lie in the array, with numbers inside their limits
 pub record Good (t : List ℕ) : Type 0 where
