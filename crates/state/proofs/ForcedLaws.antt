@@ -14,12 +14,15 @@ use Rattle.tree.proofs.FixedLaws.{or-right}
 use Rattle.inputs.specs.Lists.{find, isSome, among}
 use Rattle.extraction_rules.specs.State.{Record, State, setForced}
 use Rattle.extraction_rules.specs.First.{holdsNamespace, forceSource, forceHolder, forget, forceId}
-use Rattle.state.specs.Cells.{At, records, forces, tableOf, Below, held, Good, atomOf, sourcesIn, Once, Sourced, Shows}
+use Rattle.state.specs.Cells.{At, id-limit, imports, uses, hintAt, importHint, namespaceHint, useHint, idOf, records, forces, tableOf, Below, held, Good, atomOf, sourcesIn, Once, Sourced, Shows}
 use Rattle.state.specs.Does.{Tells, Turns, Forces, sourceOf}
 use Rattle.state.proofs.IdLaws.{between-one, eqb-swap}
 use Rattle.state.proofs.ListLaws.{below-append, length-more}
 use Rattle.state.proofs.FrameLaws.{others-kept, good-kept, room-for, shows-forced}
-use Rattle.state.proofs.RecordLaws.{held-shown}
+use Rattle.state.proofs.RecordLaws.{held-shown, holder-told}
+use Rattle.state.proofs.HintLaws.{none-least}
+use Rattle.state.proofs.ChangeLaws.{absent, not-imported, not-used, not-held}
+use Rattle.state.proofs.UsageLaws.{forgotten}
 use Rattle.state.proofs.SourcedLaws.{find-among, sourced-force}
 
 -- ---- The search
@@ -122,7 +125,7 @@ module _ {t : List ℕ} (a : ℕ) (g : Good t) where
   force-new {t'} h n k e o =
       let m = length-more (rows (tableOf forces) t) (a, 0) in
       record {
-        good = good-kept forces g o e (omega arith) (below-append _ _ (rows (tableOf forces) t) (a, 0) (g .below forces) h (omega arith));
+        good = good-kept forces g o e (omega arith) (below-append _ _ (rows (tableOf forces) t) (a, 0) (g .below forces) h (omega arith)) tt;
         shows = λ {x = y} s f w.
             subst (λ (b : Bool). Shows y t' (cond b s (setForced (s .forced ++ (two a ∷ [])) s))) (n .is s w)
             (shows-forced w (others-kept forces g o)
@@ -165,3 +168,10 @@ module _ {t m : List ℕ} (i : List ℕ) (u : Turns (forget i) t m) where
             subst (Shows _ t') (sym (holder-some (find (holdsNamespace i) (s .collected)) (forget i s) x e))
             (f .shows (forget i s) (find-among (holdsNamespace i) (s .collected) x e) v);
       }
+
+-- an id that no hint names is nowhere
+pub forced-nowhere : {t : List ℕ} (id : ℕ) → Good t → id < id-limit → hintAt t id ≡ 0 → Turns (forceId (idOf id)) t t
+forced-nowhere id g h e =
+    forced-none (idOf id)
+    (forgotten g h (absent uses id g (not-used id g (ap useHint e))) (absent imports id g (not-imported id g (ap importHint e))))
+    (holder-told h (sym (none-least id _ (not-held id g (ap namespaceHint e)))))

@@ -18,11 +18,11 @@ use Rattle.tables.specs.Rows.{Row, rowsFrom, rows, next, between, firstIn, with
 use Rattle.tables.specs.Only.{Outside, Only}
 use Rattle.tables.proofs.RowLaws.{from-agree, rows-length}
 use Rattle.tables.proofs.OnlyLaws.{only-then, store-count}
-use Rattle.inputs.specs.Outcome.{done, refused}
+use Rattle.inputs.specs.Outcome.{done}
 use Rattle.extraction_rules.specs.State.{State, setModules}
 use Rattle.extraction_rules.specs.First.{requested, moduleOf as resolvedBy}
 use Rattle.state.specs.Cells.{At, modules, tableOf, Below, held, Good, Shows, moduleOf}
-use Rattle.state.specs.Does.{Tells, Turns, Gave, Resolves}
+use Rattle.state.specs.Does.{Tells, Turns, Resolves}
 use Rattle.state.specs.declared.Module.the-variants.{Is, Unresolved, TooMany}
 use Rattle.state.proofs.IdLaws.{between-one, eqb-swap}
 use Rattle.state.proofs.ListLaws.{below-append, below-value, length-more, length-value, rowOf}
@@ -74,7 +74,7 @@ modules-loaded {t} {m} {n} {ms} g h e r b =
     let l = rows-length (tableOf modules) (set m 6 n) in
     let c = getD-set-same m 6 n 0 (omega arith) in
     record {
-      good = good-kept modules g only refl (omega arith) (subst (Below 65536 16) (sym k) (cells-below n 15482 m b));
+      good = good-kept modules g only refl (omega arith) (subst (Below 65536 16) (sym k) (cells-below n 15482 m b)) tt;
       shows = λ s w. shows-modules w (others-kept modules g only) (ap (map moduleOf) k ∙ cells-rows n 15482 m ∙ e);
     }
 
@@ -129,7 +129,7 @@ module _ (f : ℕ) {t : List ℕ} (g : Good t) where
       let l = rows (tableOf modules) t in
       let size = length-more l (f, 0) in
       record {
-        good = good-kept modules g o k (omega arith) (below-append _ _ l (f, 0) (g .below modules) h (omega arith));
+        good = good-kept modules g o k (omega arith) (below-append _ _ l (f, 0) (g .below modules) h (omega arith)) tt;
         number = λ m q s p w.
             let z : n .0 ≡ m .0 = ap (λ (k : ModuleId). k .0) (let y : n ≡ m = cc in y) in
             let c = modules-held s w in
@@ -223,7 +223,7 @@ module _ (k : Mark) (i : ℕ) {t : List ℕ} (g : Good t) where
       let n = length-value l i v in
       let r = room-for modules g in
       record {
-        good = good-kept modules g o f (omega arith) (below-value _ _ l i v (g .below modules) h);
+        good = good-kept modules g o f (omega arith) (below-value _ _ l i v (g .below modules) h) tt;
         shows = λ s w. shows-modules w (others-kept modules g o) (ap (map moduleOf) f ∙ mark-rows k i v l e ∙ ap (setMark k i) (w .modules));
       }
 
