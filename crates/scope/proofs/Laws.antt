@@ -9,7 +9,7 @@ use mathlib.Core.List.{List, [], _∷_, _++_, map}
 use mathlib.Core.Option.{Option, none, some}
 use lib.Dec.{ltb, eqb}
 use lib.ListN.{length, length-append, getD, set, length-set}
-use lib.Seq.{getD-set-other}
+use lib.Seq.{getD-set-same, getD-set-other}
 use borrow.Author.Tests.{lt-ltb, le-ltb, eq-eqb, ltb-true, ltb-false}
 use Rattle.scope.specs.declared.id.ModuleId.{ModuleId}
 use Rattle.scope.specs.declared.id.FileName.{FileName}
@@ -322,6 +322,30 @@ cells-more (suc k) at t =
     let e = cells-more k (at + 2) t in
     let a : at + 2 + 2 * k ≡ at + 2 * suc k = omega arith in
     cc
+
+-- files in cells are of two bytes, marks of four bits
+pub small-put : (t : List ℕ) (base n f m : ℕ) → base + 2 * n + 2 ≤ length t → f < 65536 → m < 16 →
+    ((i : ℕ) → i < n → (getD t (base + 2 * i) 0 < 65536) × (getD t (base + 2 * i + 1) 0 < 16)) → (i : ℕ) → i < n + 1 →
+    (getD (set (set t (base + 2 * n) f) (base + 2 * n + 1) m) (base + 2 * i) 0 < 65536) × (getD (set (set t (base + 2 * n) f) (base + 2 * n + 1) m) (base + 2 * i + 1) 0 < 16)
+small-put t base n f m h hf hm b i k = by (ltb i n) refl
+  where
+    by : (c : Bool) → ltb i n ≡ c → (getD (set (set t (base + 2 * n) f) (base + 2 * n + 1) m) (base + 2 * i) 0 < 65536)
+        × (getD (set (set t (base + 2 * n) f) (base + 2 * n + 1) m) (base + 2 * i + 1) 0 < 16)
+    by true e =
+        let one = set t (base + 2 * n) f in
+        let l = ltb-true i n e in
+        let o = b i l in
+        let p = getD-set-other one (base + 2 * n + 1) (base + 2 * i) m 0 (λ x. omega arith) ∙ getD-set-other t (base + 2 * n) (base + 2 * i) f 0 (λ x. omega arith) in
+        let q = getD-set-other one (base + 2 * n + 1) (base + 2 * i + 1) m 0 (λ x. omega arith) ∙ getD-set-other t (base + 2 * n) (base + 2 * i + 1) f 0 (λ x. omega arith) in
+        omega arith
+    by false e =
+        let l = ltb-false i n e in
+        let z : i ≡ n = omega arith in
+        let one = set t (base + 2 * n) f in
+        let s = length-set t (base + 2 * n) f in
+        let p = getD-set-other one (base + 2 * n + 1) (base + 2 * n) m 0 (λ x. omega arith) ∙ getD-set-same t (base + 2 * n) f 0 (omega arith) in
+        let q = getD-set-same one (base + 2 * n + 1) m 0 (omega arith) in
+        rw z (omega arith)
 
 -- ---- Cells that are written in one part
 

@@ -234,13 +234,13 @@ low-bit false x y e = ne-eqb ((x + 2 * y) % 2) 1 (λ w. omega arith)
 
 -- four bits are read back
 pub bits-back : (a b c d : Bool) (x y z w r : ℕ) → x ≡ cond a 1 0 → x ≤ 1 → y ≡ cond b 1 0 → y ≤ 1 → z ≡ cond c 1 0 → z ≤ 1 → w ≡ cond d 1 0 → w ≤ 1 →
-    r ≡ x + 2 * y + 4 * z + 8 * w → (eqb (r % 2) 1 ≡ a) × (eqb (r / 2 % 2) 1 ≡ b) × (eqb (r / 4 % 2) 1 ≡ c) × (eqb (r / 8 % 2) 1 ≡ d)
+    r ≡ x + 2 * y + 4 * z + 8 * w → (eqb (r % 2) 1 ≡ a) × (eqb (r / 2 % 2) 1 ≡ b) × (eqb (r / 4 % 2) 1 ≡ c) × (eqb (r / 8 % 2) 1 ≡ d) × (r < 16)
 bits-back a b c d x y z w r ex hx ey hy ez hz ew hw e =
     let i : r ≡ x + 2 * (y + 2 * z + 4 * w) = omega arith in
     let j : r / 2 ≡ y + 2 * (z + 2 * w) = omega arith in
     let k : r / 4 ≡ z + 2 * w = omega arith in
     let l : r / 8 ≡ w + 2 * 0 = omega arith in
-    (rw i (low-bit a x _ ex), rw j (low-bit b y _ ey), rw k (low-bit c z _ ez), rw l (low-bit d w 0 ew))
+    (rw i (low-bit a x _ ex), rw j (low-bit b y _ ey), rw k (low-bit c z _ ez), rw l (low-bit d w 0 ew), omega arith)
 
 -- ---- The place of a file
 

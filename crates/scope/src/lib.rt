@@ -11,7 +11,7 @@ use id::SyntaxContext;
 ghost use mathlib.Core.Path.{_≡_};
 ghost use mathlib.Core.Option.{some};
 ghost use mathlib.Core.List.{[], _∷_, _++_};
-ghost use Prim.Native.Nat.{_+_, _*_, _/_, _%_, _<_, _≤_, min};
+ghost use Prim.Native.Nat.{ℕ, _+_, _*_, _/_, _%_, _<_, _≤_, min};
 ghost use lib.Dec.{eqb};
 ghost use lib.ListN.{length, take, getD};
 ghost use mathlib.Core.Bool.{false, cond};
@@ -158,7 +158,7 @@ fn as_bit(on: bool) -> u64
 
 // The number with these four last bits, the lowest first.
 fn four_bits(a: bool, b: bool, c: bool, d: bool) -> u64
-    ensures { λ r. ⌜ (eqb (r % 2) 1 ≡ a) × (eqb (r / 2 % 2) 1 ≡ b) × (eqb (r / 4 % 2) 1 ≡ c) × (eqb (r / 8 % 2) 1 ≡ d) ⌝ }
+    ensures { λ r. ⌜ (eqb (r % 2) 1 ≡ a) × (eqb (r / 2 % 2) 1 ≡ b) × (eqb (r / 4 % 2) 1 ≡ c) × (eqb (r / 8 % 2) 1 ≡ d) × (r < 16) ⌝ }
 {
     as_bit(a) + 2 * as_bit(b) + 4 * as_bit(c) + 8 * as_bit(d)
 }
@@ -225,7 +225,9 @@ impl Scope {
         requires { ⌜ base + 512 ≤ length (now cells) ⌝ }
         ensures { λ n.
             ⌜ (n ≡ length (modulesOf self)) × (n ≤ 256) × (modulesIn n base (now (cells .exit)) ≡ modulesOf self)
-            × Rewrites base (base + 512) (now (cells .entry)) (now (cells .exit)) ⌝ }
+            × Rewrites base (base + 512) (now (cells .entry)) (now (cells .exit))
+            × ((i : ℕ) → i < n →
+            (getD (now (cells .exit)) (base + 2 * i) 0 < 65536) × (getD (now (cells .exit)) (base + 2 * i + 1) 0 < 16)) ⌝ }
     {
         let n = counted(self.count);
         let mut k = 0;

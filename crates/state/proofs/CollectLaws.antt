@@ -22,6 +22,7 @@ use Rattle.state.specs.declared.Place.the-variants.{Index, NoRoom}
 use Rattle.state.proofs.ListLaws.{below-append, length-more, first-below}
 use Rattle.state.proofs.IndexLaws.{index-map, index-row, index-more}
 use Rattle.state.proofs.RecordLaws.{same-name, name-range, held-shown}
+use Rattle.state.proofs.HintLaws.{named-append}
 use Rattle.state.proofs.FrameLaws.{others-kept, good-kept, room-for, shows-collected}
 use Rattle.state.proofs.ImportedLaws.{room-made, room-full}
 
@@ -154,7 +155,8 @@ module _ (x : ℕ) (h : x < id-limit) {t : List ℕ} (g : Good t) where
       let m = length-more (rows (tableOf records) t) (x, 0) in
       let size = ap length f in
       record {
-        good = good-kept records g o f (omega arith) (below-append _ _ (rows (tableOf records) t) (x, 0) (g .below records) h (omega arith));
+        good = good-kept records g o f (omega arith) (below-append _ _ (rows (tableOf records) t) (x, 0) (g .below records) h (omega arith))
+            (named-append 0 t (rows (tableOf records) t) (x, 0) (g .hinted records) refl);
         below = λ j p. let z : i ≡ j = cc in omega arith;
         made = λ j p {y} s w. let z : held records t ≡ j = cc in subst (λ (n : ℕ). Gathered y (idOf x) n s t') z (gathered-new e f k o s w);
         full = λ p s w fs q. absurd (let z : _≡_ {A = ℕ} 0 1 = cc in omega arith);

@@ -6,16 +6,15 @@ use mathlib.Core.Bool.{Bool, true, false}
 use mathlib.Core.List.{List, [], _∷_, _++_, map}
 use lib.ListN.{length, getD}
 use Rattle.tables.specs.Rows.{rows, leastOf, withValue}
-use Rattle.tables.specs.Only.{Only}
 use Rattle.tree.specs.Tree.{Field, none, more, fixedOf}
 use Rattle.inputs.specs.Lists.{among}
 use Rattle.inputs.specs.Fields.{has}
 use Rattle.extraction_rules.specs.State.{State, setCollected}
 use Rattle.state.specs.Cells.{At, id-limit, Kind, imports, uses, records, namespaces, lazies, forces, modules, tableOf, top-cell, held, Good}
 use Rattle.state.specs.Cells.{idOf, importedOf, usageOf, brief, briefOf, lazyOf, atomOf, moduleOf, flag, namespacesIn, Shows}
-use Rattle.state.specs.Does.{extendAt, Extends}
-use Rattle.state.proofs.ListLaws.{below-append, below-value, length-more, length-value, rowOf}
-use Rattle.state.proofs.FrameLaws.{one?, others-kept, good-kept, room-for, shows-collected}
+use Rattle.state.specs.Does.{one?, Changes, extendAt, Extends}
+use Rattle.state.proofs.ListLaws.{length-more, length-value, rowOf}
+use Rattle.state.proofs.FrameLaws.{shows-collected}
 use Rattle.state.proofs.RecordLaws.{held-shown}
 use Rattle.state.proofs.SourcedLaws.{sourced-collected, extendAt-sources}
 use Rattle.state.proofs.NamespaceLaws.{namespaces-extended, holders-extended, brief-other, brief-again, briefs-first, briefs-kept, holders-other}
@@ -47,44 +46,33 @@ module _ (k i : ℕ) {t t' : List ℕ} (h : k < id-limit) (b : i < held records 
         sourced = sourced-collected (w .sourced) (λ a d. ap (among a) (extendAt-sources i (more f none) (s .collected)) ∙ d);
       }
 
-module _ (k i : ℕ) {t m : List ℕ} (g : Good t) (h : k < id-limit) (b : i < held records t) (n : held namespaces t < 3641)
-    (e : rows (tableOf namespaces) m ≡ rows (tableOf namespaces) t ++ ((k, i) ∷ [])) (o : Only (tableOf namespaces) t m) where
-  pub met-good : Good m
-  met-good =
-      let l = length-more (rows (tableOf namespaces) t) (k, i) in
-      let r = room-for records g in
-      good-kept namespaces g o e (omega arith) (below-append _ _ (rows (tableOf namespaces) t) (k, i) (g .below namespaces) h (omega arith))
-
+module _ (k i : ℕ) {t m : List ℕ} (h : k < id-limit) (b : i < held records t) (d : Changes namespaces (rows (tableOf namespaces) t ++ ((k, i) ∷ [])) t m) where
   pub met-records : rows (tableOf records) m ≡ rows (tableOf records) t
-  met-records = others-kept namespaces g o .rows-kept records refl
+  met-records = d .others .rows-kept records refl
 
   -- the record had a namespace
   pub extended-again : (rowOf (rows (tableOf records) m) i .1 ≡ 0 → ⊥) → Extends i (idOf k) t m
   extended-again z =
-      let p = others-kept namespaces g o in
       record {
-        good = met-good;
+        good = d .good;
         kept = ap length met-records;
         shows = λ s f tag x full w.
-            shows-extended k i h b (record { rest = λ c q r. p .rows-kept c r; top-rest = p .top-kept }) e s f tag x w
+            shows-extended k i h b (record { rest = λ c q r. d .others .rows-kept c r; top-rest = d .others .top-kept }) (d .now-rows) s f tag x w
             (briefs-kept i f (rows (tableOf records) m) (s .collected) (λ q u. brief-again f (rowOf (rows (tableOf records) m) i) q u z) (ap (map briefOf) met-records ∙ w .collected));
       }
 
   -- it is the record's first
-  pub extended-first : {t' : List ℕ} → rowOf (rows (tableOf records) m) i .1 ≡ 0 → rows (tableOf records) t' ≡ withValue i (k + 1) (rows (tableOf records) m) →
-      Only (tableOf records) m t' → Extends i (idOf k) t t'
-  extended-first {t'} z u v =
-      let p = others-kept namespaces g o in
-      let q = others-kept records met-good v in
-      let l = length-value (rows (tableOf records) m) i (k + 1) in
-      let r = room-for records met-good in
+  pub extended-first : {t' : List ℕ} → rowOf (rows (tableOf records) m) i .1 ≡ 0 → Changes records (withValue i (k + 1) (rows (tableOf records) m)) m t' → Extends i (idOf k) t t'
+  extended-first {t'} z u =
+      let p = d .others in
+      let q = u .others in
       record {
-        good = good-kept records met-good v u (omega arith) (below-value _ _ (rows (tableOf records) m) i (k + 1) (met-good .below records) (omega arith));
-        kept = ap length u ∙ l ∙ ap length met-records;
+        good = u .good;
+        kept = ap length (u .now-rows) ∙ length-value (rows (tableOf records) m) i (k + 1) ∙ ap length met-records;
         shows = λ s f tag x full w.
-            shows-extended k i h b (record { rest = λ c y d. q .rows-kept c y ∙ p .rows-kept c d; top-rest = q .top-kept ∙ p .top-kept })
-            (q .rows-kept namespaces refl ∙ e) s f tag x w
-            (ap (map briefOf) u ∙ briefs-first i k f (rows (tableOf records) m) (s .collected) tag x (ap (map briefOf) met-records ∙ w .collected) z);
+            shows-extended k i h b (record { rest = λ c y e. q .rows-kept c y ∙ p .rows-kept c e; top-rest = q .top-kept ∙ p .top-kept })
+            (q .rows-kept namespaces refl ∙ d .now-rows) s f tag x w
+            (ap (map briefOf) (u .now-rows) ∙ briefs-first i k f (rows (tableOf records) m) (s .collected) tag x (ap (map briefOf) met-records ∙ w .collected) z);
       }
 
 -- there was room: a full table shows no state that asks for more

@@ -5,9 +5,7 @@ use mathlib.Core.Path.{_≡_, refl, sym, ap, subst, _∙_}
 use mathlib.Core.Bool.{Bool, true, false, cond, _||_}
 use mathlib.Core.List.{List, [], _∷_, _++_, map, map-append}
 use mathlib.Core.Option.{Option, none as nothing, some}
-use lib.Dec.{eqb}
 use lib.ListN.{length, length-map}
-use borrow.Author.Tests.{eqb-true, eqb-false, eq-eqb, ne-eqb}
 use Rattle.tables.specs.Rows.{Row, rows, next, between, firstIn}
 use Rattle.tables.specs.Only.{Only}
 use Rattle.tree.specs.Layout.{two, same, valueOf}
@@ -16,25 +14,21 @@ use Rattle.tree.proofs.FixedLaws.{or-right}
 use Rattle.inputs.specs.Lists.{find, isSome, among}
 use Rattle.extraction_rules.specs.State.{Record, State, setForced}
 use Rattle.extraction_rules.specs.First.{holdsNamespace, forceSource, forceHolder, forget, forceId}
-use Rattle.state.specs.Cells.{At, records, forces, tableOf, Below, held, Good, atomOf, sourcesIn, Once, Sourced, Shows}
+use Rattle.state.specs.Cells.{At, id-limit, imports, uses, hintAt, importHint, namespaceHint, useHint, idOf, records, forces, tableOf, Below, held, Good, atomOf, sourcesIn, Once, Sourced, Shows}
 use Rattle.state.specs.Does.{Tells, Turns, Forces, sourceOf}
-use Rattle.state.proofs.IdLaws.{between-one}
+use Rattle.state.proofs.IdLaws.{between-one, eqb-swap}
 use Rattle.state.proofs.ListLaws.{below-append, length-more}
 use Rattle.state.proofs.FrameLaws.{others-kept, good-kept, room-for, shows-forced}
-use Rattle.state.proofs.RecordLaws.{held-shown}
+use Rattle.state.proofs.RecordLaws.{held-shown, holder-told}
+use Rattle.state.proofs.HintLaws.{none-least}
+use Rattle.state.proofs.ChangeLaws.{absent, not-imported, not-used, not-held}
+use Rattle.state.proofs.UsageLaws.{forgotten}
 use Rattle.state.proofs.SourcedLaws.{find-among, sourced-force}
 
 -- ---- The search
 
 same-atom : (a n : ℕ) → a < 65536 → n < 65536 → same (two a) (two n) ≡ between a a n
-same-atom a n h k = same-two a n h k ∙ swap ∙ sym (between-one a n)
-  where
-    swap : eqb a n ≡ eqb n a
-    swap = by (eqb a n) refl
-      where
-        by : (b : Bool) → eqb a n ≡ b → b ≡ eqb n a
-        by true e = sym (eq-eqb n a (sym (eqb-true a n e)))
-        by false e = sym (ne-eqb n a (λ z. eqb-false a n e (sym z)))
+same-atom a n h k = same-two a n h k ∙ eqb-swap a n ∙ sym (between-one a n)
 
 among-rows : (a v : ℕ) (l : List Row) → a < 65536 → Below 65536 v l → among (two a) (map atomOf l) ≡ isSome (firstIn a a l)
 unfolding among firstIn Below
@@ -131,7 +125,7 @@ module _ {t : List ℕ} (a : ℕ) (g : Good t) where
   force-new {t'} h n k e o =
       let m = length-more (rows (tableOf forces) t) (a, 0) in
       record {
-        good = good-kept forces g o e (omega arith) (below-append _ _ (rows (tableOf forces) t) (a, 0) (g .below forces) h (omega arith));
+        good = good-kept forces g o e (omega arith) (below-append _ _ (rows (tableOf forces) t) (a, 0) (g .below forces) h (omega arith)) tt;
         shows = λ {x = y} s f w.
             subst (λ (b : Bool). Shows y t' (cond b s (setForced (s .forced ++ (two a ∷ [])) s))) (n .is s w)
             (shows-forced w (others-kept forces g o)
@@ -174,3 +168,10 @@ module _ {t m : List ℕ} (i : List ℕ) (u : Turns (forget i) t m) where
             subst (Shows _ t') (sym (holder-some (find (holdsNamespace i) (s .collected)) (forget i s) x e))
             (f .shows (forget i s) (find-among (holdsNamespace i) (s .collected) x e) v);
       }
+
+-- an id that no hint names is nowhere
+pub forced-nowhere : {t : List ℕ} (id : ℕ) → Good t → id < id-limit → hintAt t id ≡ 0 → Turns (forceId (idOf id)) t t
+forced-nowhere id g h e =
+    forced-none (idOf id)
+    (forgotten g h (absent uses id g (not-used id g (ap useHint e))) (absent imports id g (not-imported id g (ap importHint e))))
+    (holder-told h (sym (none-least id _ (not-held id g (ap namespaceHint e)))))

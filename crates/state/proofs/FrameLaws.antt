@@ -1,11 +1,11 @@
 -- A change of one table keeps the others, and so all of what the array shows but what that table shows.
-use Prim.Native.Nat.{ℕ, _+_, _*_, _≤_, _<_}
+use Prim.Native.Nat.{ℕ, _+_, _*_, _/_, _%_, _≤_, _<_}
 use native.Mathlib.Omega.{arith}
 use mathlib.Core.Path.{_≡_, refl, sym, ap, subst, _∙_}
 use mathlib.Core.Bool.{Bool, true, false, not, cond, _&&_, _||_}
 use mathlib.Core.List.{List, map}
 use lib.Dec.{leb, ltb, eqb}
-use lib.ListN.{length, getD}
+use lib.ListN.{length}
 use borrow.Author.Tests.{leb-true, ltb-true, eqb-true, eqb-false, not-true}
 use Rattle.tree.proofs.Table.{both-true}
 use Rattle.scope.specs.Modules.{Modules}
@@ -19,7 +19,9 @@ use Rattle.inputs.specs.Lists.{among}
 use Rattle.extraction_rules.specs.First.{holdsNamespace}
 use Rattle.state.specs.Cells.{Kind, imports, uses, records, namespaces, lazies, forces, modules, tableOf, top-cell, InLimits, Good, At}
 use Rattle.state.specs.Cells.{Sourced, Shows, idOf, importedOf, usageOf, brief, briefOf, indexOf, namespacesIn, sourcesIn, lazyOf, atomOf}
-use Rattle.state.specs.Cells.{moduleOf}
+use Rattle.state.specs.Cells.{moduleOf, hintAt, nameHint, Hinted}
+use Rattle.state.specs.Does.{one?, Others, Changes, Keeps}
+use Rattle.state.proofs.HintLaws.{hinted-agree, keeps-same}
 
 -- ---- Tables apart
 
@@ -54,9 +56,6 @@ apart-by b c e =
     by other low up false false p q f = absurd (let z : _≡_ {A = ℕ} 0 1 = cc in omega arith)
 
 -- ---- The layout: two kinds are one, or their tables are apart
-
-abbrev pub one? : Kind → Kind → Bool
-one? k m = eqb (tableOf k .count) (tableOf m .count)
 
 pub each : (P : Kind → Type 0) → P imports → P uses → P records → P namespaces → P lazies → P forces → P modules → (k : Kind) → P k
 each P a b c d e f g imports = a
@@ -102,12 +101,21 @@ top-outside = each _ (outside-below _ _ (λ e. omega arith) (omega arith)) (outs
     (outside-below _ _ (λ e. omega arith) (omega arith)) (outside-below _ _ (λ e. omega arith) (omega arith))
     (outside-below _ _ (λ e. omega arith) (omega arith)) (outside-below _ _ (λ e. omega arith) (omega arith))
 
--- ---- The others
+-- hints stand behind all tables
+outside-past : (b : Table) (i : ℕ) → b .count < 15994 → b .base + 2 * b .room ≤ 15994 → 15994 ≤ i → Outside b i
+outside-past b i c e h = record { cell = λ z. omega arith; row = λ p q. omega arith }
 
--- all but one table is kept
-pub record Others (k : Kind) (t t' : List ℕ) : Type 0 where
-  pub rows-kept : (m : Kind) → one? k m ≡ false → rows (tableOf m) t' ≡ rows (tableOf m) t
-  pub top-kept : getD t' top-cell 0 ≡ getD t top-cell 0
+hint-outside : (k : Kind) (i : ℕ) → 15994 ≤ i → Outside (tableOf k) i
+hint-outside = each _ (λ i. outside-past _ i (omega arith) (omega arith)) (λ i. outside-past _ i (omega arith) (omega arith))
+    (λ i. outside-past _ i (omega arith) (omega arith)) (λ i. outside-past _ i (omega arith) (omega arith)) (λ i. outside-past _ i (omega arith) (omega arith))
+    (λ i. outside-past _ i (omega arith) (omega arith)) (λ i. outside-past _ i (omega arith) (omega arith))
+
+hints-kept : (k : Kind) {t t' : List ℕ} → Only (tableOf k) t t' → (m : Kind) (l : List Row) → Hinted m t l → Hinted m t' l
+hints-kept k {t} {t'} o =
+    hinted-agree t t' (λ n. keeps-same (o .same (15994 + n % 4001) (hint-outside k _ (omega arith))))
+    (λ n. let e = o .same (19995 + n / 4294967296 % 1024) (hint-outside k _ (omega arith)) in omega arith)
+
+-- ---- The others
 
 pub others-kept : (k : Kind) {t t' : List ℕ} → Good t → Only (tableOf k) t t' → Others k t t'
 others-kept k g o =
@@ -122,11 +130,16 @@ lies-kept {b} {t} {t'} l o h =
     let s = o .size in
     record { ends = let e = l .ends in omega arith; cell = l .cell; held = omega arith }
 
--- the array stays good where the rows of the table stay inside its room and its limits
+-- the array stays good where the rows of the table stay inside its room and its limits, and have hints
 pub good-kept : (k : Kind) {t t' : List ℕ} {l : List Row} → Good t → Only (tableOf k) t t' → rows (tableOf k) t' ≡ l → length l ≤ tableOf k .room →
-    InLimits k l → Good t'
-good-kept k {t} {t'} {l} g o e n b =
-    record { lies = λ m. lies m (one? k m) refl; below = λ m. limits m (one? k m) refl }
+    InLimits k l → Hinted k t l → Good t'
+good-kept k {t} {t'} {l} g o e n b f =
+    record {
+      size = let z = g .size in let s = o .size in omega arith;
+      lies = λ m. lies m (one? k m) refl;
+      below = λ m. limits m (one? k m) refl;
+      hinted = λ m. hints m (one? k m) refl;
+    }
   where
     lies : (m : Kind) (x : Bool) → one? k m ≡ x → Lies (tableOf m) t'
     lies m true h = subst (λ (x : Kind). Lies (tableOf x) t') (kinds-one k m h) (lies-kept (g .lies k) o (rw e n))
@@ -136,9 +149,39 @@ good-kept k {t} {t'} {l} g o e n b =
     limits m true h = subst (λ (x : Kind). InLimits x (rows (tableOf x) t')) (kinds-one k m h) (subst (InLimits k) (sym e) b)
     limits m false h = subst (InLimits m) (sym (others-kept k g o .rows-kept m h)) (g .below m)
 
+    hints : (m : Kind) (x : Bool) → one? k m ≡ x → Hinted m t' (rows (tableOf m) t')
+    hints m true h = subst (λ (x : Kind). Hinted x t' (rows (tableOf x) t')) (kinds-one k m h) (subst (Hinted k t') (sym e) (hints-kept k o k l f))
+    hints m false h = subst (Hinted m t') (sym (others-kept k g o .rows-kept m h)) (hints-kept k o m (rows (tableOf m) t) (g .hinted m))
+
+pub changed : (k : Kind) {t t' : List ℕ} {l : List Row} → Good t → Only (tableOf k) t t' → rows (tableOf k) t' ≡ l → length l ≤ tableOf k .room →
+    InLimits k l → Hinted k t l → Changes k l t t'
+changed k g o e n b f = record { good = good-kept k g o e n b f; now-rows = e; others = others-kept k g o }
+
 -- how many rows a good array holds
 pub room-for : (k : Kind) {t : List ℕ} → Good t → length (rows (tableOf k) t) ≤ tableOf k .room
 room-for k {t} g = let n = rows-length (tableOf k) t in let h = g .lies k .held in omega arith
+
+-- ---- What stands aside of the tables: *top*, and the hints
+
+abbrev pub aside : Table
+aside = record { count = top-cell; base = 15994; room = 2513 }
+
+aside-apart : (k : Kind) → apart? aside (tableOf k) ≡ true
+unfolding apart?
+aside-apart = each _ refl refl refl refl refl refl refl
+
+module _ {t t' : List ℕ} (g : Good t) (o : Only aside t t') where
+  pub aside-rows : (k : Kind) → rows (tableOf k) t' ≡ rows (tableOf k) t
+  aside-rows k = apart-rows (apart-by aside (tableOf k) (aside-apart k)) o (g .lies k)
+
+  pub aside-good : ((n : ℕ) → Keeps (hintAt t n) (hintAt t' n)) → ((n : ℕ) → nameHint t n ≤ nameHint t' n) → Good t'
+  aside-good a b =
+      record {
+        size = let z = g .size in let s = o .size in omega arith;
+        lies = λ k. apart-lies (apart-by aside (tableOf k) (aside-apart k)) o (g .lies k);
+        below = λ k. subst (InLimits k) (sym (aside-rows k)) (g .below k);
+        hinted = λ k. subst (Hinted k t') (sym (aside-rows k)) (hinted-agree t t' a b k (rows (tableOf k) t) (g .hinted k));
+      }
 
 -- ---- What is shown
 

@@ -6,7 +6,7 @@ use mathlib.Core.Bool.{Bool, true, false, _&&_}
 use mathlib.Core.List.{List}
 use lib.Dec.{leb, eqb}
 use lib.ListN.{take, drop}
-use borrow.Author.Tests.{eqb-true, leb-true, leb-false, eq-eqb, ne-eqb}
+use borrow.Author.Tests.{eqb-true, eqb-false, leb-true, leb-false, eq-eqb, ne-eqb}
 use Rattle.tree.specs.Layout.{two, four, same, nameOf, contextOf}
 use Rattle.tree.proofs.LayoutLaws.{same-refl, same-two, same-four, same-code}
 use Rattle.tables.specs.Rows.{between}
@@ -30,6 +30,13 @@ same-id m n a b =
     let hi = from-code two (m / 4294967296) (n / 4294967296) (same-two _ _ (omega arith) (omega arith)) (sym (id-name m) ∙ ap (take 2) e ∙ id-name n) in
     let lo = from-code four (m % 4294967296) (n % 4294967296) (same-four _ _ (omega arith) (omega arith)) (sym (id-context m) ∙ ap (drop 2) e ∙ id-context n) in
     omega arith)
+
+pub eqb-swap : (m n : ℕ) → eqb m n ≡ eqb n m
+eqb-swap m n = by (eqb m n) refl
+  where
+    by : (b : Bool) → eqb m n ≡ b → b ≡ eqb n m
+    by true e = sym (eq-eqb n m (sym (eqb-true m n e)))
+    by false e = sym (ne-eqb n m (λ z. eqb-false m n e (sym z)))
 
 -- from a number to itself stands that number alone
 pub between-one : (k n : ℕ) → between k k n ≡ eqb n k

@@ -4,7 +4,7 @@ use native.Mathlib.Omega.{arith}
 use mathlib.Core.Path.{_≡_, refl, sym, ap, _∙_}
 use mathlib.Core.Bool.{Bool, true, false, cond}
 use mathlib.Core.List.{List, [], _∷_, _++_, map}
-use mathlib.Core.Option.{Option, none, some}
+use mathlib.Core.Option.{Option, none as nothing, some}
 use lib.Dec.{eqb}
 use lib.ListN.{length, length-map}
 use borrow.Author.Tests.{le-leb, lt-leb, eqb-true}
@@ -15,12 +15,13 @@ use Rattle.inputs.specs.Lists.{mapped}
 use Rattle.inputs.specs.Outcome.{done, refused}
 use Rattle.extraction_rules.specs.State.{Imported, State, roomFor, setImported}
 use Rattle.extraction_rules.specs.First.{importedAs, noteIn, noteId}
-use Rattle.state.specs.Cells.{At, id-limit, imports, tableOf, Below, Good, Shows, idOf, importedOf}
-use Rattle.state.specs.Does.{Tells, Did, Acts}
+use Rattle.state.specs.Cells.{At, id-limit, imports, tableOf, Below, importHint, Good, Shows, idOf, importedOf}
+use Rattle.state.specs.Does.{Others, Changes, Tells, Did, Acts}
 use Rattle.state.specs.declared.Room.the-variants.{Made, Full}
 use Rattle.state.proofs.IdLaws.{same-id, same-key, between-one}
-use Rattle.state.proofs.ListLaws.{below-append, below-value, length-value, length-more, rowOf, find-row}
-use Rattle.state.proofs.FrameLaws.{others-kept, good-kept, room-for, shows-imported}
+use Rattle.state.proofs.ListLaws.{below-value, length-value, length-more, rowOf, find-row}
+use Rattle.state.proofs.HintLaws.{covered-value, distinct-value}
+use Rattle.state.proofs.FrameLaws.{room-for, changed, shows-imported}
 
 -- ---- A refusal for want of room
 
@@ -33,7 +34,7 @@ room-full n most p f s h = rw (lt-leb n most h)
 -- ---- The context of an imported id
 
 mapped-mapped : {A B C : Type 0} (g : B → C) (f : A → B) (o : Option A) → mapped g (mapped f o) ≡ mapped (λ a. g (f a)) o
-mapped-mapped g f none = refl
+mapped-mapped g f nothing = refl
 mapped-mapped g f (some a) = refl
 
 imported-found : (id v : ℕ) (l : List Row) → id < id-limit → Below id-limit v l →
@@ -56,12 +57,12 @@ context-told {t} {id} {o} g h e =
 
 -- the rows with an id noted, by where it was found
 abbrev pub noted : Option ℕ → ℕ → ℕ → List Row → List Row
-noted none k c l = l ++ ((k, c) ∷ [])
+noted nothing k c l = l ++ ((k, c) ∷ [])
 noted (some i) k c l = withValue i c l
 
 noted-next : (o : Option ℕ) (k c : ℕ) (r : Row) (l : List Row) → noted (next o) k c (r ∷ l) ≡ r ∷ noted o k c l
 unfolding withValue
-noted-next none k c r l = refl
+noted-next nothing k c r l = refl
 noted-next (some i) k c r l = refl
 
 note-rows : (k c v : ℕ) (l : List Row) → k < id-limit → Below id-limit v l →
@@ -79,17 +80,13 @@ note-rows k c v (r ∷ l) h b =
     by true p e = ap (λ (n : ℕ). importedOf (n, c) ∷ map importedOf l) (sym (eqb-true (r .0) k p))
     by false p e = ap (λ (m : List Imported). importedOf r ∷ m) e ∙ sym (ap (map importedOf) (noted-next (firstIn k k l) k c r l))
 
-below-noted : (o : Option ℕ) (k c x v : ℕ) (l : List Row) → Below x v l → k < x → c < v → Below x v (noted o k c l)
-below-noted none k c x v l b p q = below-append x v l (k, c) b p q
-below-noted (some i) k c x v l b p q = below-value x v l i c b q
-
 module _ {t : List ℕ} {k c : ℕ} (g : Good t) (h : k < id-limit) (hc : c < 4294967296) where
   noted-shown : {y : At} (s : State) → Shows y t s →
       map importedOf (noted (firstIn k k (rows (tableOf imports) t)) k c (rows (tableOf imports) t)) ≡ noteIn (importedOf (k, c)) (s .imported)
   noted-shown s w = sym (note-rows k c _ (rows (tableOf imports) t) h (g .below imports)) ∙ ap (noteIn (importedOf (k, c))) (w .imported)
 
   noted-done : {t' : List ℕ} → rows (tableOf imports) t' ≡ noted (firstIn k k (rows (tableOf imports) t)) k c (rows (tableOf imports) t) →
-      length (rows (tableOf imports) t') ≤ 512 → Only (tableOf imports) t t' → {y : At} (s : State) (p : ℕ) → Shows y t s → Did y (noteId (importedOf (k, c)) p s) t'
+      length (rows (tableOf imports) t') ≤ 512 → Others imports t t' → {y : At} (s : State) (p : ℕ) → Shows y t s → Did y (noteId (importedOf (k, c)) p s) t'
   unfolding noteId
   noted-done {t'} e n o s p w =
       let x = noteIn (importedOf (k, c)) (s .imported) in
@@ -98,15 +95,15 @@ module _ {t : List ℕ} {k c : ℕ} (g : Good t) (h : k < id-limit) (hc : c < 42
       record {
         state = setImported x s;
         is = room-made (length x) 512 p (setImported x) s (omega arith);
-        shows = shows-imported w (others-kept imports g o) shown;
+        shows = shows-imported w o shown;
       }
 
-  noted-acts : {t' : List ℕ} {o : Option ℕ} → o ≡ firstIn k k (rows (tableOf imports) t) → rows (tableOf imports) t' ≡ noted o k c (rows (tableOf imports) t) →
-      length (noted o k c (rows (tableOf imports) t)) ≤ 512 → Only (tableOf imports) t t' → Acts (noteId (importedOf (k, c))) t t' Made
-  noted-acts {t'} {o} f e n only =
+  noted-acts : {t' : List ℕ} {o : Option ℕ} → o ≡ firstIn k k (rows (tableOf imports) t) → length (noted o k c (rows (tableOf imports) t)) ≤ 512 →
+      Changes imports (noted o k c (rows (tableOf imports) t)) t t' → Acts (noteId (importedOf (k, c))) t t' Made
+  noted-acts {t'} {o} f n d =
       record {
-        good = good-kept imports g only e n (below-noted o k c _ _ (rows (tableOf imports) t) (g .below imports) h hc);
-        made = λ m s p w. noted-done (e ∙ ap (λ (x : Option ℕ). noted x k c (rows (tableOf imports) t)) f) (rw e n) only s p w;
+        good = d .good;
+        made = λ m s p w. noted-done (d .now-rows ∙ ap (λ (x : Option ℕ). noted x k c (rows (tableOf imports) t)) f) (rw (d .now-rows) n) (d .others) s p w;
         full = λ m s p w. absurd (let z : _≡_ {A = ℕ} 0 1 = cc in omega arith);
       }
 
@@ -114,18 +111,21 @@ module _ {t : List ℕ} {k c : ℕ} (g : Good t) (h : k < id-limit) (hc : c < 42
   pub noted-again : {t' : List ℕ} {i : ℕ} → some i ≡ firstIn k k (rows (tableOf imports) t) → rows (tableOf imports) t' ≡ withValue i c (rows (tableOf imports) t) →
       Only (tableOf imports) t t' → Acts (noteId (importedOf (k, c))) t t' Made
   noted-again {t'} {i} f e only =
-      let n = length-value (rows (tableOf imports) t) i c in
+      let l = rows (tableOf imports) t in
+      let n = length-value l i c in
       let r = room-for imports g in
-      noted-acts {o = some i} f e (omega arith) only
+      noted-acts {o = some i} f (omega arith)
+      (changed imports g only e (omega arith) (below-value _ _ l i c (g .below imports) hc)
+      (covered-value importHint t l i c (g .hinted imports .0), distinct-value l i c (g .hinted imports .1)))
 
   -- an id that was not is one more
-  pub noted-new : {t' : List ℕ} → none ≡ firstIn k k (rows (tableOf imports) t) → rows (tableOf imports) t' ≡ rows (tableOf imports) t ++ ((k, c) ∷ []) →
-      length (rows (tableOf imports) t) < 512 → Only (tableOf imports) t t' → Acts (noteId (importedOf (k, c))) t t' Made
-  noted-new {t'} f e m only =
+  pub noted-new : {t' : List ℕ} → nothing ≡ firstIn k k (rows (tableOf imports) t) → length (rows (tableOf imports) t) < 512 →
+      Changes imports (rows (tableOf imports) t ++ ((k, c) ∷ [])) t t' → Acts (noteId (importedOf (k, c))) t t' Made
+  noted-new {t'} f m d =
       let n = length-more (rows (tableOf imports) t) (k, c) in
-      noted-acts {o = none} f e (omega arith) only
+      noted-acts {o = nothing} f (omega arith) d
 
-  note-refused : none ≡ firstIn k k (rows (tableOf imports) t) → 512 ≤ length (rows (tableOf imports) t) → {y : At} (s : State) (p : ℕ) → Shows y t s →
+  note-refused : nothing ≡ firstIn k k (rows (tableOf imports) t) → 512 ≤ length (rows (tableOf imports) t) → {y : At} (s : State) (p : ℕ) → Shows y t s →
       noteId (importedOf (k, c)) p s ≡ refused 8 p
   unfolding noteId
   note-refused f m s p w =
@@ -136,6 +136,6 @@ module _ {t : List ℕ} {k c : ℕ} (g : Good t) (h : k < id-limit) (hc : c < 42
       let n = length-more l (k, c) in
       room-full (length x) 512 p (setImported x) s (omega arith)
 
-  pub noted-full : none ≡ firstIn k k (rows (tableOf imports) t) → 512 ≤ length (rows (tableOf imports) t) → Acts (noteId (importedOf (k, c))) t t Full
+  pub noted-full : nothing ≡ firstIn k k (rows (tableOf imports) t) → 512 ≤ length (rows (tableOf imports) t) → Acts (noteId (importedOf (k, c))) t t Full
   noted-full f m =
       record { good = g; made = λ n s p w. absurd (let z : _≡_ {A = ℕ} 0 1 = cc in omega arith); full = λ n s p w. note-refused f m s p w }

@@ -1,5 +1,5 @@
 -- Where the first of a list stands that meets a test: through functions, in rows, and what the search gives of it.
-use Prim.Native.Nat.{ℕ, zero, suc, _<_}
+use Prim.Native.Nat.{ℕ, zero, _<_}
 use native.Mathlib.Omega.{arith}
 use mathlib.Core.Path.{_≡_, refl, sym, ap, _∙_}
 use mathlib.Core.Bool.{Bool, true, false, cond}
@@ -63,11 +63,6 @@ pub index-below : {A : Type 0} (p : A → Bool) (l : List A) (i : ℕ) → index
 unfolding indexOf
 index-below p [] i e = none-some e
 index-below p (a ∷ l) i e = here-below (p a) (indexOf p l) (index-below p l) e
-
-pub getD-map : {A B : Type 0} (h : A → B) (l : List A) (i : ℕ) (d : A) → getD (map h l) i (h d) ≡ h (getD l i d)
-getD-map h [] i d = refl
-getD-map h (a ∷ l) zero d = refl
-getD-map h (a ∷ l) (suc i) d = getD-map h l i d
 
 -- one more that does not meet the test
 pub index-more : {A : Type 0} (p : A → Bool) (l : List A) (a : A) → p a ≡ false → indexOf p (l ++ (a ∷ [])) ≡ indexOf p l

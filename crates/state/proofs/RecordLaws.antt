@@ -10,7 +10,8 @@ use lib.ListN.{length, getD, length-map}
 use borrow.Author.Tests.{le-leb, lt-leb, leb-true, eqb-true, eq-eqb, ne-eqb}
 use Rattle.tree.proofs.Table.{both-true}
 use Rattle.scope.specs.Id.{local}
-use Rattle.tables.specs.Rows.{Row, rows, between, flip, firstIn, leastOf}
+use Rattle.tables.specs.Rows.{Row, rows, between, flip, firstIn, NoneBefore, leastOf}
+use Rattle.tables.proofs.RowLaws.{getD-map}
 use Rattle.tree.specs.Layout.{four, same, nameOf, contextOf, valueOf}
 use Rattle.tree.specs.Tree.{Field, fixedOf}
 use Rattle.tree.proofs.LayoutLaws.{same-two, same-four}
@@ -19,9 +20,10 @@ use Rattle.inputs.specs.Fields.{has, findField}
 use Rattle.extraction_rules.specs.State.{Record, State}
 use Rattle.extraction_rules.specs.First.{holdsNamespace, suits, usedRecord}
 use Rattle.state.specs.Cells.{At, id-limit, records, namespaces, tableOf, held, Good, idOf, Brief, brief, briefOf, namespaceOf, indexOf, Shows}
-use Rattle.state.specs.Does.{Tells, sourceOf, sourceAt}
+use Rattle.state.specs.Does.{Starts, Tells, sourceOf, sourceAt}
 use Rattle.state.proofs.IdLaws.{id-name, id-context, between-one}
-use Rattle.state.proofs.IndexLaws.{index-map, index-same, index-value, find-index, index-below, getD-map}
+use Rattle.state.proofs.HintLaws.{none-from}
+use Rattle.state.proofs.IndexLaws.{index-map, index-same, index-value, find-index, index-below}
 
 -- ---- The source of the record at a place
 
@@ -173,3 +175,12 @@ used-name own id g h e f = used-by g own id _ _ (λ n b. suits-name own id n h b
 pub used-id : (own id : ℕ) {t : List ℕ} {o : Option ℕ} → Good t → own < 65536 → id < id-limit → (id % 4294967296 ≡ local own → ⊥) →
     o ≡ firstIn (id + 1) (id + 1) (map flip (rows (tableOf records) t)) → Tells (λ s. sourceOf (usedRecord own (idOf id) (s .collected))) t (mapped (sourceAt t) o)
 used-id own id g o h e f = used-by g own id _ _ (λ n b. suits-id own id n o h b e) f
+
+-- no first namespace before the hint of an id's name is in either range
+pub named-past : {t : List ℕ} {from id : ℕ} → Starts from id t →
+    NoneBefore from (id - id % 4294967296 + 1) (id - id % 4294967296 + 4294967296) (map flip (rows (tableOf records) t))
+named-past {t} {from} {id} h = none-from _ _ id from (rows (tableOf records) t) (h .none-named) (omega arith) (λ n p q. omega arith)
+
+pub id-past : {t : List ℕ} {from id : ℕ} → Starts from id t → NoneBefore from (id + 1) (id + 1) (map flip (rows (tableOf records) t))
+id-past {t} {from} {id} h =
+    none-from _ _ id from (rows (tableOf records) t) (h .none-named) (omega arith) (λ n p q. let z : n ≡ id = omega arith in ap (λ (x : ℕ). x / 4294967296) z)

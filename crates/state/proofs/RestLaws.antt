@@ -1,27 +1,28 @@
 -- The array after a lazy record is appended and after top is set, and an array of zeros.
-use Prim.Native.Nat.{ℕ, _+_, _*_, _≤_, _<_}
+use Prim.Native.Nat.{ℕ, _+_, _*_, _/_, _%_, _≤_, _<_}
 use native.Mathlib.Omega.{arith}
 use mathlib.Core.Path.{_≡_, refl, sym, ap, subst, _∙_}
 use mathlib.Core.Bool.{Bool, true, false}
 use mathlib.Core.List.{List, [], _∷_, _++_, map, map-append}
 use lib.ListN.{length, getD, set, length-map}
-use lib.Seq.{getD-set-same}
+use lib.Seq.{getD-set-same, getD-set-other}
 use lib.Dec.{eqb}
 use Rattle.tables.specs.declared.Table.{Table}
 use Rattle.tables.specs.Rows.{rowsFrom, rows, Lies, leastOf}
 use Rattle.tables.specs.Only.{Only}
-use Rattle.tables.proofs.OnlyLaws.{store-count, apart-rows, apart-lies}
+use Rattle.tables.proofs.OnlyLaws.{store-count}
 use Rattle.tree.specs.Tree.{Fields}
 use Rattle.inputs.specs.Outcome.{refused}
 use Rattle.extraction_rules.specs.State.{Record, State, Act, start, setLazy, setTop}
 use Rattle.extraction_rules.specs.First.{addLazy}
 use Rattle.state.specs.Cells.{At, id-limit, place-limit, Kind, imports, uses, records, namespaces, lazies, forces, modules, tableOf, top-cell}
 use Rattle.state.specs.Cells.{cells, InLimits, Below, held, Good, idOf, importedOf, usageOf, briefOf, lazyOf, atomOf, moduleOf, indexOf, flag}
-use Rattle.state.specs.Cells.{namespacesIn, Shows}
+use Rattle.state.specs.Cells.{namespacesIn, Shows, Covered, Distinct, Named, Hinted}
 use Rattle.state.specs.Does.{Tells, Turns, Did, ActsAt}
 use Rattle.state.specs.declared.Room.the-variants.{Made, Full}
 use Rattle.state.proofs.ListLaws.{below-append, length-more}
-use Rattle.state.proofs.FrameLaws.{each, apart?, apart-by, others-kept, good-kept, shows-lazy}
+use Rattle.state.proofs.HintLaws.{keeps-same}
+use Rattle.state.proofs.FrameLaws.{each, aside, aside-rows, aside-good, others-kept, good-kept, shows-lazy}
 use Rattle.state.proofs.ImportedLaws.{room-made, room-full}
 use Rattle.state.proofs.SourcedLaws.{sourced-start}
 
@@ -55,7 +56,7 @@ module _ (x q : ℕ) {t : List ℕ} (g : Good t) where
   lazy-made a b e n o =
       let m = length-more (rows (tableOf lazies) t) (x, q) in
       record {
-        good = good-kept lazies g o e (omega arith) (below-append _ _ (rows (tableOf lazies) t) (x, q) (g .below lazies) a b);
+        good = good-kept lazies g o e (omega arith) (below-append _ _ (rows (tableOf lazies) t) (x, q) (g .below lazies) a b) tt;
         made = λ r s p w. lazy-done e n o s p w;
         full = λ r s p w. absurd (let z : _≡_ {A = ℕ} 0 1 = cc in omega arith);
       }
@@ -75,14 +76,6 @@ module _ (x q : ℕ) {t : List ℕ} (g : Good t) where
 
 -- ---- Top
 
--- a cell alone: a table without rows
-abbrev top-table : Table
-top-table = record { count = top-cell; base = 8; room = 0 }
-
-top-apart : (k : Kind) → apart? top-table (tableOf k) ≡ true
-unfolding apart?
-top-apart = each _ refl refl refl refl refl refl refl
-
 pub top-told : (t : List ℕ) → Tells (λ s. s .top) t (eqb (getD t top-cell 0) 1)
 top-told t = record { is = λ s w. ap (λ (n : ℕ). eqb n 1) (w .top) ∙ by (s .top) }
   where
@@ -92,13 +85,11 @@ top-told t = record { is = λ s w. ap (λ (n : ℕ). eqb n 1) (w .top) ∙ by (s
 
 pub top-set : {t : List ℕ} (b : Bool) → Good t → Turns (setTop b) t (set t top-cell (flag b))
 top-set {t} b g =
-    let o = store-count top-table t (flag b) in
+    let o = store-count aside t (flag b) in
     record {
       good =
-          record {
-            lies = λ k. apart-lies (apart-by top-table (tableOf k) (top-apart k)) o (g .lies k);
-            below = λ k. subst (InLimits k) (sym (same k)) (g .below k);
-          };
+          aside-good g o (λ n. keeps-same (getD-set-other t top-cell (15994 + n % 4001) (flag b) 0 (λ e. omega arith)))
+          (λ n. let e = getD-set-other t top-cell (19995 + n / 4294967296 % 1024) (flag b) 0 (λ z. omega arith) in omega arith);
       shows = λ s w.
           record {
             imported = ap (map importedOf) (same imports) ∙ w .imported;
@@ -115,7 +106,7 @@ top-set {t} b g =
     }
   where
     same : (k : Kind) → rows (tableOf k) (set t top-cell (flag b)) ≡ rows (tableOf k) t
-    same k = apart-rows (apart-by top-table (tableOf k) (top-apart k)) (store-count top-table t (flag b)) (g .lies k)
+    same k = aside-rows g (store-count aside t (flag b)) k
 
 -- ---- An array of zeros shows the state at the start of a scope without modules, but for top
 
@@ -131,6 +122,10 @@ module _ (t : List ℕ) (n : length t ≡ cells) (z : (i : ℕ) → getD t i 0 �
   unfolding Below
   nothing-over = each _ tt tt tt tt tt tt tt
 
+  nothing-hinted : (k : Kind) → Hinted k t []
+  unfolding Covered Distinct Named
+  nothing-hinted = each _ (tt, tt) tt tt tt tt tt tt
+
   pub zero-good : Good t
   unfolding Below
   zero-good =
@@ -140,6 +135,8 @@ module _ (t : List ℕ) (n : length t ≡ cells) (z : (i : ℕ) → getD t i 0 �
             (zero-lies _ (omega arith) (omega arith)) (zero-lies _ (omega arith) (omega arith)) (zero-lies _ (omega arith) (omega arith))
             (zero-lies _ (omega arith) (omega arith));
         below = λ k. subst (InLimits k) (sym (zero-rows k)) (nothing-over k);
+        size = omega arith;
+        hinted = λ k. subst (Hinted k t) (sym (zero-rows k)) (nothing-hinted k);
       }
 
   pub zero-shows : (y : At) → Shows y t (setTop false (start []))

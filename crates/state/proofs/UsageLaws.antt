@@ -4,28 +4,26 @@ use native.Mathlib.Omega.{arith}
 use mathlib.Core.Path.{_≡_, refl, sym, ap, ap₂, _∙_}
 use mathlib.Core.Bool.{Bool, true, false, not, cond}
 use mathlib.Core.List.{List, [], _∷_, _++_, map, map-append}
-use mathlib.Core.Option.{Option}
 use lib.Dec.{eqb}
 use lib.ListN.{length, length-map, getD, drop}
 use lib.Seq.{drop-cons}
 use borrow.Author.Tests.{eq-eqb, ne-eqb}
 use native.Mathlib.Numerals.{add-one}
 use Rattle.tables.specs.Rows.{Row, rows, firstIn, without}
-use Rattle.tables.specs.Only.{Only}
 use Rattle.tree.specs.Layout.{same}
 use Rattle.inputs.specs.Lists.{filter, isSome}
 use Rattle.inputs.specs.Outcome.{refused}
 use Rattle.extraction_rules.specs.State.{Imported, Usage, State, setUsages}
 use Rattle.extraction_rules.specs.First.{forget, addUsage}
 use Rattle.extraction_rules.specs.Second.{usagesOf}
-use Rattle.state.specs.Cells.{At, InLimits, id-limit, Kind, imports, uses, tableOf, Below, held, Good, Shows, idOf, importedOf, usageOf}
-use Rattle.state.specs.Does.{Tells, Turns, Did, Acts, Lists, any}
+use Rattle.state.specs.Cells.{At, id-limit, imports, uses, tableOf, Below, held, Good, Shows, idOf, importedOf, usageOf}
+use Rattle.state.specs.Does.{Changes, Tells, Turns, Did, Acts, Lists, any}
 use Rattle.state.specs.declared.Room.the-variants.{Made, Full}
 use Rattle.state.proofs.IdLaws.{same-id, same-key}
-use Rattle.state.proofs.ListLaws.{below-append, below-without, length-more, length-without, any-row, filter-rows, below-row, rowOf}
-use Rattle.state.proofs.IndexLaws.{getD-map}
+use Rattle.state.proofs.ListLaws.{length-more, any-row, filter-rows, below-row, rowOf}
+use Rattle.tables.proofs.RowLaws.{getD-map}
 use Rattle.state.specs.declared.Property.the-variants.{Is, Other}
-use Rattle.state.proofs.FrameLaws.{others-kept, good-kept, room-for, shows-imported, shows-usages}
+use Rattle.state.proofs.FrameLaws.{shows-imported, shows-usages}
 use Rattle.state.proofs.ImportedLaws.{room-made, room-full}
 
 -- ---- Whether there are some
@@ -34,41 +32,40 @@ any-found : (id v : ℕ) (l : List Row) → id < id-limit → Below id-limit v l
 unfolding usagesOf
 any-found id v l h b = any-row (λ (u : Usage). same (u .id) (idOf id)) usageOf id id id-limit v (λ r k. same-key id (r .0) h k) l b
 
-pub usages-told : {t : List ℕ} {id : ℕ} {o : Option ℕ} → Good t → id < id-limit → o ≡ firstIn id id (rows (tableOf uses) t) →
-    Tells (λ s. any (usagesOf (idOf id) (s .usages))) t (isSome o)
-usages-told {t} {id} {o} g h e =
+pub usages-told : {t : List ℕ} {id : ℕ} {b : Bool} → Good t → id < id-limit → b ≡ isSome (firstIn id id (rows (tableOf uses) t)) →
+    Tells (λ s. any (usagesOf (idOf id) (s .usages))) t b
+usages-told {t} {id} g h e =
     record {
       is = λ s w.
-          ap (λ (x : Option ℕ). isSome x) e ∙ sym (any-found id _ (rows (tableOf uses) t) h (g .below uses))
+          e ∙ sym (any-found id _ (rows (tableOf uses) t) h (g .below uses))
           ∙ ap (λ (l : List Usage). any (usagesOf (idOf id) l)) (w .usages);
     }
 
 -- ---- One more
 
 module _ (k q : ℕ) {t : List ℕ} (g : Good t) where
-  usage-done : {t' : List ℕ} → rows (tableOf uses) t' ≡ rows (tableOf uses) t ++ ((k, q) ∷ []) → length (rows (tableOf uses) t) < 2048 →
-      Only (tableOf uses) t t' → {y : At} (s : State) (p : ℕ) → Shows y t s → Did y (addUsage (usageOf (k, q)) p s) t'
+  usage-done : {t' : List ℕ} → length (rows (tableOf uses) t) < 2048 → Changes uses (rows (tableOf uses) t ++ ((k, q) ∷ [])) t t' →
+      {y : At} (s : State) (p : ℕ) → Shows y t s → Did y (addUsage (usageOf (k, q)) p s) t'
   unfolding addUsage
-  usage-done {t'} e n o s p w =
+  usage-done {t'} n d s p w =
       let l = rows (tableOf uses) t in
       let x = s .usages ++ (usageOf (k, q) ∷ []) in
       let shown : map usageOf (rows (tableOf uses) t') ≡ x =
-      ap (map usageOf) e ∙ map-append usageOf l ((k, q) ∷ []) ∙ ap (λ (m : List Usage). m ++ (usageOf (k, q) ∷ [])) (w .usages) in
+      ap (map usageOf) (d .now-rows) ∙ map-append usageOf l ((k, q) ∷ []) ∙ ap (λ (m : List Usage). m ++ (usageOf (k, q) ∷ [])) (w .usages) in
       let size = length-more (s .usages) (usageOf (k, q)) in
       let held : length (s .usages) ≡ length l = sym (ap length (w .usages)) ∙ length-map l usageOf in
       record {
         state = setUsages x s;
         is = room-made (length x) 2048 p (setUsages x) s (omega arith);
-        shows = shows-usages w (others-kept uses g o) shown;
+        shows = shows-usages w (d .others) shown;
       }
 
-  pub usage-made : {t' : List ℕ} → k < id-limit → q < id-limit → rows (tableOf uses) t' ≡ rows (tableOf uses) t ++ ((k, q) ∷ []) →
-      length (rows (tableOf uses) t) < 2048 → Only (tableOf uses) t t' → Acts (addUsage (usageOf (k, q))) t t' Made
-  usage-made {t'} a b e n o =
-      let m = length-more (rows (tableOf uses) t) (k, q) in
+  pub usage-made : {t' : List ℕ} → length (rows (tableOf uses) t) < 2048 → Changes uses (rows (tableOf uses) t ++ ((k, q) ∷ [])) t t' →
+      Acts (addUsage (usageOf (k, q))) t t' Made
+  usage-made n d =
       record {
-        good = good-kept uses g o e (omega arith) (below-append _ _ (rows (tableOf uses) t) (k, q) (g .below uses) a b);
-        made = λ r s p w. usage-done e n o s p w;
+        good = d .good;
+        made = λ r s p w. usage-done n d s p w;
         full = λ r s p w. absurd (let z : _≡_ {A = ℕ} 0 1 = cc in omega arith);
       }
 
@@ -87,33 +84,20 @@ module _ (k q : ℕ) {t : List ℕ} (g : Good t) where
 
 -- ---- An id is forgotten
 
-dropped-good : (k : Kind) (id : ℕ) {t t' : List ℕ} → Good t → rows (tableOf k) t' ≡ without id (rows (tableOf k) t) → Only (tableOf k) t t' →
-    InLimits k (without id (rows (tableOf k) t)) → Good t'
-dropped-good k id {t} {t'} g e o b =
-    let n = length-without id (rows (tableOf k) t) in
-    let r = room-for k g in
-    good-kept k g o e (omega arith) b
-
-pub uses-dropped : (id : ℕ) {t t' : List ℕ} → Good t → rows (tableOf uses) t' ≡ without id (rows (tableOf uses) t) → Only (tableOf uses) t t' → Good t'
-uses-dropped id {t} g e o = dropped-good uses id g e o (below-without _ _ id (rows (tableOf uses) t) (g .below uses))
-
-pub forgotten : {t m t' : List ℕ} {id : ℕ} → Good t → id < id-limit →
-    rows (tableOf uses) m ≡ without id (rows (tableOf uses) t) → Only (tableOf uses) t m →
-    rows (tableOf imports) t' ≡ without id (rows (tableOf imports) m) → Only (tableOf imports) m t' → Turns (forget (idOf id)) t t'
+pub forgotten : {t m t' : List ℕ} {id : ℕ} → Good t → id < id-limit → Changes uses (without id (rows (tableOf uses) t)) t m →
+    Changes imports (without id (rows (tableOf imports) m)) m t' → Turns (forget (idOf id)) t t'
 unfolding forget
-forgotten {t} {m} {t'} {id} g h e o f q =
-    let gm = uses-dropped id g e o in
-    let others = others-kept uses g o in
+forgotten {t} {m} {t'} {id} g h d f =
     record {
-      good = dropped-good imports id gm f q (below-without _ _ id (rows (tableOf imports) m) (gm .below imports));
+      good = f .good;
       shows = λ s w.
-          shows-imported (shows-usages w others
-          (ap (map usageOf) e
+          shows-imported (shows-usages w (d .others)
+          (ap (map usageOf) (d .now-rows)
           ∙
           sym (filter-rows (λ (u : Usage). not (same (u .id) (idOf id))) usageOf id id-limit _ (λ r k. ap not (same-id (r .0) id k h))
           (rows (tableOf uses) t) (g .below uses))
-          ∙ ap (filter (λ (u : Usage). not (same (u .id) (idOf id)))) (w .usages))) (others-kept imports gm q)
-          (ap (map importedOf) (f ∙ ap (without id) (others .rows-kept imports refl))
+          ∙ ap (filter (λ (u : Usage). not (same (u .id) (idOf id)))) (w .usages))) (f .others)
+          (ap (map importedOf) (f .now-rows ∙ ap (without id) (d .others .rows-kept imports refl))
           ∙ sym (filter-rows (λ (u : Imported). not (same (u .id) (idOf id))) importedOf id id-limit _ (λ r k. ap not (same-id (r .0) id k h)) (rows (tableOf imports) t) (g .below imports))
           ∙ ap (filter (λ (u : Imported). not (same (u .id) (idOf id)))) (w .imported));
     }

@@ -1,12 +1,12 @@
 -- What the walk keeps, in one lent array of numbers: where each table lies, and which state of the rules the array shows.
 -- Document 01, 'Vec, maps, atomics, panics': "hash maps become arrays in insertion order".
-use Prim.Native.Nat.{ℕ, zero, suc, _+_, _/_, _%_, _<_}
+use Prim.Native.Nat.{ℕ, zero, suc, _+_, _/_, _%_, _<_, _≤_}
 use mathlib.Core.Path.{_≡_}
 use mathlib.Core.Bool.{Bool, true, false, cond}
 use mathlib.Core.List.{List, [], _∷_, _++_, map}
 use mathlib.Core.Option.{Option, none as nothing, some}
 use lib.ListN.{length, getD}
-use Rattle.tables.specs.Rows.{Row, rows, Lies, next, leastOf}
+use Rattle.tables.specs.Rows.{Row, rows, Lies, next, firstIn, leastOf}
 use Rattle.tables.specs.declared.Table.{Table}
 use Rattle.scope.specs.Modules.{Module}
 use Rattle.scope.specs.ScopeValue.{moduleBy}
@@ -36,8 +36,9 @@ tableOf modules = record { count = 6; base = 15482; room = 256 }
 abbrev pub top-cell : ℕ
 top-cell = 7
 
+-- behind the tables stand 4,001 hints of ids and 1,024 of names
 abbrev pub cells : ℕ
-cells = 15994
+cells = 21020
 
 -- an id, a literal or a property in one number: 2^48
 abbrev pub id-limit : ℕ
@@ -51,7 +52,7 @@ unfoldable pub Below : ℕ → ℕ → List Row → Type 0
 Below k v [] = Unit
 Below k v (r ∷ l) = (r .0 < k) × (r .1 < v) × Below k v l
 
--- keys and values of the tables; every number stands for a file and every number for marks
+-- keys and values of the tables; a file has two bytes, marks are four bits
 abbrev pub InLimits : Kind → List Row → Type 0
 InLimits imports l = Below id-limit 4294967296 l
 InLimits uses l = Below id-limit id-limit l
@@ -59,12 +60,59 @@ InLimits records l = Below id-limit 281474976710657 l
 InLimits namespaces l = Below id-limit 256 l
 InLimits lazies l = Below id-limit place-limit l
 InLimits forces l = Below 65536 1 l
-InLimits modules l = Unit
+InLimits modules l = Below 65536 16 l
 
--- the tables lie in the array, with numbers inside their limits
+-- ---- Hints: what is asked before a table is searched
+
+-- ids of one remainder share a hint: one more than the row of an imported one, or 0; 1,024 where a namespace may be one; 2,048 times one more
+-- than the row of a usage of one, or 0
+abbrev pub hintAt : List ℕ → ℕ → ℕ
+hintAt t n = getD t (15994 + n % 4001) 0
+
+abbrev pub importHint : ℕ → ℕ
+importHint v = v % 1024
+
+abbrev pub namespaceHint : ℕ → ℕ
+namespaceHint v = v / 1024 % 2
+
+abbrev pub useHint : ℕ → ℕ
+useHint v = v / 2048
+
+-- names of one remainder share a hint: 256 less a record before which no first namespace has such a name, or 0
+abbrev pub nameHint : List ℕ → ℕ → ℕ
+nameHint t n = getD t (19995 + n / 4294967296 % 1024) 0
+
+-- the hint of each key is not 0
+unfoldable pub Covered : (ℕ → ℕ) → List ℕ → List Row → Type 0
+Covered p t [] = Unit
+Covered p t (r ∷ l) = (0 < p (hintAt t (r .0))) × Covered p t l
+
+-- each key stands once
+unfoldable pub Distinct : List Row → Type 0
+Distinct [] = Unit
+Distinct (r ∷ l) = (firstIn (r .0) (r .0) l ≡ nothing) × Distinct l
+
+-- no record, from place i on, stands before the hint of its first namespace's name
+unfoldable pub Named : ℕ → List ℕ → List Row → Type 0
+Named i t [] = Unit
+Named i t (r ∷ l) = ((n : ℕ) → r .1 ≡ suc n → 256 ≤ i + nameHint t n) × Named (suc i) t l
+
+-- what hints say of the rows of a table: they leave out no row; and a hint that names a row of an imported id is right where its key is
+abbrev pub Hinted : Kind → List ℕ → List Row → Type 0
+Hinted imports t l = Covered importHint t l × Distinct l
+Hinted uses t l = Covered useHint t l
+Hinted records t l = Named 0 t l
+Hinted namespaces t l = Covered namespaceHint t l
+Hinted lazies t l = Unit
+Hinted forces t l = Unit
+Hinted modules t l = Unit
+
+-- the tables lie in the array, with numbers inside their limits, and the hints hold
 pub record Good (t : List ℕ) : Type 0 where
+  pub size : cells ≤ length t
   pub lies : (k : Kind) → Lies (tableOf k) t
   pub below : (k : Kind) → InLimits k (rows (tableOf k) t)
+  pub hinted : (k : Kind) → Hinted k t (rows (tableOf k) t)
 
 -- how many rows a table holds
 abbrev pub held : Kind → List ℕ → ℕ

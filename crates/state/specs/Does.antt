@@ -1,11 +1,12 @@
 -- What a function on the array does to the state of the rules that the array shows: it tells something of it, changes it, or acts by a rule.
-use Prim.Native.Nat.{ℕ, zero, suc, _+_, _<_}
+use Prim.Native.Nat.{ℕ, zero, suc, _+_, _/_, _<_}
+use lib.Dec.{eqb}
 use mathlib.Core.Path.{_≡_}
 use mathlib.Core.List.{List, [], _∷_}
 use mathlib.Core.Bool.{Bool, true, false}
 use mathlib.Core.Option.{Option, none as nothing, some}
 use lib.ListN.{getD, drop}
-use Rattle.tables.specs.Rows.{rows}
+use Rattle.tables.specs.Rows.{Row, rows}
 use Rattle.inputs.specs.Lists.{mapped, among}
 use Rattle.inputs.specs.Fields.{has}
 use Rattle.inputs.specs.Outcome.{Outcome, done, refused}
@@ -16,6 +17,7 @@ use Rattle.scope.specs.declared.id.ModuleId.{ModuleId}
 use Rattle.extraction_rules.specs.State.{Record, Usage, State, Act, setCollected}
 use Rattle.extraction_rules.specs.First.{collect, forceSource}
 use Rattle.extraction_rules.specs.Second.{usagesOf}
+use Rattle.state.specs.Cells.{Kind, importHint, namespaceHint, useHint, top-cell}
 use Rattle.state.specs.Cells.{id-limit, records, tableOf, held, Good, idOf, At, namespacesIn, sourcesIn, Shows}
 use Rattle.state.specs.declared.Context.{Context}
 use Rattle.state.specs.declared.Context.the-variants.{Of, Nowhere}
@@ -29,6 +31,40 @@ use Rattle.state.specs.declared.Room.{Room}
 use Rattle.state.specs.declared.Room.the-variants.{Made, Full}
 use Rattle.state.specs.declared.Module.{Module}
 use Rattle.state.specs.declared.Module.the-variants.{Is as Numbered, Unresolved, TooMany}
+
+-- ---- Tables and hints
+
+abbrev pub one? : Kind → Kind → Bool
+one? k m = eqb (tableOf k .count) (tableOf m .count)
+
+-- all but one table is kept
+pub record Others (k : Kind) (t t' : List ℕ) : Type 0 where
+  pub rows-kept : (m : Kind) → one? k m ≡ false → rows (tableOf m) t' ≡ rows (tableOf m) t
+  pub top-kept : getD t' top-cell 0 ≡ getD t top-cell 0
+
+-- one table has other rows
+pub record Changes (k : Kind) (l : List Row) (t t' : List ℕ) : Type 0 where
+  pub good : Good t'
+  pub now-rows : rows (tableOf k) t' ≡ l
+  pub others : Others k t t'
+
+-- hints alone changed
+pub record Aside (t t' : List ℕ) : Type 0 where
+  pub good : Good t'
+  pub same-rows : (k : Kind) → rows (tableOf k) t' ≡ rows (tableOf k) t
+  pub same-top : getD t' top-cell 0 ≡ getD t top-cell 0
+
+-- a hint that leaves out no table that another names
+pub record Keeps (v w : ℕ) : Type 0 where
+  pub import-kept : 0 < importHint v → 0 < importHint w
+  pub namespace-kept : 0 < namespaceHint v → 0 < namespaceHint w
+  pub use-kept : 0 < useHint v → 0 < useHint w
+
+-- no record before a place has a first namespace with the name of an id
+pub record Starts (from id : ℕ) (t : List ℕ) : Type 0 where
+  pub none-named : (i n : ℕ) → i < from → i < held records t → getD (rows (tableOf records) t) i (0, 0) .1 ≡ suc n → n / 4294967296 ≡ id / 4294967296 → ⊥
+
+-- ---- The state that is shown
 
 -- the answer is f of every state that the array shows
 pub record Tells {A : Type 0} (f : State → A) (t : List ℕ) (a : A) : Type 0 where

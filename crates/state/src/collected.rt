@@ -12,6 +12,10 @@ use crate::NAMESPACES;
 use crate::Place;
 use crate::RECORDS;
 use crate::Source;
+use crate::hints::add_held;
+use crate::hints::first_named;
+use crate::hints::least_holder;
+use crate::hints::set_first;
 use scope::id::Atom;
 use scope::id::ModuleId;
 use tables::Found;
@@ -35,11 +39,18 @@ pub fn used_record(t: &[u64], own: ModuleId, id: u64) -> Source
 {
     let context = id % 4294967296;
     let local = own.local_ctxt().0 as u64;
+    let from = first_named(t, id);
     if context == local {
-        let found = tables::find_value(t, RECORDS, id - context + 1, id - context + 4294967296);
+        let found = tables::find_value(
+            t,
+            RECORDS,
+            from,
+            id - context + 1,
+            id - context + 4294967296,
+        );
         source_at(t, found)
     } else {
-        let found = tables::find_value(t, RECORDS, id + 1, id + 1);
+        let found = tables::find_value(t, RECORDS, from, id + 1, id + 1);
         source_at(t, found)
     }
 }
@@ -49,7 +60,7 @@ pub fn holder(t: &[u64], id: u64) -> Source
     requires { ⌜ Good (now t) × (id < id-limit) ⌝ }
     ensures { λ r. ⌜ Tells (λ s. sourceOf (find (holdsNamespace (idOf id)) (s .collected))) (now (t .entry)) (sourceBy r) ⌝ }
 {
-    let least = tables::least_value(t, NAMESPACES, id);
+    let least = least_holder(t, id);
     match least {
         Least::Some(i) => if (i as usize) < tables::count_of(t, RECORDS) {
             source_at(t, Found::At(i as usize))
@@ -89,9 +100,9 @@ pub fn add_namespace(t: &mut [u64], i: usize, id: u64)
     if 3641 <= tables::count_of(t, NAMESPACES) {
         return;
     }
-    tables::push(t, NAMESPACES, id, i as u64);
+    add_held(t, id, i);
     if tables::value_of(t, RECORDS, i) == 0 {
-        tables::set_value(t, RECORDS, i, id + 1);
+        set_first(t, id, i);
     }
 }
 

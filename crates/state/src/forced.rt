@@ -10,6 +10,7 @@ ghost use Rattle.state.specs.Does.{Tells, Holds, Turns, Forces};
 use crate::FORCES;
 use crate::Source;
 use crate::collected::holder;
+use crate::hints::hint_of;
 use crate::imported::forget;
 use scope::id::Atom;
 use tables::Found;
@@ -45,6 +46,9 @@ pub fn force_id(t: &mut [u64], id: u64)
     requires { ⌜ Good (now t) × (id < id-limit) ⌝ }
     ensures { λ _. ⌜ Turns (forceId (idOf id)) (now (t .entry)) (now (t .exit)) ⌝ }
 {
+    if hint_of(t, id) == 0 {
+        return;
+    }
     forget(t, id);
     let Source::From(source) = holder(t, id) else {
         return;

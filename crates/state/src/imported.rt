@@ -12,6 +12,12 @@ use crate::IMPORTS;
 use crate::Property;
 use crate::Room;
 use crate::USES;
+use crate::hints::add_import;
+use crate::hints::add_use;
+use crate::hints::drop_import;
+use crate::hints::drop_uses;
+use crate::hints::import_row;
+use crate::hints::is_used;
 use scope::id::SyntaxContext;
 use tables::Found;
 
@@ -20,7 +26,7 @@ pub fn imported_as(t: &[u64], id: u64) -> Context
     requires { ⌜ Good (now t) × (id < id-limit) ⌝ }
     ensures { λ r. ⌜ Tells (λ s. importedAs (idOf id) (s .imported)) (now (t .entry)) (contextBy r) ⌝ }
 {
-    let found = tables::find(t, IMPORTS, id, id);
+    let found = import_row(t, id);
     match found {
         Found::At(i) => Context::Of(SyntaxContext(tables::value_of(t, IMPORTS, i) as u32)),
         Found::Nowhere => Context::Nowhere,
@@ -32,7 +38,7 @@ pub fn note_id(t: &mut [u64], id: u64, c: SyntaxContext) -> Room
     requires { ⌜ Good (now t) × (id < id-limit) ⌝ }
     ensures { λ r. ⌜ Acts (noteId (record { id = idOf id; context = four (c .0) })) (now (t .entry)) (now (t .exit)) r ⌝ }
 {
-    let entry = tables::find(t, IMPORTS, id, id);
+    let entry = import_row(t, id);
     let context = c.0 as u64;
     match entry {
         Found::At(i) => {
@@ -41,7 +47,7 @@ pub fn note_id(t: &mut [u64], id: u64, c: SyntaxContext) -> Room
         },
         Found::Nowhere => {
             if tables::count_of(t, IMPORTS) < 512 {
-                tables::push(t, IMPORTS, id, context);
+                add_import(t, id, context);
                 Room::Made
             } else {
                 Room::Full
@@ -55,8 +61,8 @@ pub fn forget(t: &mut [u64], id: u64)
     requires { ⌜ Good (now t) × (id < id-limit) ⌝ }
     ensures { λ _. ⌜ Turns (forgotten (idOf id)) (now (t .entry)) (now (t .exit)) ⌝ }
 {
-    tables::drop_key(t, USES, id);
-    tables::drop_key(t, IMPORTS, id);
+    drop_uses(t, id);
+    drop_import(t, id);
 }
 
 // A usage of an id is appended.
@@ -65,7 +71,7 @@ pub fn add_usage(t: &mut [u64], id: u64, property: u64) -> Room
     ensures { λ r. ⌜ Acts (addUsage (record { id = idOf id; property = idOf property })) (now (t .entry)) (now (t .exit)) r ⌝ }
 {
     if tables::count_of(t, USES) < 2048 {
-        tables::push(t, USES, id, property);
+        add_use(t, id, property);
         Room::Made
     } else {
         Room::Full
@@ -77,11 +83,7 @@ pub fn has_usages(t: &[u64], id: u64) -> bool
     requires { ⌜ Good (now t) × (id < id-limit) ⌝ }
     ensures { λ r. ⌜ Tells (λ s. any (usagesOf (idOf id) (s .usages))) (now (t .entry)) r ⌝ }
 {
-    let found = tables::find(t, USES, id, id);
-    match found {
-        Found::At(_) => true,
-        Found::Nowhere => false,
-    }
+    is_used(t, id)
 }
 
 // How many usages are held.

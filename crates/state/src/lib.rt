@@ -5,6 +5,7 @@ pub mod collected; // collected records and their namespaces
 pub mod forced; // forced sources
 pub mod rest; // lazy records, and the flag top
 pub mod modules; // the scope's modules
+mod hints; // what is asked before a search
 
 use scope::id::Atom;
 use scope::id::ModuleId;
@@ -53,8 +54,8 @@ pub const MODULES: Table = Table {
     room: 256,
 };
 
-// How many cells the array has.
-pub const CELLS: usize = 15994;
+// How many cells the array has: behind the tables there are 4,001 hints of ids and 1,024 of names.
+pub const CELLS: usize = 21020;
 
 // A context, where there is one.
 pub enum Context {

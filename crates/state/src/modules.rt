@@ -12,11 +12,11 @@ ghost use Rattle.state.specs.Does.{Tells, Turns, Resolves};
 use crate::MODULES;
 use crate::Module;
 use inputs::Resolved;
-use scope::FileAnswer;
 use scope::Scope;
 use scope::id::Atom;
 use scope::id::FileName;
 use scope::id::ModuleId;
+use tables::Found;
 
 // The modules of the table as a scope.
 pub fn scope_of(t: &[u64]) -> Scope
@@ -40,16 +40,19 @@ pub fn request(t: &mut [u64], file: FileName) -> Module
     requires { ⌜ Good (now t) ⌝ }
     ensures { λ r. ⌜ Resolves (moduleOf (some (file .0))) (now (t .entry)) (now (t .exit)) r ⌝ }
 {
-    let g = scope_of(t).gen_id(file);
-    let answer = g.answer;
-    match answer {
-        FileAnswer::Given => {
-            let scope = g.scope;
-            load(t, scope);
-            let id = g.id;
-            Module::Is(id)
+    let key = file.0 as u64;
+    let found = tables::find(t, MODULES, key, key);
+    match found {
+        Found::At(i) => Module::Is(ModuleId(i as u16)),
+        Found::Nowhere => {
+            let n = tables::count_of(t, MODULES);
+            if n < 256 {
+                tables::push(t, MODULES, key, 0);
+                Module::Is(ModuleId(n as u16))
+            } else {
+                Module::TooMany
+            }
         },
-        FileAnswer::TooManyFiles => Module::TooMany,
     }
 }
 
@@ -70,9 +73,14 @@ pub fn mark_cjs(t: &mut [u64], id: ModuleId)
     requires { ⌜ Good (now t) ⌝ }
     ensures { λ _. ⌜ Turns (λ s. setModules (setMark Cjs (id .0) (s .modules)) s) (now (t .entry)) (now (t .exit)) ⌝ }
 {
-    let marked = scope_of(t).mark_as_cjs(id);
-    let scope = marked.scope;
-    load(t, scope);
+    let i = id.0 as usize;
+    if tables::count_of(t, MODULES) <= i {
+        return;
+    }
+    let marks = tables::value_of(t, MODULES, i);
+    if marks / 4 % 2 == 0 {
+        tables::set_value(t, MODULES, i, marks + 4);
+    }
 }
 
 // A module is marked as one to be wrapped; a number that was not given changes nothing.
@@ -80,7 +88,12 @@ pub fn mark_wrapping(t: &mut [u64], id: ModuleId)
     requires { ⌜ Good (now t) ⌝ }
     ensures { λ _. ⌜ Turns (λ s. setModules (setMark Wrapping (id .0) (s .modules)) s) (now (t .entry)) (now (t .exit)) ⌝ }
 {
-    let marked = scope_of(t).mark_as_wrapping_required(id);
-    let scope = marked.scope;
-    load(t, scope);
+    let i = id.0 as usize;
+    if tables::count_of(t, MODULES) <= i {
+        return;
+    }
+    let marks = tables::value_of(t, MODULES, i);
+    if marks / 8 % 2 == 0 {
+        tables::set_value(t, MODULES, i, marks + 8);
+    }
 }

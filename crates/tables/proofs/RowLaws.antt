@@ -6,12 +6,12 @@ use mathlib.Core.Path.{_≡_, refl, sym, ap, _∙_}
 use mathlib.Core.Bool.{Bool, true, false, cond}
 use mathlib.Core.List.{List, [], _∷_, _++_, map, append-nil}
 use mathlib.Core.Option.{Option, none, some}
-use lib.Dec.{eqb}
-use lib.ListN.{length, getD, set, length-set}
+use lib.Dec.{ltb, eqb}
+use lib.ListN.{length, length-map, getD, set, length-set}
 use lib.Seq.{getD-set-same, getD-set-other}
-use borrow.Author.Tests.{le-leb, lt-leb, eq-eqb, ne-eqb}
+use borrow.Author.Tests.{le-leb, lt-leb, ltb-true, ltb-false, eq-eqb, ne-eqb}
 use Rattle.tables.specs.declared.Table.{Table}
-use Rattle.tables.specs.Rows.{Row, rowsFrom, rows, next, between, flip, firstIn, lesser, leastOf, without}
+use Rattle.tables.specs.Rows.{Row, rowsFrom, rows, next, between, flip, firstIn, NoneBefore, lesser, leastOf, without}
 
 pub from-length : (k at : ℕ) (t : List ℕ) → length (rowsFrom k at t) ≡ k
 unfolding rowsFrom
@@ -52,6 +52,11 @@ from-row (suc k) at (suc i) t h =
 pub rows-row : (b : Table) (i : ℕ) (t : List ℕ) → i < length (rows b t) → getD (rows b t) i (0, 0) ≡ (getD t (b .base + 2 * i) 0, getD t (b .base + 2 * i + 1) 0)
 unfolding rows
 rows-row b i t h = let l = from-length (getD t (b .count) 0) (b .base) t in from-row (getD t (b .count) 0) (b .base) i t (omega arith)
+
+pub getD-map : {A B : Type 0} (h : A → B) (l : List A) (i : ℕ) (d : A) → getD (map h l) i (h d) ≡ h (getD l i d)
+getD-map h [] i d = refl
+getD-map h (a ∷ l) zero d = refl
+getD-map h (a ∷ l) (suc i) d = getD-map h l i d
 
 -- ---- The search
 
@@ -107,6 +112,27 @@ pub found-end : (lo hi n i base : ℕ) (t : List ℕ) → n ≤ i → foundFrom 
 unfolding firstIn rowsFrom
 found-end lo hi n i base t h = let e : n - i ≡ 0 = omega arith in rw e
 
+-- rows that have no such key are passed
+found-past : (lo hi n from base : ℕ) (t : List ℕ) → ((i : ℕ) → i < from → i < n → between lo hi (getD t (base + 2 * i) 0) ≡ false) →
+    foundFrom lo hi n 0 base t ≡ foundFrom lo hi n from base t
+found-past lo hi n zero base t h = refl
+found-past lo hi n (suc j) base t h = found-past lo hi n j base t (λ i p q. h i (omega arith) q) ∙ by (ltb j n) refl
+  where
+    by : (b : Bool) → ltb j n ≡ b → foundFrom lo hi n j base t ≡ foundFrom lo hi n (suc j) base t
+    by true e =
+        passed-by lo hi n j base t (ltb-true j n e) (h j (omega arith) (ltb-true j n e)) ∙ ap (λ (x : ℕ). foundFrom lo hi n x base t) (add-one j)
+    by false e =
+        let l = ltb-false j n e in
+        found-end lo hi n j base t l ∙ sym (found-end lo hi n (suc j) base t (omega arith))
+
+pub found-begin : (lo hi from : ℕ) (b : Table) (n : ℕ) (t : List ℕ) → n ≡ length (rows b t) → NoneBefore from lo hi (rows b t) →
+    foundFrom lo hi n 0 (b .base) t ≡ foundFrom lo hi n from (b .base) t
+found-begin lo hi from b n t e h =
+    found-past lo hi n from (b .base) t (λ i p q. ap (λ (r : Row). between lo hi (r .0)) (sym (rows-row b i t (omega arith))) ∙ h .passed i p (omega arith))
+
+pub none-before-first : (lo hi : ℕ) (l : List Row) → NoneBefore 0 lo hi l
+none-before-first lo hi l = record { passed = λ i p q. absurd (omega arith) }
+
 -- one cell on, the values stand where the keys of a table stand
 pub first-value : (lo hi k at : ℕ) (t : List ℕ) → firstIn lo hi (rowsFrom k (at + 1) t) ≡ firstIn lo hi (map flip (rowsFrom k at t))
 unfolding firstIn rowsFrom
@@ -120,6 +146,24 @@ unfolding rows
 found-value lo hi b c t p q =
     ap (λ (n : ℕ). firstIn lo hi (rowsFrom (getD t n 0) (c .base) t)) p ∙ ap (λ (n : ℕ). firstIn lo hi (rowsFrom (getD t (b .count) 0) n t)) q
     ∙ first-value lo hi (getD t (b .count) 0) (b .base) t
+
+value-row : (b c : Table) (i : ℕ) (t : List ℕ) → c .count ≡ b .count → c .base ≡ b .base + 1 → i < length (rows c t) →
+    getD (rows c t) i (0, 0) .0 ≡ getD (map flip (rows b t)) i (0, 0) .0
+value-row b c i t p q h =
+    let m : length (rows c t) ≡ length (rows b t) = rows-length c t ∙ ap (λ (n : ℕ). getD t n 0) p ∙ sym (rows-length b t) in
+    let e : c .base + 2 * i ≡ b .base + 2 * i + 1 = omega arith in
+    ap (λ (r : Row). r .0) (rows-row c i t h) ∙ ap (λ (k : ℕ). getD t k 0) e ∙ sym (ap (λ (r : Row). r .1) (rows-row b i t (omega arith)))
+    ∙ sym (ap (λ (r : Row). r .0) (getD-map flip (rows b t) i (0, 0)))
+
+pub none-value : (lo hi from : ℕ) (b c : Table) (t : List ℕ) → c .count ≡ b .count → c .base ≡ b .base + 1 → NoneBefore from lo hi (map flip (rows b t)) →
+    NoneBefore from lo hi (rows c t)
+none-value lo hi from b c t p q h =
+    record {
+      passed = λ i j k.
+          let m : length (rows c t) ≡ length (rows b t) = rows-length c t ∙ ap (λ (n : ℕ). getD t n 0) p ∙ sym (rows-length b t) in
+          let n = length-map (rows b t) flip in
+          ap (between lo hi) (value-row b c i t p q k) ∙ h .passed i j (omega arith);
+    }
 
 -- ---- The least value
 

@@ -1,6 +1,7 @@
 -- The rows of a table: pairs of a key and a value, in the order in which they came, and what is asked of them.
 use Prim.Native.Nat.{ℕ, zero, suc, _+_, _*_, _≤_, _<_}
-use mathlib.Core.Bool.{Bool, cond, _&&_}
+use mathlib.Core.Path.{_≡_}
+use mathlib.Core.Bool.{Bool, false, cond, _&&_}
 use mathlib.Core.List.{List, [], _∷_}
 use mathlib.Core.Option.{Option, none, some}
 use lib.Dec.{leb, ltb, eqb}
@@ -40,6 +41,10 @@ between lo hi k = leb lo k && leb k hi
 unfoldable pub firstIn : ℕ → ℕ → List Row → Option ℕ
 firstIn lo hi [] = none
 firstIn lo hi (r ∷ rs) = cond (between lo hi (r .0)) (some zero) (next (firstIn lo hi rs))
+
+-- no row before a place has such a key
+pub record NoneBefore (from lo hi : ℕ) (l : List Row) : Type 0 where
+  pub passed : (i : ℕ) → i < from → i < length l → between lo hi (getD l i (0, 0) .0) ≡ false
 
 abbrev pub placeBy : Found → Option ℕ
 placeBy (At i) = some i

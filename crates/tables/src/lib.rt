@@ -4,7 +4,7 @@ ghost use mathlib.Core.Path.{_≡_};
 ghost use mathlib.Core.List.{[], _∷_, _++_, map};
 ghost use Prim.Native.Nat.{_+_, _*_, _<_, _≤_};
 ghost use lib.ListN.{length, getD};
-ghost use Rattle.tables.specs.Rows.{rows, Lies, flip, firstIn, placeBy, leastBy, lesser, leastOf, without, withValue};
+ghost use Rattle.tables.specs.Rows.{rows, Lies, flip, firstIn, NoneBefore, placeBy, leastBy, lesser, leastOf, without, withValue};
 ghost use Rattle.tables.specs.Only.{Only};
 
 pub struct Table {
@@ -37,9 +37,17 @@ pub fn find(t: &[u64], b: Table, lo: u64, hi: u64) -> Found
     requires { ⌜ Lies b (now t) ⌝ }
     ensures { λ r. ⌜ placeBy r ≡ firstIn lo hi (rows b (now (t .entry))) ⌝ }
 {
+    find_from(t, b, 0, lo, hi)
+}
+
+// The same, where no row before `from` has such a key.
+fn find_from(t: &[u64], b: Table, from: usize, lo: u64, hi: u64) -> Found
+    requires { ⌜ Lies b (now t) × NoneBefore from lo hi (rows b (now t)) ⌝ }
+    ensures { λ r. ⌜ placeBy r ≡ firstIn lo hi (rows b (now (t .entry))) ⌝ }
+{
     let n = count_of(t, b);
     let base = b.base;
-    let mut i = 0;
+    let mut i = from;
     while i < n {
         let k = t[base + 2 * i];
         if lo <= k {
@@ -70,15 +78,15 @@ pub fn key_of(t: &[u64], b: Table, i: usize) -> u64
     t[base + 2 * i]
 }
 
-// The first row whose value is from lo to hi: one cell on, each value has the place of a key.
-pub fn find_value(t: &[u64], b: Table, lo: u64, hi: u64) -> Found
-    requires { ⌜ Lies b (now t) × (b .base + 2 * b .room < length (now t)) ⌝ }
+// The first row whose value is from lo to hi, where no row before `from` has such a value: one cell on, each value has the place of a key.
+pub fn find_value(t: &[u64], b: Table, from: usize, lo: u64, hi: u64) -> Found
+    requires { ⌜ Lies b (now t) × (b .base + 2 * b .room < length (now t)) × NoneBefore from lo hi (map flip (rows b (now t))) ⌝ }
     ensures { λ r. ⌜ placeBy r ≡ firstIn lo hi (map flip (rows b (now (t .entry)))) ⌝ }
 {
     let count = b.count;
     let base = b.base + 1;
     let room = b.room;
-    find(t, Table { count, base, room }, lo, hi)
+    find_from(t, Table { count, base, room }, from, lo, hi)
 }
 
 // One row more.

@@ -1,90 +1,13 @@
--- `find`: the invariant says that what is found from row i on is what is found from row 0 on. A key below lo or above hi is passed
--- (`found-low`, `found-high`), one between is the first (`found-here`), and behind the last row there is none (`found-end`).
-use mathlib.Core.Path.{_≡_, refl, sym, _∙_}
-use mathlib.Core.Logic.{⊎-elim}
-use Rattle.tables.proofs.RowLaws.{foundFrom, found-start, found-low, found-high, found-here, found-end}
-use Prim.Native.Nat.{_≤_, _-_}
-use native.Mathlib.Omega.{arith}
+-- `find`: no row stands before the first (`none-before-first`), so all are searched.
+use Rattle.tables.proofs.RowLaws.{none-before-first}
 use Rattle.tables.proofs.find.Statement.{statement}
 use Rattle.tables.proofs.find.Tie as tie
 
-abbrev Inv-loop : tie.InvT-loop
-Inv-loop t lo hi n base i₀ i = (foundFrom lo hi n 0 base t ≡ foundFrom lo hi n i base t) × (i ≤ n)
+find-from-requires : tie.Need-find-from-requires
+find-from-requires c κs = (c .before .pre, none-before-first _ _ _)
 
-abbrev μ-loop : tie.MeasureT-loop
-μ-loop t lo hi n base i₀ i = n - i
-
-count-of-requires : tie.Need-count-of-requires Inv-loop μ-loop
-count-of-requires c κs = c .before .pre
-
-loop-holds : tie.Need-loop-holds Inv-loop μ-loop
-loop-holds c = (refl, omega arith)
-
-mul-k : tie.Need-mul-k Inv-loop μ-loop
-mul-k c = let e = c .before .before .before .before .pre .ends in omega arith
-
-add-k : tie.Need-add-k Inv-loop μ-loop
-add-k c = let e = c .before .before .before .before .pre .ends in omega arith
-
-mul-k-2 : tie.Need-mul-k-2 Inv-loop μ-loop
-mul-k-2 c = let e = c .before .before .before .before .pre .ends in omega arith
-
-shared-slice-read-k : tie.Need-shared-slice-read-k Inv-loop μ-loop
-shared-slice-read-k c = let e = c .before .before .before .before .before .pre .ends in omega arith
-
-returns : tie.Need-returns Inv-loop μ-loop
-returns c =
-    let c3 = c .before .before .before in
-    let c4 = c3 .before in
-    let c5 = c4 .before in
-    let c7 = c5 .before .before in
-    sym (found-start (c7 .args .lo) (c7 .args .hi) (c7 .args .b) (c5 .count-of .result) (c7 .args .t .now) (c5 .count-of .ensures .0)
-    ∙ c4 .loop .inv .0
-    ∙ found-here (c7 .args .lo) (c7 .args .hi) (c5 .count-of .result) (c4 .loop .i) (c7 .args .b .base) (c7 .args .t .now) (c3 .loop-test .taken)
-    (c .before .if1 .taken) (c .if2 .taken))
-
-add-i : tie.Need-add-i Inv-loop μ-loop
-add-i c = let e = c .before .before .before .before .before .before .pre .ends in omega arith
-
-loop-less : tie.Need-loop-less Inv-loop μ-loop
-loop-less c = let e = c .before .before .before .before .before .before .pre .ends in omega arith
-
-loop-again : tie.Need-loop-again Inv-loop μ-loop
-loop-again c =
-    let c3 = c .before .before .before in
-    let c4 = c3 .before in
-    let c6 = c4 .before .before in (
-      c3 .loop .inv .0
-          ∙ ⊎-elim
-          (λ w. found-high (c6 .args .lo) (c6 .args .hi) (c4 .count-of .result) (c3 .loop .i) (c6 .args .b .base) (c6 .args .t .now)
-          (c .before .before .loop-test .taken) (w .0 .taken) (w .1 .left))
-          (λ w. found-low (c6 .args .lo) (c6 .args .hi) (c4 .count-of .result) (c3 .loop .i) (c6 .args .b .base) (c6 .args .t .now)
-          (c .before .before .loop-test .taken) (w .left)) (c .if1 .came),
-      omega arith,
-    )
-
-returns-2 : tie.Need-returns-2 Inv-loop μ-loop
-returns-2 c =
-    let c4 = c .before .before .before .before in
-    sym (found-start (c4 .args .lo) (c4 .args .hi) (c4 .args .b) (c .before .before .count-of .result) (c4 .args .t .now)
-    (c .before .before .count-of .ensures .0) ∙ c .before .loop .inv .0
-    ∙ found-end (c4 .args .lo) (c4 .args .hi) (c .before .before .count-of .result) (c .before .loop .i) (c4 .args .b .base) (c4 .args .t .now)
-    (omega arith))
+returns : tie.Need-returns
+returns c = c .find-from .ensures
 
 pub find-spec : {M : Type 1} → statement M
-find-spec =
-    tie.close
-    (tie.spec
-    Inv-loop
-    μ-loop
-    count-of-requires
-    loop-holds
-    mul-k
-    add-k
-    mul-k-2
-    shared-slice-read-k
-    returns
-    add-i
-    loop-less
-    loop-again
-    returns-2)
+find-spec = tie.close (tie.spec find-from-requires returns)

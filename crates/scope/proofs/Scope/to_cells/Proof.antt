@@ -1,18 +1,20 @@
 -- `to_cells`: the invariant says that the first k modules in the cells are the first k of the scope, and that only cells from base up to
--- base + 512 were written. `cells-put` adds module k, whose marks `four_bits` lets be read back; `rewrites-set` allows the two stores.
+-- base + 512 were written, files of two bytes and marks of four bits (`small-put`). `cells-put` adds module k, whose marks `four_bits` lets be
+-- read back; `rewrites-set` allows the two stores.
 use mathlib.Core.Path.{_≡_, refl, _∙_}
-use Prim.Native.Nat.{_≤_, _-_, _+_}
+use Prim.Native.Nat.{ℕ, _≤_, _<_, _-_, _+_, _*_}
 use native.Mathlib.Omega.{arith}
 use borrow.Author.Needs.{needs}
-use lib.ListN.{length-set}
+use lib.ListN.{getD, length-set}
 use Rattle.scope.specs.ScopeValue.{modulesFrom, modulesIn, Rewrites}
-use Rattle.scope.proofs.Laws.{rewrites-none, rewrites-set}
+use Rattle.scope.proofs.Laws.{rewrites-none, rewrites-set, small-put}
 use Rattle.scope.proofs.ScopeValueLaws.{cells-put, modules-length, modules-first}
 use Rattle.scope.proofs.Scope.to_cells.Statement.{statement}
 use Rattle.scope.proofs.Scope.to_cells.Tie as tie
 
 abbrev Inv-loop : tie.InvT-loop
 Inv-loop cells₀ base self n k₀ cells k = (modulesIn k base cells ≡ modulesFrom k 0 (self .files) (self .marks)) × (k ≤ n) × Rewrites base (base + 512) cells₀ cells
+    × ((i : ℕ) → i < k → (getD cells (base + 2 * i) 0 < 65536) × (getD cells (base + 2 * i + 1) 0 < 16))
 
 abbrev μ-loop : tie.MeasureT-loop
 μ-loop cells₀ base self n k₀ cells k = n - k
@@ -22,7 +24,7 @@ counted-requires c κs = search needs
 
 loop-holds : tie.Need-loop-holds Inv-loop μ-loop
 unfolding modulesFrom modulesIn
-loop-holds c = (refl, omega arith, rewrites-none _ _ _)
+loop-holds c = (refl, omega arith, rewrites-none _ _ _, λ i h. absurd (omega arith))
 
 mul-at : tie.Need-mul-at Inv-loop μ-loop
 mul-at c = omega arith
@@ -104,6 +106,8 @@ loop-again c =
       omega arith,
       rewrites-set _ _ (omega arith) (omega arith)
           (rewrites-set _ _ (omega arith) (omega arith) (c12 .loop .inv .2)),
+      small-put (c12 .loop .cells) (c15 .args .base) (c12 .loop .k) (c5 .wide-file .result) (c .four-bits .result) (omega arith)
+          (c5 .wide-file .ensures .1) (c .four-bits .ensures .4) (c12 .loop .inv .3),
     )
 
 same-length : tie.Need-same-length Inv-loop μ-loop
@@ -117,8 +121,8 @@ returns c =
       c .before .before .counted .ensures .1,
       rw e at (c .before .loop .inv .0)
           ∙ modules-first (c .before .before .before .before .args .t1) (c .before .before .counted .result) (c .before .before .counted .ensures .0),
-      c
-          .before .loop .inv .2,
+      c .before .loop .inv .2,
+      λ i h. c .before .loop .inv .3 i (omega arith),
     )
 
 pub to-cells-spec : {M : Type 1} → statement M

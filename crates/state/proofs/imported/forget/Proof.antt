@@ -1,19 +1,14 @@
--- `forget`: the first drop leaves the tables good (`uses-dropped`), so the second may be made; `forgotten` says that both together drop the
--- id's usages and its imported entry.
-use Rattle.state.specs.Cells.{imports, uses}
-use Rattle.state.proofs.UsageLaws.{uses-dropped, forgotten}
+-- `forget`: `forgotten` says that both drops together drop the id's usages and its imported entry.
+use Rattle.state.proofs.UsageLaws.{forgotten}
 use borrow.Author.Needs.{needs}
 use Rattle.state.proofs.imported.forget.Statement.{statement}
 use Rattle.state.proofs.imported.forget.Tie as tie
 
-drop-key-requires : tie.Need-drop-key-requires
-drop-key-requires c κs = c .before .before .pre .0 .lies uses
+drop-uses-requires : tie.Need-drop-uses-requires
+drop-uses-requires c κs = search needs
 
-drop-key-requires-2 : tie.Need-drop-key-requires-2
-drop-key-requires-2 c κs =
-    let c3 = c .before .before .before in
-    let c6 = c3 .before .before .before in
-    uses-dropped _ (c6 .pre .0) (c3 .drop-key .ensures .0) (c3 .drop-key .ensures .1) .lies imports
+drop-import-requires : tie.Need-drop-import-requires
+drop-import-requires c κs = search needs
 
 same-length : tie.Need-same-length
 same-length c = search needs
@@ -22,7 +17,7 @@ returns : tie.Need-returns
 returns c =
     let c6 = c .before .before .before .before .before .before in
     let c9 = c6 .before .before .before in
-    forgotten (c9 .pre .0) (c9 .pre .1) (c6 .drop-key .ensures .0) (c6 .drop-key .ensures .1) (c .before .before .drop-key2 .ensures .0) (c .before .before .drop-key2 .ensures .1)
+    forgotten (c9 .pre .0) (c9 .pre .1) (c6 .drop-uses .ensures) (c .before .before .drop-import .ensures)
 
 pub forget-spec : {M : Type 1} → statement M
-forget-spec = tie.close (tie.spec drop-key-requires drop-key-requires-2 same-length returns)
+forget-spec = tie.close (tie.spec drop-uses-requires drop-import-requires same-length returns)

@@ -20,6 +20,7 @@ returns : tie.Need-returns
 returns c =
     let c5 = c .before .before .before .before .before in
     modules-loaded (c5 .pre) (c .before .before .to-cells .ensures .1) (c .before .before .to-cells .ensures .2) (c .before .before .to-cells .ensures .3)
+    (c .before .before .to-cells .ensures .4)
 
 pub load-spec : {M : Type 1} → statement M
 load-spec = tie.close (tie.spec to-cells-requires slice-write-t same-length returns)
