@@ -1,6 +1,5 @@
 // Collected records. A record has the specifiers of the imports of its source value, and then what the second pass made of the
 // namespace imports with its literal. A value with a record is never external, so an import with that value or literal is none either.
-ghost use mathlib.Core.Path.{_≡_};
 ghost use Prim.Native.Nat.{_<_};
 ghost use lib.ListN.{take};
 ghost use Rattle.tree.specs.Tree.{field, encode, encodes};
