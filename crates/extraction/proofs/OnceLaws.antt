@@ -1,12 +1,12 @@
 -- The own file's number, and the first pass.
-use Prim.Native.Nat.{ℕ, _≤_}
+use Prim.Native.Nat.{ℕ}
 use native.Mathlib.Omega.{arith}
 use mathlib.Core.Path.{_≡_, refl, sym, ap, _∙_}
 use mathlib.Core.Bool.{Bool, true, false}
 use mathlib.Core.List.{List}
 use mathlib.Core.Option.{Option, none as nothing, some}
 use lib.ListN.{length}
-use Rattle.scope.specs.Modules.{Modules, Refusal, Generated, generatedBy, gen, request}
+use Rattle.scope.specs.Modules.{Modules, Generated, generatedBy, gen, request}
 use Rattle.scope.specs.ScopeValue.{modulesOf, fileRefusal, generated}
 use Rattle.scope.specs.declared.Gen.{Gen}
 use Rattle.scope.specs.declared.FileAnswer.the-variants.{Given, TooManyFiles as NotGiven}

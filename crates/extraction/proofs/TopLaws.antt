@@ -4,7 +4,7 @@ use native.Mathlib.Omega.{arith}
 use mathlib.Core.Path.{_≡_, refl, sym, ap, subst, _∙_}
 use mathlib.Core.Bool.{Bool, true, false}
 use mathlib.Core.List.{List, [], map}
-use mathlib.Core.Option.{Option, none as nothing, some}
+use mathlib.Core.Option.{Option, none as nothing}
 use lib.ListN.{length, getD, take, drop, replicate, length-replicate}
 use Rattle.scope.specs.Modules.{Modules, request}
 use Rattle.scope.specs.ScopeValue.{modulesOf}
@@ -20,7 +20,7 @@ use Rattle.writer.specs.Finished.{hasRoom, zeroed, delivered}
 use Rattle.inputs.specs.Outcome.{Outcome, done, refused, onto, placeless, refusalIn}
 use Rattle.inputs.specs.Buffer.{fits, bufferOf}
 use Rattle.inputs.specs.Table.{rowsIn}
-use Rattle.extraction_rules.specs.State.{Record, State, first, second, Setting, start, setTop, setModules}
+use Rattle.extraction_rules.specs.State.{Record, State, first, second, Setting, start, setTop}
 use Rattle.extraction_rules.specs.Walk.{walkModule, walkAgain}
 use Rattle.extraction_rules.specs.Records.{recordsOf}
 use Rattle.extraction_rules.specs.Call.{Lent, Lengths, Extracted, Left, ownModule, setting, moduleWith, extractedFrom, passes, modulesAfter, extracted, extraction}
@@ -49,7 +49,7 @@ use Rattle.extraction.specs.declared.Own.the-variants.{Is, TooManyFiles}
 use Rattle.extraction.specs.declared.Passed.{Passed}
 use Rattle.extraction.specs.declared.Passed.the-variants.{Fits, Refused as Turned, NoRoom as Short}
 use Rattle.extraction.specs.Answer.{answerRefusal, outcomeOf, UnreadAs, lentAs, roomIn, left}
-use Rattle.extraction.specs.Stages.{listsOf, ModuleRead, OwnIs, Owns, PassIs, Inside, settingIn, Firsts, marking, Seconds, DeliversFor, Whole, AcceptedAs, TurnedAs, Ends}
+use Rattle.extraction.specs.Stages.{listsOf, ModuleRead, OwnIs, Owns, PassIs, Inside, Firsts, marking, Seconds, DeliversFor, Whole, AcceptedAs, TurnedAs, Ends}
 use Rattle.extraction.proofs.HeldLaws.{fits-not, fits-so, room-size}
 use Rattle.extraction.proofs.ReadLaws.{module-read}
 use Rattle.extraction.proofs.AgainLaws.{lost, again-by, told}

@@ -1,7 +1,7 @@
 // Extraction of what a module imports. Port of swc_bundler's `import/mod.rs`.
 ghost use mathlib.Core.Path.{_≡_};
 ghost use mathlib.Core.Bool.{false, true};
-ghost use lib.ListN.{length, replicate};
+ghost use lib.ListN.{replicate};
 ghost use Rattle.tree.specs.declared.grammar.Set.the-variants.{Module as module-set};
 ghost use Rattle.tree.specs.Layout.{two as twoOf};
 ghost use Rattle.tree.specs.Read.{read};

@@ -27,7 +27,7 @@ use Rattle.resolving.specs.declared.specifiers.Why.{Why}
 use Rattle.resolving.specs.declared.specifiers.Step.{Step}
 use Rattle.resolving.specs.declared.specifiers.Step.the-variants.{Done, Refused as Turned}
 use Rattle.resolving.specs.declared.ResolveAnswer.{ResolveAnswer}
-use Rattle.resolving.specs.declared.ResolveAnswer.the-variants.{Listed as Complete, BadTable, NamedTwice, Unread, TooManyFiles, Refused, NoRoom}
+use Rattle.resolving.specs.declared.ResolveAnswer.the-variants.{BadTable, NamedTwice, Unread, TooManyFiles}
 use Rattle.resolving.specs.declared.Tested.{Tested}
 use Rattle.resolving.specs.declared.Tested.the-variants.{Good as Passable, BadTable as Bad, NamedTwice as Twice, Unread as NotRead}
 use Rattle.resolving.specs.declared.Listed.{Listed}
