@@ -227,7 +227,7 @@ int main(void) {
     bool held = within(256 * 1024, "tychodrel_extract", extraction);
     held = within(16 * 1024, "tychodrel_detect", detection) && held;
     all_records();
-    held = within(20 * 1024, "tychodrel_resolve", used(resolve)) && held;
+    held = within(24 * 1024, "tychodrel_resolve", used(resolve)) && held;
     all_attributes();
     held = within(1024, "tychodrel_encode_metadata", used(encode_metadata)) && held;
     held = within(1024, "tychodrel_decode_metadata", used(decode_metadata)) && held;

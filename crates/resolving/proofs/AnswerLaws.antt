@@ -26,6 +26,7 @@ use Rattle.resolving_rules.specs.Call.{recordsRead, Numbered, numbered, Resolve
 use Rattle.resolving.specs.declared.specifiers.Why.{Why}
 use Rattle.resolving.specs.declared.specifiers.Step.{Step}
 use Rattle.resolving.specs.declared.specifiers.Step.the-variants.{Done, Refused as Turned}
+use Rattle.resolving.specs.declared.Resolution.{Resolution}
 use Rattle.resolving.specs.declared.ResolveAnswer.{ResolveAnswer}
 use Rattle.resolving.specs.declared.ResolveAnswer.the-variants.{BadTable, NamedTwice, Unread, TooManyFiles}
 use Rattle.resolving.specs.declared.Tested.{Tested}
@@ -188,10 +189,9 @@ zeroed-is : (l : List ℕ) {l' : List ℕ} → l' ≡ zeroed l → l' ≡ replic
 unfolding zeroed
 zeroed-is l e = e
 
--- an answer's place in what is returned
-answer-is : {a b : ResolveAnswer} (s : Scope) {l : List ℕ} {x : Left} (r : Reading Fields) → a ≡ b → (left (record { scope = s; answer = b }) l ≡ x) × UnreadAs b r →
-    (left (record { scope = s; answer = a }) l ≡ x) × UnreadAs a r
-answer-is s {l} {x} r e h = subst (λ (a : ResolveAnswer). (left (record { scope = s; answer = a }) l ≡ x) × UnreadAs a r) (sym e) h
+-- what is returned, given what it is
+given-as : {q p : Resolution} {l : List ℕ} {x : Left} (r : Reading Fields) → q ≡ p → (left p l ≡ x) × UnreadAs (p .answer) r → (left q l ≡ x) × UnreadAs (q .answer) r
+given-as {l = l} {x = x} r e h = subst (λ (q : Resolution). (left q l ≡ x) × UnreadAs (q .answer) r) (sym e) h
 
 list-read : (k : Listed) (r : Reading Fields) → UnreadAs (listAnswer k) r
 list-read Fits r = tt
@@ -199,33 +199,36 @@ list-read (NotListed w p) r = tt
 list-read Short r = tt
 
 module _ (table records : List ℕ) (scope : Scope) (l : List ℕ) {r : Tested} (d : r ≡ listsOf table records) where
-  abbrev before : Scope → List ℕ → ResolveAnswer → Type 0
-  before s l' a = (left (record { scope = s; answer = a }) l' ≡ resolving (lentAs table records) (length l) (modulesOf scope)) × UnreadAs a (read Records records)
+  abbrev before : List ℕ → Resolution → Type 0
+  before l' q = (left q l' ≡ resolving (lentAs table records) (length l) (modulesOf scope)) × UnreadAs (q .answer) (read Records records)
+
+  abbrev as-it-was : ResolveAnswer → Resolution
+  as-it-was a = record { scope = scope; answer = a }
 
   -- 1, 2 or 10
-  module _ {l' : List ℕ} {a : ResolveAnswer} where
-    pub refused-bad : r ≡ Bad → (a ≡ BadTable) × (l' ≡ zeroed l) → before scope l' a
+  module _ {l' : List ℕ} {q : Resolution} where
+    pub refused-bad : r ≡ Bad → (q ≡ as-it-was BadTable) × (l' ≡ zeroed l) → before l' q
     refused-bad e z =
-        answer-is scope (read Records records) (z .0)
+        given-as (read Records records) (z .0)
         (ap (leftBy BadTable (modulesOf scope)) (zeroed-is l (z .1)) ∙ sym (left-from table records (modulesOf scope) (length l) (said table records Bad d e)), tt)
 
-    pub refused-twice : r ≡ Twice → (a ≡ NamedTwice) × (l' ≡ zeroed l) → before scope l' a
+    pub refused-twice : r ≡ Twice → (q ≡ as-it-was NamedTwice) × (l' ≡ zeroed l) → before l' q
     refused-twice e z =
-        answer-is scope (read Records records) (z .0)
+        given-as (read Records records) (z .0)
         (ap (leftBy NamedTwice (modulesOf scope)) (zeroed-is l (z .1)) ∙ sym (left-from table records (modulesOf scope) (length l) (said table records Twice d e)), tt)
 
-    pub refused-unread : {w : ReadWhy} {p : ℕ} → r ≡ NotRead w p → (a ≡ Unread w p) × (l' ≡ zeroed l) → before scope l' a
+    pub refused-unread : {w : ReadWhy} {p : ℕ} → r ≡ NotRead w p → (q ≡ as-it-was (Unread w p)) × (l' ≡ zeroed l) → before l' q
     refused-unread {w} {p} e z =
         let s = said table records (NotRead w p) d e in
-        answer-is scope (read Records records) (z .0)
+        given-as (read Records records) (z .0)
         (ap (leftBy (Unread w p) (modulesOf scope)) (zeroed-is l (z .1)) ∙ sym (left-from table records (modulesOf scope) (length l) (s .0)), s .1)
 
   module _ (e : r ≡ Passable) where
     -- 5
-    pub refused-over : {l' : List ℕ} {a : ResolveAnswer} {p : ℕ} → numberAll (rowsIn table) (sourcesIn (recordsIn records)) (modulesOf scope) 3 ≡ refused 5 p →
-        (a ≡ TooManyFiles p) × (l' ≡ zeroed l) → before scope l' a
+    pub refused-over : {l' : List ℕ} {r : Resolution} {p : ℕ} → numberAll (rowsIn table) (sourcesIn (recordsIn records)) (modulesOf scope) 3 ≡ refused 5 p →
+        (r ≡ as-it-was (TooManyFiles p)) × (l' ≡ zeroed l) → before l' r
     refused-over {p = p} q z =
-        answer-is scope (read Records records) (z .0) (
+        given-as (read Records records) (z .0) (
           ap (leftBy (TooManyFiles p) (modulesOf scope)) (zeroed-is l (z .1))
               ∙ sym (left-numbered table records (modulesOf scope) (length l) (said table records Passable d e .0) q),
           tt,
@@ -234,8 +237,8 @@ module _ (table records : List ℕ) (scope : Scope) (l : List ℕ) {r : Tested} 
     -- the list, or 11, 6 or 9
     module _ (new : Scope) (q : numberAll (rowsIn table) (sourcesIn (recordsIn records)) (modulesOf scope) 3 ≡ done (modulesOf new)) {l' : List ℕ} (k : Listed)
         (f : leftIn k (modulesOf new) l' ≡ listedLeft table records (length l) (modulesOf new)) where
-      pub answers-list : {a : ResolveAnswer} → a ≡ listAnswer k → before new l' a
+      pub answers-list : {a : ResolveAnswer} → a ≡ listAnswer k → before l' (record { scope = new; answer = a })
       unfolding listedLeft
       answers-list h =
-          answer-is new (read Records records) h
+          given-as (read Records records) (ap (λ (a : ResolveAnswer). record { scope = new; answer = a }) h)
           (f ∙ sym (left-numbered table records (modulesOf scope) (length l) (said table records Passable d e .0) q), list-read k (read Records records))

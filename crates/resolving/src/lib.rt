@@ -76,28 +76,16 @@ pub fn resolve_imports(scope: Scope, table: &[u8], records: &[u8], list: &mut [u
 {
     match lists(table, records) {
         Tested::Good => {}
-        Tested::BadTable => return Resolution {
-            scope,
-            answer: refuse(ResolveAnswer::BadTable, list),
-        },
-        Tested::NamedTwice => return Resolution {
-            scope,
-            answer: refuse(ResolveAnswer::NamedTwice, list),
-        },
-        Tested::Unread(why, place) => return Resolution {
-            scope,
-            answer: refuse(ResolveAnswer::Unread(why, place), list),
-        },
+        Tested::BadTable => return refuse(scope, ResolveAnswer::BadTable, list),
+        Tested::NamedTwice => return refuse(scope, ResolveAnswer::NamedTwice, list),
+        Tested::Unread(why, place) => return refuse(scope, ResolveAnswer::Unread(why, place), list),
     }
     let n = number_sources(scope, table, records);
     let new = n.scope;
     let answer = n.answer;
     match answer {
         NumberAnswer::Given => {}
-        NumberAnswer::TooManyFiles(place) => return Resolution {
-            scope,
-            answer: refuse(ResolveAnswer::TooManyFiles(place), list),
-        },
+        NumberAnswer::TooManyFiles(place) => return refuse(scope, ResolveAnswer::TooManyFiles(place), list),
     }
     let listed = listing(new, table, records, list);
     Resolution {
@@ -106,12 +94,12 @@ pub fn resolve_imports(scope: Scope, table: &[u8], records: &[u8], list: &mut [u
     }
 }
 
-// The answer of a refused call, whose buffer is zeroed.
-fn refuse(answer: ResolveAnswer, list: &mut [u8]) -> ResolveAnswer
-    ensures { λ a. ⌜ (a ≡ answer) × (now (list .exit) ≡ zeroed (now (list .entry))) ⌝ }
+// What a refused call gives whose scope is as it was: the buffer is zeroed.
+fn refuse(scope: Scope, answer: ResolveAnswer, list: &mut [u8]) -> Resolution
+    ensures { λ r. ⌜ (r ≡ record { scope = scope; answer = answer }) × (now (list .exit) ≡ zeroed (now (list .entry))) ⌝ }
 {
     writer::clear(list);
-    answer
+    Resolution { scope, answer }
 }
 
 // The table is tested, and the records are read.
