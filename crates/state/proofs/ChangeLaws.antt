@@ -1,84 +1,112 @@
 -- What the functions on hints do: a hint is stored aside of the tables; then a row enters a table; rows with a key are taken out where there are some;
 -- a record gets its first namespace.
-use Prim.Native.Nat.{ℕ, _+_, _-_, _/_, _%_, _≤_, _<_}
+use Prim.Native.Nat.{ℕ, _+_, _-_, _*_, _/_, _%_, _≤_, _<_}
 use native.Mathlib.Omega.{arith}
 use mathlib.Core.Path.{_≡_, refl, sym, ap, subst, _∙_}
 use mathlib.Core.Bool.{Bool, true, false}
 use mathlib.Core.List.{List, [], _∷_, _++_}
 use mathlib.Core.Option.{Option, none as nothing, some}
-use lib.Dec.{eqb}
-use lib.ListN.{length, getD, set}
+use lib.ListN.{length, set}
 use lib.Seq.{getD-set-same, getD-set-other}
-use borrow.Author.Tests.{eqb-true, eqb-false}
-use Rattle.tables.specs.Rows.{Row, rows, firstIn, without, withValue}
+use borrow.Author.Tests.{leb-true}
+use Rattle.tree.proofs.Table.{both-true}
+use Rattle.tables.specs.Rows.{Row, rows, between, firstIn, NoneBefore, without, withoutRow, withValue}
 use Rattle.tables.specs.Only.{Only}
 use Rattle.tables.proofs.OnlyLaws.{store-row}
 use Rattle.inputs.specs.Lists.{isSome}
 use Rattle.state.specs.Cells.{id-limit, Kind, imports, uses, records, namespaces, tableOf, top-cell, InLimits, held, Good}
-use Rattle.state.specs.Cells.{hintAt, importHint, namespaceHint, useHint, nameHint, Covered, Hinted}
-use Rattle.state.specs.Does.{Others, Changes, Aside, Keeps, Starts}
-use Rattle.state.proofs.ListLaws.{below-append, below-value, below-without, length-more, length-value, length-without}
-use Rattle.state.proofs.HintLaws.{none-out, distinct-append, distinct-without, covered-append, covered-without, covered-none, named-value, named-at}
-use Rattle.state.proofs.HintLaws.{keeps-same, keeps-set}
+use Rattle.state.specs.Cells.{cellAt, hintAt, importHint, namespaceHint, useHint, namedIn, sourceIn, nameCell, Covered, Hinted}
+use Rattle.state.specs.Does.{Others, Changes, Aside, Grows, Starts}
+use Rattle.state.proofs.ListLaws.{below-append, below-value, below-without, length-more, length-value, length-without, rowOf}
+use Rattle.state.proofs.HintLaws.{none-out, distinct-append, distinct-without, covered-append, covered-without, covered-none}
+use Rattle.state.proofs.HintLaws.{row-out, named-append, named-value, named-at, source-at, grows-same, grows-set}
 use Rattle.state.proofs.FrameLaws.{aside, aside-rows, aside-good, changed, room-for}
 
--- ---- A hint is stored
+-- ---- A cell is stored
 
-pub hint-set : {t : List ℕ} (id v : ℕ) → Good t → Keeps (hintAt t id) v → Aside t (set t (15994 + id % 4001) v) × (hintAt (set t (15994 + id % 4001) v) id ≡ v)
-hint-set {t} id v g k =
+pub cell-set : {t : List ℕ} (h v : ℕ) → Good t → h < 2003 → Grows (cellAt t h) v → Aside t (set t (15994 + h) v) × (cellAt (set t (15994 + h) v) h ≡ v)
+cell-set {t} h v g b k =
     let size = g .size in
-    let o = store-row aside t (15994 + id % 4001) v (omega arith) (omega arith) in (
+    let o = store-row aside t (15994 + h) v (omega arith) (omega arith) in (
       record {
-        good =
-            aside-good g o (keeps-set t id v (omega arith) k)
-            (λ n. let e = getD-set-other t (15994 + id % 4001) (19995 + n / 4294967296 % 1024) v 0 (λ z. omega arith) in omega arith);
+        good = aside-good g o (λ i c. grows-set t h v (omega arith) k i);
         same-rows = aside-rows g o;
-        same-top = getD-set-other t (15994 + id % 4001) top-cell v 0 (λ z. omega arith);
+        same-top = getD-set-other t (15994 + h) top-cell v 0 (λ z. omega arith);
       },
-      getD-set-same t (15994 + id % 4001) v 0 (omega arith),
+      getD-set-same t (15994 + h) v 0 (omega arith),
     )
 
-pub hint-stays : {t : List ℕ} → Good t → Aside t t
-hint-stays g = record { good = g; same-rows = λ k. refl; same-top = refl }
+pub cell-stays : {t : List ℕ} → Good t → Aside t t
+cell-stays g = record { good = g; same-rows = λ k. refl; same-top = refl }
 
--- a name's hint grows
-names-set : (t : List ℕ) (id v : ℕ) → 21020 ≤ length t → nameHint t id ≤ v → (n : ℕ) → nameHint t n ≤ nameHint (set t (19995 + id / 4294967296 % 1024) v) n
-names-set t id v h k n = by (eqb (n / 4294967296 % 1024) (id / 4294967296 % 1024)) refl
-  where
-    by : (b : Bool) → eqb (n / 4294967296 % 1024) (id / 4294967296 % 1024) ≡ b → nameHint t n ≤ nameHint (set t (19995 + id / 4294967296 % 1024) v) n
-    by true e =
-        let z = eqb-true (n / 4294967296 % 1024) (id / 4294967296 % 1024) e in
-        let s = getD-set-same t (19995 + id / 4294967296 % 1024) v 0 (omega arith) in
-        subst (λ (c : ℕ). getD t (19995 + c) 0 ≤ getD (set t (19995 + id / 4294967296 % 1024) v) (19995 + c) 0) (sym z) (omega arith)
-    by false e =
-        let z = eqb-false (n / 4294967296 % 1024) (id / 4294967296 % 1024) e in
-        let o = getD-set-other t (19995 + id / 4294967296 % 1024) (19995 + n / 4294967296 % 1024) v 0 (λ w. z (omega arith)) in
-        omega arith
+-- the hint of a name grows; so does that of a literal's
+module _ (v h : ℕ) (b : h < 512) where
+  abbrev renamed : ℕ
+  renamed = v / 4294967296 * 4294967296 + h * 8388608 + v % 8388608
 
-pub name-set : {t : List ℕ} (id v : ℕ) → Good t → nameHint t id ≤ v →
-    Aside t (set t (19995 + id / 4294967296 % 1024) v) × (nameHint (set t (19995 + id / 4294967296 % 1024) v) id ≡ v)
-name-set {t} id v g k =
-    let size = g .size in
-    let o = store-row aside t (19995 + id / 4294967296 % 1024) v (omega arith) (omega arith) in (
-      record {
-        good =
-            aside-good g o (λ n. keeps-same (getD-set-other t (19995 + id / 4294967296 % 1024) (15994 + n % 4001) v 0 (λ z. omega arith)))
-            (names-set t id v (omega arith) k);
-        same-rows = aside-rows g o;
-        same-top = getD-set-other t (19995 + id / 4294967296 % 1024) top-cell v 0 (λ z. omega arith);
-      },
-      getD-set-same t (19995 + id / 4294967296 % 1024) v 0 (omega arith),
-    )
+  renamed-low : renamed % 8388608 ≡ v % 8388608
+  renamed-low = omega arith
 
--- the first record of a name stands at its hint or behind
-pub starts : {t : List ℕ} {from id : ℕ} → Good t → from ≤ 256 - nameHint t id → Starts from id t
+  renamed-tag : renamed / 2199023255552 ≡ v / 2199023255552
+  renamed-tag = omega arith
+
+  renamed-now : namedIn renamed ≡ h
+  renamed-now = omega arith
+
+  renamed-high : renamed / 4294967296 ≡ v / 4294967296
+  renamed-high = omega arith
+
+  pub named-grows : (c : ℕ) → v ≡ c → namedIn v ≤ h → Grows c renamed
+  named-grows c e l =
+      subst (λ (x : ℕ). Grows x renamed) e
+      (grows-same renamed-tag renamed-low (let n = renamed-now in omega arith) (let q = ap (λ (x : ℕ). x % 512) renamed-high in omega arith))
+
+  abbrev resourced : ℕ
+  resourced = v / 2199023255552 * 2199023255552 + h * 4294967296 + v % 4294967296
+
+  resourced-low : resourced % 8388608 ≡ v % 8388608
+  resourced-low = omega arith
+
+  resourced-tag : resourced / 2199023255552 ≡ v / 2199023255552
+  resourced-tag = omega arith
+
+  resourced-now : sourceIn resourced ≡ h
+  resourced-now = omega arith
+
+  resourced-name : namedIn resourced ≡ namedIn v
+  resourced-name = omega arith
+
+  pub source-grows : (c : ℕ) → v ≡ c → sourceIn v ≤ h → Grows c resourced
+  source-grows c e l =
+      subst (λ (x : ℕ). Grows x resourced) e
+      (grows-same resourced-tag resourced-low (let n = resourced-name in omega arith) (let n = resourced-now in omega arith))
+
+-- the first record whose first namespace has a name stands at the hint or behind; so does the first whose literal has it
+pub starts : {t : List ℕ} {from id : ℕ} → Good t → from ≤ 256 - namedIn (cellAt t (nameCell id)) → Starts from id t
 starts {t} {from} {id} g h =
     record {
       none-named = λ i n p q e f.
           let a = named-at 0 t (rows (tableOf records) t) i n (g .hinted records) q e in
-          let b = ap (λ (x : ℕ). getD t (19995 + x % 1024) 0) f in
+          let b = ap (λ (x : ℕ). namedIn (cellAt t (x % 1024))) f in
           omega arith;
     }
+
+pub opens : {t : List ℕ} {from : ℕ} (id : ℕ) → Good t → from ≤ 256 - sourceIn (cellAt t (nameCell id)) →
+    NoneBefore from (id - id % 4294967296) (id - id % 4294967296 + 4294967295) (rows (tableOf records) t)
+opens {t} {from} id g h = record { passed = λ i p q. by i p q (between (id - id % 4294967296) (id - id % 4294967296 + 4294967295) (rowOf (rows (tableOf records) t) i .0)) refl }
+  where
+    by : (i : ℕ) → i < from → i < held records t → (b : Bool) →
+        between (id - id % 4294967296) (id - id % 4294967296 + 4294967295) (rowOf (rows (tableOf records) t) i .0) ≡ b → b ≡ false
+    by i p q true e =
+        let n = rowOf (rows (tableOf records) t) i .0 in
+        let k = both-true _ _ e in
+        let l = leb-true (id - id % 4294967296) n (k .0) in
+        let u = leb-true n (id - id % 4294967296 + 4294967295) (k .1) in
+        let z : n / 4294967296 ≡ id / 4294967296 = omega arith in
+        let a = source-at 0 t (rows (tableOf records) t) i (g .hinted records) q in
+        let b = ap (λ (x : ℕ). sourceIn (cellAt t (x % 1024))) z in
+        absurd (omega arith)
+    by i p q false e = refl
 
 -- ---- A row enters
 
@@ -118,8 +146,16 @@ module _ {t m t' : List ℕ} (g : Good t) (a : Aside t m) where
       after namespaces a o (e ∙ ap (λ (x : List Row). x ++ ((id, i) ∷ [])) (a .same-rows namespaces)) (omega arith) (below-append _ _ l (id, i) (g .below namespaces) h b)
       (covered-append namespaceHint m l (id, i) (subst (Covered namespaceHint m) (a .same-rows namespaces) (a .good .hinted namespaces)) z)
 
+  pub record-added : {x : ℕ} → x < id-limit → held records t < 256 → 256 ≤ held records t + sourceIn (cellAt m (nameCell x)) →
+      rows (tableOf records) t' ≡ rows (tableOf records) m ++ ((x, 0) ∷ []) → Only (tableOf records) m t' → Changes records (rows (tableOf records) t ++ ((x, 0) ∷ [])) t t'
+  record-added {x} h n z e o =
+      let l = rows (tableOf records) t in
+      let k = length-more l (x, 0) in
+      after records a o (e ∙ ap (λ (y : List Row). y ++ ((x, 0) ∷ [])) (a .same-rows records)) (omega arith) (below-append _ _ l (x, 0) (g .below records) h (omega arith))
+      (named-append 0 m l (x, 0) (subst (λ (y : List Row). Hinted records m y) (a .same-rows records) (a .good .hinted records)) refl (omega arith))
+
   -- a record's first namespace
-  pub first-set : {id : ℕ} (i : ℕ) → id < id-limit → 256 ≤ i + nameHint m id → rows (tableOf records) t' ≡ withValue i (id + 1) (rows (tableOf records) m) →
+  pub first-set : {id : ℕ} (i : ℕ) → id < id-limit → 256 ≤ i + namedIn (cellAt m (nameCell id)) → rows (tableOf records) t' ≡ withValue i (id + 1) (rows (tableOf records) m) →
       Only (tableOf records) m t' → Changes records (withValue i (id + 1) (rows (tableOf records) t)) t t'
   first-set {id} i h n e o =
       let l = rows (tableOf records) t in
@@ -131,12 +167,13 @@ module _ {t m t' : List ℕ} (g : Good t) (a : Aside t m) where
 -- ---- Rows are taken out
 
 module _ (id : ℕ) {t t' : List ℕ} (g : Good t) where
-  pub import-dropped : rows (tableOf imports) t' ≡ without id (rows (tableOf imports) t) → Only (tableOf imports) t t' → Changes imports (without id (rows (tableOf imports) t)) t t'
-  import-dropped e o =
+  pub import-dropped : {i : ℕ} → some i ≡ firstIn id id (rows (tableOf imports) t) → rows (tableOf imports) t' ≡ withoutRow i (rows (tableOf imports) t) →
+      Only (tableOf imports) t t' → Changes imports (without id (rows (tableOf imports) t)) t t'
+  import-dropped {i} f e o =
       let l = rows (tableOf imports) t in
       let n = length-without id l in
       let r = room-for imports g in
-      changed imports g o e (omega arith) (below-without _ _ id l (g .below imports))
+      changed imports g o (e ∙ row-out id l i (g .hinted imports .1) (sym f)) (omega arith) (below-without _ _ id l (g .below imports))
       (covered-without importHint t id l (g .hinted imports .0), distinct-without id l (g .hinted imports .1))
 
   pub uses-dropped : rows (tableOf uses) t' ≡ without id (rows (tableOf uses) t) → Only (tableOf uses) t t' → Changes uses (without id (rows (tableOf uses) t)) t t'

@@ -7,7 +7,6 @@ use mathlib.Core.List.{List, [], _∷_, _++_, map, map-append}
 use mathlib.Core.Option.{Option, none as nothing, some}
 use lib.ListN.{length}
 use Rattle.tables.specs.Rows.{Row, rows, next, firstIn}
-use Rattle.tables.specs.Only.{Only}
 use Rattle.tree.specs.Layout.{same, valueOf}
 use Rattle.tree.specs.Tree.{Fields, none}
 use Rattle.metadata.specs.Metadata.{append}
@@ -17,13 +16,12 @@ use Rattle.inputs.specs.Outcome.{done, refused}
 use Rattle.extraction_rules.specs.State.{Record, State, setCollected}
 use Rattle.extraction_rules.specs.First.{holdsNamespace, collectIn, collect}
 use Rattle.state.specs.Cells.{At, id-limit, records, tableOf, held, Good, idOf, Brief, brief, briefOf, indexOf, namespacesIn, countNamespaces, sourcesIn, Shows}
-use Rattle.state.specs.Does.{extendAt, Gathered, Collects}
+use Rattle.state.specs.Does.{Changes, extendAt, Gathered, Collects}
 use Rattle.state.specs.declared.Place.the-variants.{Index, NoRoom}
-use Rattle.state.proofs.ListLaws.{below-append, length-more, first-below}
+use Rattle.state.proofs.ListLaws.{length-more, first-below}
 use Rattle.state.proofs.IndexLaws.{index-map, index-row, index-more}
 use Rattle.state.proofs.RecordLaws.{same-name, name-range, held-shown}
-use Rattle.state.proofs.HintLaws.{named-append}
-use Rattle.state.proofs.FrameLaws.{others-kept, good-kept, room-for, shows-collected}
+use Rattle.state.proofs.FrameLaws.{room-for, shows-collected}
 use Rattle.state.proofs.ImportedLaws.{room-made, room-full}
 
 -- ---- Specifiers of the record at a place
@@ -126,18 +124,17 @@ module _ (x : ℕ) (h : x < id-limit) {t : List ℕ} (g : Good t) where
       by true h f = refl
       by false h f = h f
 
-  gathered-new : {t' : List ℕ} → nothing ≡ firstIn (x - x % 4294967296) (x - x % 4294967296 + 4294967295) (rows (tableOf records) t) →
-      rows (tableOf records) t' ≡ rows (tableOf records) t ++ ((x, 0) ∷ []) → held records t < 256 → Only (tableOf records) t t' →
-      {y : At} (s : State) → Shows y t s → Gathered y (idOf x) (held records t) s t'
+  gathered-new : {t' : List ℕ} → nothing ≡ firstIn (x - x % 4294967296) (x - x % 4294967296 + 4294967295) (rows (tableOf records) t) → held records t < 256 →
+      Changes records (rows (tableOf records) t ++ ((x, 0) ∷ [])) t t' → {y : At} (s : State) → Shows y t s → Gathered y (idOf x) (held records t) s t'
   unfolding collect brief briefOf holdsNamespace findField
-  gathered-new {t'} e f k o s w =
+  gathered-new {t'} e k d s w =
       let n = held-shown w in
       let list = s .collected ++ (record { literal = idOf x; specifiers = none } ∷ []) in
       record {
         list = list;
         shows =
-            shows-collected w (others-kept records g o)
-            (ap (map briefOf) f ∙ map-append briefOf (rows (tableOf records) t) ((x, 0) ∷ []) ∙ ap (λ (m : List Brief). m ++ (briefOf (x, 0) ∷ [])) (w .collected)
+            shows-collected w (d .others)
+            (ap (map briefOf) (d .now-rows) ∙ map-append briefOf (rows (tableOf records) t) ((x, 0) ∷ []) ∙ ap (λ (m : List Brief). m ++ (briefOf (x, 0) ∷ [])) (w .collected)
             ∙ sym (map-append brief (s .collected) (record { literal = idOf x; specifiers = none } ∷ [])))
             (λ i. index-more (holdsNamespace (idOf i)) (s .collected) (record { literal = idOf x; specifiers = none }) refl)
             (namespaces-more (idOf x) (s .collected)) (sources-more (idOf x) (s .collected));
@@ -150,15 +147,14 @@ module _ (x : ℕ) (h : x < id-limit) {t : List ℕ} (g : Good t) where
       }
 
   pub collected-new : {t' : List ℕ} {i : ℕ} → i ≡ held records t → nothing ≡ firstIn (x - x % 4294967296) (x - x % 4294967296 + 4294967295) (rows (tableOf records) t) →
-      rows (tableOf records) t' ≡ rows (tableOf records) t ++ ((x, 0) ∷ []) → held records t < 256 → Only (tableOf records) t t' → Collects (idOf x) t t' (Index i)
-  collected-new {t'} {i} c e f k o =
+      held records t < 256 → Changes records (rows (tableOf records) t ++ ((x, 0) ∷ [])) t t' → Collects (idOf x) t t' (Index i)
+  collected-new {t'} {i} c e k d =
       let m = length-more (rows (tableOf records) t) (x, 0) in
-      let size = ap length f in
+      let size = ap length (d .now-rows) in
       record {
-        good = good-kept records g o f (omega arith) (below-append _ _ (rows (tableOf records) t) (x, 0) (g .below records) h (omega arith))
-            (named-append 0 t (rows (tableOf records) t) (x, 0) (g .hinted records) refl);
+        good = d .good;
         below = λ j p. let z : i ≡ j = cc in omega arith;
-        made = λ j p {y} s w. let z : held records t ≡ j = cc in subst (λ (n : ℕ). Gathered y (idOf x) n s t') z (gathered-new e f k o s w);
+        made = λ j p {y} s w. let z : held records t ≡ j = cc in subst (λ (n : ℕ). Gathered y (idOf x) n s t') z (gathered-new e k d s w);
         full = λ p s w fs q. absurd (let z : _≡_ {A = ℕ} 0 1 = cc in omega arith);
       }
 

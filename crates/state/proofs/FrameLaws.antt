@@ -1,5 +1,5 @@
 -- A change of one table keeps the others, and so all of what the array shows but what that table shows.
-use Prim.Native.Nat.{ℕ, _+_, _*_, _/_, _%_, _≤_, _<_}
+use Prim.Native.Nat.{ℕ, _+_, _*_, _≤_, _<_}
 use native.Mathlib.Omega.{arith}
 use mathlib.Core.Path.{_≡_, refl, sym, ap, subst, _∙_}
 use mathlib.Core.Bool.{Bool, true, false, not, cond, _&&_, _||_}
@@ -19,9 +19,9 @@ use Rattle.inputs.specs.Lists.{among}
 use Rattle.extraction_rules.specs.First.{holdsNamespace}
 use Rattle.state.specs.Cells.{Kind, imports, uses, records, namespaces, lazies, forces, modules, tableOf, top-cell, InLimits, Good, At}
 use Rattle.state.specs.Cells.{Sourced, Shows, idOf, importedOf, usageOf, brief, briefOf, indexOf, namespacesIn, sourcesIn, lazyOf, atomOf}
-use Rattle.state.specs.Cells.{moduleOf, hintAt, nameHint, Hinted}
-use Rattle.state.specs.Does.{one?, Others, Changes, Keeps}
-use Rattle.state.proofs.HintLaws.{hinted-agree, keeps-same}
+use Rattle.state.specs.Cells.{moduleOf, cellAt, Hinted}
+use Rattle.state.specs.Does.{one?, Others, Changes, Grows}
+use Rattle.state.proofs.HintLaws.{hinted-agree, grows-stays}
 
 -- ---- Tables apart
 
@@ -111,9 +111,7 @@ hint-outside = each _ (λ i. outside-past _ i (omega arith) (omega arith)) (λ i
     (λ i. outside-past _ i (omega arith) (omega arith)) (λ i. outside-past _ i (omega arith) (omega arith))
 
 hints-kept : (k : Kind) {t t' : List ℕ} → Only (tableOf k) t t' → (m : Kind) (l : List Row) → Hinted m t l → Hinted m t' l
-hints-kept k {t} {t'} o =
-    hinted-agree t t' (λ n. keeps-same (o .same (15994 + n % 4001) (hint-outside k _ (omega arith))))
-    (λ n. let e = o .same (19995 + n / 4294967296 % 1024) (hint-outside k _ (omega arith)) in omega arith)
+hints-kept k {t} {t'} o = hinted-agree t t' (λ h b. grows-stays (o .same (15994 + h) (hint-outside k _ (omega arith))))
 
 -- ---- The others
 
@@ -164,7 +162,7 @@ room-for k {t} g = let n = rows-length (tableOf k) t in let h = g .lies k .held 
 -- ---- What stands aside of the tables: *top*, and the hints
 
 abbrev pub aside : Table
-aside = record { count = top-cell; base = 15994; room = 2513 }
+aside = record { count = top-cell; base = 15994; room = 1002 }
 
 aside-apart : (k : Kind) → apart? aside (tableOf k) ≡ true
 unfolding apart?
@@ -174,13 +172,13 @@ module _ {t t' : List ℕ} (g : Good t) (o : Only aside t t') where
   pub aside-rows : (k : Kind) → rows (tableOf k) t' ≡ rows (tableOf k) t
   aside-rows k = apart-rows (apart-by aside (tableOf k) (aside-apart k)) o (g .lies k)
 
-  pub aside-good : ((n : ℕ) → Keeps (hintAt t n) (hintAt t' n)) → ((n : ℕ) → nameHint t n ≤ nameHint t' n) → Good t'
-  aside-good a b =
+  pub aside-good : ((h : ℕ) → h < 2003 → Grows (cellAt t h) (cellAt t' h)) → Good t'
+  aside-good a =
       record {
         size = let z = g .size in let s = o .size in omega arith;
         lies = λ k. apart-lies (apart-by aside (tableOf k) (aside-apart k)) o (g .lies k);
         below = λ k. subst (InLimits k) (sym (aside-rows k)) (g .below k);
-        hinted = λ k. subst (Hinted k t') (sym (aside-rows k)) (hinted-agree t t' a b k (rows (tableOf k) t) (g .hinted k));
+        hinted = λ k. subst (Hinted k t') (sym (aside-rows k)) (hinted-agree t t' a k (rows (tableOf k) t) (g .hinted k));
       }
 
 -- ---- What is shown

@@ -1,23 +1,23 @@
 -- Hints: rows that change stay covered, distinct and named; a hint of 0 says that a search finds nothing; a row with the key that is searched for is
 -- the one that the search gives.
-use Prim.Native.Nat.{ℕ, zero, suc, _+_, _/_, _%_, _≤_, _<_}
+use Prim.Native.Nat.{ℕ, zero, suc, _+_, _-_, _*_, _/_, _%_, _≤_, _<_}
 use native.Mathlib.Omega.{arith}
-use mathlib.Core.Path.{_≡_, refl, sym, ap, subst, _∙_}
-use mathlib.Core.Bool.{Bool, true, false, cond, _&&_}
+use mathlib.Core.Path.{_≡_, refl, sym, ap, ap₂, subst, _∙_}
+use mathlib.Core.Bool.{Bool, true, false, cond, _&&_, _||_}
 use mathlib.Core.List.{List, [], _∷_, _++_, map}
 use mathlib.Core.Option.{Option, none as nothing, some}
 use lib.Dec.{leb, eqb}
-use lib.ListN.{length, length-map, getD, set}
+use lib.ListN.{length, length-map, set}
 use lib.Seq.{getD-set-same, getD-set-other}
 use borrow.Author.Tests.{leb-true, lt-leb, eqb-true, eqb-false, eq-eqb, ne-eqb}
 use Rattle.tree.proofs.Table.{both-true}
 use Rattle.scope.proofs.Laws.{none-some}
-use Rattle.tables.specs.Rows.{Row, next, between, flip, firstIn, NoneBefore, leastOf, lesser, without, withValue}
+use Rattle.tables.specs.Rows.{Row, next, between, flip, firstIn, NoneBefore, leastOf, lesser, without, withoutRow, withValue}
 use Rattle.tables.proofs.RowLaws.{getD-map}
 use Rattle.inputs.specs.Lists.{isSome}
-use Rattle.state.specs.Cells.{Kind, imports, uses, records, namespaces, lazies, forces, modules, hintAt, importHint, namespaceHint, useHint, nameHint}
-use Rattle.state.specs.Cells.{Covered, Distinct, Named, Hinted}
-use Rattle.state.specs.Does.{Keeps}
+use Rattle.state.specs.Cells.{Kind, imports, uses, records, namespaces, lazies, forces, modules, hintAt, importHint, namespaceHint, useHint}
+use Rattle.state.specs.Cells.{cellAt, tagOf, tagged, hintIn, namedIn, sourceIn, nameCell, Covered, Distinct, Named, Hinted}
+use Rattle.state.specs.Does.{Keeps, Grows, tagFor}
 use Rattle.state.proofs.IdLaws.{between-one}
 use Rattle.state.proofs.ListLaws.{rowOf}
 
@@ -81,6 +81,14 @@ none-out k (r ∷ l) e =
 
 -- ---- A row that a hint names
 
+not-next : {A : Type 0} (o : Option ℕ) → next o ≡ some zero → A
+not-next nothing e = none-some e
+not-next (some n) e = absurd (let z : suc n ≡ zero = cc in omega arith)
+
+next-some : (o : Option ℕ) (i : ℕ) → next o ≡ some (suc i) → o ≡ some i
+next-some nothing i e = none-some e
+next-some (some n) i e = ap some (let z : suc n ≡ suc i = cc in omega arith)
+
 some-next : (o : Option ℕ) → isSome (next o) ≡ isSome o
 some-next nothing = refl
 some-next (some n) = refl
@@ -124,6 +132,21 @@ distinct-without k (r ∷ l) d = by (eqb (r .0) k) (distinct-without k l (d .1))
     by true f = f
     by false f = (none-without (r .0) k l (d .0), f)
 
+-- keys stand once: taking out the row that the search gives takes out all of the key
+pub row-out : (k : ℕ) (l : List Row) (i : ℕ) → Distinct l → firstIn k k l ≡ some i → withoutRow i l ≡ without k l
+unfolding Distinct without withoutRow
+row-out k [] i d e = refl
+row-out k (r ∷ l) zero d e = by (eqb (r .0) k) refl
+  where
+    by : (b : Bool) → eqb (r .0) k ≡ b → l ≡ cond b (without k l) (r ∷ without k l)
+    by true p = sym (none-out k l (subst (λ (x : ℕ). firstIn x x l ≡ nothing) (eqb-true (r .0) k p) (d .0)))
+    by false p = not-next (firstIn k k l) (sym (first-other k r l (eqb-false (r .0) k p)) ∙ e)
+row-out k (r ∷ l) (suc i) d e = by (eqb (r .0) k) refl (row-out k l i (d .1))
+  where
+    by : (b : Bool) → eqb (r .0) k ≡ b → (firstIn k k l ≡ some i → withoutRow i l ≡ without k l) → r ∷ withoutRow i l ≡ cond b (without k l) (r ∷ without k l)
+    by true p h = absurd (let z : zero ≡ suc i = cc (sym (first-here k r l (eqb-true (r .0) k p)) ∙ e) in omega arith)
+    by false p h = ap (λ (m : List Row). r ∷ m) (h (next-some (firstIn k k l) i (sym (first-other k r l (eqb-false (r .0) k p)) ∙ e)))
+
 -- ---- Keys with hints
 
 module _ (p : ℕ → ℕ) (t : List ℕ) where
@@ -154,25 +177,32 @@ module _ (p : ℕ → ℕ) (t : List ℕ) where
   covered-none k (r ∷ l) c e =
       none-more k r l (λ z. let h = c .0 in let f : p (hintAt t (r .0)) ≡ 0 = ap (λ (n : ℕ). p (hintAt t n)) z ∙ e in omega arith) (covered-none k l (c .1) e)
 
--- ---- First namespaces with hints
+-- ---- Records with hints
 
-pub named-append : (i : ℕ) (t : List ℕ) (l : List Row) (r : Row) → Named i t l → r .1 ≡ 0 → Named i t (l ++ (r ∷ []))
+pub named-append : (i : ℕ) (t : List ℕ) (l : List Row) (r : Row) → Named i t l → r .1 ≡ 0 → 256 ≤ i + length l + sourceIn (cellAt t (nameCell (r .0))) →
+    Named i t (l ++ (r ∷ []))
 unfolding Named
-named-append i t [] r n e = (λ m f. absurd (omega arith), tt)
-named-append i t (q ∷ l) r n e = (n .0, named-append (suc i) t l r (n .1) e)
+named-append i t [] r n e h = (λ m f. absurd (omega arith), omega arith, tt)
+named-append i t (q ∷ l) r n e h = (n .0, n .1, named-append (suc i) t l r (n .2) e (omega arith))
 
-pub named-value : (j i : ℕ) (t : List ℕ) (l : List Row) (k : ℕ) → Named j t l → 256 ≤ j + i + nameHint t k → Named j t (withValue i (k + 1) l)
+pub named-value : (j i : ℕ) (t : List ℕ) (l : List Row) (k : ℕ) → Named j t l → 256 ≤ j + i + namedIn (cellAt t (nameCell k)) → Named j t (withValue i (k + 1) l)
 unfolding Named withValue
 named-value j i t [] k n h = tt
 named-value j zero t (r ∷ l) k n h =
-    (λ m e. let z : k ≡ m = omega arith in let f = ap (nameHint t) z in omega arith, n .1)
-named-value j (suc i) t (r ∷ l) k n h = (n .0, named-value (suc j) i t l k (n .1) (omega arith))
+    (λ m e. let z : k ≡ m = omega arith in let f = ap (λ (x : ℕ). namedIn (cellAt t (nameCell x))) z in omega arith, n .1, n .2)
+named-value j (suc i) t (r ∷ l) k n h = (n .0, n .1, named-value (suc j) i t l k (n .2) (omega arith))
 
-pub named-at : (j : ℕ) (t : List ℕ) (l : List Row) (i n : ℕ) → Named j t l → i < length l → rowOf l i .1 ≡ suc n → 256 ≤ j + i + nameHint t n
+pub named-at : (j : ℕ) (t : List ℕ) (l : List Row) (i n : ℕ) → Named j t l → i < length l → rowOf l i .1 ≡ suc n → 256 ≤ j + i + namedIn (cellAt t (nameCell n))
 unfolding Named
 named-at j t [] i n d h e = absurd (omega arith)
 named-at j t (r ∷ l) zero n d h e = let a = d .0 n e in omega arith
-named-at j t (r ∷ l) (suc i) n d h e = let a = named-at (suc j) t l i n (d .1) (omega arith) e in omega arith
+named-at j t (r ∷ l) (suc i) n d h e = let a = named-at (suc j) t l i n (d .2) (omega arith) e in omega arith
+
+pub source-at : (j : ℕ) (t : List ℕ) (l : List Row) (i : ℕ) → Named j t l → i < length l → 256 ≤ j + i + sourceIn (cellAt t (nameCell (rowOf l i .0)))
+unfolding Named
+source-at j t [] i d h = absurd (omega arith)
+source-at j t (r ∷ l) zero d h = let a = d .1 in omega arith
+source-at j t (r ∷ l) (suc i) d h = let a = source-at (suc j) t l i (d .2) (omega arith) in omega arith
 
 -- no first namespace before a place is from lo to hi, where those are of one name
 pub none-from : (lo hi id from : ℕ) (l : List Row) →
@@ -193,29 +223,31 @@ none-from lo hi id from l none z name =
 
 -- ---- Arrays with other hints
 
-module _ (p : ℕ → ℕ) (t t' : List ℕ) where
-  pub covered-agree : ((n : ℕ) → 0 < p (hintAt t n) → 0 < p (hintAt t' n)) → (l : List Row) → Covered p t l → Covered p t' l
-  unfolding Covered
-  covered-agree h [] c = tt
-  covered-agree h (r ∷ l) c = (h (r .0) (c .0), covered-agree h l (c .1))
+covered-agree : (p : ℕ → ℕ) (t t' : List ℕ) → ((n : ℕ) → 0 < p (hintAt t n) → 0 < p (hintAt t' n)) → (l : List Row) → Covered p t l → Covered p t' l
+unfolding Covered
+covered-agree p t t' h [] c = tt
+covered-agree p t t' h (r ∷ l) c = (h (r .0) (c .0), covered-agree p t t' h l (c .1))
 
-pub named-agree : (t t' : List ℕ) → ((n : ℕ) → nameHint t n ≤ nameHint t' n) → (i : ℕ) (l : List Row) → Named i t l → Named i t' l
+named-agree : (t t' : List ℕ) → ((h : ℕ) → h < 2003 → Grows (cellAt t h) (cellAt t' h)) → (i : ℕ) (l : List Row) → Named i t l → Named i t' l
 unfolding Named
 named-agree t t' h i [] n = tt
-named-agree t t' h i (r ∷ l) n = (λ m e. let a = n .0 m e in let b = h m in omega arith, named-agree t t' h (suc i) l (n .1))
+named-agree t t' h i (r ∷ l) n = (
+  λ m e. let a = n .0 m e in let b = h (nameCell m) (omega arith) .named-kept in omega arith,
+  let a = n .1 in let b = h (nameCell (r .0)) (omega arith) .source-kept in omega arith,
+  named-agree t t' h (suc i) l (n .2),
+)
 
--- hints that leave out nothing
-pub hinted-agree : (t t' : List ℕ) → ((n : ℕ) → Keeps (hintAt t n) (hintAt t' n)) → ((n : ℕ) → nameHint t n ≤ nameHint t' n) →
-    (k : Kind) (l : List Row) → Hinted k t l → Hinted k t' l
-hinted-agree t t' a b imports l h = (covered-agree importHint t t' (λ n. a n .import-kept) l (h .0), h .1)
-hinted-agree t t' a b uses l h = covered-agree useHint t t' (λ n. a n .use-kept) l h
-hinted-agree t t' a b records l h = named-agree t t' b 0 l h
-hinted-agree t t' a b namespaces l h = covered-agree namespaceHint t t' (λ n. a n .namespace-kept) l h
-hinted-agree t t' a b lazies l h = tt
-hinted-agree t t' a b forces l h = tt
-hinted-agree t t' a b modules l h = tt
+-- cells that leave out nothing
+pub hinted-agree : (t t' : List ℕ) → ((h : ℕ) → h < 2003 → Grows (cellAt t h) (cellAt t' h)) → (k : Kind) (l : List Row) → Hinted k t l → Hinted k t' l
+hinted-agree t t' a imports l h = (covered-agree importHint t t' (λ n. a (n % 2003) (omega arith) .hints-kept n .import-kept) l (h .0), h .1)
+hinted-agree t t' a uses l h = covered-agree useHint t t' (λ n. a (n % 2003) (omega arith) .hints-kept n .use-kept) l h
+hinted-agree t t' a records l h = named-agree t t' a 0 l h
+hinted-agree t t' a namespaces l h = covered-agree namespaceHint t t' (λ n. a (n % 2003) (omega arith) .hints-kept n .namespace-kept) l h
+hinted-agree t t' a lazies l h = tt
+hinted-agree t t' a forces l h = tt
+hinted-agree t t' a modules l h = tt
 
-pub keeps-same : {v w : ℕ} → w ≡ v → Keeps v w
+keeps-same : {v w : ℕ} → w ≡ v → Keeps v w
 keeps-same e =
     record {
       import-kept = subst (λ (x : ℕ). 0 < importHint x) (sym e);
@@ -223,16 +255,157 @@ keeps-same e =
       use-kept = subst (λ (x : ℕ). 0 < useHint x) (sym e);
     }
 
--- one hint is stored
-pub keeps-set : (t : List ℕ) (id v : ℕ) → 19995 ≤ length t → Keeps (hintAt t id) v → (n : ℕ) → Keeps (hintAt t n) (hintAt (set t (15994 + id % 4001) v) n)
-keeps-set t id v h k n = by (eqb (n % 4001) (id % 4001)) refl
+-- a hint of 0 names nothing
+keeps-none : (w : ℕ) → Keeps 0 w
+keeps-none w = record { import-kept = λ h. absurd (omega arith); namespace-kept = λ h. absurd (omega arith); use-kept = λ h. absurd (omega arith) }
+
+-- a cell with the same hint and tag
+pub grows-same : {v w : ℕ} → w / 2199023255552 ≡ v / 2199023255552 → w % 8388608 ≡ v % 8388608 → namedIn v ≤ namedIn w → sourceIn v ≤ sourceIn w → Grows v w
+unfolding hintIn
+grows-same e f p q =
+    record {
+      hints-kept = λ n. keeps-same (ap₂ (λ (x y : ℕ). cond (eqb x 0 || eqb x (tagOf n)) y 0) e f);
+      named-kept = p;
+      source-kept = q;
+    }
+
+pub grows-stays : {v w : ℕ} → w ≡ v → Grows v w
+grows-stays {v} {w} e =
+    grows-same (ap (λ (x : ℕ). x / 2199023255552) e) (ap (λ (x : ℕ). x % 8388608) e) (let f = ap namedIn e in omega arith) (let f = ap sourceIn e in omega arith)
+
+-- one cell is stored
+pub grows-set : (t : List ℕ) (h w : ℕ) → 15994 + h < length t → Grows (cellAt t h) w → (i : ℕ) → Grows (cellAt t i) (cellAt (set t (15994 + h) w) i)
+grows-set t h w b g i = by (eqb i h) refl
   where
-    by : (b : Bool) → eqb (n % 4001) (id % 4001) ≡ b → Keeps (hintAt t n) (hintAt (set t (15994 + id % 4001) v) n)
+    by : (x : Bool) → eqb i h ≡ x → Grows (cellAt t i) (cellAt (set t (15994 + h) w) i)
     by true e =
-        let z = eqb-true (n % 4001) (id % 4001) e in
-        let s = getD-set-same t (15994 + id % 4001) v 0 (omega arith) in
-        subst (λ (c : ℕ). Keeps (getD t (15994 + c) 0) (getD (set t (15994 + id % 4001) v) (15994 + c) 0)) (sym z)
-        (subst (Keeps (hintAt t id)) (sym s) k)
-    by false e =
-        let z = eqb-false (n % 4001) (id % 4001) e in
-        keeps-same (getD-set-other t (15994 + id % 4001) (15994 + n % 4001) v 0 (λ w. z (omega arith)))
+        subst (λ (c : ℕ). Grows (cellAt t c) (cellAt (set t (15994 + h) w) c)) (sym (eqb-true i h e))
+        (subst (Grows (cellAt t h)) (sym (getD-set-same t (15994 + h) w 0 b)) g)
+    by false e = let z = eqb-false i h e in grows-stays (getD-set-other t (15994 + h) (15994 + i) w 0 (λ y. z (omega arith)))
+
+-- ---- An id enters a cell
+
+abbrev entered : ℕ → ℕ → ℕ → ℕ
+entered v tag hint = tag * 2199023255552 + v / 8388608 % 262144 * 8388608 + hint
+
+module _ (v tag hint : ℕ) (h : hint < 8388608) where
+  entered-hint : entered v tag hint % 8388608 ≡ hint
+  entered-hint = omega arith
+
+  entered-tag : entered v tag hint / 2199023255552 ≡ tag
+  entered-tag = omega arith
+
+  entered-named : namedIn (entered v tag hint) ≡ namedIn v
+  entered-named = let q : entered v tag hint / 8388608 ≡ tag * 262144 + v / 8388608 % 262144 = omega arith in rw q (omega arith)
+
+  entered-source : sourceIn (entered v tag hint) ≡ sourceIn v
+  entered-source = omega arith
+
+either-true : (a b : Bool) → a ≡ true → (a || b) ≡ true
+either-true true b e = refl
+either-true false b e = absurd (let z : _≡_ {A = ℕ} 0 1 = cc in omega arith)
+
+or-second : (a b : Bool) → b ≡ true → (a || b) ≡ true
+or-second true b e = refl
+or-second false b e = e
+
+cond-none : (b : Bool) → _≡_ {A = ℕ} (cond b 0 0) 0
+cond-none true = refl
+cond-none false = refl
+
+keeps-cond : (a b : Bool) {x y : ℕ} → (a ≡ true → b ≡ true) → Keeps x y → Keeps (cond a x 0) (cond b y 0)
+keeps-cond true b {x} {y} h k = subst (λ (c : Bool). Keeps x (cond c y 0)) (sym (h refl)) k
+keeps-cond false b {y = y} h k = keeps-none (cond b y 0)
+
+module _ (v id hint : ℕ) (h : hint < 8388608) (k : Keeps (v % 8388608) hint) where
+  abbrev new : ℕ → ℕ
+  new tag = entered v tag hint
+
+  -- the tag is none, or stays
+  keeps-entered : (tag n : ℕ) → (tagged v n ≡ true → tagged (new tag) n ≡ true) → Keeps (hintIn v n) (hintIn (new tag) n)
+  unfolding hintIn
+  keeps-entered tag n f = keeps-cond (tagged v n) (tagged (new tag) n) f (subst (Keeps (v % 8388608)) (sym (entered-hint v tag hint h)) k)
+
+  -- no id had entered
+  keeps-fresh : (tag n : ℕ) → v % 8388608 ≡ 0 → Keeps (hintIn v n) (hintIn (new tag) n)
+  unfolding hintIn
+  keeps-fresh tag n e =
+      subst (λ (x : ℕ). Keeps x (hintIn (new tag) n)) (sym (ap (λ (x : ℕ). cond (tagged v n) x 0) e ∙ cond-none (tagged v n))) (keeps-none (hintIn (new tag) n))
+
+  tag-open : (n : ℕ) → tagged (new 0) n ≡ true
+  tag-open n = either-true (eqb (new 0 / 2199023255552) 0) (eqb (new 0 / 2199023255552) (tagOf n)) (eq-eqb (new 0 / 2199023255552) 0 (entered-tag v 0 hint h))
+
+  tag-stays : (n : ℕ) → v / 2199023255552 ≡ tagOf id → tagged v n ≡ true → tagged (new (tagOf id)) n ≡ true
+  tag-stays n e f = ap (λ (x : ℕ). eqb x 0 || eqb x (tagOf n)) (entered-tag v (tagOf id) hint h ∙ sym e) ∙ f
+
+  keeps-tagged : (x y : Bool) → eqb (v % 8388608) 0 ≡ x → eqb (v / 2199023255552) (tagOf id) ≡ y → (n : ℕ) →
+      Keeps (hintIn v n) (hintIn (new (cond x (tagOf id) (cond y (tagOf id) 0))) n)
+  keeps-tagged true y p q n = keeps-fresh (tagOf id) n (eqb-true (v % 8388608) 0 p)
+  keeps-tagged false true p q n = keeps-entered (tagOf id) n (tag-stays n (eqb-true (v / 2199023255552) (tagOf id) q))
+  keeps-tagged false false p q n = keeps-entered 0 n (λ f. tag-open n)
+
+  grows-entered : Grows v (new (tagFor v id))
+  grows-entered =
+      record {
+        hints-kept = keeps-tagged (eqb (v % 8388608) 0) (eqb (v / 2199023255552) (tagOf id)) refl refl;
+        named-kept = let e = entered-named v (tagFor v id) hint h in omega arith;
+        source-kept = let e = entered-source v (tagFor v id) hint h in omega arith;
+      }
+
+  -- the id itself has the hint
+  own-tag : tagged (new (tagOf id)) id ≡ true
+  own-tag = or-second (eqb (new (tagOf id) / 2199023255552) 0) (eqb (new (tagOf id) / 2199023255552) (tagOf id)) (eq-eqb (new (tagOf id) / 2199023255552) (tagOf id) (entered-tag v (tagOf id) hint h))
+
+  hint-by : (x y : Bool) → tagged (new (cond x (tagOf id) (cond y (tagOf id) 0))) id ≡ true
+  hint-by true y = own-tag
+  hint-by false true = own-tag
+  hint-by false false = tag-open id
+
+  hint-entered : hintIn (new (tagFor v id)) id ≡ hint
+  unfolding hintIn
+  hint-entered =
+      ap (λ (b : Bool). cond b (new (tagFor v id) % 8388608) 0) (hint-by (eqb (v % 8388608) 0) (eqb (v / 2199023255552) (tagOf id)))
+      ∙ entered-hint v (tagFor v id) hint h
+
+-- ---- The hint and the tag of a cell, case by case
+
+module _ (v c n : ℕ) (e : v ≡ c) where
+  hint-by-tag : (b : Bool) → tagged v n ≡ b → cond b (v % 8388608) 0 ≡ hintIn c n
+  unfolding hintIn
+  hint-by-tag b f = ap (λ (x : Bool). cond x (v % 8388608) 0) (sym f) ∙ ap (λ (x : ℕ). cond (tagged x n) (x % 8388608) 0) e
+
+  pub hint-open : v / 2199023255552 ≡ 0 → v % 8388608 ≡ hintIn c n
+  hint-open f = hint-by-tag true (either-true (eqb (v / 2199023255552) 0) (eqb (v / 2199023255552) (tagOf n)) (eq-eqb (v / 2199023255552) 0 f))
+
+  pub hint-own : v / 2199023255552 ≡ tagOf n → v % 8388608 ≡ hintIn c n
+  hint-own f = hint-by-tag true (or-second (eqb (v / 2199023255552) 0) (eqb (v / 2199023255552) (tagOf n)) (eq-eqb (v / 2199023255552) (tagOf n) f))
+
+  pub hint-other : (v / 2199023255552 ≡ 0 → ⊥) → (v / 2199023255552 ≡ tagOf n → ⊥) → 0 ≡ hintIn c n
+  hint-other f g =
+      hint-by-tag false (ap₂ (λ (x y : Bool). x || y) (ne-eqb (v / 2199023255552) 0 f) (ne-eqb (v / 2199023255552) (tagOf n) g))
+
+module _ (v n : ℕ) where
+  tag-by : (x y : Bool) → eqb (v % 8388608) 0 ≡ x → eqb (v / 2199023255552) (tagOf n) ≡ y → cond x (tagOf n) (cond y (tagOf n) 0) ≡ tagFor v n
+  tag-by x y e f = ap₂ (λ (a b : Bool). cond a (tagOf n) (cond b (tagOf n) 0)) (sym e) (sym f)
+
+  pub tag-fresh : v % 8388608 ≡ 0 → tagOf n ≡ tagFor v n
+  tag-fresh e = tag-by true (eqb (v / 2199023255552) (tagOf n)) (eq-eqb (v % 8388608) 0 e) refl
+
+  pub tag-own : (v % 8388608 ≡ 0 → ⊥) → v / 2199023255552 ≡ tagOf n → tagOf n ≡ tagFor v n
+  tag-own e f = tag-by false true (ne-eqb (v % 8388608) 0 e) (eq-eqb (v / 2199023255552) (tagOf n) f)
+
+  pub tag-several : (v % 8388608 ≡ 0 → ⊥) → (v / 2199023255552 ≡ tagOf n → ⊥) → 0 ≡ tagFor v n
+  tag-several e f = tag-by false false (ne-eqb (v % 8388608) 0 e) (ne-eqb (v / 2199023255552) (tagOf n) f)
+
+-- an id enters its cell
+module _ (v c id tag hint : ℕ) (e : v ≡ c) (f : tag ≡ tagFor v id) (h : hint < 8388608) (k : Keeps (c % 8388608) hint) where
+  keeps-here : Keeps (v % 8388608) hint
+  keeps-here = subst (λ (x : ℕ). Keeps (x % 8388608) hint) (sym e) k
+
+  pub cell-grows : Grows c (tag * 2199023255552 + v / 8388608 % 262144 * 8388608 + hint)
+  cell-grows =
+      subst (λ (x : ℕ). Grows x (tag * 2199023255552 + v / 8388608 % 262144 * 8388608 + hint)) e
+      (subst (λ (x : ℕ). Grows v (x * 2199023255552 + v / 8388608 % 262144 * 8388608 + hint)) (sym f) (grows-entered v id hint h keeps-here))
+
+  pub cell-hint : hintIn (tag * 2199023255552 + v / 8388608 % 262144 * 8388608 + hint) id ≡ hint
+  cell-hint = ap (λ (x : ℕ). hintIn (x * 2199023255552 + v / 8388608 % 262144 * 8388608 + hint) id) f ∙ hint-entered v id hint h keeps-here

@@ -1,5 +1,5 @@
 -- The array after a lazy record is appended and after top is set, and an array of zeros.
-use Prim.Native.Nat.{ℕ, _+_, _*_, _/_, _%_, _≤_, _<_}
+use Prim.Native.Nat.{ℕ, _+_, _*_, _≤_, _<_}
 use native.Mathlib.Omega.{arith}
 use mathlib.Core.Path.{_≡_, refl, sym, ap, subst, _∙_}
 use mathlib.Core.Bool.{Bool, true, false}
@@ -21,7 +21,7 @@ use Rattle.state.specs.Cells.{namespacesIn, Shows, Covered, Distinct, Na
 use Rattle.state.specs.Does.{Tells, Turns, Did, ActsAt}
 use Rattle.state.specs.declared.Room.the-variants.{Made, Full}
 use Rattle.state.proofs.ListLaws.{below-append, length-more}
-use Rattle.state.proofs.HintLaws.{keeps-same}
+use Rattle.state.proofs.HintLaws.{grows-stays}
 use Rattle.state.proofs.FrameLaws.{each, aside, aside-rows, aside-good, others-kept, good-kept, shows-lazy}
 use Rattle.state.proofs.ImportedLaws.{room-made, room-full}
 use Rattle.state.proofs.SourcedLaws.{sourced-start}
@@ -88,8 +88,7 @@ top-set {t} b g =
     let o = store-count aside t (flag b) in
     record {
       good =
-          aside-good g o (λ n. keeps-same (getD-set-other t top-cell (15994 + n % 4001) (flag b) 0 (λ e. omega arith)))
-          (λ n. let e = getD-set-other t top-cell (19995 + n / 4294967296 % 1024) (flag b) 0 (λ z. omega arith) in omega arith);
+          aside-good g o (λ h k. grows-stays (getD-set-other t top-cell (15994 + h) (flag b) 0 (λ e. omega arith)));
       shows = λ s w.
           record {
             imported = ap (map importedOf) (same imports) ∙ w .imported;

@@ -1,10 +1,11 @@
 -- What the walk keeps, in one lent array of numbers: where each table lies, and which state of the rules the array shows.
 -- Document 01, 'Vec, maps, atomics, panics': "hash maps become arrays in insertion order".
-use Prim.Native.Nat.{ℕ, zero, suc, _+_, _/_, _%_, _<_, _≤_}
+use Prim.Native.Nat.{ℕ, zero, suc, _+_, _*_, _/_, _%_, _<_, _≤_}
 use mathlib.Core.Path.{_≡_}
-use mathlib.Core.Bool.{Bool, true, false, cond}
+use mathlib.Core.Bool.{Bool, true, false, cond, _||_}
 use mathlib.Core.List.{List, [], _∷_, _++_, map}
 use mathlib.Core.Option.{Option, none as nothing, some}
+use lib.Dec.{eqb}
 use lib.ListN.{length, getD}
 use Rattle.tables.specs.Rows.{Row, rows, Lies, next, firstIn, leastOf}
 use Rattle.tables.specs.declared.Table.{Table}
@@ -36,9 +37,9 @@ tableOf modules = record { count = 6; base = 15482; room = 256 }
 abbrev pub top-cell : ℕ
 top-cell = 7
 
--- behind the tables stand 4,001 hints of ids and 1,024 of names
+-- behind the tables stand 2,003 cells of hints
 abbrev pub cells : ℕ
-cells = 21020
+cells = 17997
 
 -- an id, a literal or a property in one number: 2^48
 abbrev pub id-limit : ℕ
@@ -64,11 +65,11 @@ InLimits modules l = Below 65536 16 l
 
 -- ---- Hints: what is asked before a table is searched
 
--- ids of one remainder share a hint: one more than the row of an imported one, or 0; 1,024 where a namespace may be one; 2,048 times one more
--- than the row of a usage of one, or 0
-abbrev pub hintAt : List ℕ → ℕ → ℕ
-hintAt t n = getD t (15994 + n % 4001) 0
+abbrev pub cellAt : List ℕ → ℕ → ℕ
+cellAt t h = getD t (15994 + h) 0
 
+-- ids of one remainder share a cell. Below 2^23 it has their hint: one more than the row of an imported one, or 0; 1,024 where a namespace may
+-- be one; 2,048 times one more than the row of a usage of one, or 0
 abbrev pub importHint : ℕ → ℕ
 importHint v = v % 1024
 
@@ -78,9 +79,29 @@ namespaceHint v = v / 1024 % 2
 abbrev pub useHint : ℕ → ℕ
 useHint v = v / 2048
 
--- names of one remainder share a hint: 256 less a record before which no first namespace has such a name, or 0
-abbrev pub nameHint : List ℕ → ℕ → ℕ
-nameHint t n = getD t (19995 + n / 4294967296 % 1024) 0
+-- from 2^41 on it has a tag: of the id whose hint it is, its name and its context's remainder; 0 where it is the hint of several
+abbrev pub tagOf : ℕ → ℕ
+tagOf n = n / 4294967296 * 32 + n % 32 + 1
+
+abbrev pub tagged : ℕ → ℕ → Bool
+tagged v n = eqb (v / 2199023255552) 0 || eqb (v / 2199023255552) (tagOf n)
+
+unfoldable pub hintIn : ℕ → ℕ → ℕ
+hintIn v n = cond (tagged v n) (v % 8388608) 0
+
+abbrev pub hintAt : List ℕ → ℕ → ℕ
+hintAt t n = hintIn (cellAt t (n % 2003)) n
+
+-- names of one remainder share a cell. Between, it has two numbers of nine bits: 256 less a record before which no first namespace has such a
+-- name, or 0; and 256 less a record before which no literal has it, or 0
+abbrev pub namedIn : ℕ → ℕ
+namedIn v = v / 8388608 % 512
+
+abbrev pub sourceIn : ℕ → ℕ
+sourceIn v = v / 4294967296 % 512
+
+abbrev pub nameCell : ℕ → ℕ
+nameCell n = n / 4294967296 % 1024
 
 -- the hint of each key is not 0
 unfoldable pub Covered : (ℕ → ℕ) → List ℕ → List Row → Type 0
@@ -92,10 +113,11 @@ unfoldable pub Distinct : List Row → Type 0
 Distinct [] = Unit
 Distinct (r ∷ l) = (firstIn (r .0) (r .0) l ≡ nothing) × Distinct l
 
--- no record, from place i on, stands before the hint of its first namespace's name
+-- no record, from place i on, stands before the hints of its first namespace's name and of its literal's
 unfoldable pub Named : ℕ → List ℕ → List Row → Type 0
 Named i t [] = Unit
-Named i t (r ∷ l) = ((n : ℕ) → r .1 ≡ suc n → 256 ≤ i + nameHint t n) × Named (suc i) t l
+Named i t (r ∷ l) =
+    ((n : ℕ) → r .1 ≡ suc n → 256 ≤ i + namedIn (cellAt t (nameCell n))) × (256 ≤ i + sourceIn (cellAt t (nameCell (r .0)))) × Named (suc i) t l
 
 -- what hints say of the rows of a table: they leave out no row; and a hint that names a row of an imported id is right where its key is
 abbrev pub Hinted : Kind → List ℕ → List Row → Type 0

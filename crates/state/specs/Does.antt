@@ -1,9 +1,9 @@
 -- What a function on the array does to the state of the rules that the array shows: it tells something of it, changes it, or acts by a rule.
-use Prim.Native.Nat.{ℕ, zero, suc, _+_, _/_, _<_}
+use Prim.Native.Nat.{ℕ, zero, suc, _+_, _/_, _%_, _<_, _≤_}
 use lib.Dec.{eqb}
 use mathlib.Core.Path.{_≡_}
 use mathlib.Core.List.{List, [], _∷_}
-use mathlib.Core.Bool.{Bool, true, false}
+use mathlib.Core.Bool.{Bool, true, false, cond}
 use mathlib.Core.Option.{Option, none as nothing, some}
 use lib.ListN.{getD, drop}
 use Rattle.tables.specs.Rows.{Row, rows}
@@ -17,7 +17,7 @@ use Rattle.scope.specs.declared.id.ModuleId.{ModuleId}
 use Rattle.extraction_rules.specs.State.{Record, Usage, State, Act, setCollected}
 use Rattle.extraction_rules.specs.First.{collect, forceSource}
 use Rattle.extraction_rules.specs.Second.{usagesOf}
-use Rattle.state.specs.Cells.{Kind, importHint, namespaceHint, useHint, top-cell}
+use Rattle.state.specs.Cells.{Kind, importHint, namespaceHint, useHint, tagOf, hintIn, namedIn, sourceIn, top-cell}
 use Rattle.state.specs.Cells.{id-limit, records, tableOf, held, Good, idOf, At, namespacesIn, sourcesIn, Shows}
 use Rattle.state.specs.declared.Context.{Context}
 use Rattle.state.specs.declared.Context.the-variants.{Of, Nowhere}
@@ -59,6 +59,16 @@ pub record Keeps (v w : ℕ) : Type 0 where
   pub import-kept : 0 < importHint v → 0 < importHint w
   pub namespace-kept : 0 < namespaceHint v → 0 < namespaceHint w
   pub use-kept : 0 < useHint v → 0 < useHint w
+
+-- a cell that leaves out nothing that another names
+pub record Grows (v w : ℕ) : Type 0 where
+  pub hints-kept : (n : ℕ) → Keeps (hintIn v n) (hintIn w n)
+  pub named-kept : namedIn v ≤ namedIn w
+  pub source-kept : sourceIn v ≤ sourceIn w
+
+-- the tag of a cell once an id has entered
+abbrev pub tagFor : ℕ → ℕ → ℕ
+tagFor v n = cond (eqb (v % 8388608) 0) (tagOf n) (cond (eqb (v / 2199023255552) (tagOf n)) (tagOf n) 0)
 
 -- no record before a place has a first namespace with the name of an id
 pub record Starts (from id : ℕ) (t : List ℕ) : Type 0 where

@@ -13,7 +13,9 @@ use crate::Place;
 use crate::RECORDS;
 use crate::Source;
 use crate::hints::add_held;
+use crate::hints::add_record;
 use crate::hints::first_named;
+use crate::hints::first_of;
 use crate::hints::least_holder;
 use crate::hints::set_first;
 use scope::id::Atom;
@@ -77,13 +79,13 @@ pub fn collect(t: &mut [u64], literal: u64) -> Place
     ensures { λ r. ⌜ Collects (idOf literal) (now (t .entry)) (now (t .exit)) r ⌝ }
 {
     let low = literal - literal % 4294967296;
-    let found = tables::find(t, RECORDS, low, low + 4294967295);
+    let found = tables::find_from(t, RECORDS, first_of(t, literal), low, low + 4294967295);
     match found {
         Found::At(i) => Place::Index(i),
         Found::Nowhere => {
             let n = tables::count_of(t, RECORDS);
             if n < 256 {
-                tables::push(t, RECORDS, literal, 0);
+                add_record(t, literal);
                 Place::Index(n)
             } else {
                 Place::NoRoom

@@ -3,11 +3,11 @@
 ghost use mathlib.Core.Path.{_≡_};
 ghost use mathlib.Core.List.{[], _∷_, _++_};
 ghost use mathlib.Core.Option.{none};
-ghost use Prim.Native.Nat.{_+_, _<_, _≤_};
-ghost use Rattle.tables.specs.Rows.{rows, placeBy, firstIn, leastBy, leastOf, without, withValue};
+ghost use Prim.Native.Nat.{_+_, _-_, _%_, _<_, _≤_};
+ghost use Rattle.tables.specs.Rows.{rows, placeBy, firstIn, NoneBefore, leastBy, leastOf, without, withValue};
 ghost use Rattle.inputs.specs.Lists.{isSome};
-ghost use Rattle.state.specs.Cells.{id-limit, imports, uses, records, namespaces, tableOf, held, hintAt, nameHint, Good};
-ghost use Rattle.state.specs.Does.{Changes, Aside, Keeps, Starts};
+ghost use Rattle.state.specs.Cells.{id-limit, imports, uses, records, namespaces, tableOf, held, cellAt, hintAt, namedIn, sourceIn, nameCell, Good};
+ghost use Rattle.state.specs.Does.{Changes, Aside, Keeps, Grows, tagFor, Starts};
 use crate::IMPORTS;
 use crate::NAMESPACES;
 use crate::RECORDS;
@@ -15,20 +15,73 @@ use crate::USES;
 use tables::Found;
 use tables::Least;
 
-// The hint of an id.
+// The cell at a place among those of hints.
+fn cell_of(t: &[u64], h: usize) -> u64
+    requires { ⌜ Good (now t) × (h < 2003) ⌝ }
+    ensures { λ r. ⌜ r ≡ cellAt (now (t .entry)) h ⌝ }
+{
+    t[15994 + h]
+}
+
+// Another cell there, which leaves out nothing that the old one names.
+fn set_cell(t: &mut [u64], h: usize, v: u64)
+    requires { ⌜ Good (now t) × (h < 2003) × Grows (cellAt (now t) h) v ⌝ }
+    ensures { λ _. ⌜ Aside (now (t .entry)) (now (t .exit)) × (cellAt (now (t .exit)) h ≡ v) ⌝ }
+{
+    t[15994 + h] = v;
+}
+
+// The hint of an id: 0 where its cell is another id's.
 pub fn hint_of(t: &[u64], id: u64) -> u64
     requires { ⌜ Good (now t) ⌝ }
     ensures { λ r. ⌜ r ≡ hintAt (now (t .entry)) id ⌝ }
 {
-    t[15994 + (id % 4001) as usize]
+    let v = cell_of(t, (id % 2003) as usize);
+    let tag = v / 2199023255552;
+    if tag == 0 {
+        return v % 8388608;
+    }
+    if tag == id / 4294967296 * 32 + id % 32 + 1 {
+        return v % 8388608;
+    }
+    0
 }
 
-// Another hint, which leaves out no table that the old one names.
+// The tag of a cell once an id has entered.
+fn tag_for(v: u64, id: u64) -> u64
+    requires { ⌜ id < id-limit ⌝ }
+    ensures { λ r. ⌜ (r ≡ tagFor v id) × (r ≤ 2097152) ⌝ }
+{
+    let own = id / 4294967296 * 32 + id % 32 + 1;
+    if v % 8388608 == 0 {
+        return own;
+    }
+    if v / 2199023255552 == own {
+        return own;
+    }
+    0
+}
+
+// The hint in an id's cell, whosever it is.
+fn shared_hint(t: &[u64], id: u64) -> u64
+    requires { ⌜ Good (now t) ⌝ }
+    ensures { λ r. ⌜ r ≡ cellAt (now (t .entry)) (id % 2003) % 8388608 ⌝ }
+{
+    cell_of(t, (id % 2003) as usize) % 8388608
+}
+
+// An id enters its cell, with another hint.
 fn set_hint(t: &mut [u64], id: u64, hint: u64)
-    requires { ⌜ Good (now t) × Keeps (hintAt (now t) id) hint ⌝ }
+    requires { ⌜ Good (now t) × (id < id-limit) × (hint < 8388608) × Keeps (cellAt (now t) (id % 2003) % 8388608) hint ⌝ }
     ensures { λ _. ⌜ Aside (now (t .entry)) (now (t .exit)) × (hintAt (now (t .exit)) id ≡ hint) ⌝ }
 {
-    t[15994 + (id % 4001) as usize] = hint;
+    let h = (id % 2003) as usize;
+    let v = cell_of(t, h);
+    set_cell(
+        t,
+        h,
+        tag_for(v, id) * 2199023255552 + v / 8388608 % 262144 * 8388608 + hint,
+    );
 }
 
 // The row of an imported id.
@@ -53,7 +106,7 @@ pub fn add_import(t: &mut [u64], id: u64, context: u64)
     requires { ⌜ Good (now t) × (id < id-limit) × (context < 4294967296) × (held imports (now t) < 512) × (firstIn id id (rows (tableOf imports) (now t)) ≡ none) ⌝ }
     ensures { λ _. ⌜ Changes imports (rows (tableOf imports) (now (t .entry)) ++ ((id, context) ∷ [])) (now (t .entry)) (now (t .exit)) ⌝ }
 {
-    let old = hint_of(t, id);
+    let old = shared_hint(t, id);
     set_hint(
         t,
         id,
@@ -67,10 +120,10 @@ pub fn drop_import(t: &mut [u64], id: u64)
     requires { ⌜ Good (now t) ⌝ }
     ensures { λ _. ⌜ Changes imports (without id (rows (tableOf imports) (now (t .entry)))) (now (t .entry)) (now (t .exit)) ⌝ }
 {
-    let Found::At(_) = import_row(t, id) else {
+    let Found::At(i) = import_row(t, id) else {
         return;
     };
-    tables::drop_key(t, IMPORTS, id);
+    tables::drop_row(t, IMPORTS, i);
 }
 
 // Whether an id has usages.
@@ -98,7 +151,7 @@ pub fn add_use(t: &mut [u64], id: u64, property: u64)
     requires { ⌜ Good (now t) × (id < id-limit) × (property < id-limit) × (held uses (now t) < 2048) ⌝ }
     ensures { λ _. ⌜ Changes uses (rows (tableOf uses) (now (t .entry)) ++ ((id, property) ∷ [])) (now (t .entry)) (now (t .exit)) ⌝ }
 {
-    let old = hint_of(t, id);
+    let old = shared_hint(t, id);
     set_hint(
         t,
         id,
@@ -133,7 +186,7 @@ pub fn add_held(t: &mut [u64], id: u64, i: usize)
     requires { ⌜ Good (now t) × (id < id-limit) × (i < 256) × (held namespaces (now t) < 3641) ⌝ }
     ensures { λ _. ⌜ Changes namespaces (rows (tableOf namespaces) (now (t .entry)) ++ ((id, i) ∷ [])) (now (t .entry)) (now (t .exit)) ⌝ }
 {
-    let old = hint_of(t, id);
+    let old = shared_hint(t, id);
     set_hint(t, id, old / 2048 * 2048 + 1024 + old % 1024);
     tables::push(t, NAMESPACES, id, i as u64);
 }
@@ -143,11 +196,49 @@ pub fn first_named(t: &[u64], id: u64) -> usize
     requires { ⌜ Good (now t) ⌝ }
     ensures { λ r. ⌜ Starts r id (now (t .entry)) ⌝ }
 {
-    let hint = t[19995 + (id / 4294967296 % 1024) as usize];
+    let hint = cell_of(t, (id / 4294967296 % 1024) as usize) / 8388608 % 512;
     if 256 <= hint {
         return 0;
     }
     (256 - hint) as usize
+}
+
+// Where a search for the first record whose literal has the value of a literal may start.
+pub fn first_of(t: &[u64], literal: u64) -> usize
+    requires { ⌜ Good (now t) ⌝ }
+    ensures { λ r. ⌜ NoneBefore r (literal - literal % 4294967296) (literal - literal % 4294967296 + 4294967295) (rows (tableOf records) (now (t .entry))) ⌝ }
+{
+    let hint = cell_of(t, (literal / 4294967296 % 1024) as usize) / 4294967296 % 512;
+    if 256 <= hint {
+        return 0;
+    }
+    (256 - hint) as usize
+}
+
+// A record of a literal, the last.
+pub fn add_record(t: &mut [u64], literal: u64)
+    requires { ⌜ Good (now t) × (literal < id-limit) × (held records (now t) < 256) ⌝ }
+    ensures { λ _. ⌜ Changes records (rows (tableOf records) (now (t .entry)) ++ ((literal, 0) ∷ [])) (now (t .entry)) (now (t .exit)) ⌝ }
+{
+    hint_source(t, literal, tables::count_of(t, RECORDS));
+    tables::push(t, RECORDS, literal, 0);
+}
+
+// The hint of a literal's value says that record i may be the first.
+fn hint_source(t: &mut [u64], literal: u64, i: usize)
+    requires { ⌜ Good (now t) × (i < 256) ⌝ }
+    ensures { λ _. ⌜ Aside (now (t .entry)) (now (t .exit)) × (256 ≤ i + sourceIn (cellAt (now (t .exit)) (nameCell literal))) ⌝ }
+{
+    let h = (literal / 4294967296 % 1024) as usize;
+    let v = cell_of(t, h);
+    let hint = (256 - i) as u64;
+    if v / 4294967296 % 512 < hint {
+        set_cell(
+            t,
+            h,
+            v / 2199023255552 * 2199023255552 + hint * 4294967296 + v % 4294967296,
+        );
+    }
 }
 
 // A record gets its first namespace.
@@ -162,11 +253,16 @@ pub fn set_first(t: &mut [u64], id: u64, i: usize)
 // The hint of an id's name says that record i may be the first.
 fn hint_name(t: &mut [u64], id: u64, i: usize)
     requires { ⌜ Good (now t) × (i < 256) ⌝ }
-    ensures { λ _. ⌜ Aside (now (t .entry)) (now (t .exit)) × (256 ≤ i + nameHint (now (t .exit)) id) ⌝ }
+    ensures { λ _. ⌜ Aside (now (t .entry)) (now (t .exit)) × (256 ≤ i + namedIn (cellAt (now (t .exit)) (nameCell id))) ⌝ }
 {
-    let cell = 19995 + (id / 4294967296 % 1024) as usize;
+    let h = (id / 4294967296 % 1024) as usize;
+    let v = cell_of(t, h);
     let hint = (256 - i) as u64;
-    if t[cell] < hint {
-        t[cell] = hint;
+    if v / 8388608 % 512 < hint {
+        set_cell(
+            t,
+            h,
+            v / 4294967296 * 4294967296 + hint * 8388608 + v % 8388608,
+        );
     }
 }

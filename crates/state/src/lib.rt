@@ -54,8 +54,8 @@ pub const MODULES: Table = Table {
     room: 256,
 };
 
-// How many cells the array has: behind the tables there are 4,001 hints of ids and 1,024 of names.
-pub const CELLS: usize = 21020;
+// How many cells the array has: behind the tables there are 2,003 of hints.
+pub const CELLS: usize = 17997;
 
 // A context, where there is one.
 pub enum Context {

@@ -7,9 +7,9 @@ use mathlib.Core.List.{List, [], _∷_, _++_}
 use lib.ListN.{length, getD, set, length-set}
 use lib.Seq.{getD-set-same, getD-set-other}
 use Rattle.tables.specs.declared.Table.{Table}
-use Rattle.tables.specs.Rows.{rowsFrom, rows, Lies, without, withValue}
+use Rattle.tables.specs.Rows.{rowsFrom, rows, Lies, without, withoutRow, withValue}
 use Rattle.tables.specs.Only.{Outside, Only, Apart}
-use Rattle.tables.proofs.RowLaws.{from-agree, from-more, rows-length, Dropping}
+use Rattle.tables.proofs.RowLaws.{from-agree, from-more, rows-length, Dropping, Closing}
 
 pub only-then : {b : Table} {t m k : List ℕ} → Only b t m → Only b m k → Only b t k
 only-then p q = record { size = q .size ∙ p .size; same = λ i o. q .same i o ∙ p .same i o }
@@ -140,4 +140,28 @@ rows-dropped b key n kept t₀ t l e d =
     let held = l .held in (
       dropped-rows b key n kept t₀ t l e d,
       only-then (record { size = d .size; same = λ i o. d .same i (λ p q. o .row p (omega arith)) }) (store-count b t kept),
+    )
+
+closed-rows : (b : Table) (i n k : ℕ) (t₀ t : List ℕ) → Lies b t₀ → n ≡ length (rows b t₀) → n ≤ k + 1 → Closing i (b .base) n t₀ k t →
+    rows b (set t (b .count) k) ≡ withoutRow i (rows b t₀)
+unfolding rows
+closed-rows b i n k t₀ t l e h d =
+    let c = rows-length b t₀ in
+    let ends = l .ends in
+    let cell = l .cell in
+    let size = d .size in
+    let upto = d .upto in
+    let n' : k + 1 ≡ getD t₀ (b .count) 0 = omega arith in
+    let count = getD-set-same t (b .count) k 0 (omega arith) in
+    let same = from-agree k (b .base) t (set t (b .count) k) (λ j p q. getD-set-other t (b .count) j k 0 (λ z. omega arith)) in
+    ap (λ (m : ℕ). rowsFrom m (b .base) (set t (b .count) k)) count ∙ same ∙ d .closed ∙ ap (λ (m : ℕ). withoutRow i (rowsFrom m (b .base) t₀)) n'
+
+pub row-dropped : (b : Table) (i n k : ℕ) (t₀ t : List ℕ) → Lies b t₀ → n ≡ length (rows b t₀) → n ≤ k + 1 → Closing i (b .base) n t₀ k t →
+    (rows b (set t (b .count) k) ≡ withoutRow i (rows b t₀)) × Only b t₀ (set t (b .count) k)
+row-dropped b i n k t₀ t l e h d =
+    let c = rows-length b t₀ in
+    let held = l .held in
+    let upto = d .upto in (
+      closed-rows b i n k t₀ t l e h d,
+      only-then (record { size = d .size; same = λ j o. d .same j (λ p q. o .row p (omega arith)) }) (store-count b t k),
     )

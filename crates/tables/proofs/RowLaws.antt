@@ -11,7 +11,7 @@ use lib.ListN.{length, length-map, getD, set, length-set}
 use lib.Seq.{getD-set-same, getD-set-other}
 use borrow.Author.Tests.{le-leb, lt-leb, ltb-true, ltb-false, eq-eqb, ne-eqb}
 use Rattle.tables.specs.declared.Table.{Table}
-use Rattle.tables.specs.Rows.{Row, rowsFrom, rows, next, between, flip, firstIn, NoneBefore, lesser, leastOf, without}
+use Rattle.tables.specs.Rows.{Row, rowsFrom, rows, next, between, flip, firstIn, NoneBefore, lesser, leastOf, without, withoutRow}
 
 pub from-length : (k at : ℕ) (t : List ℕ) → length (rowsFrom k at t) ≡ k
 unfolding rowsFrom
@@ -274,3 +274,74 @@ module _ (key base n : ℕ) (t₀ : List ℕ) (i kept : ℕ) (t : List ℕ) (d :
             d .same j (λ p q. f p (omega arith));
         size = s2 ∙ s1 ∙ d .size;
       }
+
+-- ---- One row taken out
+
+out-last : (l : List Row) (r : Row) → withoutRow (length l) (l ++ (r ∷ [])) ≡ l
+unfolding withoutRow
+out-last [] r = refl
+out-last (q ∷ l) r = ap (λ (m : List Row). q ∷ m) (out-last l r)
+
+out-append : (i : ℕ) (l : List Row) (r : Row) → i < length l → withoutRow i (l ++ (r ∷ [])) ≡ withoutRow i l ++ (r ∷ [])
+unfolding withoutRow
+out-append i [] r h = absurd (omega arith)
+out-append zero (q ∷ l) r h = refl
+out-append (suc i) (q ∷ l) r h = ap (λ (m : List Row). q ∷ m) (out-append i l r (omega arith))
+
+-- the rows behind row i, up to row k, stand one row before
+pub record Closing (i base n : ℕ) (t₀ : List ℕ) (k : ℕ) (t : List ℕ) : Type 0 where
+  pub closed : rowsFrom k base t ≡ withoutRow i (rowsFrom (k + 1) base t₀)
+  pub from : i ≤ k
+  pub upto : k + 1 ≤ n
+  pub same : (j : ℕ) → (base ≤ j → j < base + 2 * k → ⊥) → getD t j 0 ≡ getD t₀ j 0
+  pub size : length t ≡ length t₀
+
+pub closing-starts : (i base n : ℕ) (t : List ℕ) → i < n → Closing i base n t i t
+closing-starts i base n t h =
+    record {
+      closed =
+          let e = from-length i base t in
+          let l = rowsFrom i base t in
+          let r : Row = (getD t (base + 2 * i) 0, getD t (base + 2 * i + 1) 0) in
+          sym (ap (λ (k : ℕ). withoutRow i (rowsFrom k base t)) (add-one i) ∙ ap (withoutRow i) (from-more i base t)
+          ∙ ap (λ (j : ℕ). withoutRow j (l ++ (r ∷ []))) (sym e) ∙ out-last l r);
+      from = omega arith;
+      upto = omega arith;
+      same = λ j f. refl;
+      size = refl;
+    }
+
+pub closes-one : (i base n : ℕ) (t₀ : List ℕ) (k : ℕ) (t : List ℕ) → Closing i base n t₀ k t → k + 1 < n → base + 2 * n ≤ length t →
+    Closing i base n t₀ (k + 1) (set (set t (base + 2 * k) (getD t (base + 2 * k + 2) 0)) (base + 2 * k + 1) (getD t (base + 2 * k + 3) 0))
+closes-one i base n t₀ k t d h room =
+    let from = d .from in
+    let x = getD t (base + 2 * k + 2) 0 in
+    let y = getD t (base + 2 * k + 3) 0 in
+    let one = set t (base + 2 * k) x in
+    let t' = set one (base + 2 * k + 1) y in
+    let s1 = length-set t (base + 2 * k) x in
+    let s2 = length-set one (base + 2 * k + 1) y in
+    let c1 : base + 2 * k + 2 ≡ base + 2 * (k + 1) = omega arith in
+    let c2 : base + 2 * k + 3 ≡ base + 2 * (k + 1) + 1 = omega arith in
+    let old : rowsFrom k base t' ≡ rowsFrom k base t =
+    from-agree k base t t' (λ j p q. getD-set-other one (base + 2 * k + 1) j y 0 (λ z. omega arith) ∙ getD-set-other t (base + 2 * k) j x 0 (λ z. omega arith)) in
+    let a : getD t' (base + 2 * k) 0 ≡ getD t₀ (base + 2 * (k + 1)) 0 =
+    getD-set-other one (base + 2 * k + 1) (base + 2 * k) y 0 (λ z. omega arith) ∙ getD-set-same t (base + 2 * k) x 0 (omega arith)
+    ∙ d .same (base + 2 * k + 2) (λ p q. omega arith) ∙ ap (λ (j : ℕ). getD t₀ j 0) c1 in
+    let b : getD t' (base + 2 * k + 1) 0 ≡ getD t₀ (base + 2 * (k + 1) + 1) 0 =
+    getD-set-same one (base + 2 * k + 1) y 0 (omega arith) ∙ d .same (base + 2 * k + 3) (λ p q. omega arith) ∙ ap (λ (j : ℕ). getD t₀ j 0) c2 in
+    let l = rowsFrom (k + 1) base t₀ in
+    let len = from-length (k + 1) base t₀ in
+    let r : Row = (getD t₀ (base + 2 * (k + 1)) 0, getD t₀ (base + 2 * (k + 1) + 1) 0) in
+    let wrote : rowsFrom (k + 1) base t' ≡ withoutRow i l ++ (r ∷ []) =
+    ap (λ (j : ℕ). rowsFrom j base t') (add-one k) ∙ from-more k base t' ∙ cc (old, d .closed, a, b) in
+    let all : rowsFrom (k + 1 + 1) base t₀ ≡ l ++ (r ∷ []) = ap (λ (j : ℕ). rowsFrom j base t₀) (add-one (k + 1)) ∙ from-more (k + 1) base t₀ in
+    record {
+      closed = wrote ∙ sym (ap (withoutRow i) all ∙ out-append i l r (omega arith));
+      from = omega arith;
+      upto = omega arith;
+      same = λ j f.
+          getD-set-other one (base + 2 * k + 1) j y 0 (λ z. f (omega arith) (omega arith)) ∙
+          getD-set-other t (base + 2 * k) j x 0 (λ z. f (omega arith) (omega arith)) ∙ d .same j (λ p q. f p (omega arith));
+      size = s2 ∙ s1 ∙ d .size;
+    }

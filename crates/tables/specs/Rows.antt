@@ -72,6 +72,12 @@ unfoldable pub without : ℕ → List Row → List Row
 without k [] = []
 without k (r ∷ rs) = cond (eqb (r .0) k) (without k rs) (r ∷ without k rs)
 
+-- the rows without one
+unfoldable pub withoutRow : ℕ → List Row → List Row
+withoutRow i [] = []
+withoutRow zero (r ∷ l) = l
+withoutRow (suc i) (r ∷ l) = r ∷ withoutRow i l
+
 -- the rows with another value in one
 unfoldable pub withValue : ℕ → ℕ → List Row → List Row
 withValue i v [] = []

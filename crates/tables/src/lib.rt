@@ -4,7 +4,7 @@ ghost use mathlib.Core.Path.{_≡_};
 ghost use mathlib.Core.List.{[], _∷_, _++_, map};
 ghost use Prim.Native.Nat.{_+_, _*_, _<_, _≤_};
 ghost use lib.ListN.{length, getD};
-ghost use Rattle.tables.specs.Rows.{rows, Lies, flip, firstIn, NoneBefore, placeBy, leastBy, lesser, leastOf, without, withValue};
+ghost use Rattle.tables.specs.Rows.{rows, Lies, flip, firstIn, NoneBefore, placeBy, leastBy, lesser, leastOf, without, withoutRow, withValue};
 ghost use Rattle.tables.specs.Only.{Only};
 
 pub struct Table {
@@ -41,7 +41,7 @@ pub fn find(t: &[u64], b: Table, lo: u64, hi: u64) -> Found
 }
 
 // The same, where no row before `from` has such a key.
-fn find_from(t: &[u64], b: Table, from: usize, lo: u64, hi: u64) -> Found
+pub fn find_from(t: &[u64], b: Table, from: usize, lo: u64, hi: u64) -> Found
     requires { ⌜ Lies b (now t) × NoneBefore from lo hi (rows b (now t)) ⌝ }
     ensures { λ r. ⌜ placeBy r ≡ firstIn lo hi (rows b (now (t .entry))) ⌝ }
 {
@@ -163,4 +163,23 @@ pub fn drop_key(t: &mut [u64], b: Table, key: u64)
         kept += 1;
     }
     t[cell] = kept as u64;
+}
+
+// A row is taken out.
+pub fn drop_row(t: &mut [u64], b: Table, i: usize)
+    requires { ⌜ Lies b (now t) × (i < length (rows b (now t))) ⌝ }
+    ensures { λ _. ⌜ (rows b (now (t .exit)) ≡ withoutRow i (rows b (now (t .entry)))) × Only b (now (t .entry)) (now (t .exit)) ⌝ }
+{
+    let base = b.base;
+    let cell = b.count;
+    let n = count_of(t, b);
+    let mut k = i;
+    while k + 1 < n {
+        let key = t[base + 2 * k + 2];
+        let value = t[base + 2 * k + 3];
+        t[base + 2 * k] = key;
+        t[base + 2 * k + 1] = value;
+        k += 1;
+    }
+    t[cell] = k as u64;
 }

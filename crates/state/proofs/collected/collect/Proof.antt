@@ -1,9 +1,9 @@
--- `collect`: the range of keys is that of all literals with this value. A record in it (`collected-again`), none and room
--- (`collected-new`), or none and no room, where the rule refuses with 8 (`collected-full`).
+-- `collect`: the range of keys is that of all literals with this value, and no record before the hint is in it. A record in it
+-- (`collected-again`), none and room (`collected-new`), or none and no room, where the rule refuses with 8 (`collected-full`).
+use native.Mathlib.Omega.{arith}
 use mathlib.Core.Path.{_∙_, sym, ap}
 use Rattle.tables.specs.Rows.{placeBy}
 use Rattle.state.specs.Cells.{records}
-use native.Mathlib.Omega.{arith}
 use Rattle.state.proofs.CollectLaws.{collected-again, collected-new, collected-full}
 use borrow.Author.Needs.{needs}
 use Rattle.state.proofs.collected.collect.Statement.{statement}
@@ -12,11 +12,16 @@ use Rattle.state.proofs.collected.collect.Tie as tie
 sub-low : tie.Need-sub-low
 sub-low c = search needs
 
-add-find : tie.Need-add-find
-add-find c = search needs
+first-of-requires : tie.Need-first-of-requires
+first-of-requires c κs = search needs
 
-find-requires : tie.Need-find-requires
-find-requires c κs = c .before .before .pre .0 .lies records
+add-find-from : tie.Need-add-find-from
+add-find-from c = search needs
+
+find-from-requires : tie.Need-find-from-requires
+find-from-requires c κs =
+    let c3 = c .before .before .before in
+    (c3 .pre .0 .lies records, c .first-of .ensures)
 
 enum-known-found : tie.Need-enum-known-found
 enum-known-found c = search needs
@@ -25,12 +30,12 @@ enum-told : tie.Need-enum-told
 enum-told c = search needs
 
 count-of-requires : tie.Need-count-of-requires
-count-of-requires c κs = c .before .before .before .before .before .before .pre .0 .lies records
+count-of-requires c κs =
+    let c7 = c .before .before .before .before .before .before .before in
+    c7 .pre .0 .lies records
 
-push-requires : tie.Need-push-requires
-push-requires c κs =
-    let c9 = c .before .before .before .before .before .before .before .before .before in
-    (c9 .pre .0 .lies records, omega arith)
+add-record-requires : tie.Need-add-record-requires
+add-record-requires c κs = search needs
 
 same-length : tie.Need-same-length
 same-length c = search needs
@@ -38,8 +43,8 @@ same-length c = search needs
 returns : tie.Need-returns
 returns c =
     let c3 = c .before .before .before in
-    let c6 = c3 .before .before .before in
-    collected-again (c6 .args .literal) (c6 .pre .1) (c6 .pre .0) (ap placeBy (sym (c .before .found .given .1)) ∙ c3 .find .ensures)
+    let c7 = c3 .before .before .before .before in
+    collected-again (c7 .args .literal) (c7 .pre .1) (c7 .pre .0) (ap placeBy (sym (c .before .found .given .1)) ∙ c3 .find-from .ensures)
 
 same-length-2 : tie.Need-same-length-2
 same-length-2 c = search needs
@@ -49,10 +54,9 @@ returns-2 c =
     let c5 = c .before .before .before .before .before in
     let c7 = c5 .before .before in
     let c9 = c7 .before .before in
-    let c12 = c9 .before .before .before in
-    collected-new (c12 .args .literal) (c12 .pre .1) (c12 .pre .0) (c5 .count-of .ensures .0)
-    (ap placeBy (sym (c7 .enum-told .given .1)) ∙ c9 .find .ensures) (c .before .before .push .ensures .0) (omega arith)
-    (c .before .before .push .ensures .1)
+    let c13 = c9 .before .before .before .before in
+    collected-new (c13 .args .literal) (c13 .pre .1) (c13 .pre .0) (c5 .count-of .ensures .0) (ap placeBy (sym (c7 .enum-told .given .1)) ∙ c9 .find-from .ensures)
+    (omega arith) (c .before .before .add-record .ensures)
 
 same-length-3 : tie.Need-same-length-3
 same-length-3 c = search needs
@@ -61,20 +65,21 @@ returns-3 : tie.Need-returns-3
 returns-3 c =
     let c3 = c .before .before .before in
     let c5 = c3 .before .before in
-    let c8 = c5 .before .before .before in
-    collected-full (c8 .args .literal) (c8 .pre .1) (c8 .pre .0) (ap placeBy (sym (c3 .enum-told .given .1)) ∙ c5 .find .ensures) (omega arith)
+    let c9 = c5 .before .before .before .before in
+    collected-full (c9 .args .literal) (c9 .pre .1) (c9 .pre .0) (ap placeBy (sym (c3 .enum-told .given .1)) ∙ c5 .find-from .ensures) (omega arith)
 
 pub collect-spec : {M : Type 1} → statement M
 collect-spec =
     tie.close
     (tie.spec
     sub-low
-    add-find
-    find-requires
+    first-of-requires
+    add-find-from
+    find-from-requires
     enum-known-found
     enum-told
     count-of-requires
-    push-requires
+    add-record-requires
     same-length
     returns
     same-length-2

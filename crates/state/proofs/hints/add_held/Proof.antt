@@ -8,8 +8,8 @@ use borrow.Author.Needs.{needs}
 use Rattle.state.proofs.hints.add_held.Statement.{statement}
 use Rattle.state.proofs.hints.add_held.Tie as tie
 
-hint-of-requires : tie.Need-hint-of-requires
-hint-of-requires c κs = search needs
+shared-hint-requires : tie.Need-shared-hint-requires
+shared-hint-requires c κs = search needs
 
 mul-set-hint : tie.Need-mul-set-hint
 mul-set-hint c = search needs
@@ -42,7 +42,7 @@ pub add-held-spec : {M : Type 1} → statement M
 add-held-spec =
     tie.close
     (tie.spec
-    hint-of-requires
+    shared-hint-requires
     mul-set-hint
     add-set-hint
     add-set-hint-2

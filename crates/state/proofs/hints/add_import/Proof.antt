@@ -8,8 +8,8 @@ use borrow.Author.Needs.{needs}
 use Rattle.state.proofs.hints.add_import.Statement.{statement}
 use Rattle.state.proofs.hints.add_import.Tie as tie
 
-hint-of-requires : tie.Need-hint-of-requires
-hint-of-requires c κs = search needs
+shared-hint-requires : tie.Need-shared-hint-requires
+shared-hint-requires c κs = search needs
 
 sub-set-hint : tie.Need-sub-set-hint
 sub-set-hint c = search needs
@@ -47,7 +47,7 @@ pub add-import-spec : {M : Type 1} → statement M
 add-import-spec =
     tie.close
     (tie.spec
-    hint-of-requires
+    shared-hint-requires
     sub-set-hint
     count-of-requires
     add-set-hint

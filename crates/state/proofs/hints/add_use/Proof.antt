@@ -8,8 +8,8 @@ use borrow.Author.Needs.{needs}
 use Rattle.state.proofs.hints.add_use.Statement.{statement}
 use Rattle.state.proofs.hints.add_use.Tie as tie
 
-hint-of-requires : tie.Need-hint-of-requires
-hint-of-requires c κs = search needs
+shared-hint-requires : tie.Need-shared-hint-requires
+shared-hint-requires c κs = search needs
 
 count-of-requires : tie.Need-count-of-requires
 count-of-requires c κs =
@@ -47,7 +47,7 @@ pub add-use-spec : {M : Type 1} → statement M
 add-use-spec =
     tie.close
     (tie.spec
-    hint-of-requires
+    shared-hint-requires
     count-of-requires
     add-set-hint
     mul-set-hint
