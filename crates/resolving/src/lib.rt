@@ -85,7 +85,11 @@ pub fn resolve_imports(scope: Scope, table: &[u8], records: &[u8], list: &mut [u
     let answer = n.answer;
     match answer {
         NumberAnswer::Given => {}
-        NumberAnswer::TooManyFiles(place) => return refuse(scope, ResolveAnswer::TooManyFiles(place), list),
+        NumberAnswer::TooManyFiles(place) => return refuse(
+            scope,
+            ResolveAnswer::TooManyFiles(place),
+            list,
+        ),
     }
     let listed = listing(new, table, records, list);
     Resolution {
