@@ -1,4 +1,5 @@
 // The requests' calls. The buffers are filled before a call with what it cannot leave, so that a byte left alone shows.
+ghost use Prim.Native.Nat.{_≤_};
 ghost use lib.ListN.{length};
 ghost use Rattle.cards.specs.Request.{EndsIn};
 use crate::answer;
@@ -129,6 +130,12 @@ fn resolve_in(s: &[u8], lent: &mut [u8], list: &mut [u8]) {
         answer::malformed();
         return;
     };
+    resolve_lent(lent, files, table, end, list);
+}
+
+fn resolve_lent(lent: &[u8], files: usize, table: usize, end: usize, list: &mut [u8])
+    requires { ⌜ (files ≤ table) × (table ≤ end) × (end ≤ length (now lent)) ⌝ }
+{
     resolved(
         &lent[0..files],
         &lent[files..table],

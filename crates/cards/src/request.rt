@@ -72,10 +72,11 @@ fn config_of(s: &[u8], k: usize) -> Config {
     let Span::At(a, e) = field(s, 0, s.len(), k) else {
         return Config::Bad;
     };
-    if same(&s[a..e], b"on") {
+    let word = &s[a..e];
+    if same(word, b"on") {
         return Config::Is(true);
     }
-    if same(&s[a..e], b"off") {
+    if same(word, b"off") {
         return Config::Is(false);
     }
     Config::Bad

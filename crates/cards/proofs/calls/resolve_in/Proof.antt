@@ -1,4 +1,5 @@
--- `resolve_in`: `BytesIn` and `PairIn`, which `bytes_at` and `pair_at` ensure, put the three parts of `lent` in order and in bounds.
+-- `resolve_in`: `BytesIn` and `PairIn`, which `bytes_at` and `pair_at` ensure, put the three parts of `lent` in order and in bounds, as
+-- `resolve_lent` asks.
 -- The rest is `search needs`.
 use mathlib.Core.Path.{subst}
 use lib.ListN.{length}
@@ -48,90 +49,16 @@ same-length-2 c = search needs
 returns-2 : tie.Need-returns-2
 returns-2 c = search needs
 
-sub-resolved : tie.Need-sub-resolved
-sub-resolved c = search needs
-
-part-resolved-start : tie.Need-part-resolved-start
-part-resolved-start c = search needs
-
-part-resolved-end : tie.Need-part-resolved-end
-part-resolved-end c =
-    let c6 = c .before .before .before .before .before .before in
-    let c9 = c6 .before .before .before in
-    let c13 = c9 .before .before .before .before in
-    let c18 = c13 .before .before .before .before .before in
-    let u = subst (BytesIn 0 (length (c18 .args .lent .now))) (c9 .files .given .1) (c13 .bytes-at .ensures .1) in let w =
-    subst (PairIn (c9 .files .given .0 .0) _) (c .before .before .table .given .1) (c6 .pair-at .ensures) in
-    omega (arith, c6 .pair-at .kept .1 .1 .0, c13 .bytes-at .kept .1 .1 .1 .0)
-
-sub-resolved-2 : tie.Need-sub-resolved-2
-sub-resolved-2 c =
+resolve-lent-requires : tie.Need-resolve-lent-requires
+resolve-lent-requires c κs =
     let c3 = c .before .before .before in
     let c7 = c3 .before .before .before .before in
     let c10 = c7 .before .before .before in
     let c14 = c10 .before .before .before .before in
     let c19 = c14 .before .before .before .before .before in
-    let u = subst (BytesIn 0 (length (c19 .args .lent .now))) (c10 .files .given .1) (c14 .bytes-at .ensures .1) in let w =
-    subst (PairIn (c10 .files .given .0 .0) _) (c3 .table .given .1) (c7 .pair-at .ensures) in
+    let u = subst (BytesIn 0 (length (c19 .args .lent .now))) (c10 .files .given .1) (c14 .bytes-at .ensures .1) in
+    let w = subst (PairIn (c10 .files .given .0 .0) _) (c3 .table .given .1) (c7 .pair-at .ensures) in
     omega (arith, c7 .pair-at .kept .1 .1 .0, c14 .bytes-at .kept .1 .1 .1 .0)
-
-part-resolved-start-2 : tie.Need-part-resolved-start-2
-part-resolved-start-2 c =
-    let c3 = c .before .before .before in
-    let c7 = c3 .before .before .before .before in
-    let c10 = c7 .before .before .before in
-    let c14 = c10 .before .before .before .before in
-    let c19 = c14 .before .before .before .before .before in
-    let u = subst (BytesIn 0 (length (c19 .args .lent .now))) (c10 .files .given .1) (c14 .bytes-at .ensures .1) in let w =
-    subst (PairIn (c10 .files .given .0 .0) _) (c3 .table .given .1) (c7 .pair-at .ensures) in
-    omega (arith, c7 .pair-at .kept .1 .1 .0, c14 .bytes-at .kept .1 .1 .1 .0)
-
-part-resolved-end-2 : tie.Need-part-resolved-end-2
-part-resolved-end-2 c =
-    let c3 = c .before .before .before in
-    let c7 = c3 .before .before .before .before in
-    let c10 = c7 .before .before .before in
-    let c14 = c10 .before .before .before .before in
-    let c19 = c14 .before .before .before .before .before in
-    let u = subst (BytesIn 0 (length (c19 .args .lent .now))) (c10 .files .given .1) (c14 .bytes-at .ensures .1) in let w =
-    subst (PairIn (c10 .files .given .0 .0) _) (c3 .table .given .1) (c7 .pair-at .ensures) in
-    omega (arith, c7 .pair-at .kept .1 .1 .0, c14 .bytes-at .kept .1 .1 .1 .0)
-
-sub-resolved-3 : tie.Need-sub-resolved-3
-sub-resolved-3 c =
-    let c4 = c .before .before .before .before in
-    let c8 = c4 .before .before .before .before in
-    let c11 = c8 .before .before .before in
-    let c15 = c11 .before .before .before .before in
-    let c20 = c15 .before .before .before .before .before in
-    let u = subst (BytesIn 0 (length (c20 .args .lent .now))) (c11 .files .given .1) (c15 .bytes-at .ensures .1) in let w =
-    subst (PairIn (c11 .files .given .0 .0) _) (c4 .table .given .1) (c8 .pair-at .ensures) in
-    omega (arith, c8 .pair-at .kept .1 .1 .0, c15 .bytes-at .kept .1 .1 .1 .0)
-
-part-resolved-start-3 : tie.Need-part-resolved-start-3
-part-resolved-start-3 c =
-    let c4 = c .before .before .before .before in
-    let c8 = c4 .before .before .before .before in
-    let c11 = c8 .before .before .before in
-    let c15 = c11 .before .before .before .before in
-    let c20 = c15 .before .before .before .before .before in
-    let u = subst (BytesIn 0 (length (c20 .args .lent .now))) (c11 .files .given .1) (c15 .bytes-at .ensures .1) in let w =
-    subst (PairIn (c11 .files .given .0 .0) _) (c4 .table .given .1) (c8 .pair-at .ensures) in
-    omega (arith, c8 .pair-at .kept .1 .1 .0, c15 .bytes-at .kept .1 .1 .1 .0)
-
-part-resolved-end-3 : tie.Need-part-resolved-end-3
-part-resolved-end-3 c =
-    let c4 = c .before .before .before .before in
-    let c8 = c4 .before .before .before .before in
-    let c11 = c8 .before .before .before in
-    let c15 = c11 .before .before .before .before in
-    let c20 = c15 .before .before .before .before .before in
-    let u = subst (BytesIn 0 (length (c20 .args .lent .now))) (c11 .files .given .1) (c15 .bytes-at .ensures .1) in let w =
-    subst (PairIn (c11 .files .given .0 .0) _) (c4 .table .given .1) (c8 .pair-at .ensures) in
-    omega (arith, c8 .pair-at .kept .1 .1 .0, c15 .bytes-at .kept .1 .1 .1 .0)
-
-resolved-requires : tie.Need-resolved-requires
-resolved-requires c κs = search needs
 
 same-length-3 : tie.Need-same-length-3
 same-length-3 c = search needs
@@ -158,16 +85,7 @@ resolve-in-spec =
     malformed-requires-2
     same-length-2
     returns-2
-    sub-resolved
-    part-resolved-start
-    part-resolved-end
-    sub-resolved-2
-    part-resolved-start-2
-    part-resolved-end-2
-    sub-resolved-3
-    part-resolved-start-3
-    part-resolved-end-3
-    resolved-requires
+    resolve-lent-requires
     same-length-3
     same-length-4
     returns-3)

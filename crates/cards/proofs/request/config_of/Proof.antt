@@ -19,20 +19,20 @@ enum-told c = search needs
 returns : tie.Need-returns
 returns c = search needs
 
-sub-same : tie.Need-sub-same
-sub-same c =
+sub-word : tie.Need-sub-word
+sub-word c =
     let c3 = c .before .before .before in
     let c5 = c3 .before .before in
     let w = subst (SpanIn 0 (length (c5 .args .s .now))) (c .before .a .given .1) (c3 .field .ensures .1) in omega arith
 
-part-same-start : tie.Need-part-same-start
-part-same-start c =
+part-word-start : tie.Need-part-word-start
+part-word-start c =
     let c3 = c .before .before .before in
     let c5 = c3 .before .before in
     let w = subst (SpanIn 0 (length (c5 .args .s .now))) (c .before .a .given .1) (c3 .field .ensures .1) in omega arith
 
-part-same-end : tie.Need-part-same-end
-part-same-end c =
+part-word-end : tie.Need-part-word-end
+part-word-end c =
     let c3 = c .before .before .before in
     let c5 = c3 .before .before in
     let w = subst (SpanIn 0 (length (c5 .args .s .now))) (c .before .a .given .1) (c3 .field .ensures .1) in omega arith
@@ -45,27 +45,6 @@ same-requires c κs = search needs
 
 returns-2 : tie.Need-returns-2
 returns-2 c = search needs
-
-sub-same-2 : tie.Need-sub-same-2
-sub-same-2 c =
-    let c5 = c .before .before .before .before .before in
-    let c7 = c5 .before .before in
-    let c9 = c7 .before .before in
-    let w = subst (SpanIn 0 (length (c9 .args .s .now))) (c5 .a .given .1) (c7 .field .ensures .1) in omega arith
-
-part-same-start-2 : tie.Need-part-same-start-2
-part-same-start-2 c =
-    let c5 = c .before .before .before .before .before in
-    let c7 = c5 .before .before in
-    let c9 = c7 .before .before in
-    let w = subst (SpanIn 0 (length (c9 .args .s .now))) (c5 .a .given .1) (c7 .field .ensures .1) in omega arith
-
-part-same-end-2 : tie.Need-part-same-end-2
-part-same-end-2 c =
-    let c5 = c .before .before .before .before .before in
-    let c7 = c5 .before .before in
-    let c9 = c7 .before .before in
-    let w = subst (SpanIn 0 (length (c9 .args .s .now))) (c5 .a .given .1) (c7 .field .ensures .1) in omega arith
 
 slice-aggregate-same-2 : tie.Need-slice-aggregate-same-2
 slice-aggregate-same-2 c = search needs
@@ -87,15 +66,12 @@ config-of-spec =
     enum-known-a
     enum-told
     returns
-    sub-same
-    part-same-start
-    part-same-end
+    sub-word
+    part-word-start
+    part-word-end
     slice-aggregate-same
     same-requires
     returns-2
-    sub-same-2
-    part-same-start-2
-    part-same-end-2
     slice-aggregate-same-2
     same-requires-2
     returns-3
