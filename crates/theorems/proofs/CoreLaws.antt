@@ -32,12 +32,13 @@ use Rattle.extraction_rules.proofs.ExtractedLaws.{Run, run-both}
 use Rattle.extraction_rules.proofs.KeepLaws.{Each, each-weaken}
 use Rattle.resolving_rules.specs.Resolve.{sourcesIn, forcedIn, numberAll, resolvedSpecifiers, resolvedAll}
 use Rattle.resolving_rules.proofs.ResolveLaws.{numberAll-keeps, namespace-made}
-use Rattle.theorems.specs.Stands.{How, stands, isUse, properties}
+use Rattle.placement.specs.Stands.{How, stands, isUse, properties}
+use Rattle.placement.proofs.WaysLaws.{ways, waysAll}
+use Rattle.placement.proofs.HowLaws.{allPlain}
+use Rattle.placement.proofs.QuietLaws.{tidy-parts}
 use Rattle.theorems.specs.Demand.{isUsed, Every, Declares, usesOf, recordFor, propertyFields, TakenApart, Kept}
-use Rattle.theorems.proofs.WaysLaws.{ways, waysAll}
-use Rattle.theorems.proofs.HowLaws.{allPlain}
 use Rattle.theorems.proofs.HeldLaws.{Held, Stood, usagesFor}
-use Rattle.theorems.proofs.TidyLaws.{tidy-parts, properties-absent}
+use Rattle.theorems.proofs.TidyLaws.{properties-absent}
 use Rattle.theorems.proofs.FirstPassLaws.{Around, first-pass}
 use Rattle.theorems.proofs.WorkedLaws.{CleanAround, Worked, Ready, first-worked, first-spaces}
 use Rattle.theorems.proofs.SettledLaws.{takesApart}

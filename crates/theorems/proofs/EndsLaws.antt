@@ -14,15 +14,18 @@ use Rattle.inputs.specs.Fields.{keep}
 use Rattle.extraction_rules.specs.First.{specifiersIn, stays}
 use Rattle.extraction_rules.proofs.StayLaws.{import-stays}
 use Rattle.extraction_rules.proofs.KeepLaws.{Each}
-use Rattle.theorems.specs.Stands.{How, Standing, standings, standingsAll, stands, isUse, properties}
-use Rattle.theorems.specs.Demand.{Every, itemAt, Declares, usesOf, propertyFields}
-use Rattle.theorems.proofs.WaysLaws.{ways, waysAll, hows, hows-standings, stands-ways}
-use Rattle.theorems.proofs.FirstPassLaws.{Behind, Around, QuietAll, quietAll-neutral, import-ways}
+use Rattle.placement.specs.Stands.{How, Standing, standings, standingsAll, stands, isUse, properties}
+use Rattle.placement.specs.Placed.{itemAt}
+use Rattle.placement.proofs.WaysLaws.{ways, waysAll, hows, hows-standings, stands-ways}
+use Rattle.placement.proofs.QuietLaws.{QuietAll, quietAll-neutral, import-ways}
+use Rattle.placement.proofs.DroppedLaws.{keep-ways, keep-regular}
+use Rattle.theorems.specs.Demand.{Every, Declares, usesOf, propertyFields}
+use Rattle.theorems.proofs.FirstPassLaws.{Behind, Around}
 use Rattle.theorems.proofs.SettledLaws.{takesApart}
 use Rattle.theorems.proofs.GoneLaws.{goneAll}
 use Rattle.theorems.proofs.UsesLaws.{every-append, every-filter, Good, Uses, usesAll}
 use Rattle.theorems.proofs.CleanLaws.{Clean, CleanSpec}
-use Rattle.theorems.proofs.OutsLaws.{keep-ways, keep-regular, ownSpecifiers, OwnOut, OutsBehind, Outs}
+use Rattle.theorems.proofs.OutsLaws.{ownSpecifiers, OwnOut, OutsBehind, Outs}
 use Rattle.theorems.proofs.OutFieldLaws.{Fine, fine-append}
 
 -- no use among these standings

@@ -2,10 +2,9 @@
 use Prim.Native.Nat.{ℕ, zero, suc, _+_}
 use mathlib.Core.Path.{_≡_, refl, sym, subst, _∙_}
 use mathlib.Core.Logic.{_⊎_, inl, inr}
-use mathlib.Core.Bool.{Bool, true, false}
+use mathlib.Core.Bool.{true, false}
 use mathlib.Core.List.{List, [], _++_, append-nil}
 use mathlib.Core.Option.{some}
-use borrow.Author.Tests.{eqb-true, ne-eqb}
 use Rattle.scope.specs.Id.{require-atom, local}
 use Rattle.scope.specs.Modules.{Modules}
 use Rattle.tree.specs.Layout.{same, two, four, nameOf, contextOf, valueOf}
@@ -15,50 +14,18 @@ use Rattle.inputs.specs.Table.{fileOf}
 use Rattle.extraction_rules.specs.State.{State, first, Setting, start, setTop}
 use Rattle.extraction_rules.specs.First.{external, specifiersIn, importFirst}
 use Rattle.extraction_rules.specs.Second.{usagesOf}
-use Rattle.extraction_rules.specs.Walk.{children, partsFor, walk, walkAll, walkModule}
+use Rattle.extraction_rules.specs.Walk.{walk, walkAll, walkModule}
 use Rattle.extraction_rules.proofs.OutcomeLaws.{After, after-bind, after-weaken}
 use Rattle.extraction_rules.proofs.AlikeLaws.{RegularAll}
 use Rattle.extraction_rules.proofs.ValueLaws.{walk-first}
 use Rattle.extraction_rules.proofs.KeepLaws.{Each}
-use Rattle.extraction_rules.proofs.SeekLaws.{filter-append}
-use Rattle.theorems.specs.Stands.{stands, How, idsIn, isUse, properties}
-use Rattle.theorems.specs.Placed.{all}
-use Rattle.theorems.proofs.WaysLaws.{stands-ways, met, ways, waysAll}
-use Rattle.theorems.proofs.HowLaws.{plain-append, properties-append, Neutral, unused-neutral, ids-unused}
+use Rattle.placement.specs.Stands.{stands, How}
+use Rattle.placement.specs.Placed.{all}
+use Rattle.placement.proofs.WaysLaws.{stands-ways, ways, waysAll}
+use Rattle.placement.proofs.HowLaws.{plain-append, properties-append, Neutral}
+use Rattle.placement.proofs.QuietLaws.{QuietAll, import-ways, quietAll-neutral}
 use Rattle.theorems.proofs.HeldLaws.{Held, Unfelt, held-unfelt, held-like, held-neutral, held-assoc, walkAll-held}
 use Rattle.theorems.proofs.ImportedLaws.{OtherSpace, OtherLocal, import-other, Before, before-unfelt, Redeclared, import-own}
-
--- ---- Imports hold no use
-
-pub neutral-append : (l m : List How) → Neutral l → Neutral m → Neutral (l ++ m)
-neutral-append l m h k = (filter-append isUse l m ∙ rw (h .0, k .0), properties-append l m ∙ rw (h .1, k .1))
-
-abbrev mutual
-  -- none of the tags that a use needs
-  pub Quiet : Field → Type 0
-  Quiet (field t x cs) = (t ≡ 0x23 → ⊥) × (t ≡ 0x60 → ⊥) × (partsFor t ≡ children) × QuietAll cs
-
-  pub QuietAll : Fields → Type 0
-  QuietAll none = Unit {0}
-  QuietAll (more f fs) = Quiet f × QuietAll fs
-
-mutual
-  unfolding ways filter properties
-
-  pub quiet-neutral : (f : Field) (i : List ℕ) (object : Bool) → Quiet f → Neutral (ways f i object)
-  quiet-neutral (field t x cs) i object h =
-      rw (h .2)
-      (neutral-append (met (idsIn t x object) i) (waysAll cs i object)
-      (unused-neutral (idsIn t x object) i (ids-unused t x object (ne-eqb t 0x23 (h .0)) (λ q. absurd (h .1 (eqb-true t 0x60 q)))))
-      (quietAll-neutral cs i object (h .3)))
-
-  pub quietAll-neutral : (fs : Fields) (i : List ℕ) (object : Bool) → QuietAll fs → Neutral (waysAll fs i object)
-  quietAll-neutral none i object h = (refl, refl)
-  quietAll-neutral (more f fs) i object h = neutral-append (ways f i object) (waysAll fs i object) (quiet-neutral f i object (h .0)) (quietAll-neutral fs i object (h .1))
-
-pub import-ways : (f : Field) (i : List ℕ) → tagOf f ≡ 0x10 → ways f i false ≡ waysAll (partsOf f) i false
-unfolding ways idsIn met partsFor
-import-ways (field t x cs) i q = rw q
 
 -- ---- The items around a namespace's import
 

@@ -23,9 +23,8 @@ use Rattle.extraction_rules.proofs.ValueLaws.{required-call, declarator-value}
 use Rattle.extraction_rules.proofs.AlikeLaws.{SameBytes, equal, required-named, callee-bytes}
 use Rattle.extraction_rules.proofs.TestLaws.{or-neither}
 use Rattle.extraction_rules.proofs.SeekLaws.{force-tables, forgotten-usages, other-imported, other-usages}
-use Rattle.theorems.specs.Stands.{How, bare, imported, isMisplaced, properties}
-use Rattle.theorems.specs.Placed.{all}
-use Rattle.theorems.proofs.HowLaws.{all-append, allPlain, plain-append, properties-append}
+use Rattle.placement.specs.Stands.{How, isMisplaced, properties}
+use Rattle.placement.proofs.HowLaws.{all-append, allPlain, plain-append, properties-append, fits}
 
 -- an export context is no local context: one is odd, the other even
 pub export-foreign : (n own : ℕ) → same (four (export n)) (four (local own)) ≡ false
@@ -175,10 +174,6 @@ module _ (taken : Bool) (i c : List ℕ) (own : ℕ) where
   out-stays t x cs ds d h = inl (refl, equal refl, (λ o q k. absurd (d k)), h)
 
 -- ---- Ways that the second pass finds as it needs them
-
--- none is misplaced
-abbrev pub fits : List How → Bool
-fits l = all (λ h. not (isMisplaced h)) l
 
 -- no property named require; if the import is taken apart, all uses are plain and nothing is misplaced
 abbrev pub Fine : Bool → List How → Type 0

@@ -36,13 +36,13 @@ use Rattle.extraction_rules.proofs.StepLaws.{RequireSteps, enter-keeps, declara
 use Rattle.extraction_rules.proofs.AlikeLaws.{Two, RegularAt, Regular, RegularAll, SameBytes, equal, behind, callee, same-other, export-front}
 use Rattle.extraction_rules.proofs.TestLaws.{or-neither}
 use Rattle.extraction_rules.proofs.SeekLaws.{seek, holdsIn, force-own, force-tables, forgotten-usages}
-use Rattle.theorems.specs.Stands.{How, bare, original, imported, otherwise, idsIn, objectIds, isMisplaced, properties}
-use Rattle.theorems.specs.Placed.{all}
-use Rattle.theorems.proofs.WaysLaws.{met-append, met, ways, waysAll, waysMember, waysAssignment, waysTarget, waysParts, waysObject}
-use Rattle.theorems.proofs.HowLaws.{all-append, allPlain}
+use Rattle.placement.specs.Stands.{How, bare, original, imported, otherwise, idsIn, objectIds, isMisplaced, properties}
+use Rattle.placement.specs.Placed.{all}
+use Rattle.placement.proofs.WaysLaws.{met-append, met, ways, waysAll, waysMember, waysAssignment, waysTarget, waysParts, waysObject}
+use Rattle.placement.proofs.HowLaws.{all-append, allPlain, fits}
 use Rattle.theorems.proofs.HeldLaws.{usagesFor, Unfelt, unfelt-modules, unfelt-force}
 use Rattle.theorems.proofs.SettledLaws.{Sits, Settled, settled-unfelt}
-use Rattle.theorems.proofs.OutFieldLaws.{export-foreign, Foreign, Says, foreign-unused, says-force, Unturned, out-tag, declarator-out, out-stays, fits, Fine, fine-append, Out, OutAll}
+use Rattle.theorems.proofs.OutFieldLaws.{export-foreign, Foreign, Says, foreign-unused, says-force, Unturned, out-tag, declarator-out, out-stays, Fine, fine-append, Out, OutAll}
 
 -- ---- The state while the items are walked
 

@@ -2,12 +2,10 @@
 use Prim.Native.Nat.{ℕ, zero, suc, _+_}
 use mathlib.Core.Path.{_≡_, refl, sym, ap, subst, _∙_}
 use mathlib.Core.Logic.{_⊎_, inl, inr}
-use mathlib.Core.Bool.{Bool, true, false, not, cond, _||_, true≢false}
-use mathlib.Core.List.{List, [], _∷_, _++_}
+use mathlib.Core.Bool.{Bool, true, false, _||_, true≢false}
+use mathlib.Core.List.{List, [], _∷_}
 use mathlib.Core.Option.{Option, none as nothing, some}
 use native.Mathlib.Omega.{arith}
-use lib.Dec.{eqb}
-use borrow.Author.Tests.{eqb-true}
 use Rattle.scope.specs.Id.{require-atom, local, export}
 use Rattle.tree.specs.Layout.{same, two, four, nameOf, contextOf, valueOf}
 use Rattle.tree.specs.Tree.{Field, field, Fields, none, more, tagOf, fixedOf, partsOf, size}
@@ -19,19 +17,20 @@ use Rattle.inputs.specs.Fields.{has, keep, sole}
 use Rattle.extraction_rules.specs.State.{State, Usage, second, Setting, give, setTop}
 use Rattle.extraction_rules.specs.First.{external, specifiersIn, attributesIn, withContext, stays}
 use Rattle.extraction_rules.specs.Second.{usagesOf, takeApart, onSole, importSecond, finish}
-use Rattle.extraction_rules.specs.Walk.{partsFor, walk, walkAll, walkModule, walkAgain}
+use Rattle.extraction_rules.specs.Walk.{walk, walkAll, walkModule, walkAgain}
 use Rattle.extraction_rules.proofs.OutcomeLaws.{After, after-bind, after-both, after-weaken, after-if}
 use Rattle.extraction_rules.proofs.ListLaws.{All}
 use Rattle.extraction_rules.proofs.FirstLaws.{source-cases}
-use Rattle.extraction_rules.proofs.AlikeLaws.{Regular, RegularAll, AlikeAll, regularAll-alike}
+use Rattle.extraction_rules.proofs.AlikeLaws.{RegularAll, AlikeAll, regularAll-alike}
 use Rattle.extraction_rules.proofs.SpaceLaws.{Property}
 use Rattle.extraction_rules.proofs.ValueLaws.{walk-second}
 use Rattle.extraction_rules.proofs.StayLaws.{import-stays}
 use Rattle.extraction_rules.proofs.KeepLaws.{Each, no-context, no-specifiers, keep-all, keep-meets, keep-yes}
-use Rattle.theorems.specs.Stands.{How, idsIn, isUse, properties}
+use Rattle.placement.specs.Stands.{How, isUse, properties}
+use Rattle.placement.proofs.WaysLaws.{ways, waysAll, waysAll-alike}
+use Rattle.placement.proofs.HowLaws.{allPlain}
+use Rattle.placement.proofs.DroppedLaws.{keep-ways, keep-regular}
 use Rattle.theorems.specs.Demand.{propertyFields, isUsed}
-use Rattle.theorems.proofs.WaysLaws.{met, ways, waysAll, waysAll-alike}
-use Rattle.theorems.proofs.HowLaws.{allPlain}
 use Rattle.theorems.proofs.HeldLaws.{Held, Unfelt, held-unfelt, held-top}
 use Rattle.theorems.proofs.ImportedLaws.{Redeclared}
 use Rattle.theorems.proofs.SettledLaws.{Settled, settled-unfelt, takesApart, used-properties, Declared, second-own, second-other}
@@ -62,49 +61,6 @@ unfolding importSecond
 second-same e y ds s =
     after-if (external e y || among (valueOf y) (s .forced)) (give (field 0x10 y ds)) (onSole (sole (specifiersIn ds)) y ds) s (λ g t. Same s t)
     (λ _. (refl, refl)) (λ _. sole-same (sole (specifiersIn ds)) y ds s)
-
--- ---- Dropped items hold no id
-
-empty-ways : (t : ℕ) (x i : List ℕ) → t ≡ 0x40 → ways (field t x none) i false ≡ []
-unfolding ways idsIn met partsFor
-empty-ways t x i p = rw p
-
-var-ways : (t : ℕ) (x i : List ℕ) → t ≡ 0x41 → ways (field t x none) i false ≡ []
-unfolding ways idsIn met partsFor
-var-ways t x i p = rw p
-
-dropped : (f : Field) (i : List ℕ) → Regular f → stays f ≡ false → ways f i false ≡ []
-unfolding stays
-dropped (field t x none) i w q = go (eqb t 0x40) (eqb t 0x41) refl refl q
-  where
-    go : (a b : Bool) → eqb t 0x40 ≡ a → eqb t 0x41 ≡ b → not (a || b) ≡ false → ways (field t x none) i false ≡ []
-    go true b p r q = empty-ways t x i (eqb-true t 0x40 p)
-    go false true p r q = var-ways t x i (eqb-true t 0x41 r)
-    go false false p r q = absurd (true≢false q)
-dropped (field t x (more f fs)) i w q = go (eqb t 0x40) refl q
-  where
-    go : (a : Bool) → eqb t 0x40 ≡ a → not a ≡ false → ways (field t x (more f fs)) i false ≡ []
-    go true p q = absurd (let e = w .0 .empty-bare (eqb-true t 0x40 p) in let z : _≡_ {A = ℕ} 0 1 = cc in omega arith)
-    go false p q = absurd (true≢false q)
-
-pub keep-ways : (fs : Fields) (i : List ℕ) → RegularAll fs → waysAll (keep stays fs) i false ≡ waysAll fs i false
-unfolding keep ways
-keep-ways none i w = refl
-keep-ways (more f fs) i w = go (stays f) refl (keep-ways fs i (w .1))
-  where
-    go : (b : Bool) → stays f ≡ b → waysAll (keep stays fs) i false ≡ waysAll fs i false →
-        waysAll (cond b (more f (keep stays fs)) (keep stays fs)) i false ≡ ways f i false ++ waysAll fs i false
-    go true q h = ap (λ (l : List How). ways f i false ++ l) h
-    go false q h = h ∙ ap (λ (l : List How). l ++ waysAll fs i false) (sym (dropped f i (w .0) q))
-
-pub keep-regular : (fs : Fields) → RegularAll fs → RegularAll (keep stays fs)
-unfolding keep
-keep-regular none w = tt
-keep-regular (more f fs) w = go (stays f) (keep-regular fs (w .1))
-  where
-    go : (b : Bool) → RegularAll (keep stays fs) → RegularAll (cond b (more f (keep stays fs)) (keep stays fs))
-    go true h = (w .0, h)
-    go false h = h
 
 module _ (taken : Bool) (i c : List ℕ) (own : ℕ) where
   stays-out : (f g : Field) → Out taken i c own f g → stays f ≡ true → stays g ≡ true

@@ -1,44 +1,103 @@
 -- A well placed tree within the grammar: what the passes need of the items around a namespace's import.
-use Prim.Native.Nat.{ℕ}
-use mathlib.Core.Path.{_≡_, refl, sym, subst, _∙_}
-use mathlib.Core.Bool.{Bool, true, false, not, cond, true≢false}
-use mathlib.Core.List.{List, _∷_}
-use mathlib.Core.Option.{some}
-use borrow.Author.Tests.{eq-eqb}
+use Prim.Native.Nat.{ℕ, zero, suc}
+use mathlib.Core.Path.{_≡_, refl, sym, ap, subst, _∙_}
+use mathlib.Core.Logic.{_⊎_, inl, inr}
+use mathlib.Core.Bool.{true, false, not, _&&_, true≢false}
+use mathlib.Core.List.{List}
+use mathlib.Core.Option.{none as nothing, some}
+use native.Mathlib.Omega.{arith}
+use borrow.Author.Tests.{not-true}
+use Rattle.scope.specs.Id.{require-atom, local}
 use Rattle.tree.proofs.Table.{both-true}
-use Rattle.scope.specs.Id.{local}
-use Rattle.tree.specs.Layout.{same, four, idAt, contextOf, valueOf}
+use Rattle.tree.specs.Layout.{same, two, four, nameOf, contextOf, valueOf, idAt}
 use Rattle.tree.specs.Tree.{Field, field, Fields, none, more, tagOf, partsOf}
 use Rattle.tree.specs.Grammar.{ruleOf}
 use Rattle.tree.proofs.LayoutLaws.{same-refl}
-use Rattle.inputs.specs.Lists.{among}
-use Rattle.inputs.specs.Fields.{has, sole}
+use Rattle.inputs.specs.Lists.{filter, among}
+use Rattle.inputs.specs.Fields.{has, findField, sole}
 use Rattle.extraction_rules.specs.First.{specifiersIn}
-use Rattle.extraction_rules.proofs.ShapeLaws.{Shaped, ShapedAll, import-parts, shaped-parts, shaped-each}
-use Rattle.extraction_rules.proofs.KeepLaws.{each-weaken, each-both}
-use Rattle.theorems.specs.Stands.{How}
-use Rattle.theorems.specs.Placed.{all, importsIn, importsPrecede, sharesNone, localIds, ownLocals}
-use Rattle.theorems.specs.Demand.{itemAt}
-use Rattle.theorems.proofs.WaysLaws.{ways, waysAll}
+use Rattle.extraction_rules.proofs.ShapeLaws.{ShapedAll, Shaped, import-parts, shaped-parts, shaped-each}
+use Rattle.extraction_rules.proofs.SpaceLaws.{OfImport}
+use Rattle.extraction_rules.proofs.KeepLaws.{Each, each-weaken, each-both}
+use Rattle.placement.specs.Stands.{How, stands, isUse, properties}
+use Rattle.placement.specs.Placed.{all, importsIn, importsPrecede, sharesNone, fitNamespace, itemAt, localIds, ownLocals}
+use Rattle.placement.proofs.WaysLaws.{waysAll, stands-ways, ways}
+use Rattle.placement.proofs.HowLaws.{allPlain, fits, fits-each}
+use Rattle.placement.proofs.QuietLaws.{import-ways, import-quiet}
+use Rattle.placement.proofs.LocalsLaws.{each-keep, locals-other, locals-all}
+use Rattle.placement.proofs.PlacedLaws.{EachImport, Apart, shares-apart, but-with, found-at, none-first, EachBut, rest-regular, imports-all, tail-shaped, precede-cases}
+use Rattle.theorems.specs.Demand.{isUsed}
+use Rattle.theorems.proofs.FirstPassLaws.{OtherImport, OwnImport, Behind, Around}
+use Rattle.theorems.proofs.WorkedLaws.{CleanImport, CleanBehind, CleanAround, Ready}
+use Rattle.theorems.proofs.SettledLaws.{takesApart}
+use Rattle.theorems.proofs.OutFieldLaws.{Fine}
 use Rattle.theorems.proofs.ImportedLaws.{OtherSpace, OtherLocal}
-use Rattle.theorems.proofs.FirstPassLaws.{Around, import-ways}
 use Rattle.theorems.proofs.CleanLaws.{CleanSpec, Whole}
-use Rattle.theorems.proofs.WorkedLaws.{CleanAround}
-use Rattle.theorems.proofs.TidyLaws.{import-quiet}
-use Rattle.theorems.proofs.SpecifierLaws.{fits-each, each-keep, locals-other, locals-all, SpecFacts, specs-facts}
-use Rattle.theorems.proofs.PlacedLaws.{EachImport, Apart, Others, shares-apart, around-placed, but-with}
-use Rattle.theorems.proofs.OutFieldLaws.{fits}
+use Rattle.theorems.proofs.SpecifierLaws.{SpecFacts, specs-facts}
 
--- of each import of a list of items
-pub imports-all : (t : Field → Bool) (fs : Fields) → all t (importsIn fs) ≡ true → EachImport (λ f. t f ≡ true) fs
-unfolding importsIn all
-imports-all t none h = tt
-imports-all t (more f fs) h = go (has 0x10 f) refl h (imports-all t fs)
-  where
-    go : (b : Bool) → has 0x10 f ≡ b → all t (cond b (f ∷ importsIn fs) (importsIn fs)) ≡ true →
-        (all t (importsIn fs) ≡ true → EachImport (λ f. t f ≡ true) fs) → EachImport (λ f. t f ≡ true) (more f fs)
-    go true q h ih = let w = both-true (t f) (all t (importsIn fs)) h in ((λ _. w .0), ih (w .1))
-    go false q h ih = ((λ z. absurd (true≢false (sym (eq-eqb (tagOf f) 0x10 z) ∙ q))), ih h)
+-- ---- Imports, then other items
+
+module _ (i lit : List ℕ) (own file : ℕ) (context : contextOf i ≡ four (local own)) where
+  -- all that is asked of another import
+  abbrev pub Others : Field → Type 0
+  Others f = OtherImport i lit own file f × CleanImport i lit own file context f
+
+  behind-placed : (fs : Fields) → ShapedAll fs (ruleOf 0x01) → importsPrecede fs ≡ true → EachImport Others fs → Behind i lit own file fs × CleanBehind i lit own file context fs
+  behind-placed none h p o = (tt, tt)
+  behind-placed (more f fs) h p o = go (precede-cases f fs p) (behind-placed fs (tail-shaped f fs h))
+    where
+      go : ((tagOf f ≡ 0x10) × (importsPrecede fs ≡ true)) ⊎ ((has 0x10 f ≡ false) × (findField (has 0x10) fs ≡ nothing)) →
+          (importsPrecede fs ≡ true → EachImport Others fs → Behind i lit own file fs × CleanBehind i lit own file context fs) →
+          Behind i lit own file (more f fs) × CleanBehind i lit own file context (more f fs)
+      go (inl w) ih = let r = ih (w .1) (o .1) in let a = o .0 (w .0) in (inl (a .0, r .0), inl (w .0, a .1, r .1))
+      go (inr w) ih = let r = rest-regular (more f fs) h (none-first f fs (w .0) (w .1)) in (inr r, inr r)
+
+  pub around-placed : (k : ℕ) (fs : Fields) (cs : Fields) → ShapedAll fs (ruleOf 0x01) → importsPrecede fs ≡ true →
+      itemAt k fs ≡ some (field 0x10 lit cs) → OwnImport i lit own file (field 0x10 lit cs) → EachBut Others k fs →
+      Around i lit own file k fs × CleanAround i lit own file context k fs
+  around-placed k none cs h p e w o = absurd (let z : _≡_ {A = ℕ} 0 1 = cc in omega arith)
+  around-placed zero (more f fs) cs h p e w o = go (precede-cases f fs p)
+    where
+      q : f ≡ field 0x10 lit cs
+      q = cc
+
+      go : ((tagOf f ≡ 0x10) × (importsPrecede fs ≡ true)) ⊎ ((has 0x10 f ≡ false) × (findField (has 0x10) fs ≡ nothing)) →
+          Around i lit own file zero (more f fs) × CleanAround i lit own file context zero (more f fs)
+      go (inl v) = let r = behind-placed fs (tail-shaped f fs h) (v .1) o in let m = subst (OwnImport i lit own file) (sym q) w in ((m, r .0), (m, r .1))
+      go (inr v) = absurd (true≢false (sym (ap (has 0x10) q) ∙ v .0))
+  around-placed (suc k) (more f fs) cs h p e w o = go (precede-cases f fs p) (λ v. around-placed k fs cs (tail-shaped f fs h) v e w (o .1))
+    where
+      go : ((tagOf f ≡ 0x10) × (importsPrecede fs ≡ true)) ⊎ ((has 0x10 f ≡ false) × (findField (has 0x10) fs ≡ nothing)) →
+          (importsPrecede fs ≡ true → Around i lit own file k fs × CleanAround i lit own file context k fs) →
+          Around i lit own file (suc k) (more f fs) × CleanAround i lit own file context (suc k) (more f fs)
+      go (inl v) ih = let r = ih (v .1) in let a = o .0 (v .0) in ((a .0, r .0), (v .0, a .1, r .1))
+      go (inr v) ih = absurd (found-at k fs lit cs e (v .1))
+
+  module _ (Space : List ℕ → Type 0) (locals : (j : List ℕ) → Space j → contextOf j ≡ four (local own)) where
+    pub ready-placed : (fs : Fields) → ShapedAll fs (ruleOf 0x01) → importsPrecede fs ≡ true →
+        EachImport (λ f. Each (OfImport Space own locals) (specifiersIn (partsOf f))) fs → Ready i lit own file context Space locals fs
+    ready-placed none h p o = tt
+    ready-placed (more f fs) h p o = go (precede-cases f fs p) (λ v. ready-placed fs (tail-shaped f fs h) v (o .1))
+      where
+        go : ((tagOf f ≡ 0x10) × (importsPrecede fs ≡ true)) ⊎ ((has 0x10 f ≡ false) × (findField (has 0x10) fs ≡ nothing)) →
+            (importsPrecede fs ≡ true → Ready i lit own file context Space locals fs) → Ready i lit own file context Space locals (more f fs)
+        go (inl v) ih = inl (v .0, o .0 (v .0), ih (v .1))
+        go (inr v) ih = inr (rest-regular (more f fs) h (none-first f fs (v .0) (v .1)))
+
+-- ---- What the second pass needs of the namespace's ways
+
+pub fine-placed : (items : Fields) (i : List ℕ) → fitNamespace (stands items i) i ≡ true → (same (nameOf i) (two require-atom) ≡ false)
+    × Fine (takesApart (stands items i)) (waysAll items i false)
+unfolding fitNamespace
+fine-placed items i h =
+    let hs = stands items i in
+    let a = both-true (fits hs && not (same (nameOf i) (two require-atom))) (not (among (two require-atom) (properties hs))) h in
+    let b = both-true (fits hs) (not (same (nameOf i) (two require-atom))) (a .0) in (
+      not-true (same (nameOf i) (two require-atom)) (b .1),
+      subst (Fine (takesApart hs)) (stands-ways items i) ((λ t. both-true (isUsed (filter isUse hs)) (allPlain hs) t .1), not-true (among (two require-atom) (properties hs)) (a .1), λ _. b .0),
+    )
+
+-- ---- Around the import of a well placed tree
 
 module _ (i lit : List ℕ) (own file : ℕ) (context : contextOf i ≡ four (local own)) where
   -- what is known of every item
