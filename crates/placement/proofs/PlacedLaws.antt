@@ -19,7 +19,7 @@ use Rattle.inputs.specs.Fields.{has, findField, keep}
 use Rattle.extraction_rules.specs.First.{specifiersIn}
 use Rattle.extraction_rules.proofs.TestLaws.{or-neither, is-false}
 use Rattle.extraction_rules.proofs.ShapeLaws.{ShapedAll, Shaped, import-parts, shaped-parts, shaped-each, Specifiers}
-use Rattle.extraction_rules.proofs.AlikeLaws.{RegularAll}
+use Rattle.extraction_rules.proofs.AlikeLaws.{Regular, RegularAll}
 use Rattle.extraction_rules.proofs.RegularLaws.{regular, item-outer}
 use Rattle.extraction_rules.proofs.ReadableLaws.{item-step}
 use Rattle.extraction_rules.proofs.KeepLaws.{Each, each-weaken, each-both, keep-specifiers}
@@ -32,6 +32,9 @@ use Rattle.placement.proofs.LocalsLaws.{locals-all, whole-specifier}
 
 -- ---- Items that are no imports
 
+pub item-regular : (f : Field) (fs : Fields) → ShapedAll (more f fs) (ruleOf 0x01) → has 0x10 f ≡ false → Regular f
+item-regular f fs h q = regular f (item-outer (tagOf f) (item-step (tagOf f) (h .0) (h .1) .0) q) (h .2)
+
 pub rest-regular : (fs : Fields) → ShapedAll fs (ruleOf 0x01) → findField (has 0x10) fs ≡ nothing → RegularAll fs
 unfolding findField
 rest-regular none h k = tt
@@ -40,7 +43,7 @@ rest-regular (more f fs) h k = go (has 0x10 f) refl k (rest-regular fs)
     go : (b : Bool) → has 0x10 f ≡ b → cond b (some f) (findField (has 0x10) fs) ≡ nothing →
         (ShapedAll fs (ruleOf 0x01) → findField (has 0x10) fs ≡ nothing → RegularAll fs) → RegularAll (more f fs)
     go true q k ih = absurd (let z : _≡_ {A = ℕ} 0 1 = cc in omega arith)
-    go false q k ih = let w = item-step (tagOf f) (h .0) (h .1) in (regular f (item-outer (tagOf f) (w .0) q) (h .2), ih (subst (ShapedAll fs) (w .1) (h .3)) k)
+    go false q k ih = (item-regular f fs h q, ih (subst (ShapedAll fs) (item-step (tagOf f) (h .0) (h .1) .1) (h .3)) k)
 
 pub not-some : {A : Type 0} (o : Option A) → not (isSome o) ≡ true → o ≡ nothing
 not-some nothing h = refl

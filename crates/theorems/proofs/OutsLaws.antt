@@ -30,6 +30,7 @@ use Rattle.placement.specs.Stands.{How, isUse, properties}
 use Rattle.placement.proofs.WaysLaws.{ways, waysAll, waysAll-alike}
 use Rattle.placement.proofs.HowLaws.{allPlain}
 use Rattle.placement.proofs.DroppedLaws.{keep-ways, keep-regular}
+use Rattle.placement.proofs.PlacedLaws.{EachImport, EachBut}
 use Rattle.theorems.specs.Demand.{propertyFields, isUsed}
 use Rattle.theorems.proofs.HeldLaws.{Held, Unfelt, held-unfelt, held-top}
 use Rattle.theorems.proofs.ImportedLaws.{Redeclared}
@@ -127,16 +128,12 @@ module _ (i lit : List ℕ) (own file n : ℕ) (us : List How) (context : contex
         (after-both (importSecond e y (partsOf g) s) (λ h t. Clean i own context y h) (λ h t. Unfelt i lit own file s t × Same s t) (second-clean i own context e y (partsOf g) s h (k .2))
         (after-both (importSecond e y (partsOf g) s) (λ h t. Unfelt i lit own file s t) (λ h t. Same s t) (second-other i lit own file e y (partsOf g) s d) (second-same e y (partsOf g) s))))
 
-    -- the sources of the other imports differ
-    abbrev pub OtherSources : Fields → Type 0
-    OtherSources none = Unit {0}
-    OtherSources (more f fs) = (tagOf f ≡ 0x10 → same (valueOf (fixedOf f)) (valueOf lit) ≡ false) × OtherSources fs
+    -- the sources of other imports differ: of all imports, and but for the one at the place k
+    abbrev OtherSources : Fields → Type 0
+    OtherSources fs = EachImport (λ f. same (valueOf (fixedOf f)) (valueOf lit) ≡ false) fs
 
-    -- but for the import at the place k
     abbrev pub OtherBut : ℕ → Fields → Type 0
-    OtherBut k none = Unit {0}
-    OtherBut zero (more f fs) = OtherSources fs
-    OtherBut (suc k) (more f fs) = (same (valueOf (fixedOf f)) (valueOf lit) ≡ false) × OtherBut k fs
+    OtherBut k fs = EachBut (λ f. same (valueOf (fixedOf f)) (valueOf lit) ≡ false) k fs
 
     -- items behind the imports
     rest-again : (fs gs : Fields) (p : ℕ) (s : State) → RegularAll fs → AlikeAll (keep stays fs) gs → Fine taken (waysAll fs i false) → Now s →
@@ -221,7 +218,7 @@ module _ (i lit : List ℕ) (own file n : ℕ) (us : List How) (context : contex
         (after-bind (walk (w .1) e false p s) _ (λ g t. Clean i own context (fixedOf f) g × Early t) (λ hs t. At taken i lit own file n ps t × Outs (suc k) (more f fs) (keep stays hs))
         (after-weaken (walk (w .1) e false p s) (λ g t. Clean i own context (fixedOf f) g × Unfelt i lit own file s t × Same s t)
         (λ g t. Clean i own context (fixedOf f) g × Early t) (λ g t k. (k .0, early-same s t (k .1) (k .2) h))
-        (other-again (fixedOf f) (w .1) p s (d .0) (w .4) (h .2))) λ g s q.
+        (other-again (fixedOf f) (w .1) p s (d .0 (w .0)) (w .4) (h .2))) λ g s q.
         after-bind (walkAll (w .2) e false (p + size (w .1)) s) _ (λ hs t. At taken i lit own file n ps t × Outs k fs (keep stays hs))
         (λ hs t. At taken i lit own file n ps t × Outs (suc k) (more f fs) (keep stays hs))
         (around-again k fs (w .2) (p + size (w .1)) s (w .5) (d .1) (fine-append taken (ways f i false) (waysAll fs i false) fine .1) (q .1)) λ hs s r.

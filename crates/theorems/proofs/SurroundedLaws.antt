@@ -2,15 +2,15 @@
 use Prim.Native.Nat.{ℕ, zero, suc}
 use mathlib.Core.Path.{_≡_, refl, sym, ap, subst, _∙_}
 use mathlib.Core.Logic.{_⊎_, inl, inr}
-use mathlib.Core.Bool.{true, false, not, _&&_, true≢false}
+use mathlib.Core.Bool.{Bool, true, false, not, _&&_, true≢false}
 use mathlib.Core.List.{List}
 use mathlib.Core.Option.{none as nothing, some}
 use native.Mathlib.Omega.{arith}
-use borrow.Author.Tests.{not-true}
+use borrow.Author.Tests.{eqb-true, not-true}
 use Rattle.scope.specs.Id.{require-atom, local}
 use Rattle.tree.proofs.Table.{both-true}
 use Rattle.tree.specs.Layout.{same, two, four, nameOf, contextOf, valueOf, idAt}
-use Rattle.tree.specs.Tree.{Field, field, Fields, none, more, tagOf, partsOf}
+use Rattle.tree.specs.Tree.{Field, field, Fields, none, more, tagOf, fixedOf, partsOf}
 use Rattle.tree.specs.Grammar.{ruleOf}
 use Rattle.tree.proofs.LayoutLaws.{same-refl}
 use Rattle.inputs.specs.Lists.{filter, among}
@@ -25,10 +25,10 @@ use Rattle.placement.proofs.WaysLaws.{waysAll, stands-ways, ways}
 use Rattle.placement.proofs.HowLaws.{allPlain, fits, fits-each}
 use Rattle.placement.proofs.QuietLaws.{import-ways, import-quiet}
 use Rattle.placement.proofs.LocalsLaws.{each-keep, locals-other, locals-all}
-use Rattle.placement.proofs.PlacedLaws.{EachImport, Apart, shares-apart, but-with, found-at, none-first, EachBut, rest-regular, imports-all, tail-shaped, precede-cases}
+use Rattle.placement.proofs.PlacedLaws.{EachImport, Apart, shares-apart, but-with, found-at, none-first, EachBut, item-regular, rest-regular, imports-all, tail-shaped, precede-cases}
 use Rattle.theorems.specs.Demand.{isUsed}
 use Rattle.theorems.proofs.FirstPassLaws.{OtherImport, OwnImport, Behind, Around}
-use Rattle.theorems.proofs.WorkedLaws.{CleanImport, CleanBehind, CleanAround, Ready}
+use Rattle.theorems.proofs.WorkedLaws.{CleanImport, CleanBehind, CleanAround, ReadyItem, Ready}
 use Rattle.theorems.proofs.SettledLaws.{takesApart}
 use Rattle.theorems.proofs.OutFieldLaws.{Fine}
 use Rattle.theorems.proofs.ImportedLaws.{OtherSpace, OtherLocal}
@@ -74,15 +74,14 @@ module _ (i lit : List ℕ) (own file : ℕ) (context : contextOf i ≡ four (lo
       go (inr v) ih = absurd (found-at k fs lit cs e (v .1))
 
   module _ (Space : List ℕ → Type 0) (locals : (j : List ℕ) → Space j → contextOf j ≡ four (local own)) where
-    pub ready-placed : (fs : Fields) → ShapedAll fs (ruleOf 0x01) → importsPrecede fs ≡ true →
-        EachImport (λ f. Each (OfImport Space own locals) (specifiersIn (partsOf f))) fs → Ready i lit own file context Space locals fs
-    ready-placed none h p o = tt
-    ready-placed (more f fs) h p o = go (precede-cases f fs p) (λ v. ready-placed fs (tail-shaped f fs h) v (o .1))
+    pub ready-placed : (fs : Fields) → ShapedAll fs (ruleOf 0x01) → EachImport (λ f. Each (OfImport Space own locals) (specifiersIn (partsOf f))) fs →
+        Ready i lit own file context Space locals fs
+    ready-placed none h o = tt
+    ready-placed (more f fs) h o = (go (has 0x10 f) refl, ready-placed fs (tail-shaped f fs h) (o .1))
       where
-        go : ((tagOf f ≡ 0x10) × (importsPrecede fs ≡ true)) ⊎ ((has 0x10 f ≡ false) × (findField (has 0x10) fs ≡ nothing)) →
-            (importsPrecede fs ≡ true → Ready i lit own file context Space locals fs) → Ready i lit own file context Space locals (more f fs)
-        go (inl v) ih = inl (v .0, o .0 (v .0), ih (v .1))
-        go (inr v) ih = inr (rest-regular (more f fs) h (none-first f fs (v .0) (v .1)))
+        go : (b : Bool) → has 0x10 f ≡ b → ReadyItem i lit own file context Space locals f
+        go true q = let t = eqb-true (tagOf f) 0x10 q in inl (t, o .0 t)
+        go false q = inr (item-regular f fs h q)
 
 -- ---- What the second pass needs of the namespace's ways
 
@@ -129,6 +128,13 @@ module _ (i lit : List ℕ) (own file : ℕ) (context : contextOf i ≡ four (lo
   own-local : (cs : Fields) → specifiersIn cs ≡ more (field 0x22 i none) none → idAt i 0 ≡ i → among i (localIds (specifiersIn cs)) ≡ true
   unfolding localIds among
   own-local cs q w = rw (q, w, same-refl i)
+
+  -- another import has another source
+  pub other-sources : (k : ℕ) (items cs : Fields) → Each Shaped items → sharesNone (importsIn items) ≡ true → idAt i 0 ≡ i → itemAt k items ≡ some (field 0x10 lit cs) →
+      specifiersIn cs ≡ more (field 0x22 i none) none → EachBut (λ f. same (valueOf (fixedOf f)) (valueOf lit) ≡ false) k items
+  other-sources k items cs shape share w e q =
+      but-with (Apart i (valueOf lit)) Shaped (λ f. same (valueOf (fixedOf f)) (valueOf lit) ≡ false) k items (λ f t a s. a .0)
+      (shares-apart i k items (field 0x10 lit cs) share e refl (own-local cs q w)) shape
 
   pub around-well : (k : ℕ) (items cs : Fields) → ShapedAll items (ruleOf 0x01) → importsPrecede items ≡ true → sharesNone (importsIn items) ≡ true →
       all (ownLocals own) (importsIn items) ≡ true → fits (waysAll items i false) ≡ true → idAt i 0 ≡ i →

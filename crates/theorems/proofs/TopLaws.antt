@@ -21,7 +21,6 @@ use Rattle.extraction_rules.specs.Records.{recordFields, recordsOf}
 use Rattle.extraction_rules.proofs.OutcomeLaws.{after-done}
 use Rattle.extraction_rules.specs.First.{external}
 use Rattle.extraction_rules.specs.Call.{Lent, Lengths, Extracted, itemsRead, setting, extracted}
-use Rattle.extraction_rules.proofs.AlikeLaws.{RegularAll}
 use Rattle.extraction_rules.proofs.ShapeLaws.{Shaped, shaped-parts, shaped-each}
 use Rattle.extraction_rules.proofs.ReadableLaws.{Items}
 use Rattle.extraction_rules.proofs.ExtractedLaws.{Run, call-run}
@@ -33,31 +32,11 @@ use Rattle.placement.specs.Placed.{ownLocals, soleNamespace, wellPlaced, itemAt
 use Rattle.placement.proofs.PlacedLaws.{fits-placed, each-at, imports-all, well-of, mine-of}
 use Rattle.placement.proofs.DefaultLaws.{SpaceIn, space-local, imports-of}
 use Rattle.theorems.specs.Demand.{Declares, takes, Ends, handedOn}
-use Rattle.theorems.proofs.FirstPassLaws.{Behind, Around}
 use Rattle.theorems.proofs.SettledLaws.{takesApart}
-use Rattle.theorems.proofs.OutsLaws.{OtherSources, OtherBut}
-use Rattle.theorems.proofs.SurroundedLaws.{fine-placed, ready-placed, around-well}
+use Rattle.theorems.proofs.SurroundedLaws.{fine-placed, ready-placed, other-sources, around-well}
 use Rattle.theorems.proofs.SourcesLaws.{sources-of}
 use Rattle.theorems.proofs.ResolvesLaws.{Collected, first-collects, again-collects, collected-resolves}
 use Rattle.theorems.proofs.CoreLaws.{EndsBy, core}
-
--- ---- The other sources
-
-module _ (i lit : List ℕ) (own file n : ℕ) (us : List How) (context : contextOf i ≡ four (local own)) (named : same (nameOf i) (two require-atom) ≡ false) where
-  module _ (e : Setting) (two-pass : e .pass ≡ second) (inner : external e lit ≡ false) where
-    regular-sources : (fs : Fields) → RegularAll fs → OtherSources i lit own file n us context named e two-pass inner fs
-    regular-sources none h = tt
-    regular-sources (more (field t x cs) fs) h = ((λ q. absurd (h .0 .0 .no-import q)), regular-sources fs (h .1))
-
-    behind-sources : (fs : Fields) → Behind i lit own file fs → OtherSources i lit own file n us context named e two-pass inner fs
-    behind-sources none h = tt
-    behind-sources (more f fs) (inl h) = ((λ _. h .0 .source), behind-sources fs (h .1))
-    behind-sources (more f fs) (inr h) = regular-sources (more f fs) h
-
-    pub around-sources : (k : ℕ) (fs : Fields) → Around i lit own file k fs → OtherBut i lit own file n us context named e two-pass inner k fs
-    around-sources k none h = tt
-    around-sources zero (more f fs) h = behind-sources fs (h .1)
-    around-sources (suc k) (more f fs) h = (h .0 .source, around-sources k fs (h .1))
 
 -- ---- The theorem
 
@@ -93,14 +72,14 @@ resolving-ends l room ms r n q items own accepted resolving reading requesting p
     let rows = rowsIn (l .table) in
     let Space = SpaceIn (own .0) items in
     let locals = space-local (own .0) items in
-    let ready = ready-placed i x (own .0) file (m .context) Space locals items (shape .shaped) (w .precede)
+    let ready = ready-placed i x (own .0) file (m .context) Space locals items (shape .shaped)
     (imports-of (own .0) items items-shaped (w .share) (imports-all (ownLocals (own .0)) items (w .locals)) (imports-all soleNamespace items (w .soles))) in
     let u = call-listed (handedOn l r) n (r .modules) q (partsOf (r .records)) resolving readable in
     subst (λ (b : Bool). Ends b i x k (stands items i) items l r q) (sym (takes-is rows x file (stands items i) res))
     (ends-from (takesApart (stands items i)) i x k file (stands items i) items l r q (own .0) (m .context) (f .0) Space locals res inside inside
     (core i x (own .0) file (m .context) (f .0) Space locals l rows res inside inside k items (own .1) (q .modules) r (partsOf (q .list)) shape
     (record { around = a .0; clean = a .1; ready = ready; fine = f .1 })
-    (λ c. around-sources i x (own .0) file c (stands items i) (m .context) (f .0) (setting second (own .0) l rows) refl inside k items (a .0))
+    (λ c. other-sources i x (own .0) file (m .context) k items (declares .0) items-shaped (w .share) (m .whole) (declares .1) (declares .2))
     (call-run l room ms r items own accepted reading requesting) (u .numbers) (u .lists)))
 
 -- a source that does not resolve would have been refused

@@ -20,9 +20,9 @@ use Rattle.extraction_rules.specs.First.{external, moduleFor, importedAs, colle
 use Rattle.extraction_rules.specs.Walk.{walk, walkAll, walkModule}
 use Rattle.extraction_rules.proofs.OutcomeLaws.{After, after-bind, after-weaken}
 use Rattle.extraction_rules.proofs.ValueLaws.{after-any, walk-first}
-use Rattle.extraction_rules.proofs.AlikeLaws.{RegularAll, Alike, AlikeAll, walkAll-alike}
+use Rattle.extraction_rules.proofs.AlikeLaws.{Regular, RegularAll, Alike, AlikeAll, walkAll-alike}
 use Rattle.extraction_rules.proofs.SpaceLaws.{OfImport, Spaces, space-steps, import-space}
-use Rattle.extraction_rules.proofs.ItemsLaws.{items-keep}
+use Rattle.extraction_rules.proofs.ItemsLaws.{item-keeps}
 use Rattle.extraction_rules.proofs.StayLaws.{import-stays}
 use Rattle.extraction_rules.proofs.KeepLaws.{Each, keep-yes}
 use Rattle.theorems.proofs.ImportedLaws.{Redeclared}
@@ -150,21 +150,25 @@ module _ (i lit : List ℕ) (own file : ℕ) (context : contextOf i ≡ four (lo
   -- ---- Namespaces and their usages
 
   module _ (Space : List ℕ → Type 0) (locals : (j : List ℕ) → Space j → contextOf j ≡ four (local own)) where
-    -- imports whose namespaces are those, then items without imports
+    -- imports whose namespaces are those, and other items, in any order
+    abbrev pub ReadyItem : Field → Type 0
+    ReadyItem f = ((tagOf f ≡ 0x10) × Each (OfImport Space own locals) (specifiersIn (partsOf f))) ⊎ Regular f
+
     abbrev pub Ready : Fields → Type 0
-    Ready none = Unit {0}
-    Ready (more f fs) = ((tagOf f ≡ 0x10) × Each (OfImport Space own locals) (specifiersIn (partsOf f)) × Ready fs) ⊎ RegularAll (more f fs)
+    Ready fs = Each ReadyItem fs
 
     module _ (e : Setting) (one : e .pass ≡ first) (mine : e .own ≡ own) (res : fileOf (valueOf lit) (e .table) ≡ some file)
         (inner : external e lit ≡ false) (named : same (nameOf i) (two require-atom) ≡ false) where
+      item-spaces : (f : Field) (p : ℕ) (s : State) → ReadyItem f → Spaces Space own locals s → After (walk f e false p s) (λ g t. Spaces Space own locals t)
+      item-spaces f p s (inl r) h = rw (walk-first e one f p s (r .0)) (import-space Space own locals e (fixedOf f) (partsOf f) p s (r .1) h)
+      item-spaces f p s (inr r) h = item-keeps e (Spaces Space own locals) (space-steps Space own locals e mine) one f false p s r h
+
       ready-spaces : (fs : Fields) (p : ℕ) (s : State) → Ready fs → Spaces Space own locals s → After (walkAll fs e false p s) (λ gs t. Spaces Space own locals t)
       unfolding walk
       ready-spaces none p s r h = h
-      ready-spaces (more f fs) p s (inl r) h =
-          after-bind (walk f e false p s) _ (λ g t. Spaces Space own locals t) (λ gs t. Spaces Space own locals t)
-          (rw (walk-first e one f p s (r .0)) (import-space Space own locals e (fixedOf f) (partsOf f) p s (r .1) h)) λ g s h.
-          after-bind (walkAll fs e false (p + size f) s) _ (λ gs t. Spaces Space own locals t) (λ gs t. Spaces Space own locals t) (ready-spaces fs (p + size f) s (r .2) h) λ gs s h. h
-      ready-spaces (more f fs) p s (inr r) h = items-keep e (Spaces Space own locals) (space-steps Space own locals e mine) one (more f fs) false p s r h
+      ready-spaces (more f fs) p s r h =
+          after-bind (walk f e false p s) _ (λ g t. Spaces Space own locals t) (λ gs t. Spaces Space own locals t) (item-spaces f p s (r .0) h) λ g s h.
+          after-bind (walkAll fs e false (p + size f) s) _ (λ gs t. Spaces Space own locals t) (λ gs t. Spaces Space own locals t) (ready-spaces fs (p + size f) s (r .1) h) λ gs s h. h
 
       pub first-spaces : (items : Fields) (ms : Modules) → Ready items → After (walkModule e items (start ms)) (λ gs t. Spaces Space own locals t)
       unfolding walkModule importedAs find
