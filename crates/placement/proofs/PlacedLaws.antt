@@ -1,4 +1,5 @@
--- What each clause of 'well placed' says item by item: of each import, of each but one, and of the namespace that one of them declares.
+-- What each clause of 'well placed' says item by item: of each import, of each but one, and of the namespace that one of them declares. That
+-- imports precede other items is the premise of one law, `front-imports`: in front of an import stand imports.
 use Prim.Native.Nat.{ℕ, zero, suc}
 use mathlib.Core.Path.{_≡_, refl, sym, ap, subst, _∙_}
 use mathlib.Core.Logic.{_⊎_, inl, inr}
@@ -19,7 +20,7 @@ use Rattle.inputs.specs.Fields.{has, findField, keep}
 use Rattle.extraction_rules.specs.First.{specifiersIn}
 use Rattle.extraction_rules.proofs.TestLaws.{or-neither, is-false}
 use Rattle.extraction_rules.proofs.ShapeLaws.{ShapedAll, Shaped, import-parts, shaped-parts, shaped-each, Specifiers}
-use Rattle.extraction_rules.proofs.AlikeLaws.{Regular, RegularAll}
+use Rattle.extraction_rules.proofs.AlikeLaws.{Regular}
 use Rattle.extraction_rules.proofs.RegularLaws.{regular, item-outer}
 use Rattle.extraction_rules.proofs.ReadableLaws.{item-step}
 use Rattle.extraction_rules.proofs.KeepLaws.{Each, each-weaken, each-both, keep-specifiers}
@@ -35,21 +36,11 @@ use Rattle.placement.proofs.LocalsLaws.{locals-all, whole-specifier}
 pub item-regular : (f : Field) (fs : Fields) → ShapedAll (more f fs) (ruleOf 0x01) → has 0x10 f ≡ false → Regular f
 item-regular f fs h q = regular f (item-outer (tagOf f) (item-step (tagOf f) (h .0) (h .1) .0) q) (h .2)
 
-pub rest-regular : (fs : Fields) → ShapedAll fs (ruleOf 0x01) → findField (has 0x10) fs ≡ nothing → RegularAll fs
-unfolding findField
-rest-regular none h k = tt
-rest-regular (more f fs) h k = go (has 0x10 f) refl k (rest-regular fs)
-  where
-    go : (b : Bool) → has 0x10 f ≡ b → cond b (some f) (findField (has 0x10) fs) ≡ nothing →
-        (ShapedAll fs (ruleOf 0x01) → findField (has 0x10) fs ≡ nothing → RegularAll fs) → RegularAll (more f fs)
-    go true q k ih = absurd (let z : _≡_ {A = ℕ} 0 1 = cc in omega arith)
-    go false q k ih = (item-regular f fs h q, ih (subst (ShapedAll fs) (item-step (tagOf f) (h .0) (h .1) .1) (h .3)) k)
-
-pub not-some : {A : Type 0} (o : Option A) → not (isSome o) ≡ true → o ≡ nothing
+not-some : {A : Type 0} (o : Option A) → not (isSome o) ≡ true → o ≡ nothing
 not-some nothing h = refl
 not-some (some a) h = absurd (true≢false (sym h))
 
--- ---- Imports, then other items
+-- ---- Imports and other items
 
 -- P holds of each import, but for the one at a place
 abbrev pub EachImport : (Field → Type 0) → Fields → Type 0
@@ -66,6 +57,17 @@ each-at P k none f h e = absurd (let z : _≡_ {A = ℕ} 0 1 = cc in omega arith
 each-at P zero (more g fs) f h e = let q : g ≡ f = cc in subst P q (h .0)
 each-at P (suc k) (more g fs) f h e = each-at P k fs f (h .1) e
 
+-- P holds of the item at a place, and Q of the others
+abbrev pub Amid : (Field → Type 0) → (Field → Type 0) → ℕ → Fields → Type 0
+Amid P Q k none = ⊥
+Amid P Q zero (more f fs) = P f × Each Q fs
+Amid P Q (suc k) (more f fs) = Q f × Amid P Q k fs
+
+pub amid-each : (P Q S : Field → Type 0) (k : ℕ) (fs : Fields) → ((f : Field) → P f → S f) → ((f : Field) → Q f → S f) → Amid P Q k fs → Each S fs
+amid-each P Q S k none p q h = absurd h
+amid-each P Q S zero (more f fs) p q h = (p f (h .0), each-weaken Q S fs q (h .1))
+amid-each P Q S (suc k) (more f fs) p q h = (q f (h .0), amid-each P Q S k fs p q (h .1))
+
 -- what is known of each item, and of each but one, together
 pub but-with : (P Q R : Field → Type 0) (k : ℕ) (fs : Fields) → ((f : Field) → tagOf f ≡ 0x10 → P f → Q f → R f) → EachBut P k fs → Each Q fs → EachBut R k fs
 but-with P Q R k none j h w = tt
@@ -73,8 +75,14 @@ but-with P Q R zero (more f fs) j h w =
     each-weaken (λ f. (tagOf f ≡ 0x10 → P f) × Q f) (λ f. tagOf f ≡ 0x10 → R f) fs (λ f k t. j f t (k .0 t) (k .1)) (each-both (λ f. tagOf f ≡ 0x10 → P f) Q fs h (w .1))
 but-with P Q R (suc k) (more f fs) j h w = ((λ t. j f t (h .0 t) (w .0)), but-with P Q R k fs j (h .1) (w .1))
 
+-- the items in front of a place are imports
+abbrev pub Front : ℕ → Fields → Type 0
+Front k none = Unit {0}
+Front zero (more f fs) = Unit {0}
+Front (suc k) (more f fs) = (tagOf f ≡ 0x10) × Front k fs
+
 -- 'imports precede other items'
-pub precede-cases : (f : Field) (fs : Fields) → importsPrecede (more f fs) ≡ true →
+precede-cases : (f : Field) (fs : Fields) → importsPrecede (more f fs) ≡ true →
     ((tagOf f ≡ 0x10) × (importsPrecede fs ≡ true)) ⊎ ((has 0x10 f ≡ false) × (findField (has 0x10) fs ≡ nothing))
 unfolding importsPrecede
 precede-cases f fs h = go (has 0x10 f) refl h
@@ -84,7 +92,7 @@ precede-cases f fs h = go (has 0x10 f) refl h
     go true q h = inl (eqb-true (tagOf f) 0x10 q, h)
     go false q h = inr (q, not-some (findField (has 0x10) fs) h)
 
-pub found-at : (k : ℕ) (fs : Fields) (x : List ℕ) (cs : Fields) → itemAt k fs ≡ some (field 0x10 x cs) → findField (has 0x10) fs ≡ nothing → ⊥
+found-at : (k : ℕ) (fs : Fields) (x : List ℕ) (cs : Fields) → itemAt k fs ≡ some (field 0x10 x cs) → findField (has 0x10) fs ≡ nothing → ⊥
 unfolding findField
 found-at k none x cs e h = let z : _≡_ {A = ℕ} 0 1 = cc in omega arith
 found-at zero (more f fs) x cs e h = let q : f ≡ field 0x10 x cs = cc in let w : findField (has 0x10) (more f fs) ≡ some f = rw q in let z : _≡_ {A = ℕ} 0 1 = cc in omega arith
@@ -94,9 +102,16 @@ found-at (suc k) (more f fs) x cs e h = go (has 0x10 f) h (found-at k fs x cs e)
     go true h j = let z : _≡_ {A = ℕ} 0 1 = cc in omega arith
     go false h j = j h
 
-pub none-first : (f : Field) (fs : Fields) → has 0x10 f ≡ false → findField (has 0x10) fs ≡ nothing → findField (has 0x10) (more f fs) ≡ nothing
-unfolding findField
-none-first f fs q h = rw q h
+-- The one law that needs it: in front of an import stand imports. By induction on the place: an item that is none would have no import behind it
+pub front-imports : (k : ℕ) (fs : Fields) (x : List ℕ) (cs : Fields) → importsPrecede fs ≡ true → itemAt k fs ≡ some (field 0x10 x cs) → Front k fs
+front-imports k none x cs h e = tt
+front-imports zero (more f fs) x cs h e = tt
+front-imports (suc k) (more f fs) x cs h e = go (precede-cases f fs h) (λ v. front-imports k fs x cs v e)
+  where
+    go : ((tagOf f ≡ 0x10) × (importsPrecede fs ≡ true)) ⊎ ((has 0x10 f ≡ false) × (findField (has 0x10) fs ≡ nothing)) →
+        (importsPrecede fs ≡ true → Front k fs) → (tagOf f ≡ 0x10) × Front k fs
+    go (inl v) ih = (v .0, ih (v .1))
+    go (inr v) ih = absurd (found-at k fs x cs e (v .1))
 
 pub tail-shaped : (f : Field) (fs : Fields) → ShapedAll (more f fs) (ruleOf 0x01) → ShapedAll fs (ruleOf 0x01)
 tail-shaped f fs h = subst (ShapedAll fs) (item-step (tagOf f) (h .0) (h .1) .1) (h .3)

@@ -1,4 +1,4 @@
--- What both passes leave of a tree behind the imports: if the import is taken apart, no way of its id to stand is left.
+-- What both passes leave of an item that is no import: if the import is taken apart, no way of its id to stand is left.
 use Prim.Native.Nat.{ℕ}
 use mathlib.Core.Path.{_≡_, refl, sym, ap, subst, _∙_}
 use mathlib.Core.Logic.{_⊎_, inl, inr}

@@ -12,6 +12,7 @@ pub mod ImportedLaws
 pub mod OutFieldLaws
 pub mod OutLaws
 pub mod OutsLaws
+pub mod PairedLaws
 pub mod RecordLaws
 pub mod ResolvesLaws
 pub mod SourcesLaws

@@ -1,4 +1,4 @@
--- What the second pass makes of a field behind the imports: it stays as it was, or a member expression becomes an identifier.
+-- What the second pass makes of a field that is in no import: it stays as it was, or a member expression becomes an identifier.
 use Prim.Native.Nat.{ℕ, _+_, _*_, _%_}
 use mathlib.Core.Path.{_≡_, refl, sym, ap, subst, _∙_}
 use mathlib.Core.Logic.{_⊎_, inl, inr}
@@ -192,3 +192,6 @@ fine-append taken l m h =
     let f : taken ≡ true → (fits l ≡ true) × (fits m ≡ true) = λ q. both-true (fits l) (fits m) (sym (all-append (λ h. not (isMisplaced h)) l m) ∙ h .2 q) in
     let p : taken ≡ true → (allPlain l ≡ true) × (allPlain m ≡ true) = λ q. both-true (allPlain l) (allPlain m) (sym (plain-append l m) ∙ h .0 q) in
     ((λ q. p q .0, r .0, λ q. f q .0), (λ q. p q .1, r .1, λ q. f q .1))
+
+pub fine-less : (plain taken : Bool) (l : List How) → (taken ≡ true → plain ≡ true) → Fine plain l → Fine taken l
+fine-less plain taken l k h = ((λ q. h .0 (k q)), h .1, λ q. h .2 (k q))

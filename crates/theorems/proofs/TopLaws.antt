@@ -1,7 +1,6 @@
 -- Demand 3, first part, for a source that resolves and records that read back: a namespace import is kept whole or taken apart completely.
-use Prim.Native.Nat.{ℕ, zero, suc}
+use Prim.Native.Nat.{ℕ}
 use mathlib.Core.Path.{_≡_, refl, sym, subst}
-use mathlib.Core.Logic.{inl, inr}
 use mathlib.Core.Bool.{Bool, true, false, true≢false}
 use mathlib.Core.List.{List}
 use mathlib.Core.Option.{Option, none as nothing, some}
@@ -15,7 +14,7 @@ use Rattle.tree.specs.Read.{read}
 use Rattle.inputs.specs.Outcome.{done}
 use Rattle.inputs.specs.Lists.{isSome, among}
 use Rattle.inputs.specs.Table.{Row, rowsIn, atomsIn, fileOf}
-use Rattle.extraction_rules.specs.State.{first, second, Setting, start}
+use Rattle.extraction_rules.specs.State.{first, second, start}
 use Rattle.extraction_rules.specs.Walk.{walkModule, walkAgain}
 use Rattle.extraction_rules.specs.Records.{recordFields, recordsOf}
 use Rattle.extraction_rules.proofs.OutcomeLaws.{after-done}
@@ -29,11 +28,12 @@ use Rattle.resolving_rules.specs.Call.{Resolved, recordsRead, resolved}
 use Rattle.resolving_rules.proofs.ResolvedLaws.{Listed, call-listed}
 use Rattle.placement.specs.Stands.{How, stands}
 use Rattle.placement.specs.Placed.{ownLocals, soleNamespace, wellPlaced, itemAt}
-use Rattle.placement.proofs.PlacedLaws.{fits-placed, each-at, imports-all, well-of, mine-of}
+use Rattle.placement.proofs.PlacedLaws.{front-imports, fits-placed, each-at, imports-all, well-of, mine-of}
+use Rattle.placement.proofs.DroppedLaws.{place-front}
 use Rattle.placement.proofs.DefaultLaws.{SpaceIn, space-local, imports-of}
 use Rattle.theorems.specs.Demand.{Declares, takes, Ends, handedOn}
 use Rattle.theorems.proofs.SettledLaws.{takesApart}
-use Rattle.theorems.proofs.SurroundedLaws.{fine-placed, ready-placed, other-sources, around-well}
+use Rattle.theorems.proofs.SurroundedLaws.{fine-placed, ready-placed, around-well}
 use Rattle.theorems.proofs.SourcesLaws.{sources-of}
 use Rattle.theorems.proofs.ResolvesLaws.{Collected, first-collects, again-collects, collected-resolves}
 use Rattle.theorems.proofs.CoreLaws.{EndsBy, core}
@@ -67,8 +67,9 @@ resolving-ends l room ms r n q items own accepted resolving reading requesting p
     let m = mine-of (own .0) items k x i (declares .0) (shape .shaped) w (declares .1) (declares .2) in
     let f = fine-placed items i (m .fit) in
     let items-shaped = shaped-each items (ruleOf 0x01) (shape .shaped) in
-    let a = around-well i x (own .0) file (m .context) k items (declares .0) (shape .shaped) (w .precede) (w .share) (w .locals) (fits-placed items i (m .fit)) (m .whole) (declares .1) (declares .2)
+    let a = around-well i x (own .0) file (m .context) k items (declares .0) (shape .shaped) (w .share) (w .locals) (fits-placed items i (m .fit)) (m .whole) (declares .1) (declares .2)
     (shaped-parts (field 0x10 x (declares .0)) 0x10 (each-at Shaped k items (field 0x10 x (declares .0)) items-shaped (declares .1)) refl) in
+    let front = front-imports k items x (declares .0) (w .precede) (declares .1) in
     let rows = rowsIn (l .table) in
     let Space = SpaceIn (own .0) items in
     let locals = space-local (own .0) items in
@@ -78,8 +79,7 @@ resolving-ends l room ms r n q items own accepted resolving reading requesting p
     subst (λ (b : Bool). Ends b i x k (stands items i) items l r q) (sym (takes-is rows x file (stands items i) res))
     (ends-from (takesApart (stands items i)) i x k file (stands items i) items l r q (own .0) (m .context) (f .0) Space locals res inside inside
     (core i x (own .0) file (m .context) (f .0) Space locals l rows res inside inside k items (own .1) (q .modules) r (partsOf (q .list)) shape
-    (record { around = a .0; clean = a .1; ready = ready; fine = f .1 })
-    (λ c. other-sources i x (own .0) file (m .context) k items (declares .0) items-shaped (w .share) (m .whole) (declares .1) (declares .2))
+    (record { around = a .0; front = front; place = place-front k items (field 0x10 x (declares .0)) (declares .1) front; clean = a .1; ready = ready; fine = f .1 })
     (call-run l room ms r items own accepted reading requesting) (u .numbers) (u .lists)))
 
 -- a source that does not resolve would have been refused

@@ -1,4 +1,4 @@
--- What both passes leave of a tree behind the imports: each use of the namespace is the property in the source's export context, or
+-- What both passes leave of an item that is no import: each use of the namespace is the property in the source's export context, or
 -- as it was.
 use Prim.Native.Nat.{ℕ}
 use mathlib.Core.Path.{_≡_, refl, sym, ap, ap₂, subst, _∙_}

@@ -20,7 +20,7 @@ use Rattle.resolving_rules.specs.Call.{Resolved, resolved}
 use Rattle.resolving_rules.specs.Computes.{computing as computing-resolved}
 use Rattle.placement.specs.Stands.{headOf, stands}
 use Rattle.placement.specs.Placed.{wellPlaced}
-use Rattle.placement.specs.Example.{placing, spaced, ax, at, n, literal-n, ay, spaced-n, behind, late, shared-source, shared-local, other-context, in-company}
+use Rattle.placement.specs.Example.{placing, ax, at, n, literal-n, ay, spaced-n, behind, late, shared-source, shared-local, other-context, in-company}
 use Rattle.placement.specs.Example.{as-target, below-object, as-shorthand, a-private, with-private, namespace-require, property-require}
 use Rattle.theorems.specs.Demand.{usesOf, recordFor, takes, TakenApart, Kept, Ends, ResolvesTo, handedOn}
 
