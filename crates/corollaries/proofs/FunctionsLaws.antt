@@ -33,7 +33,7 @@ use Rattle.extraction.specs.Answer.{answerRefusal, left}
 use Rattle.resolving_rules.specs.Call.{Lent as LentRecords, Resolved, Left as LeftList, resolved, resolving}
 use Rattle.resolving_rules.proofs.ResolvedLaws.{call-room as list-room, call-modules}
 use Rattle.resolving.specs.Answer.{lentAs, answerRefusal as listRefusal, left as leftList}
-use Rattle.theorems.specs.Stands.{stands}
+use Rattle.placement.specs.Stands.{stands}
 use Rattle.theorems.specs.Demand.{Declares, takes, Ends, handedOn}
 use Rattle.theorems.specs.Relending.{withoutMarks}
 use Rattle.theorems.specs.Lists.{Call, requests, requestsAll, sets, reads, readsEsm, extracts, resolves, after, afterAll, wrapsAny}

@@ -31,8 +31,8 @@ use Rattle.resolving_rules.specs.Call.{Resolved, resolved, resolving}
 use Rattle.resolving.specs.declared.ResolveAnswer.the-variants.{Listed}
 use Rattle.resolving.specs.declared.Resolution.{Resolution}
 use Rattle.resolving.specs.Answer.{lentAs, left as leftList}
-use Rattle.theorems.specs.Stands.{stands}
-use Rattle.theorems.specs.Placed.{wellPlaced}
+use Rattle.placement.specs.Stands.{stands}
+use Rattle.placement.specs.Placed.{wellPlaced}
 use Rattle.theorems.specs.Demand.{Declares, takes, Ends}
 use Rattle.corollaries.specs.declared.PairAnswer.the-variants.{Both, NotExtracted, NotListed}
 use Rattle.corollaries.specs.declared.Pair.{Pair}

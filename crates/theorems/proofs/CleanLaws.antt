@@ -27,8 +27,8 @@ use Rattle.extraction_rules.proofs.ListLaws.{All, all-filter, same-not, not-sam
 use Rattle.extraction_rules.proofs.ExactLaws.{width-20}
 use Rattle.extraction_rules.proofs.SpaceLaws.{Property}
 use Rattle.extraction_rules.proofs.KeepLaws.{specifiers-front, notAttributes, no-context, no-specifiers, Each, each-weaken}
-use Rattle.theorems.specs.Stands.{How, imported, otherwise, idsIn}
-use Rattle.theorems.proofs.WaysLaws.{met, ways, waysAll}
+use Rattle.placement.specs.Stands.{How, imported, otherwise, idsIn}
+use Rattle.placement.proofs.WaysLaws.{met, ways, waysAll}
 use Rattle.theorems.proofs.OutFieldLaws.{export-foreign}
 
 -- an outside name is an atom

@@ -1,6 +1,7 @@
 -- A namespace import whose source resolves, in an accepted extraction: the two ends, from what is known of the items around it.
 use Prim.Native.Nat.{ℕ}
 use mathlib.Core.Path.{_≡_, refl, sym, ap, ap₂, subst, _∙_}
+use mathlib.Core.Logic.{inl, inr}
 use mathlib.Core.Bool.{Bool, true, false, true≢false}
 use mathlib.Core.List.{List, [], _∷_, _++_}
 use mathlib.Core.Option.{some}
@@ -14,9 +15,10 @@ use Rattle.tree.proofs.Table.{both-true}
 use Rattle.metadata.specs.Metadata.{append}
 use Rattle.inputs.specs.Outcome.{Outcome, done}
 use Rattle.inputs.specs.Lists.{among, filter}
+use Rattle.inputs.specs.Fields.{keep}
 use Rattle.inputs.specs.Table.{Row, fileOf}
 use Rattle.extraction_rules.specs.State.{State, first, second, Setting, start}
-use Rattle.extraction_rules.specs.First.{external}
+use Rattle.extraction_rules.specs.First.{external, stays}
 use Rattle.extraction_rules.specs.Second.{usagesOf}
 use Rattle.extraction_rules.specs.Walk.{walkModule, walkAgain}
 use Rattle.extraction_rules.specs.Records.{recordFields, recordsOf}
@@ -29,33 +31,57 @@ use Rattle.extraction_rules.proofs.ShapeLaws.{Shaped, ShapedAll, shaped-parts, 
 use Rattle.extraction_rules.proofs.ReadableLaws.{Items, run-within}
 use Rattle.extraction_rules.proofs.WalkLaws.{walkAgain-keeps, imports-any-all}
 use Rattle.extraction_rules.proofs.ExtractedLaws.{Run, run-both}
-use Rattle.extraction_rules.proofs.KeepLaws.{Each, each-weaken}
+use Rattle.extraction_rules.proofs.KeepLaws.{Each, each-weaken, keep-meets}
+use Rattle.extraction_rules.proofs.StayLaws.{import-stays}
 use Rattle.resolving_rules.specs.Resolve.{sourcesIn, forcedIn, numberAll, resolvedSpecifiers, resolvedAll}
 use Rattle.resolving_rules.proofs.ResolveLaws.{numberAll-keeps, namespace-made}
-use Rattle.theorems.specs.Stands.{How, stands, isUse, properties}
+use Rattle.placement.specs.Stands.{How, stands, isUse, properties}
+use Rattle.placement.proofs.WaysLaws.{ways, waysAll}
+use Rattle.placement.proofs.DroppedLaws.{Item, keep-ways, placeKept, amid-keep}
+use Rattle.placement.proofs.PlacedLaws.{Front, amid-each}
+use Rattle.placement.proofs.HowLaws.{allPlain}
+use Rattle.placement.proofs.QuietLaws.{tidy-parts}
 use Rattle.theorems.specs.Demand.{isUsed, Every, Declares, usesOf, recordFor, propertyFields, TakenApart, Kept}
-use Rattle.theorems.proofs.WaysLaws.{ways, waysAll}
-use Rattle.theorems.proofs.HowLaws.{allPlain}
 use Rattle.theorems.proofs.HeldLaws.{Held, Stood, usagesFor}
-use Rattle.theorems.proofs.TidyLaws.{tidy-parts, properties-absent}
-use Rattle.theorems.proofs.FirstPassLaws.{Around, first-pass}
+use Rattle.theorems.proofs.TidyLaws.{properties-absent}
+use Rattle.theorems.proofs.FirstPassLaws.{OwnImport, Beside, Around, first-pass}
 use Rattle.theorems.proofs.WorkedLaws.{CleanAround, Worked, Ready, first-worked, first-spaces}
 use Rattle.theorems.proofs.SettledLaws.{takesApart}
 use Rattle.theorems.proofs.UsesLaws.{Good}
-use Rattle.theorems.proofs.OutsLaws.{ownSpecifiers, Outs, OtherBut, second-pass}
+use Rattle.theorems.proofs.OutsLaws.{ownSpecifiers, Outs, second-pass}
 use Rattle.theorems.proofs.EndsLaws.{declares-own, uses-end, Tidy, gone-end}
 use Rattle.theorems.proofs.SourcesLaws.{sources-of, forced-of}
 use Rattle.theorems.proofs.RecordLaws.{endedRecord, Ended, record-found, properties-resolved}
-use Rattle.theorems.proofs.OutFieldLaws.{Fine}
+use Rattle.theorems.proofs.OutFieldLaws.{Fine, fine-less}
 
 module _ (i lit : List ℕ) (own file : ℕ) (context : contextOf i ≡ four (local own)) (named : same (nameOf i) (two require-atom) ≡ false)
     (Space : List ℕ → Type 0) (locals : (j : List ℕ) → Space j → contextOf j ≡ four (local own)) where
   -- what is known of the items around the import at the place k
-  pub record Surrounded (k : ℕ) (items : Fields) (taken : Bool) : Type 0 where
+  pub record Surrounded (k : ℕ) (items : Fields) : Type 0 where
     pub around : Around i lit own file k items
+    pub front : Front k items
+    pub place : placeKept k items ≡ k
     pub clean : CleanAround i lit own file context k items
     pub ready : Ready i lit own file context Space locals items
-    pub fine : Fine taken (waysAll items i false)
+    pub fine : Fine (allPlain (stands items i)) (waysAll items i false)
+
+  -- the same of the items that stay
+  kept-around : (k : ℕ) (items : Fields) → Surrounded k items → Around i lit own file (placeKept k items) (keep stays items)
+  kept-around k items h = amid-keep (OwnImport i lit own file) (Beside i lit own file) k items (λ f o. import-stays f (o .tag)) (h .around)
+
+  kept-fine : (k : ℕ) (items : Fields) → Surrounded k items → Fine (allPlain (stands items i)) (waysAll (keep stays items) i false)
+  kept-fine k items h =
+      subst (Fine (allPlain (stands items i))) (sym (keep-ways items i (amid-each (OwnImport i lit own file) (Beside i lit own file) Item k items (λ f o. inl (o .tag)) beside-item
+      (h .around)))) (h .fine)
+    where
+      beside-item : (f : Field) → Beside i lit own file f → Item f
+      beside-item f (inl o) = inl (o .tag)
+      beside-item f (inr r) = inr r
+
+  taken-fine : (k : ℕ) (items : Fields) → Surrounded k items → Fine (takesApart (stands items i)) (waysAll (keep stays items) i false)
+  taken-fine k items h =
+      fine-less (allPlain (stands items i)) (takesApart (stands items i)) (waysAll (keep stays items) i false)
+      (λ q. both-true (isUsed (filter isUse (stands items i))) (allPlain (stands items i)) q .1) (kept-fine k items h)
 
   module _ (l : Lent) (rows : List Row) (res : fileOf (valueOf lit) rows ≡ some file) (inner : external (setting first own l rows) lit ≡ false)
       (within : external (setting second own l rows) lit ≡ false) where
@@ -66,23 +92,26 @@ module _ (i lit : List ℕ) (own file : ℕ) (context : contextOf i ≡ four (lo
     again = setting second own l rows
 
     -- the first pass: *work*, and all that the second reads
-    first-all : (k : ℕ) (items : Fields) (ms : Modules) → Surrounded k items (takesApart (stands items i)) →
-        After (walkModule one items (start ms)) (λ works s. Worked i lit own file context k items works × (((n : ℕ) × Held i lit own file n (stands items i) s) × Spaces Space own locals s))
+    first-all : (k : ℕ) (items : Fields) (ms : Modules) → Surrounded k items →
+        After (walkModule one items (start ms)) (λ works s. Worked i lit own file context (placeKept k items) (keep stays items) works × (((n : ℕ) × Held i lit own file n
+        (stands items i) s) × Spaces Space own locals s))
     first-all k items ms h =
-        after-both (walkModule one items (start ms)) (λ works s. Worked i lit own file context k items works)
+        after-both (walkModule one items (start ms)) (λ works s. Worked i lit own file context (placeKept k items) (keep stays items) works)
         (λ works s. ((n : ℕ) × Held i lit own file n (stands items i) s) × Spaces Space own locals s)
         (first-worked i lit own file context one refl refl res inner named k items (start ms) (h .clean))
         (after-both (walkModule one items (start ms)) (λ works s. (n : ℕ) × Held i lit own file n (stands items i) s) (λ works s. Spaces Space own locals s)
-        (first-pass i lit own file one refl refl res inner named context k items ms (h .around)) (first-spaces i lit own file context Space locals one refl refl res inner named items ms (h .ready)))
+        (first-pass i lit own file one refl refl res inner named context k items ms (h .around) (h .front))
+        (first-spaces i lit own file context Space locals one refl refl res inner named items ms (h .ready)))
 
-    pub second-all : (k : ℕ) (items works : Fields) (s : State) (n : ℕ) → Surrounded k items (takesApart (stands items i)) →
-        OtherBut i lit own file n (stands items i) context named again refl within k items → Worked i lit own file context k items works →
+    pub second-all : (k : ℕ) (items works : Fields) (s : State) (n : ℕ) → Surrounded k items →
+        Worked i lit own file context (placeKept k items) (keep stays items) works →
         Held i lit own file n (stands items i) s → Spaces Space own locals s →
         After (walkAgain again works s)
-        (λ outs t. Outs i lit own file n (stands items i) context named k items outs
+        (λ outs t. Outs i lit own file n (stands items i) context named (placeKept k items) (keep stays items) outs
         × Ended (takesApart (stands items i)) i lit (four (export n)) (properties (stands items i)) t)
-    second-all k items works s n h d w hs sp =
-        second-pass i lit own file n (stands items i) context named again refl within k items works s w d (h .fine) (
+    second-all k items works s n h w hs sp =
+        second-pass i lit own file n (stands items i) context named again refl within (placeKept k items) (keep stays items) works s (kept-around k items h) (keep-meets stays items) w
+        (kept-fine k items h) (
           hs,
           spaces-say Space own locals s sp,
           all-weaken (λ u. Space (u .id) × Property (u .property)) (λ u. Property (u .property)) (s .usages)
@@ -110,7 +139,7 @@ module _ (i lit : List ℕ) (own file : ℕ) (context : contextOf i ≡ four (lo
 
     -- T: taken apart
     pub ends-taken : (k : ℕ) (items outs gs : Fields) (t : State) (ms : Modules) (n : ℕ) → takesApart (stands items i) ≡ true →
-        Surrounded k items (takesApart (stands items i)) → Outs i lit own file n (stands items i) context named k items outs →
+        Surrounded k items → Outs i lit own file n (stands items i) context named (placeKept k items) (keep stays items) outs →
         Ended (takesApart (stands items i)) i lit (four (export n)) (properties (stands items i)) t →
         Each (λ f. ways f i false ≡ []) (propertyFields 0x20 (four (export n)) (properties (stands items i))) →
         Each (Tidy i lit own file n (stands items i) context named) outs →
@@ -118,11 +147,13 @@ module _ (i lit : List ℕ) (own file : ℕ) (context : contextOf i ≡ four (lo
         TakenApart i (four (export n)) lit k (properties (stands items i)) items outs gs
     ends-taken k items outs gs t ms n apart h o en absent tidy e =
         record {
-          gone = gone-end i lit own file n (stands items i) context named apart absent k items outs o (h .fine) tidy;
-          used = subst (λ (b : Bool). Every (Good b (four (export n))) (usesOf items outs i)) apart (uses-end i lit own file n (stands items i) context named k items outs (h .around) o (h .fine));
+          gone = gone-end i lit own file n (stands items i) context named apart absent (placeKept k items) (keep stays items) outs o (taken-fine k items h) tidy;
+          used = subst (λ (b : Bool). Every (Good b (four (export n))) (usesOf items outs i)) apart (uses-end i lit own file n (stands items i) context named
+              (placeKept k items) items outs (kept-around k items h) o (taken-fine k items h));
           declares =
               subst (λ (b : Bool). Declares outs k lit (ownSpecifiers i lit own file n (stands items i) context named b)) apart
-              (declares-own i lit own file n (stands items i) context named k items outs o);
+              (subst (λ (m : ℕ). Declares outs m lit (ownSpecifiers i lit own file n (stands items i) context named (takesApart (stands items i)))) (h .place)
+              (declares-own i lit own file n (stands items i) context named (placeKept k items) (keep stays items) outs o));
           records =
               record-taken (t .forced) ms (four (export n)) (properties (stands items i)) t gs
               (subst (λ (b : Bool). Ended b i lit (four (export n)) (properties (stands items i)) t) apart en) e;
@@ -130,16 +161,18 @@ module _ (i lit : List ℕ) (own file : ℕ) (context : contextOf i ≡ four (lo
 
     -- else: kept
     pub ends-kept : (k : ℕ) (items outs gs : Fields) (t : State) (ms : Modules) (n : ℕ) → takesApart (stands items i) ≡ false →
-        Surrounded k items (takesApart (stands items i)) → Outs i lit own file n (stands items i) context named k items outs →
+        Surrounded k items → Outs i lit own file n (stands items i) context named (placeKept k items) (keep stays items) outs →
         Ended (takesApart (stands items i)) i lit (four (export n)) (properties (stands items i)) t →
         resolvedAll rows (t .forced) ms (append (recordFields 0x80 (t .collected)) (recordFields 0x81 (t .lazy))) 3 ≡ done gs → Kept i lit k items outs gs
     ends-kept k items outs gs t ms n kept h o en e =
         record {
           declares =
               subst (λ (b : Bool). Declares outs k lit (ownSpecifiers i lit own file n (stands items i) context named b)) kept
-              (declares-own i lit own file n (stands items i) context named k items outs o);
+              (subst (λ (m : ℕ). Declares outs m lit (ownSpecifiers i lit own file n (stands items i) context named (takesApart (stands items i)))) (h .place)
+              (declares-own i lit own file n (stands items i) context named (placeKept k items) (keep stays items) outs o));
           records = record-kept ms (four (export n)) (properties (stands items i)) t gs (subst (λ (b : Bool). Ended b i lit (four (export n)) (properties (stands items i)) t) kept en) e;
-          used = subst (λ (b : Bool). Every (Good b (four (export n))) (usesOf items outs i)) kept (uses-end i lit own file n (stands items i) context named k items outs (h .around) o (h .fine));
+          used = subst (λ (b : Bool). Every (Good b (four (export n))) (usesOf items outs i)) kept (uses-end i lit own file n (stands items i) context named
+              (placeKept k items) items outs (kept-around k items h) o (taken-fine k items h));
         }
 
     -- ---- An accepted extraction and what resolving makes of its records
@@ -164,8 +197,8 @@ module _ (i lit : List ℕ) (own file : ℕ) (context : contextOf i ≡ four (lo
         go false q k = absurd (true≢false (sym q))
 
     end-of : (b : Bool) (k : ℕ) (items outs gs : Fields) (s t : State) (ms : Modules) (n : ℕ) → takesApart (stands items i) ≡ b →
-        Surrounded k items (takesApart (stands items i)) → Held i lit own file n (stands items i) s → Spaces Space own locals s →
-        Outs i lit own file n (stands items i) context named k items outs →
+        Surrounded k items → Held i lit own file n (stands items i) s → Spaces Space own locals s →
+        Outs i lit own file n (stands items i) context named (placeKept k items) (keep stays items) outs →
         Ended (takesApart (stands items i)) i lit (four (export n)) (properties (stands items i)) t → Items outs → numberOf file ms ≡ some n →
         resolvedAll rows (t .forced) ms (append (recordFields 0x80 (t .collected)) (recordFields 0x81 (t .lazy))) 3 ≡ done gs → EndsBy b k (stands items i) items outs gs ms
     end-of true k items outs gs s t ms n q h held sp o en shape number e = (
@@ -180,22 +213,22 @@ module _ (i lit : List ℕ) (own file : ℕ) (context : contextOf i ≡ four (lo
     end-of false k items outs gs s t ms n q h held sp o en shape number e = ends-kept k items outs gs t ms n q h o en e
 
     -- the resolved list of the end's records
-    pub run-ends : (k : ℕ) (items : Fields) {room : Lengths} (ms new : Modules) (r : Extracted) (gs : Fields) → Items items → Surrounded k items (takesApart (stands items i)) →
-        ((n : ℕ) → OtherBut i lit own file n (stands items i) context named again refl within k items) → (u : Run l room rows own items ms r) →
+    pub run-ends : (k : ℕ) (items : Fields) {room : Lengths} (ms new : Modules) (r : Extracted) (gs : Fields) → Items items → Surrounded k items →
+        (u : Run l room rows own items ms r) →
         numberAll rows (sourcesIn (partsOf (recordsOf (u .end)))) (u .end .modules) 3 ≡ done new →
         resolvedAll rows (u .end .forced) new (append (recordFields 0x80 (u .end .collected)) (recordFields 0x81 (u .end .lazy))) 3 ≡ done gs →
         EndsBy (takesApart (stands items i)) k (stands items i) items (u .outs) gs new
-    run-ends k items ms new r gs shape h d u numbered resolved =
+    run-ends k items ms new r gs shape h u numbered resolved =
         let us = stands items i in
         let x =
         after-done (walkModule one items (start ms))
-        (λ works s. Worked i lit own file context k items works × (((n : ℕ) × Held i lit own file n us s) × Spaces Space own locals s))
+        (λ works s. Worked i lit own file context (placeKept k items) (keep stays items) works × (((n : ℕ) × Held i lit own file n us s) × Spaces Space own locals s))
         (u .works, u .middle) (u .once) (first-all k items ms h) in
         let y =
         after-done (walkAgain again (u .works) (u .middle))
-        (λ outs t. Outs i lit own file (x .1 .0 .0) us context named k items outs
+        (λ outs t. Outs i lit own file (x .1 .0 .0) us context named (placeKept k items) (keep stays items) outs
         × Ended (takesApart us) i lit (four (export (x .1 .0 .0))) (properties us) t) (u .outs, u .end) (u .twice)
-        (second-all k items (u .works) (u .middle) (x .1 .0 .0) h (d (x .1 .0 .0)) (x .0) (x .1 .0 .1) (x .1 .1)) in
+        (second-all k items (u .works) (u .middle) (x .1 .0 .0) h (x .0) (x .1 .0 .1) (x .1 .1)) in
         let w = run-both l rows own items ms r u (λ works s. Items works) (λ outs t. Items outs) (run-within l rows own ms items shape) .1 in
         let number = after-done (walkAgain again (u .works) (u .middle)) (λ outs t. Numbered file (x .1 .0 .0) t) (u .outs, u .end) (u .twice)
         (walkAgain-keeps again (λ _. Unit {0}) (Numbered file (x .1 .0 .0)) (numbered-steps again (λ _. Unit {0}) file (x .1 .0 .0))
@@ -204,13 +237,13 @@ module _ (i lit : List ℕ) (own file : ℕ) (context : contextOf i ≡ four (lo
         (numberAll-keeps rows file (x .1 .0 .0) (sourcesIn (partsOf (recordsOf (u .end)))) (u .end .modules) new 3 numbered number) resolved
 
     -- An accepted extraction, and an accepted resolving of its records as they were written: taken apart or kept
-    pub core : (k : ℕ) (items : Fields) {room : Lengths} (ms new : Modules) (r : Extracted) (gs : Fields) → Items items → Surrounded k items (takesApart (stands items i)) →
-        ((n : ℕ) → OtherBut i lit own file n (stands items i) context named again refl within k items) → Run l room rows own items ms r →
+    pub core : (k : ℕ) (items : Fields) {room : Lengths} (ms new : Modules) (r : Extracted) (gs : Fields) → Items items → Surrounded k items →
+        Run l room rows own items ms r →
         numberAll rows (sourcesIn (partsOf (r .records))) (r .modules) 3 ≡ done new → resolvedAll rows (forcedIn (partsOf (r .records))) new (sourcesIn (partsOf (r .records))) 3 ≡ done gs →
         EndsBy (takesApart (stands items i)) k (stands items i) items (partsOf (r .out)) gs new
-    core k items ms new r gs shape h d u a b =
+    core k items ms new r gs shape h u a b =
         let q = sym (u .given) in
         subst (λ (z : Extracted). EndsBy (takesApart (stands items i)) k (stands items i) items (partsOf (z .out)) gs new) (u .given)
-        (run-ends k items ms new r gs shape h d u (subst (λ (z : Extracted). numberAll rows (sourcesIn (partsOf (z .records))) (z .modules) 3 ≡ done new) q a)
+        (run-ends k items ms new r gs shape h u (subst (λ (z : Extracted). numberAll rows (sourcesIn (partsOf (z .records))) (z .modules) 3 ≡ done new) q a)
         (sym (ap₂ {C = Outcome Fields} (λ f c. resolvedAll rows f new c 3) (forced-of (u .end)) (sources-of (u .end)))
         ∙ subst (λ (z : Extracted). resolvedAll rows (forcedIn (partsOf (z .records))) new (sourcesIn (partsOf (z .records))) 3 ≡ done gs) q b))

@@ -8,21 +8,23 @@ use mathlib.Core.Option.{some}
 use native.Mathlib.Omega.{arith}
 use Rattle.scope.specs.Id.{require-atom, local, export}
 use Rattle.tree.specs.Layout.{same, two, four, nameOf, contextOf}
-use Rattle.tree.specs.Tree.{Field, field, Fields, none, more, tagOf, fixedOf, partsOf}
+use Rattle.tree.specs.Tree.{Field, Fields, none, more, tagOf, fixedOf, partsOf}
 use Rattle.inputs.specs.Lists.{filter}
 use Rattle.inputs.specs.Fields.{keep}
 use Rattle.extraction_rules.specs.First.{specifiersIn, stays}
-use Rattle.extraction_rules.proofs.StayLaws.{import-stays}
 use Rattle.extraction_rules.proofs.KeepLaws.{Each}
-use Rattle.theorems.specs.Stands.{How, Standing, standings, standingsAll, stands, isUse, properties}
-use Rattle.theorems.specs.Demand.{Every, itemAt, Declares, usesOf, propertyFields}
-use Rattle.theorems.proofs.WaysLaws.{ways, waysAll, hows, hows-standings, stands-ways}
-use Rattle.theorems.proofs.FirstPassLaws.{Behind, Around, QuietAll, quietAll-neutral, import-ways}
+use Rattle.placement.specs.Stands.{How, Standing, standings, standingsAll, stands, isUse, properties}
+use Rattle.placement.specs.Placed.{itemAt}
+use Rattle.placement.proofs.WaysLaws.{ways, waysAll, hows, hows-standings, stands-ways}
+use Rattle.placement.proofs.QuietLaws.{QuietAll, quietAll-neutral, import-ways}
+use Rattle.theorems.specs.Demand.{Every, Declares, usesOf, propertyFields}
+use Rattle.theorems.proofs.FirstPassLaws.{Beside, Around, other-import}
 use Rattle.theorems.proofs.SettledLaws.{takesApart}
-use Rattle.theorems.proofs.GoneLaws.{goneAll}
-use Rattle.theorems.proofs.UsesLaws.{every-append, every-filter, Good, Uses, usesAll}
+use Rattle.theorems.proofs.GoneLaws.{gone}
+use Rattle.theorems.proofs.UsesLaws.{every-append, every-filter, Good, Uses, uses}
 use Rattle.theorems.proofs.CleanLaws.{Clean, CleanSpec}
-use Rattle.theorems.proofs.OutsLaws.{keep-ways, keep-regular, ownSpecifiers, OwnOut, OutsBehind, Outs}
+use Rattle.theorems.proofs.PairedLaws.{PairedAll}
+use Rattle.theorems.proofs.OutsLaws.{ownSpecifiers, OwnOut, OutItem, Outs}
 use Rattle.theorems.proofs.OutFieldLaws.{Fine, fine-append}
 
 -- no use among these standings
@@ -47,51 +49,46 @@ module _ (i lit : List ℕ) (own file n : ℕ) (us : List How) (context : contex
 
   pub declares-own : (k : ℕ) (items outs : Fields) → Outs i lit own file n us context named k items outs → Declares outs k lit (ownSpecifiers i lit own file n us context named taken)
   declares-own k none outs h = absurd h
-  declares-own zero (more f fs) outs h = (h .4 .0, ap (itemAt zero) (h .2) ∙ ap some (h .4 .1), h .4 .2)
-  declares-own (suc k) (more f fs) outs h = let w = declares-own k fs (h .2) (h .5) in (w .0, ap (itemAt (suc k)) (h .3) ∙ w .1, w .2)
+  declares-own zero (more f fs) outs h = (h .3 .1 .0, ap (itemAt zero) (h .2) ∙ ap some (h .3 .1 .1), h .3 .1 .2)
+  declares-own (suc k) (more f fs) outs h = let w = declares-own k fs (h .1) (h .4) in (w .0, ap (itemAt (suc k)) (h .2) ∙ w .1, w .2)
 
   -- ---- The uses
 
   import-uses : (f g : Field) → tagOf f ≡ 0x10 → QuietAll (partsOf f) → Uses taken i c own named (standings f g i false)
   import-uses f g q h = neutral-every (Good taken c) (standings f g i false) (ap (filter isUse) (hows-standings f g i false ∙ import-ways f i q) ∙ quietAll-neutral (partsOf f) i false h .0)
 
-  keep-import : (f : Field) (fs : Fields) → tagOf f ≡ 0x10 → keep stays (more f fs) ≡ more f (keep stays fs)
-  unfolding keep
-  keep-import f fs q = rw (import-stays f q)
-
-  both-uses : (f g : Field) (fs hs gs : Fields) → gs ≡ more g hs → tagOf f ≡ 0x10 → QuietAll (partsOf f) →
-      Uses taken i c own named (standingsAll (keep stays fs) hs i false) → Uses taken i c own named (standingsAll (keep stays (more f fs)) gs i false)
+  both-uses : (f g : Field) (fs hs gs : Fields) → gs ≡ more g hs → Uses taken i c own named (standings f g i false) → Uses taken i c own named (standingsAll fs hs i false) →
+      Uses taken i c own named (standingsAll (more f fs) gs i false)
   unfolding standings
-  both-uses f g fs hs gs e q h k =
-      rw (keep-import f fs q, e) (every-append (λ s. isUse (s .how) ≡ true → Good taken c s) (standings f g i false) (standingsAll (keep stays fs) hs i false) (import-uses f g q h) k)
+  both-uses f g fs hs gs e h k = rw e (every-append (λ s. isUse (s .how) ≡ true → Good taken c s) (standings f g i false) (standingsAll fs hs i false) h k)
 
-  behind-uses : (fs gs : Fields) → Behind i lit own file fs → OutsBehind i lit own file n us context named fs gs → Fine taken (waysAll fs i false) →
-      Uses taken i c own named (standingsAll (keep stays fs) gs i false)
-  unfolding standings ways keep
+  item-uses : (f g : Field) → Beside i lit own file f → OutItem i lit own file n us context named f g → Fine taken (ways f i false) → Uses taken i c own named (standings f g i false)
+  item-uses f g b (inl h) fine = import-uses f g (h .0) (other-import i lit own file f b (h .0) .quiet)
+  item-uses f g b (inr h) fine = uses taken i c own named f g false (h .0) fine (h .1)
+
+  behind-uses : (fs gs : Fields) → Each (Beside i lit own file) fs → PairedAll (OutItem i lit own file n us context named) fs gs → Fine taken (waysAll fs i false) →
+      Uses taken i c own named (standingsAll fs gs i false)
+  unfolding standings ways
   behind-uses none gs b h fine = tt
-  behind-uses (more f fs) gs b (inr h) fine =
-      usesAll taken i c own named (keep stays (more f fs)) gs false (keep-regular (more f fs) (h .0))
-      (subst (Fine taken) (sym (keep-ways (more f fs) i (h .0))) fine) (h .1)
-  behind-uses (more f fs) gs (inl b) (inl h) fine =
-      both-uses f (h .1) fs (h .2) gs (h .3) (h .0) (b .0 .quiet)
-      (behind-uses fs (h .2) (b .1) (h .5) (fine-append taken (ways f i false) (waysAll fs i false) fine .1))
-  behind-uses (more (field t x cs) fs) gs (inr b) (inl h) fine = absurd (b .0 .0 .no-import (h .0))
+  behind-uses (more f fs) gs b h fine =
+      let k = fine-append taken (ways f i false) (waysAll fs i false) fine in
+      both-uses f (h .0) fs (h .1) gs (h .2) (item-uses f (h .0) (b .0) (h .3) (k .0)) (behind-uses fs (h .1) (b .1) (h .4) (k .1))
 
   around-uses : (k : ℕ) (fs gs : Fields) → Around i lit own file k fs → Outs i lit own file n us context named k fs gs →
-      Fine taken (waysAll fs i false) → Uses taken i c own named (standingsAll (keep stays fs) gs i false)
+      Fine taken (waysAll fs i false) → Uses taken i c own named (standingsAll fs gs i false)
   unfolding ways
   around-uses k none gs b h fine = absurd h
   around-uses zero (more f fs) gs b h fine =
-      both-uses f (h .0) fs (h .1) gs (h .2) (h .3) (b .0 .quiet)
-      (behind-uses fs (h .1) (b .1) (h .5) (fine-append taken (ways f i false) (waysAll fs i false) fine .1))
+      both-uses f (h .0) fs (h .1) gs (h .2) (import-uses f (h .0) (h .3 .0) (b .0 .quiet))
+      (behind-uses fs (h .1) (b .1) (h .4) (fine-append taken (ways f i false) (waysAll fs i false) fine .1))
   around-uses (suc k) (more f fs) gs b h fine =
-      both-uses f (h .1) fs (h .2) gs (h .3) (h .0) (b .0 .quiet)
-      (around-uses k fs (h .2) (b .1) (h .5) (fine-append taken (ways f i false) (waysAll fs i false) fine .1))
+      let l = fine-append taken (ways f i false) (waysAll fs i false) fine in
+      both-uses f (h .0) fs (h .1) gs (h .2) (item-uses f (h .0) (b .0) (h .3) (l .0)) (around-uses k fs (h .1) (b .1) (h .4) (l .1))
 
-  pub uses-end : (k : ℕ) (items outs : Fields) → Around i lit own file k items → Outs i lit own file n us context named k items outs →
-      Fine taken (waysAll items i false) → Every (Good taken c) (usesOf items outs i)
+  pub uses-end : (k : ℕ) (items outs : Fields) → Around i lit own file k (keep stays items) → Outs i lit own file n us context named k (keep stays items) outs →
+      Fine taken (waysAll (keep stays items) i false) → Every (Good taken c) (usesOf items outs i)
   unfolding usesOf
-  uses-end k items outs b h fine = every-filter (Good taken c) (standingsAll (keep stays items) outs i false) (around-uses k items outs b h fine)
+  uses-end k items outs b h fine = every-filter (Good taken c) (standingsAll (keep stays items) outs i false) (around-uses k (keep stays items) outs b h fine)
 
   -- ---- The name is gone
 
@@ -114,15 +111,17 @@ module _ (i lit : List ℕ) (own file n : ℕ) (us : List How) (context : contex
     first-tidy : (g : Field) (hs gs : Fields) → gs ≡ more g hs → Each Tidy gs → Tidy g × Each Tidy hs
     first-tidy g hs gs e t = subst (Each Tidy) e t
 
-    behind-gone : (fs gs : Fields) → OutsBehind i lit own file n us context named fs gs → Fine taken (waysAll fs i false) → Each Tidy gs → waysAll gs i false ≡ []
-    unfolding ways keep
+    item-gone : (f g : Field) → OutItem i lit own file n us context named f g → Fine taken (ways f i false) → Tidy g → ways g i false ≡ []
+    item-gone f g (inl h) fine t = clean-gone (fixedOf f) g t (h .1)
+    item-gone f g (inr h) fine t = gone taken i c own named context apart f g false (h .0) fine (h .1)
+
+    behind-gone : (fs gs : Fields) → PairedAll (OutItem i lit own file n us context named) fs gs → Fine taken (waysAll fs i false) → Each Tidy gs → waysAll gs i false ≡ []
+    unfolding ways
     behind-gone none gs h fine t = rw h
-    behind-gone (more f fs) gs (inr h) fine t =
-        goneAll taken i c own named context apart (keep stays (more f fs)) gs false (keep-regular (more f fs) (h .0))
-        (subst (Fine taken) (sym (keep-ways (more f fs) i (h .0))) fine) (h .1)
-    behind-gone (more f fs) gs (inl h) fine t =
-        let k = first-tidy (h .1) (h .2) gs (h .3) t in
-        nil-both (h .1) (h .2) gs (h .3) (clean-gone (fixedOf f) (h .1) (k .0) (h .4)) (behind-gone fs (h .2) (h .5) (fine-append taken (ways f i false) (waysAll fs i false) fine .1) (k .1))
+    behind-gone (more f fs) gs h fine t =
+        let k = first-tidy (h .0) (h .1) gs (h .2) t in
+        let l = fine-append taken (ways f i false) (waysAll fs i false) fine in
+        nil-both (h .0) (h .1) gs (h .2) (item-gone f (h .0) (h .3) (l .0) (k .0)) (behind-gone fs (h .1) (h .4) (l .1) (k .1))
 
     own-gone : (g : Field) → Tidy g → OwnOut i lit own file n us context named g → ways g i false ≡ []
     own-gone g t h =
@@ -137,10 +136,11 @@ module _ (i lit : List ℕ) (own file n : ℕ) (us : List How) (context : contex
     around-gone k none gs h fine t = absurd h
     around-gone zero (more f fs) gs h fine t =
         let k = first-tidy (h .0) (h .1) gs (h .2) t in
-        nil-both (h .0) (h .1) gs (h .2) (own-gone (h .0) (k .0) (h .4)) (behind-gone fs (h .1) (h .5) (fine-append taken (ways f i false) (waysAll fs i false) fine .1) (k .1))
+        nil-both (h .0) (h .1) gs (h .2) (own-gone (h .0) (k .0) (h .3 .1)) (behind-gone fs (h .1) (h .4) (fine-append taken (ways f i false) (waysAll fs i false) fine .1) (k .1))
     around-gone (suc k) (more f fs) gs h fine t =
-        let q = first-tidy (h .1) (h .2) gs (h .3) t in
-        nil-both (h .1) (h .2) gs (h .3) (clean-gone (fixedOf f) (h .1) (q .0) (h .4)) (around-gone k fs (h .2) (h .5) (fine-append taken (ways f i false) (waysAll fs i false) fine .1) (q .1))
+        let q = first-tidy (h .0) (h .1) gs (h .2) t in
+        let l = fine-append taken (ways f i false) (waysAll fs i false) fine in
+        nil-both (h .0) (h .1) gs (h .2) (item-gone f (h .0) (h .3) (l .0) (q .0)) (around-gone k fs (h .1) (h .4) (l .1) (q .1))
 
     pub gone-end : (k : ℕ) (items outs : Fields) → Outs i lit own file n us context named k items outs → Fine taken (waysAll items i false) → Each Tidy outs → stands outs i ≡ []
     gone-end k items outs h fine t = stands-ways outs i ∙ around-gone k items outs h fine t

@@ -1,11 +1,11 @@
--- The whole first pass: at its end the state holds of a namespace what all its ways to stand tell.
+-- The whole first pass: at its end the state holds of a namespace what all its ways to stand tell. Behind the namespace's import other imports
+-- and other items stand in any order. In front of it the pass would note no use, so that only imports may stand there (`Front`).
 use Prim.Native.Nat.{ℕ, zero, suc, _+_}
 use mathlib.Core.Path.{_≡_, refl, sym, subst, _∙_}
 use mathlib.Core.Logic.{_⊎_, inl, inr}
-use mathlib.Core.Bool.{Bool, true, false}
+use mathlib.Core.Bool.{true, false}
 use mathlib.Core.List.{List, [], _++_, append-nil}
 use mathlib.Core.Option.{some}
-use borrow.Author.Tests.{eqb-true, ne-eqb}
 use Rattle.scope.specs.Id.{require-atom, local}
 use Rattle.scope.specs.Modules.{Modules}
 use Rattle.tree.specs.Layout.{same, two, four, nameOf, contextOf, valueOf}
@@ -15,50 +15,19 @@ use Rattle.inputs.specs.Table.{fileOf}
 use Rattle.extraction_rules.specs.State.{State, first, Setting, start, setTop}
 use Rattle.extraction_rules.specs.First.{external, specifiersIn, importFirst}
 use Rattle.extraction_rules.specs.Second.{usagesOf}
-use Rattle.extraction_rules.specs.Walk.{children, partsFor, walk, walkAll, walkModule}
+use Rattle.extraction_rules.specs.Walk.{walk, walkAll, walkModule}
 use Rattle.extraction_rules.proofs.OutcomeLaws.{After, after-bind, after-weaken}
-use Rattle.extraction_rules.proofs.AlikeLaws.{RegularAll}
+use Rattle.extraction_rules.proofs.AlikeLaws.{Regular}
 use Rattle.extraction_rules.proofs.ValueLaws.{walk-first}
 use Rattle.extraction_rules.proofs.KeepLaws.{Each}
-use Rattle.extraction_rules.proofs.SeekLaws.{filter-append}
-use Rattle.theorems.specs.Stands.{stands, How, idsIn, isUse, properties}
-use Rattle.theorems.specs.Placed.{all}
-use Rattle.theorems.proofs.WaysLaws.{stands-ways, met, ways, waysAll}
-use Rattle.theorems.proofs.HowLaws.{plain-append, properties-append, Neutral, unused-neutral, ids-unused}
-use Rattle.theorems.proofs.HeldLaws.{Held, Unfelt, held-unfelt, held-like, held-neutral, held-assoc, walkAll-held}
+use Rattle.placement.specs.Stands.{stands, How}
+use Rattle.placement.specs.Placed.{all}
+use Rattle.placement.proofs.WaysLaws.{stands-ways, ways, waysAll}
+use Rattle.placement.proofs.HowLaws.{plain-append, properties-append, Neutral}
+use Rattle.placement.proofs.QuietLaws.{QuietAll, import-ways, quietAll-neutral}
+use Rattle.placement.proofs.PlacedLaws.{Amid, Front}
+use Rattle.theorems.proofs.HeldLaws.{Held, Unfelt, held-unfelt, held-like, held-neutral, held-assoc, walk-held}
 use Rattle.theorems.proofs.ImportedLaws.{OtherSpace, OtherLocal, import-other, Before, before-unfelt, Redeclared, import-own}
-
--- ---- Imports hold no use
-
-pub neutral-append : (l m : List How) → Neutral l → Neutral m → Neutral (l ++ m)
-neutral-append l m h k = (filter-append isUse l m ∙ rw (h .0, k .0), properties-append l m ∙ rw (h .1, k .1))
-
-abbrev mutual
-  -- none of the tags that a use needs
-  pub Quiet : Field → Type 0
-  Quiet (field t x cs) = (t ≡ 0x23 → ⊥) × (t ≡ 0x60 → ⊥) × (partsFor t ≡ children) × QuietAll cs
-
-  pub QuietAll : Fields → Type 0
-  QuietAll none = Unit {0}
-  QuietAll (more f fs) = Quiet f × QuietAll fs
-
-mutual
-  unfolding ways filter properties
-
-  pub quiet-neutral : (f : Field) (i : List ℕ) (object : Bool) → Quiet f → Neutral (ways f i object)
-  quiet-neutral (field t x cs) i object h =
-      rw (h .2)
-      (neutral-append (met (idsIn t x object) i) (waysAll cs i object)
-      (unused-neutral (idsIn t x object) i (ids-unused t x object (ne-eqb t 0x23 (h .0)) (λ q. absurd (h .1 (eqb-true t 0x60 q)))))
-      (quietAll-neutral cs i object (h .3)))
-
-  pub quietAll-neutral : (fs : Fields) (i : List ℕ) (object : Bool) → QuietAll fs → Neutral (waysAll fs i object)
-  quietAll-neutral none i object h = (refl, refl)
-  quietAll-neutral (more f fs) i object h = neutral-append (ways f i object) (waysAll fs i object) (quiet-neutral f i object (h .0)) (quietAll-neutral fs i object (h .1))
-
-pub import-ways : (f : Field) (i : List ℕ) → tagOf f ≡ 0x10 → ways f i false ≡ waysAll (partsOf f) i false
-unfolding ways idsIn met partsFor
-import-ways (field t x cs) i q = rw q
 
 -- ---- The items around a namespace's import
 
@@ -77,16 +46,20 @@ module _ (i lit : List ℕ) (own file : ℕ) where
     pub sole : specifiersIn (partsOf f) ≡ more (field 0x22 i none) none
     pub quiet : QuietAll (partsOf f)
 
-  -- behind it: other imports, then items without imports
-  abbrev pub Behind : Fields → Type 0
-  Behind none = Unit {0}
-  Behind (more f fs) = (OtherImport f × Behind fs) ⊎ RegularAll (more f fs)
+  -- beside it: another import, or an item that is none
+  abbrev pub Beside : Field → Type 0
+  Beside f = OtherImport f ⊎ Regular f
 
   -- it stands at the place k
   abbrev pub Around : ℕ → Fields → Type 0
-  Around k none = ⊥
-  Around zero (more f fs) = OwnImport f × Behind fs
-  Around (suc k) (more f fs) = OtherImport f × Around k fs
+  Around k fs = Amid OwnImport Beside k fs
+
+  pub no-import : {A : Type 0} (f : Field) → Regular f → tagOf f ≡ 0x10 → A
+  no-import (field t x cs) w q = absurd (w .0 .no-import q)
+
+  pub other-import : (f : Field) → Beside f → tagOf f ≡ 0x10 → OtherImport f
+  other-import f (inl h) q = h
+  other-import f (inr h) q = no-import f h q
 
   module _ (e : Setting) (one : e .pass ≡ first) (mine : e .own ≡ own) (res : fileOf (valueOf lit) (e .table) ≡ some file) (inner : external e lit ≡ false)
       (named : same (nameOf i) (two require-atom) ≡ false) (context : contextOf i ≡ four (local own)) where
@@ -97,18 +70,23 @@ module _ (i lit : List ℕ) (own file : ℕ) where
     other-neutral f h = rw (import-ways f i (h .tag)) (quietAll-neutral (partsOf f) i false (h .quiet))
 
     -- behind the import
-    behind-held : (n : ℕ) (fs : Fields) (us : List How) (p : ℕ) (s : State) → Behind fs → Held i lit own file n us s →
+    beside-held : (n : ℕ) (f : Field) (us : List How) (p : ℕ) (s : State) → Beside f → Held i lit own file n us s →
+        After (walk f e false p s) (λ g t. Held i lit own file n (us ++ ways f i false) t)
+    beside-held n f us p s (inl b) h =
+        after-weaken (walk f e false p s) (λ g t. Unfelt i lit own file s t) (λ g t. Held i lit own file n (us ++ ways f i false) t)
+        (λ g t u. held-neutral i lit own file n us (ways f i false) t (other-neutral f b) (held-unfelt i lit own file n us s t u h)) (other-unfelt f p s b)
+    beside-held n f us p s (inr b) h = walk-held i lit own file n e mine res one named f us false p s b h
+
+    behind-held : (n : ℕ) (fs : Fields) (us : List How) (p : ℕ) (s : State) → Each Beside fs → Held i lit own file n us s →
         After (walkAll fs e false p s) (λ gs t. Held i lit own file n (us ++ waysAll fs i false) t)
     unfolding walk ways
     behind-held n none us p s b h = subst (λ (l : List How). Held i lit own file n l s) (sym (append-nil us)) h
-    behind-held n (more f fs) us p s (inl b) h =
+    behind-held n (more f fs) us p s b h =
         after-bind (walk f e false p s) _ (λ g t. Held i lit own file n (us ++ ways f i false) t) (λ gs t. Held i lit own file n (us ++ (ways f i false ++ waysAll fs i false)) t)
-        (after-weaken (walk f e false p s) (λ g t. Unfelt i lit own file s t) (λ g t. Held i lit own file n (us ++ ways f i false) t)
-        (λ g t u. held-neutral i lit own file n us (ways f i false) t (other-neutral f (b .0)) (held-unfelt i lit own file n us s t u h)) (other-unfelt f p s (b .0))) λ g s h.
+        (beside-held n f us p s (b .0) h) λ g s h.
         after-bind (walkAll fs e false (p + size f) s) _ (λ gs t. Held i lit own file n ((us ++ ways f i false) ++ waysAll fs i false) t)
         (λ gs t. Held i lit own file n (us ++ (ways f i false ++ waysAll fs i false)) t)
         (behind-held n fs (us ++ ways f i false) (p + size f) s (b .1) h) λ gs s h. held-assoc i lit own file n us (ways f i false) (waysAll fs i false) s h
-    behind-held n (more f fs) us p s (inr b) h = walkAll-held i lit own file n e mine res one named (more f fs) us false p s b h
 
     abbrev Known : List How → State → Type 0
     Known us s = (n : ℕ) × Held i lit own file n us s
@@ -125,25 +103,26 @@ module _ (i lit : List ℕ) (own file : ℕ) where
         (λ g t k. (k .0 .0, held-neutral i lit own file (k .0 .0) [] (ways f i false) t (rw (import-ways f i (w .tag)) (quietAll-neutral (partsOf f) i false (w .quiet))) (k .0 .1)))
         (import-own i lit own file context e (partsOf f) p s res inner (w .sole) h))
 
-    -- from the first import on
-    around-held : (k : ℕ) (fs : Fields) (p : ℕ) (s : State) → Around k fs → Before i lit own file s → After (walkAll fs e false p s) (λ gs t. Known (waysAll fs i false) t)
+    -- from the first import on: a use in front of the import would not be noted, so that only imports stand there
+    around-held : (k : ℕ) (fs : Fields) (p : ℕ) (s : State) → Around k fs → Front k fs → Before i lit own file s → After (walkAll fs e false p s) (λ gs t. Known (waysAll fs i false) t)
     unfolding walk ways
-    around-held k none p s w h = absurd w
-    around-held zero (more f fs) p s w h =
+    around-held k none p s w r h = absurd w
+    around-held zero (more f fs) p s w r h =
         after-bind (walk f e false p s) _ (λ g t. Known (ways f i false) t) (λ gs t. Known (ways f i false ++ waysAll fs i false) t) (own-known f p s (w .0) h) λ g s h.
         after-bind (walkAll fs e false (p + size f) s) _ (λ gs t. Held i lit own file (h .0) (ways f i false ++ waysAll fs i false) t) (λ gs t. Known (ways f i false ++ waysAll fs i false) t)
         (behind-held (h .0) fs (ways f i false) (p + size f) s (w .1) (h .1)) λ gs s k. (h .0, k)
-    around-held (suc k) (more f fs) p s w h =
+    around-held (suc k) (more f fs) p s w r h =
+        let o = other-import f (w .0) (r .0) in
         after-bind (walk f e false p s) _ (λ g t. Before i lit own file t) (λ gs t. Known (ways f i false ++ waysAll fs i false) t)
-        (after-weaken (walk f e false p s) (λ g t. Unfelt i lit own file s t) (λ g t. Before i lit own file t) (λ g t u. before-unfelt i lit own file s t u h) (other-unfelt f p s (w .0))) λ g s h.
+        (after-weaken (walk f e false p s) (λ g t. Unfelt i lit own file s t) (λ g t. Before i lit own file t) (λ g t u. before-unfelt i lit own file s t u h) (other-unfelt f p s o)) λ g s h.
         after-bind (walkAll fs e false (p + size f) s) _ (λ gs t. Known (waysAll fs i false) t)
-        (λ gs t. Known (ways f i false ++ waysAll fs i false) t) (around-held k fs (p + size f) s (w .1) h) λ gs s h.
-        in-front (ways f i false) (waysAll fs i false) s (other-neutral f (w .0)) h
+        (λ gs t. Known (ways f i false ++ waysAll fs i false) t) (around-held k fs (p + size f) s (w .1) (r .1) h) λ gs s h.
+        in-front (ways f i false) (waysAll fs i false) s (other-neutral f o) h
 
     -- the first pass from a fresh start
-    pub first-pass : (k : ℕ) (items : Fields) (ms : Modules) → Around k items → After (walkModule e items (start ms)) (λ gs t. Known (stands items i) t)
+    pub first-pass : (k : ℕ) (items : Fields) (ms : Modules) → Around k items → Front k items → After (walkModule e items (start ms)) (λ gs t. Known (stands items i) t)
     unfolding walkModule usagesOf filter among find
-    first-pass k items ms w =
+    first-pass k items ms w r =
         rw (stands-ways items i)
         (after-bind (walkAll items e false 3 (setTop true (start ms))) _ (λ gs t. Known (waysAll items i false) t) (λ gs t. Known (waysAll items i false) t)
-        (around-held k items 3 (setTop true (start ms)) w (record { no-record = refl; not-held = refl; not-found = refl; no-usages = refl; not-forced = refl })) λ gs t h. h)
+        (around-held k items 3 (setTop true (start ms)) w r (record { no-record = refl; not-held = refl; not-found = refl; no-usages = refl; not-forced = refl })) λ gs t h. h)

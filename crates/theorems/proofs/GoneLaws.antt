@@ -1,4 +1,4 @@
--- What both passes leave of a tree behind the imports: if the import is taken apart, no way of its id to stand is left.
+-- What both passes leave of an item that is no import: if the import is taken apart, no way of its id to stand is left.
 use Prim.Native.Nat.{ℕ}
 use mathlib.Core.Path.{_≡_, refl, sym, ap, subst, _∙_}
 use mathlib.Core.Logic.{_⊎_, inl, inr}
@@ -18,10 +18,10 @@ use Rattle.extraction_rules.specs.Walk.{Parts, unwalked, member, super, assignm
 use Rattle.extraction_rules.proofs.ListLaws.{same-not, not-same}
 use Rattle.extraction_rules.proofs.TagLaws.{find-any, parts-member}
 use Rattle.extraction_rules.proofs.AlikeLaws.{Two, Regular, RegularAll, SameBytes, equal, behind, callee, same-other, same-trans, Alike, AlikeAll, alike-more, alike-none, alike-tag}
-use Rattle.theorems.specs.Stands.{How, bare, original, otherwise, firstId, originalIds, idsIn, byMember, objectIds, isUse, isPlain, isMisplaced}
-use Rattle.theorems.specs.Placed.{all}
-use Rattle.theorems.proofs.WaysLaws.{met, ways, waysAll, waysMember, waysAssignment, waysTarget, waysParts, waysObject, ids-alike, met-append}
-use Rattle.theorems.proofs.HowLaws.{idTable}
+use Rattle.placement.specs.Stands.{How, bare, original, otherwise, firstId, originalIds, idsIn, byMember, objectIds, isUse, isPlain, isMisplaced}
+use Rattle.placement.specs.Placed.{all}
+use Rattle.placement.proofs.WaysLaws.{met, ways, waysAll, waysMember, waysAssignment, waysTarget, waysParts, waysObject, ids-alike, met-append}
+use Rattle.placement.proofs.HowLaws.{idTable}
 use Rattle.theorems.proofs.OutFieldLaws.{Foreign, Turned, Unturned, Out, OutAll, out-more, out-none, out-lacking, out-tag, Fine, fine-append}
 
 module _ (taken : Bool) (i c : List ℕ) (own : ℕ) (named : same (nameOf i) (two require-atom) ≡ false) where

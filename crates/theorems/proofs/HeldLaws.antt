@@ -1,4 +1,4 @@
--- The first pass over the items behind the imports: what the state holds of one namespace is told by how its id has stood so far.
+-- The first pass over items that are no imports: what the state holds of one namespace is told by how its id has stood so far.
 use Prim.Native.Nat.{ℕ, _+_, _≤_}
 use mathlib.Core.Path.{_≡_, refl, sym, ap, subst, _∙_}
 use mathlib.Core.Logic.{_⊎_, inl, inr}
@@ -39,11 +39,11 @@ use Rattle.extraction_rules.proofs.AlikeLaws.{Two, RegularAt, Regular, RegularA
 use Rattle.extraction_rules.proofs.StayLaws.{no-member}
 use Rattle.extraction_rules.proofs.SeekLaws.{seek, holdsIn, suitsIn, seek-collect, force-own, force-other, force-tables, forgotten-imported}
 use Rattle.extraction_rules.proofs.SeekLaws.{other-imported, forgotten-usages, other-usages, usages-last, usages-other}
-use Rattle.theorems.specs.Stands.{How, plain, computed, bare, original, imported, otherwise, idsIn, byMember, objectIds, isUse, isPlain, properties}
-use Rattle.theorems.specs.Placed.{all}
-use Rattle.theorems.proofs.WaysLaws.{met, ways, waysAll, waysMember, waysAssignment, waysTarget, waysParts, waysObject, object-alike}
-use Rattle.theorems.proofs.HowLaws.{ident-neutral, unused-append, allPlain, plain-append, properties-append, properties-skip, Neutral}
-use Rattle.theorems.proofs.HowLaws.{unused-neutral, ids-unused, ids-properties, object-unused}
+use Rattle.placement.specs.Stands.{How, plain, computed, bare, original, otherwise, idsIn, byMember, objectIds, isUse, isPlain, properties}
+use Rattle.placement.specs.Placed.{all}
+use Rattle.placement.proofs.WaysLaws.{met, ways, waysAll, waysMember, waysAssignment, waysTarget, waysParts, waysObject, object-alike}
+use Rattle.placement.proofs.HowLaws.{ident-neutral, unused-append, allPlain, plain-append, properties-append, properties-skip, Neutral}
+use Rattle.placement.proofs.HowLaws.{unused-neutral, ids-unused, ids-properties, object-unused}
 
 -- the usages that plain properties leave
 abbrev pub usagesFor : List ℕ → List ℕ → List (List ℕ) → List Usage

@@ -25,8 +25,8 @@ use Rattle.extraction_rules.proofs.OutcomeLaws.{After, after-bind, after-if}
 use Rattle.extraction_rules.proofs.TableLaws.{recordOf, record-other, record-absent, record-last, seek-back, suits-append, holds-left}
 use Rattle.extraction_rules.proofs.KeepLaws.{Each}
 use Rattle.extraction_rules.proofs.SeekLaws.{seek, holdsIn, suitsIn, seek-collect, seek-last, seek-own, collect-new, noted-own, noted-other, find-append}
-use Rattle.theorems.specs.Stands.{properties}
-use Rattle.theorems.specs.Placed.{all}
+use Rattle.placement.specs.Stands.{properties}
+use Rattle.placement.specs.Placed.{all}
 use Rattle.theorems.proofs.HeldLaws.{ownRecord, Held, Unfelt, unfelt-modules}
 
 module _ (i lit : List ℕ) (own file : ℕ) where

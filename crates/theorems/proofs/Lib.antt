@@ -2,19 +2,17 @@
 -- a namespace's import, what each pass leaves of it, of its uses and of its record, and what resolving makes of that. A scope's files,
 -- requested anew (RelendingLaws), and resolving with them (UnmarkedLaws).
 pub mod ListsLaws
-pub mod PlacedLaws
 pub mod EndsLaws
 pub mod CleanLaws
 pub mod CoreLaws
-pub mod DefaultLaws
 pub mod FirstPassLaws
 pub mod GoneLaws
 pub mod HeldLaws
-pub mod HowLaws
 pub mod ImportedLaws
 pub mod OutFieldLaws
 pub mod OutLaws
 pub mod OutsLaws
+pub mod PairedLaws
 pub mod RecordLaws
 pub mod ResolvesLaws
 pub mod SourcesLaws
@@ -24,7 +22,6 @@ pub mod SurroundedLaws
 pub mod TidyLaws
 pub mod TopLaws
 pub mod UsesLaws
-pub mod WaysLaws
 pub mod WorkedLaws
 pub mod DemandLaws
 pub mod RelendingLaws

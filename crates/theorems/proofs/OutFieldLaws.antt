@@ -1,4 +1,4 @@
--- What the second pass makes of a field behind the imports: it stays as it was, or a member expression becomes an identifier.
+-- What the second pass makes of a field that is in no import: it stays as it was, or a member expression becomes an identifier.
 use Prim.Native.Nat.{ℕ, _+_, _*_, _%_}
 use mathlib.Core.Path.{_≡_, refl, sym, ap, subst, _∙_}
 use mathlib.Core.Logic.{_⊎_, inl, inr}
@@ -23,9 +23,8 @@ use Rattle.extraction_rules.proofs.ValueLaws.{required-call, declarator-value}
 use Rattle.extraction_rules.proofs.AlikeLaws.{SameBytes, equal, required-named, callee-bytes}
 use Rattle.extraction_rules.proofs.TestLaws.{or-neither}
 use Rattle.extraction_rules.proofs.SeekLaws.{force-tables, forgotten-usages, other-imported, other-usages}
-use Rattle.theorems.specs.Stands.{How, bare, imported, isMisplaced, properties}
-use Rattle.theorems.specs.Placed.{all}
-use Rattle.theorems.proofs.HowLaws.{all-append, allPlain, plain-append, properties-append}
+use Rattle.placement.specs.Stands.{How, isMisplaced, properties}
+use Rattle.placement.proofs.HowLaws.{all-append, allPlain, plain-append, properties-append, fits}
 
 -- an export context is no local context: one is odd, the other even
 pub export-foreign : (n own : ℕ) → same (four (export n)) (four (local own)) ≡ false
@@ -176,10 +175,6 @@ module _ (taken : Bool) (i c : List ℕ) (own : ℕ) where
 
 -- ---- Ways that the second pass finds as it needs them
 
--- none is misplaced
-abbrev pub fits : List How → Bool
-fits l = all (λ h. not (isMisplaced h)) l
-
 -- no property named require; if the import is taken apart, all uses are plain and nothing is misplaced
 abbrev pub Fine : Bool → List How → Type 0
 Fine taken l = (taken ≡ true → allPlain l ≡ true) × (among (two require-atom) (properties l) ≡ false) × (taken ≡ true → fits l ≡ true)
@@ -197,3 +192,6 @@ fine-append taken l m h =
     let f : taken ≡ true → (fits l ≡ true) × (fits m ≡ true) = λ q. both-true (fits l) (fits m) (sym (all-append (λ h. not (isMisplaced h)) l m) ∙ h .2 q) in
     let p : taken ≡ true → (allPlain l ≡ true) × (allPlain m ≡ true) = λ q. both-true (allPlain l) (allPlain m) (sym (plain-append l m) ∙ h .0 q) in
     ((λ q. p q .0, r .0, λ q. f q .0), (λ q. p q .1, r .1, λ q. f q .1))
+
+pub fine-less : (plain taken : Bool) (l : List How) → (taken ≡ true → plain ≡ true) → Fine plain l → Fine taken l
+fine-less plain taken l k h = ((λ q. h .0 (k q)), h .1, λ q. h .2 (k q))

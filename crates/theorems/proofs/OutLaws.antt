@@ -1,4 +1,5 @@
--- The second pass over the items behind the imports: what stays as it was, and which member expressions become identifiers.
+-- The second pass over items that are no imports: what stays as it was, and which member expressions become identifiers. The same before the
+-- namespace's import and behind it: of the state only what is `Carried` is used.
 use Prim.Native.Nat.{ℕ, _+_, _≤_}
 use mathlib.Core.Path.{_≡_, refl, sym, ap, ap₂, subst, _∙_}
 use mathlib.Core.Logic.{_⊎_, inl, inr}
@@ -28,36 +29,42 @@ use Rattle.extraction_rules.specs.Walk.{Rule, import, export as exporting, decl
 use Rattle.extraction_rules.specs.Walk.{unwalked, member, super, assignment, children, partsFor, enter, walk, walkAll, walkMember, walkAssignment}
 use Rattle.extraction_rules.specs.Walk.{walkTarget}
 use Rattle.extraction_rules.proofs.OutcomeLaws.{After, after-bind, after-both, after-if}
-use Rattle.extraction_rules.proofs.ListLaws.{not-same, same-swap}
+use Rattle.extraction_rules.proofs.ListLaws.{All, all-filter, not-same, same-swap}
 use Rattle.extraction_rules.proofs.WalkLaws.{walkParts}
 use Rattle.extraction_rules.proofs.TagLaws.{rule-import, rule-export, other-parts, parts-member, parts-unwalked}
-use Rattle.extraction_rules.proofs.TableLaws.{recordOf}
 use Rattle.extraction_rules.proofs.StepLaws.{RequireSteps, enter-keeps, declarator-keeps}
 use Rattle.extraction_rules.proofs.AlikeLaws.{Two, RegularAt, Regular, RegularAll, SameBytes, equal, behind, callee, same-other, export-front}
 use Rattle.extraction_rules.proofs.TestLaws.{or-neither}
-use Rattle.extraction_rules.proofs.SeekLaws.{seek, holdsIn, force-own, force-tables, forgotten-usages}
-use Rattle.theorems.specs.Stands.{How, bare, original, imported, otherwise, idsIn, objectIds, isMisplaced, properties}
-use Rattle.theorems.specs.Placed.{all}
-use Rattle.theorems.proofs.WaysLaws.{met-append, met, ways, waysAll, waysMember, waysAssignment, waysTarget, waysParts, waysObject}
-use Rattle.theorems.proofs.HowLaws.{all-append, allPlain}
+use Rattle.extraction_rules.proofs.SeekLaws.{seek, holdsIn, force-tables}
+use Rattle.extraction_rules.proofs.SpaceLaws.{Property}
+use Rattle.placement.specs.Stands.{How, bare, original, otherwise, idsIn, objectIds, isMisplaced, properties}
+use Rattle.placement.specs.Placed.{all}
+use Rattle.placement.proofs.WaysLaws.{met-append, met, ways, waysAll, waysMember, waysAssignment, waysTarget, waysParts, waysObject}
+use Rattle.placement.proofs.HowLaws.{all-append, allPlain, fits}
 use Rattle.theorems.proofs.HeldLaws.{usagesFor, Unfelt, unfelt-modules, unfelt-force}
-use Rattle.theorems.proofs.SettledLaws.{Sits, Settled, settled-unfelt}
-use Rattle.theorems.proofs.OutFieldLaws.{export-foreign, Foreign, Says, foreign-unused, says-force, Unturned, out-tag, declarator-out, out-stays, fits, Fine, fine-append, Out, OutAll}
+use Rattle.theorems.proofs.OutFieldLaws.{export-foreign, Foreign, Says, foreign-unused, says-force, Unturned, out-tag, declarator-out, out-stays, Fine, fine-append, Out, OutAll}
 
 -- ---- The state while the items are walked
 
-module _ (taken : Bool) (i lit : List ℕ) (own file n : ℕ) (ps : List (List ℕ)) where
-  abbrev a : List ℕ
-  a = valueOf lit
+-- what is carried of the namespace, before its import and behind it: the steps that it takes, and what it says of usages. plain: all uses are
+-- plain properties
+pub record Carried (plain taken : Bool) (i lit c : List ℕ) (own file : ℕ) (ps : List (List ℕ)) (J : State → Type 0) : Type 0 where
+  pub on-unfelt : (s t : State) → Unfelt i lit own file s t → J s → J t
+  pub on-force : (s : State) → (plain ≡ true → ⊥) → J s → J (forceId i s)
+  pub alone : (s : State) (j : List ℕ) → J s → seek (holdsIn j) (s .collected) ≡ some (valueOf lit) → j ≡ i
+  pub apart : (s : State) → J s → taken ≡ true → (importedAs i (s .imported) ≡ some c) × (usagesOf i (s .usages) ≡ usagesFor i c ps)
+  pub kept : (s : State) → J s → taken ≡ false → usagesOf i (s .usages) ≡ []
 
+module _ (plain taken : Bool) (less : taken ≡ true → plain ≡ true) (i lit : List ℕ) (own file n : ℕ) (ps : List (List ℕ)) (J : State → Type 0)
+    (carried : Carried plain taken i lit (four (export n)) own file ps J) where
   abbrev c : List ℕ
   c = four (export n)
 
   abbrev pub At : State → Type 0
-  At s = Settled taken i lit c ps s × Says own s
+  At s = J s × Says own s × All (λ u. Property (u .property)) (s .usages)
 
   at-unfelt : (s t : State) → Unfelt i lit own file s t → t .usages ≡ s .usages → t .imported ≡ s .imported → At s → At t
-  at-unfelt s t u p q h = (settled-unfelt i lit own file taken c ps s t u (h .0), λ j. rw (p, q) (h .1 j))
+  at-unfelt s t u p q h = (carried .on-unfelt s t u (h .0), (λ j. rw (p, q) (h .1 j)), rw p (h .2))
 
   at-requires : (e : Setting) → RequireSteps e At
   at-requires e =
@@ -76,24 +83,18 @@ module _ (taken : Bool) (i lit : List ℕ) (own file n : ℕ) (ps : List (List �
   pub at-top : (s : State) (b : Bool) → At s → At (setTop b s)
   at-top s b h = at-unfelt s (setTop b s) (record { entry = refl; holders = λ j q. q; holder = refl; suited = refl; number = λ n q. q; context = refl; usages = refl; forced = refl }) refl refl h
 
-  -- the id itself is forced: only where the import is kept
-  settled-force : (s : State) (b : Bool) → b ≡ taken → (b ≡ true → ⊥) → Settled taken i lit c ps s → Settled taken i lit c ps (forceId i s)
-  settled-force s true q d h = absurd (d refl)
-  settled-force s false q d h =
-      let t = force-tables i s in
-      record {
-        entry = ap (recordOf a) (t .0) ∙ h .entry;
-        alone = λ j k. h .alone j (sym (ap (seek (holdsIn j)) (t .0)) ∙ k);
-        holds = ap (seek (holdsIn i)) (t .0) ∙ h .holds;
-        sits = subst (λ (b : Bool). Sits b i a c ps (forceId i s)) q (ap (usagesOf i) (t .3) ∙ forgotten-usages i (s .usages), force-own i a s (h .holds));
-      }
+  forced-all : (s : State) (j : List ℕ) → All (λ u. Property (u .property)) (s .usages) → All (λ u. Property (u .property)) (forceId j s .usages)
+  forced-all s j h =
+      subst (All (λ (u : Usage). Property (u .property))) (sym (force-tables j s .3))
+      (all-filter (λ (u : Usage). Property (u .property)) (λ (u : Usage). Property (u .property)) (λ (u : Usage). not (same (u .id) j)) (s .usages) (λ u _ k. k) h)
 
-  pub at-force : (s : State) (j : List ℕ) → (taken ≡ true → same j i ≡ false) → At s → At (forceId j s)
-  at-force s j d h = (go (same j i) refl, says-force own s j (h .1))
+  -- the id itself is forced: only where not all uses are plain
+  pub at-force : (s : State) (j : List ℕ) → (plain ≡ true → same j i ≡ false) → At s → At (forceId j s)
+  at-force s j d h = (go (same j i) refl, says-force own s j (h .1), forced-all s j (h .2))
     where
-      go : (b : Bool) → same j i ≡ b → Settled taken i lit c ps (forceId j s)
-      go true q = rw (same-equal j i q) (settled-force s taken refl (λ e. true≢false (sym q ∙ d e)) (h .0))
-      go false q = settled-unfelt i lit own file taken c ps s (forceId j s) (unfelt-force i lit own file n s j q (λ w. not-same j i q (h .0 .alone j w))) (h .0)
+      go : (b : Bool) → same j i ≡ b → J (forceId j s)
+      go true q = rw (same-equal j i q) (carried .on-force s (λ e. true≢false (sym q ∙ d e)) (h .0))
+      go false q = carried .on-unfelt s (forceId j s) (unfelt-force i lit own file n s j q (λ w. not-same j i q (carried .alone s j (h .0) w))) (h .0)
 
   -- ---- A 63, its parts walked
 
@@ -139,14 +140,14 @@ module _ (taken : Bool) (i lit : List ℕ) (own file n : ℕ) (ps : List (List �
 
     -- the usages and the context of i
     own-usages : (s : State) → At s → taken ≡ true → (usagesOf i (s .usages) ≡ [] → ⊥) × (importedAs i (s .imported) ≡ some c)
-    own-usages s h q = let k : Sits true i a c ps s = subst (λ (b : Bool). Sits b i a c ps s) q (h .0 .sits) in ((λ e. go ps (used q) (sym (k .1) ∙ e)), k .0)
+    own-usages s h q = let k = carried .apart s (h .0) q in ((λ e. go ps (used q) (sym (k .1) ∙ e)), k .0)
       where
         go : (l : List (List ℕ)) → (l ≡ [] → ⊥) → usagesFor i c l ≡ [] → ⊥
         go [] d e = d refl
         go (p ∷ l) d e = let z : _≡_ {A = ℕ} 0 1 = cc in omega arith
 
     kept-usages : (s : State) → At s → taken ≡ false → usagesOf i (s .usages) ≡ []
-    kept-usages s h q = (subst (λ (b : Bool). Sits b i a c ps s) q (h .0 .sits)) .0
+    kept-usages s h q = carried .kept s (h .0) q
 
     bool-cases : (b : Bool) (Q : Type 0) → (b ≡ true → Q) → (b ≡ false → Q) → Q
     bool-cases true Q h k = h refl
@@ -186,7 +187,7 @@ module _ (taken : Bool) (i lit : List ℕ) (own file n : ℕ) (ps : List (List �
 
     turn-out : (x : List ℕ) (o q v w : Field) (s : State) (u : Usage) (us : List Usage) (d : List ℕ) → O o w → tagOf w ≡ 0x60 → tagOf q ≡ 0x70 →
         fixedOf v ≡ fixedOf q → length (fixedOf q) ≡ 2 →
-        Fine taken (met (objectIds true (more o (more q none))) i) → At s → usagesOf (fixedOf w) (s .usages) ≡ u ∷ us → importedAs (fixedOf w) (s .imported) ≡ some d →
+        Fine plain (met (objectIds true (more o (more q none))) i) → At s → usagesOf (fixedOf w) (s .usages) ≡ u ∷ us → importedAs (fixedOf w) (s .imported) ≡ some d →
         O (field 0x63 x (more o (more q none))) (field 0x60 (fixedOf v ++ d) none)
     turn-out x o q v w s u us d ow tw tq bv len fine h used-here as-d = by (walked-ident o w ow tw)
       where
@@ -257,7 +258,7 @@ module _ (taken : Bool) (i lit : List ℕ) (own file n : ℕ) (ps : List (List �
     name-length (field t y ds) k w = w .0 .name-two k
 
     pair-out : (x : List ℕ) (o q w v : Field) (s : State) → (tagOf q ≡ 0x70) ⊎ ((tagOf q ≡ 0x71) ⊎ (tagOf q ≡ 0x72)) → Regular q →
-        Fine taken (met (objectIds true (more o (more q none))) i) → O o w → O q v → At s →
+        Fine plain (met (objectIds true (more o (more q none))) i) → O o w → O q v → At s →
         O (field 0x63 x (more o (more q none))) (rewritten (onIdent (field 0x63 x (more w (more v none)))) (field 0x63 x (more w (more v none))) s)
     unfolding onIdent rewritten
     pair-out x o q w v s k y fine ow qv h = go (eqb (tagOf w) 0x60) refl
@@ -289,7 +290,7 @@ module _ (taken : Bool) (i lit : List ℕ) (own file n : ℕ) (ps : List (List �
             (λ u us d e f z. turn-out x o q v w s u us d ow (eqb-true (tagOf w) 0x60 r) (tags z) (bytes (tags z)) (name-length q (tags z) y) fine h e f)
         go false r = inl (refl, equal refl, no-ident r, (w, more v none, refl, ow, (v, none, refl, qv, refl)))
 
-    member-out : (x : List ℕ) (cs ds : Fields) (s : State) → Two cs → RegularAll cs → Fine taken (met (objectIds true cs) i) → OA cs ds → At s →
+    member-out : (x : List ℕ) (cs ds : Fields) (s : State) → Two cs → RegularAll cs → Fine plain (met (objectIds true cs) i) → OA cs ds → At s →
         O (field 0x63 x cs) (rewritten (onIdent (field 0x63 x ds)) (field 0x63 x ds) s)
     member-out x none ds s k y fine h at = absurd (let e = k .2 in let z : _≡_ {A = ℕ} 0 1 = cc in omega arith)
     member-out x (more o none) ds s k y fine h at = absurd (let e = k .2 in let z : _≡_ {A = ℕ} 0 1 = cc in omega arith)
@@ -318,14 +319,14 @@ module _ (taken : Bool) (i lit : List ℕ) (own file n : ℕ) (ps : List (List �
           go (more o (more q qs)) = rw not-63
 
       member-expression : (k : Pass) → k ≡ second → (x : List ℕ) (cs ds : Fields) (object : Bool) (p : ℕ) (s : State) → Two cs → RegularAll cs →
-          Fine taken (met (objectIds true cs) i) → OA cs ds → At s →
+          Fine plain (met (objectIds true cs) i) → OA cs ds → At s →
           After (afterExpression k e (field 0x63 x ds) object p s) (λ g t′. Walked (field 0x63 x cs) g t′)
       unfolding afterExpression
       member-expression first q x cs ds object p s k y fine h at = absurd (let z : _≡_ {A = ℕ} 0 1 = cc in omega arith)
       member-expression second q x cs ds object p s k y fine h at = (at, member-out x cs ds s k y fine h at)
 
       export-out : (x : List ℕ) (object : Bool) (p : ℕ) (s : State) → ((getD x 0 0 ≡ 1) × (7 ≤ length x)) ⊎ (getD x 0 0 ≡ 2) →
-          Fine taken (met (idsIn 0x23 x object) i) → At s → After (exportSpecifier e x p s) (λ g t. Walked (field 0x23 x none) g t)
+          Fine plain (met (idsIn 0x23 x object) i) → At s → After (exportSpecifier e x p s) (λ g t. Walked (field 0x23 x none) g t)
       unfolding exportSpecifier idsIn met filter all
       export-out x object p s (inl k) fine at =
           after-if (eqb (getD x 0 0) 2 || eqb (getD x 7 0) 2) (refuse 6 p) _ s (λ g t. Walked (field 0x23 x none) g t) (λ _. tt)
@@ -335,7 +336,7 @@ module _ (taken : Bool) (i lit : List ℕ) (own file n : ℕ) (ps : List (List �
                 (refl, behind refl (export-front x _ (k .1)), (λ o q z. absurd (let m : _≡_ {A = ℕ} 0x23 0x63 = z in omega arith)), refl),
           ))
         where
-          other : Fine taken (cond (same (idAt x 1) i) (original ∷ []) []) → taken ≡ true → same (idAt x 1) i ≡ false
+          other : Fine plain (cond (same (idAt x 1) i) (original ∷ []) []) → plain ≡ true → same (idAt x 1) i ≡ false
           other h t = go (same (idAt x 1) i) (h .0 t)
             where
               go : (b : Bool) → allPlain (cond b (original ∷ []) []) ≡ true → b ≡ false
@@ -344,15 +345,15 @@ module _ (taken : Bool) (i lit : List ℕ) (own file n : ℕ) (ps : List (List �
       export-out x object p s (inr k) fine at = rw k tt
 
       rule-out : (r : Rule) (t : ℕ) (x : List ℕ) (cs ds : Fields) (object : Bool) (p : ℕ) (s : State) → ruleFor t ≡ r → (t ≡ 0x63 → ⊥) →
-          RegularAt t x cs → Fine taken (met (idsIn t x object) i) → OA cs ds → At s →
+          RegularAt t x cs → Fine plain (met (idsIn t x object) i) → OA cs ds → At s →
           After (after r e t x ds object p s) (λ g t′. Walked (field t x cs) g t′)
       unfolding after
       rule-out import t x cs ds object p s q d w fine h at = absurd (w .no-import (rule-import t q))
       rule-out exporting t x cs ds object p s q d w fine h at = go t cs (rule-export t q) (w .export-bare (rule-export t q)) (w .export-kind (rule-export t q)) fine
         where
           go : (t : ℕ) (cs : Fields) → t ≡ 0x23 → cs ≡ none → ((getD x 0 0 ≡ 1) × (7 ≤ length x)) ⊎ (getD x 0 0 ≡ 2) →
-              Fine taken (met (idsIn t x object) i) → After (exportSpecifier e x p s) (λ g t′. Walked (field t x cs) g t′)
-          go t cs v b k fine = rw (v, b) (export-out x object p s k (subst (λ (m : ℕ). Fine taken (met (idsIn m x object) i)) v fine) at)
+              Fine plain (met (idsIn t x object) i) → After (exportSpecifier e x p s) (λ g t′. Walked (field t x cs) g t′)
+          go t cs v b k fine = rw (v, b) (export-out x object p s k (subst (λ (m : ℕ). Fine plain (met (idsIn m x object) i)) v fine) at)
       rule-out declare t x cs ds object p s q d w fine h at =
           after-bind (declarator e ds p s) _ (λ gs t′. At t′ × OA cs gs) (λ g t′. Walked (field t x cs) g t′)
           (after-both (declarator e ds p s) (λ gs t′. At t′) (λ gs t′. OA cs gs) (declarator-keeps e At (at-requires e) ds p s at) (declarator-out taken i c own e cs ds p s h)) λ gs s y.
@@ -362,40 +363,40 @@ module _ (taken : Bool) (i lit : List ℕ) (own file n : ℕ) (ps : List (List �
 
       -- 63
       member-rule : (t : ℕ) (x : List ℕ) (cs ds : Fields) (object : Bool) (p : ℕ) (s : State) → t ≡ 0x63 → Two cs → RegularAll cs →
-          Fine taken (met (objectIds true cs) i) → OA cs ds → At s →
+          Fine plain (met (objectIds true cs) i) → OA cs ds → At s →
           After (after (ruleFor t) e t x ds object p s) (λ g t′. Walked (field t x cs) g t′)
       unfolding after ruleFor within
       member-rule t x cs ds object p s q k y fine h at = rw q (member-expression (e .pass) two-pass x cs ds object p s k y fine h at)
 
       -- a field, its parts walked
       field-out : (v : Parts) (t : ℕ) (x : List ℕ) (cs ds : Fields) (object : Bool) (p : ℕ) (s : State) → partsFor t ≡ v → RegularAt t x cs →
-          RegularAll cs → Fine taken (met (idsIn t x object) i ++ waysParts v cs i object) → OA cs ds → At s →
+          RegularAll cs → Fine plain (met (idsIn t x object) i ++ waysParts v cs i object) → OA cs ds → At s →
           After (after (ruleFor t) e t x ds object p s) (λ g t′. Walked (field t x cs) g t′)
       unfolding partsFor
       field-out unwalked t x cs ds object p s q w y fine h at =
           rule-out (ruleFor t) t x cs ds object p s refl (other-parts t 0x63 unwalked member q refl (λ z. omega arith)) w
-          (fine-append taken (met (idsIn t x object) i) _ fine .0) h at
+          (fine-append plain (met (idsIn t x object) i) _ fine .0) h at
       field-out member t x cs ds object p s q w y fine h at =
           member-rule t x cs ds object p s (parts-member t q) (w .member-two (parts-member t q)) y
-          (fine-append taken (met (objectIds true cs) i) (waysMember cs i)
-          (fine-append taken (met (idsIn t x object) i) (met (objectIds true cs) i ++ waysMember cs i) fine .1) .0) h at
+          (fine-append plain (met (objectIds true cs) i) (waysMember cs i)
+          (fine-append plain (met (idsIn t x object) i) (met (objectIds true cs) i ++ waysMember cs i) fine .1) .0) h at
       field-out super t x cs ds object p s q w y fine h at =
           rule-out (ruleFor t) t x cs ds object p s refl (other-parts t 0x63 super member q refl (λ z. omega arith)) w
-          (fine-append taken (met (idsIn t x object) i) _ fine .0) h at
+          (fine-append plain (met (idsIn t x object) i) _ fine .0) h at
       field-out assignment t x cs ds object p s q w y fine h at =
           rule-out (ruleFor t) t x cs ds object p s refl (other-parts t 0x63 assignment member q refl (λ z. omega arith)) w
-          (fine-append taken (met (idsIn t x object) i) _ fine .0) h at
+          (fine-append plain (met (idsIn t x object) i) _ fine .0) h at
       field-out children t x cs ds object p s q w y fine h at =
           rule-out (ruleFor t) t x cs ds object p s refl (other-parts t 0x63 children member q refl (λ z. omega arith)) w
-          (fine-append taken (met (idsIn t x object) i) _ fine .0) h at
+          (fine-append plain (met (idsIn t x object) i) _ fine .0) h at
 
       -- ---- The walk
 
       abbrev PartsOut : Fields → (ℕ → State → Outcome (Fields × State)) → List How → Type 0
-      PartsOut cs m l = (p : ℕ) (s : State) → Fine taken l → At s → After (m p s) (λ ds t. At t × OA cs ds)
+      PartsOut cs m l = (p : ℕ) (s : State) → Fine plain l → At s → After (m p s) (λ ds t. At t × OA cs ds)
 
       parts-out : (v : Parts) (t : ℕ) (cs : Fields) (object : Bool) (p : ℕ) (s : State) → partsFor t ≡ v → (t ≡ 0x10 → ⊥) → (t ≡ 0x23 → cs ≡ none) →
-          Fine taken (waysParts v cs i object) → ((b : Bool) → PartsOut cs (walkAll cs e b) (waysAll cs i b)) →
+          Fine plain (waysParts v cs i object) → ((b : Bool) → PartsOut cs (walkAll cs e b) (waysAll cs i b)) →
           PartsOut cs (walkMember cs e) (waysMember cs i) → PartsOut cs (walkAssignment cs e object) (waysAssignment cs i object) → At s →
           After (walkParts v cs e object p s) (λ ds t. At t × OA cs ds)
       parts-out unwalked t cs object p s q d b fine all mem asg at = by (parts-unwalked t q)
@@ -403,7 +404,7 @@ module _ (taken : Bool) (i lit : List ℕ) (own file n : ℕ) (ps : List (List �
           by : (t ≡ 0x10) ⊎ (t ≡ 0x23) → At s × OA cs cs
           by (inl v) = absurd (d v)
           by (inr v) = (at, rw (b v))
-      parts-out member t cs object p s q d b fine all mem asg at = mem p s (fine-append taken (met (objectIds true cs) i) (waysMember cs i) fine .1) at
+      parts-out member t cs object p s q d b fine all mem asg at = mem p s (fine-append plain (met (objectIds true cs) i) (waysMember cs i) fine .1) at
       parts-out super t cs object p s q d b fine all mem asg at = all false p s fine at
       parts-out assignment t cs object p s q d b fine all mem asg at = asg p s fine at
       parts-out children t cs object p s q d b fine all mem asg at = all object p s fine at
@@ -422,16 +423,16 @@ module _ (taken : Bool) (i lit : List ℕ) (own file n : ℕ) (ps : List (List �
       ident-out t x cs object p s q k at = rw (q, k) (plain-expression (e .pass) two-pass 0x60 x none none object p s (λ z. omega arith) refl at)
 
       -- the object of a 63
-      object-out : (o : Field) (p : ℕ) (s : State) → Regular o → Fine taken (waysObject (has 0x60 o) o i) → At s →
-          (Fine taken (ways o i true) → After (walk o e true p s) (λ g t. Walked o g t)) → After (walk o e true p s) (λ g t. Walked o g t)
+      object-out : (o : Field) (p : ℕ) (s : State) → Regular o → Fine plain (waysObject (has 0x60 o) o i) → At s →
+          (Fine plain (ways o i true) → After (walk o e true p s) (λ g t. Walked o g t)) → After (walk o e true p s) (λ g t. Walked o g t)
       object-out (field t x cs) p s w fine at k = go (eqb t 0x60) refl fine
         where
-          go : (b : Bool) → eqb t 0x60 ≡ b → Fine taken (waysObject b (field t x cs) i) → After (walk (field t x cs) e true p s) (λ g t′. Walked (field t x cs) g t′)
+          go : (b : Bool) → eqb t 0x60 ≡ b → Fine plain (waysObject b (field t x cs) i) → After (walk (field t x cs) e true p s) (λ g t′. Walked (field t x cs) g t′)
           go true q f = ident-out t x cs true p s (eqb-true t 0x60 q) (w .0 .ident-bare (eqb-true t 0x60 q)) at
           go false q f = k f
 
       -- a target stays a 63: on i it is misplaced
-      target-stays : (t : ℕ) (x : List ℕ) (cs : Fields) → Fine taken (met (idsIn t x false ++ objectIds false cs) i) → Unturned taken i c own t cs
+      target-stays : (t : ℕ) (x : List ℕ) (cs : Fields) → Fine plain (met (idsIn t x false ++ objectIds false cs) i) → Unturned taken i c own t cs
       unfolding objectIds met all
       target-stays t x cs fine o q k r to tq m = bool-cases taken (taken ≡ false) (λ v. absurd (true≢false (sym (wrong v)))) (λ v. v)
         where
@@ -441,44 +442,44 @@ module _ (taken : Bool) (i lit : List ℕ) (own file n : ℕ) (ps : List (List �
           wrong : taken ≡ true → false ≡ true
           wrong v =
               both-true (fits (met (idsIn t x false) i)) false
-              (sym (all-append (λ h. not (isMisplaced h)) (met (idsIn t x false) i) (otherwise ∷ [])) ∙ sym (ap fits misplaced) ∙ fine .2 v) .1
+              (sym (all-append (λ h. not (isMisplaced h)) (met (idsIn t x false) i) (otherwise ∷ [])) ∙ sym (ap fits misplaced) ∙ fine .2 (less v)) .1
 
       mutual
         unfolding walk ways
 
-        pub walk-out : (f : Field) (object : Bool) (p : ℕ) (s : State) → Regular f → Fine taken (ways f i object) → At s → After (walk f e object p s) (λ g t. Walked f g t)
+        pub walk-out : (f : Field) (object : Bool) (p : ℕ) (s : State) → Regular f → Fine plain (ways f i object) → At s → After (walk f e object p s) (λ g t. Walked f g t)
         walk-out (field t x cs) object p s w fine at =
             after-bind (walkParts (partsFor t) cs e object (inside p x) (enter t s)) _ (λ ds t′. At t′ × OA cs ds) (λ g t′. Walked (field t x cs) g t′)
             (parts-out (partsFor t) t cs object (inside p x) (enter t s) refl (w .0 .no-import) (w .0 .export-bare)
-            (fine-append taken (met (idsIn t x object) i) (waysParts (partsFor t) cs i object) fine .1)
+            (fine-append plain (met (idsIn t x object) i) (waysParts (partsFor t) cs i object) fine .1)
             (λ b p s fine at. walkAll-out cs b p s (w .1) fine at) (λ p s fine at. walkMember-out cs p s (w .1) fine at)
             (λ p s fine at. walkAssignment-out cs object p s (w .1) fine at) (enter-keeps At at-top t s at)) λ ds s y.
             field-out (partsFor t) t x cs ds object p s refl (w .0) (w .1) fine (y .1) (y .0)
 
-        pub walkAll-out : (fs : Fields) (object : Bool) (p : ℕ) (s : State) → RegularAll fs → Fine taken (waysAll fs i object) → At s →
+        pub walkAll-out : (fs : Fields) (object : Bool) (p : ℕ) (s : State) → RegularAll fs → Fine plain (waysAll fs i object) → At s →
             After (walkAll fs e object p s) (λ gs t. At t × OA fs gs)
         walkAll-out none object p s w fine at = (at, refl)
         walkAll-out (more f fs) object p s w fine at =
-            let k = fine-append taken (ways f i object) (waysAll fs i object) fine in
+            let k = fine-append plain (ways f i object) (waysAll fs i object) fine in
             both-out f fs (walk f e object p s) (walkAll fs e object (p + size f)) (walk-out f object p s (w .0) (k .0) at) (λ s at. walkAll-out fs object (p + size f) s (w .1) (k .1) at)
 
-        walkMember-out : (fs : Fields) (p : ℕ) (s : State) → RegularAll fs → Fine taken (waysMember fs i) → At s → After (walkMember fs e p s) (λ gs t. At t × OA fs gs)
+        walkMember-out : (fs : Fields) (p : ℕ) (s : State) → RegularAll fs → Fine plain (waysMember fs i) → At s → After (walkMember fs e p s) (λ gs t. At t × OA fs gs)
         walkMember-out none p s w fine at = (at, refl)
         walkMember-out (more o os) p s w fine at =
-            let k = fine-append taken (waysObject (has 0x60 o) o i) (waysAll os i false) fine in
+            let k = fine-append plain (waysObject (has 0x60 o) o i) (waysAll os i false) fine in
             both-out o os (walk o e true p s) (walkAll os e false (p + size o))
             (object-out o p s (w .0) (k .0) at (λ f. walk-out o true p s (w .0) f at))
             (λ s at. walkAll-out os false (p + size o) s (w .1) (k .1) at)
 
-        walkAssignment-out : (fs : Fields) (object : Bool) (p : ℕ) (s : State) → RegularAll fs → Fine taken (waysAssignment fs i object) → At s →
+        walkAssignment-out : (fs : Fields) (object : Bool) (p : ℕ) (s : State) → RegularAll fs → Fine plain (waysAssignment fs i object) → At s →
             After (walkAssignment fs e object p s) (λ gs t. At t × OA fs gs)
         walkAssignment-out none object p s w fine at = (at, refl)
         walkAssignment-out (more f fs) object p s w fine at =
-            let k = fine-append taken (waysTarget f i) (waysAll fs i object) fine in
+            let k = fine-append plain (waysTarget f i) (waysAll fs i object) fine in
             both-out f fs (walkTarget f e p s) (walkAll fs e object (p + size f)) (walkTarget-out f p s (w .0) (k .0) at) (λ s at. walkAll-out fs object (p + size f) s (w .1) (k .1) at)
 
-        walkTarget-out : (f : Field) (p : ℕ) (s : State) → Regular f → Fine taken (waysTarget f i) → At s → After (walkTarget f e p s) (λ g t. Walked f g t)
+        walkTarget-out : (f : Field) (p : ℕ) (s : State) → Regular f → Fine plain (waysTarget f i) → At s → After (walkTarget f e p s) (λ g t. Walked f g t)
         walkTarget-out (field t x cs) p s w fine at =
             after-bind (walkMember cs e (inside p x) s) _ (λ ds t′. At t′ × OA cs ds) (λ g t′. Walked (field t x cs) g t′)
-            (walkMember-out cs (inside p x) s (w .1) (fine-append taken (met (idsIn t x false ++ objectIds false cs) i) (waysMember cs i) fine .1) at) λ ds s y.
-            (y .0, inl (refl, equal refl, target-stays t x cs (fine-append taken (met (idsIn t x false ++ objectIds false cs) i) (waysMember cs i) fine .0), y .1))
+            (walkMember-out cs (inside p x) s (w .1) (fine-append plain (met (idsIn t x false ++ objectIds false cs) i) (waysMember cs i) fine .1) at) λ ds s y.
+            (y .0, inl (refl, equal refl, target-stays t x cs (fine-append plain (met (idsIn t x false ++ objectIds false cs) i) (waysMember cs i) fine .0), y .1))

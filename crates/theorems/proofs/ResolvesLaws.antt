@@ -28,7 +28,7 @@ use Rattle.extraction_rules.proofs.StepLaws.{EndSteps}
 use Rattle.extraction_rules.proofs.WalkLaws.{Steps, walkAll-keeps, walkAgain-keeps, imports-any-all}
 use Rattle.resolving_rules.specs.Resolve.{resolvedAll}
 use Rattle.resolving_rules.proofs.ResolveLaws.{all-made}
-use Rattle.theorems.specs.Demand.{itemAt}
+use Rattle.placement.specs.Placed.{itemAt}
 
 module _ (a : List ℕ) where
   -- a is the source of a collected record

@@ -19,10 +19,10 @@ use Rattle.extraction_rules.proofs.ListLaws.{same-swap, among-last, among-new}
 use Rattle.extraction_rules.proofs.FirstLaws.{source-cases, extend-literal}
 use Rattle.extraction_rules.proofs.TableLaws.{recordOf, record-map, record-extend, seek-extend, extend-own, from-finds}
 use Rattle.extraction_rules.proofs.SeekLaws.{seek, holdsIn, suitsIn, find-append}
-use Rattle.theorems.specs.Stands.{How, plain, computed, bare, original, imported, otherwise, isUse, properties}
+use Rattle.placement.specs.Stands.{How, plain, computed, bare, original, imported, otherwise, isUse, properties}
+use Rattle.placement.specs.Placed.{all}
+use Rattle.placement.proofs.HowLaws.{allPlain}
 use Rattle.theorems.specs.Demand.{propertyFields, isUsed}
-use Rattle.theorems.specs.Placed.{all}
-use Rattle.theorems.proofs.HowLaws.{allPlain}
 use Rattle.theorems.proofs.HeldLaws.{usagesFor, Stood, ownRecord, Held, Unfelt}
 
 -- the record of the source, where the import is taken apart and where it is kept

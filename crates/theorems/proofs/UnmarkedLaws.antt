@@ -21,8 +21,8 @@ use Rattle.inputs.proofs.AcceptedLaws.{done-inj, onto-done}
 use Rattle.extraction_rules.specs.Call.{Lent, Lengths, Extracted, itemsRead, extracted}
 use Rattle.resolving_rules.specs.Resolve.{sourcesIn, sourceOf, forcedIn, requested, numberOne, numberAll, resolvedSpecifiers, heading, resolvedRecord, resolvedAll}
 use Rattle.resolving_rules.specs.Call.{Lent as LentRecords, recordsRead, Numbered, numbered, Resolved, listed, resolved, modulesAfter, Left, resolving}
-use Rattle.theorems.specs.Stands.{How, stands}
-use Rattle.theorems.specs.Placed.{wellPlaced}
+use Rattle.placement.specs.Stands.{How, stands}
+use Rattle.placement.specs.Placed.{wellPlaced}
 use Rattle.theorems.specs.Demand.{Declares, takes, Ends, handedOn}
 use Rattle.theorems.specs.Relending.{withoutMarks, ResolvesByFiles}
 use Rattle.theorems.proofs.RelendingLaws.{unmarked-append, unmarked-count, unmarked-numbers}

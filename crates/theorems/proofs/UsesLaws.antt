@@ -1,4 +1,4 @@
--- What both passes leave of a tree behind the imports: each use of the namespace is the property in the source's export context, or
+-- What both passes leave of an item that is no import: each use of the namespace is the property in the source's export context, or
 -- as it was.
 use Prim.Native.Nat.{ℕ}
 use mathlib.Core.Path.{_≡_, refl, sym, ap, ap₂, subst, _∙_}
@@ -19,12 +19,12 @@ use Rattle.extraction_rules.specs.Walk.{Parts, unwalked, member, super, assignm
 use Rattle.extraction_rules.proofs.ListLaws.{not-same, All}
 use Rattle.extraction_rules.proofs.TagLaws.{parts-member, parts-assignment}
 use Rattle.extraction_rules.proofs.AlikeLaws.{Two, RegularAt, Regular, RegularAll, SameBytes, equal, behind, callee, same-other}
-use Rattle.theorems.specs.Stands.{How, plain, computed, bare, original, idsIn, byMember, objectIds, Standing, matching, standings}
-use Rattle.theorems.specs.Stands.{standingsAll, standingsMember, standingsAssignment, standingsTarget, isUse, isPlain}
-use Rattle.theorems.specs.Placed.{all}
+use Rattle.placement.specs.Stands.{How, plain, computed, bare, original, idsIn, byMember, objectIds, Standing, matching, standings}
+use Rattle.placement.specs.Stands.{standingsAll, standingsMember, standingsAssignment, standingsTarget, isUse, isPlain}
+use Rattle.placement.specs.Placed.{all}
+use Rattle.placement.proofs.WaysLaws.{met, ways, waysAll, waysMember, waysAssignment, waysTarget, waysParts, waysObject, standingsParts}
+use Rattle.placement.proofs.HowLaws.{Unused, unused-append, ids-unused, object-unused}
 use Rattle.theorems.specs.Demand.{counted, Unchanged, Rewritten, Every}
-use Rattle.theorems.proofs.WaysLaws.{met, ways, waysAll, waysMember, waysAssignment, waysTarget, waysParts, waysObject, standingsParts}
-use Rattle.theorems.proofs.HowLaws.{Unused, unused-append, ids-unused, object-unused}
 use Rattle.theorems.proofs.OutFieldLaws.{Turned, Out, OutAll, out-more, out-lacking, Fine, fine-append}
 
 -- ---- Every use

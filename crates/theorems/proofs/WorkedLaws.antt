@@ -1,8 +1,8 @@
--- What the first pass makes of the items around a namespace's import: *work*, import by import, and alike behind them.
+-- What the first pass makes of the items around a namespace's import: *work*, item by item: imports clean of the id, other items alike.
 use Prim.Native.Nat.{ℕ, zero, suc, _+_}
-use mathlib.Core.Path.{_≡_, refl, sym, ap, subst}
+use mathlib.Core.Path.{_≡_, refl, sym, ap, _∙_}
 use mathlib.Core.Logic.{_⊎_, inl, inr}
-use mathlib.Core.Bool.{Bool, true, false, cond, true≢false}
+use mathlib.Core.Bool.{true, false}
 use mathlib.Core.List.{List}
 use mathlib.Core.Option.{Option, none as nothing, some}
 use native.Mathlib.Omega.{arith}
@@ -20,13 +20,16 @@ use Rattle.extraction_rules.specs.First.{external, moduleFor, importedAs, colle
 use Rattle.extraction_rules.specs.Walk.{walk, walkAll, walkModule}
 use Rattle.extraction_rules.proofs.OutcomeLaws.{After, after-bind, after-weaken}
 use Rattle.extraction_rules.proofs.ValueLaws.{after-any, walk-first}
-use Rattle.extraction_rules.proofs.AlikeLaws.{RegularAll, Alike, AlikeAll, walkAll-alike}
+use Rattle.extraction_rules.proofs.AlikeLaws.{Regular, Alike, walk-alike}
 use Rattle.extraction_rules.proofs.SpaceLaws.{OfImport, Spaces, space-steps, import-space}
-use Rattle.extraction_rules.proofs.ItemsLaws.{items-keep}
+use Rattle.extraction_rules.proofs.ItemsLaws.{item-keeps}
 use Rattle.extraction_rules.proofs.StayLaws.{import-stays}
-use Rattle.extraction_rules.proofs.KeepLaws.{Each, keep-yes}
+use Rattle.extraction_rules.proofs.KeepLaws.{Each}
+use Rattle.placement.proofs.PlacedLaws.{Amid}
+use Rattle.placement.proofs.DroppedLaws.{placeKept}
 use Rattle.theorems.proofs.ImportedLaws.{Redeclared}
 use Rattle.theorems.proofs.FirstPassLaws.{OwnImport}
+use Rattle.theorems.proofs.PairedLaws.{PairedAll, Paired, paired-keep}
 use Rattle.theorems.proofs.CleanLaws.{CleanSpec, Whole, Clean, first-clean}
 
 -- ---- Dropped items
@@ -38,66 +41,52 @@ stays-alike (field t x none) (field k y (more g gs)) h = absurd (let e = h .2 in
 stays-alike (field t x (more f fs)) (field k y none) h = absurd (let e = h .2 .2 in let z : _≡_ {A = ℕ} 0 1 = cc in omega arith)
 stays-alike (field t x (more f fs)) (field k y (more g gs)) h = rw (h .0)
 
-pub keep-alike : (fs gs : Fields) → AlikeAll fs gs → AlikeAll (keep stays fs) (keep stays gs)
-unfolding keep
-keep-alike none gs h = rw h
-keep-alike (more f fs) gs h =
-    subst (λ (l : Fields). AlikeAll (keep stays (more f fs)) (keep stays l)) (sym (h .2))
-    (go (stays f) (stays (h .0)) (stays-alike f (h .0) (h .3)) (keep-alike fs (h .1) (h .4)))
-  where
-    go : (b c : Bool) → c ≡ b → AlikeAll (keep stays fs) (keep stays (h .1)) →
-        AlikeAll (cond b (more f (keep stays fs)) (keep stays fs)) (cond c (more (h .0) (keep stays (h .1))) (keep stays (h .1)))
-    go true true q k = (h .0, keep stays (h .1), refl, h .3, k)
-    go true false q k = absurd (true≢false (sym q))
-    go false true q k = absurd (true≢false q)
-    go false false q k = k
-
 module _ (i lit : List ℕ) (own file : ℕ) (context : contextOf i ≡ four (local own)) where
   -- what is known besides of another import
   abbrev pub CleanImport : Field → Type 0
   CleanImport f = Each (CleanSpec i own context) (specifiersIn (partsOf f)) × Each (Whole i own context) (specifiersIn (partsOf f))
 
-  abbrev pub CleanBehind : Fields → Type 0
-  CleanBehind none = Unit {0}
-  CleanBehind (more f fs) = ((tagOf f ≡ 0x10) × CleanImport f × CleanBehind fs) ⊎ RegularAll (more f fs)
+  abbrev pub CleanItem : Field → Type 0
+  CleanItem f = ((tagOf f ≡ 0x10) × CleanImport f) ⊎ Regular f
 
   abbrev pub CleanAround : ℕ → Fields → Type 0
-  CleanAround k none = ⊥
-  CleanAround zero (more f fs) = OwnImport i lit own file f × CleanBehind fs
-  CleanAround (suc k) (more f fs) = (tagOf f ≡ 0x10) × CleanImport f × CleanAround k fs
+  CleanAround k fs = Amid (OwnImport i lit own file) CleanItem k fs
 
   -- ---- *work*
 
-  abbrev pub WorkedBehind : Fields → Fields → Type 0
-  WorkedBehind none gs = gs ≡ none
-  WorkedBehind (more f fs) gs =
-      ((tagOf f ≡ 0x10) × (g : Field) × (hs : Fields) × (gs ≡ more g hs) × Clean i own context (fixedOf f) g × WorkedBehind fs hs) ⊎
-      (RegularAll (more f fs) × AlikeAll (keep stays (more f fs)) gs)
+  abbrev pub WorkedItem : Field → Field → Type 0
+  WorkedItem f g = ((tagOf f ≡ 0x10) × Clean i own context (fixedOf f) g) ⊎ (Regular f × Alike f g)
+
+  abbrev pub WorkedOwn : Field → Field → Type 0
+  WorkedOwn f g = (tagOf f ≡ 0x10) × Redeclared i lit own file context (partsOf f) g
 
   abbrev pub Worked : ℕ → Fields → Fields → Type 0
-  Worked k none gs = ⊥
-  Worked zero (more f fs) gs = (g : Field) × (hs : Fields) × (gs ≡ more g hs) × (tagOf f ≡ 0x10) × Redeclared i lit own file context (partsOf f) g × WorkedBehind fs hs
-  Worked (suc k) (more f fs) gs = (tagOf f ≡ 0x10) × (g : Field) × (hs : Fields) × (gs ≡ more g hs) × Clean i own context (fixedOf f) g × Worked k fs hs
+  Worked k fs gs = Paired WorkedOwn WorkedItem k fs gs
+
+  item-stays : (f g : Field) → WorkedItem f g → stays g ≡ stays f
+  item-stays f g (inl h) = import-stays g (h .1 .0) ∙ sym (import-stays f (h .0))
+  item-stays f g (inr h) = stays-alike f g (h .1)
+
+  own-stays : (f g : Field) → WorkedOwn f g → (stays f ≡ true) × (stays g ≡ true)
+  own-stays f g h = (import-stays f (h .0), import-stays g (ap tagOf (h .1 .1)))
 
   module _ (e : Setting) (one : e .pass ≡ first) (mine : e .own ≡ own) (res : fileOf (valueOf lit) (e .table) ≡ some file)
       (inner : external e lit ≡ false) (named : same (nameOf i) (two require-atom) ≡ false) where
     clean-walk : (f : Field) (p : ℕ) (s : State) → tagOf f ≡ 0x10 → CleanImport f → After (walk f e false p s) (λ g t. Clean i own context (fixedOf f) g)
     clean-walk f p s q h = rw (walk-first e one f p s q) (first-clean i own context e (fixedOf f) (partsOf f) p s (h .0) (h .1))
 
-    -- before *keep*
-    abbrev KeptBehind : Fields → Fields → Type 0
-    KeptBehind fs gs = WorkedBehind fs (keep stays gs)
+    item-worked : (f : Field) (p : ℕ) (s : State) → CleanItem f → After (walk f e false p s) (λ g t. WorkedItem f g)
+    item-worked f p s (inl h) =
+        after-weaken (walk f e false p s) (λ g t. Clean i own context (fixedOf f) g) (λ g t. WorkedItem f g) (λ g t c. inl (h .0, c)) (clean-walk f p s (h .0) (h .1))
+    item-worked f p s (inr h) = after-weaken (walk f e false p s) (λ g t. Alike f g) (λ g t. WorkedItem f g) (λ g t a. inr (h, a)) (walk-alike e one f false p s h)
 
-    behind-worked : (fs : Fields) (p : ℕ) (s : State) → CleanBehind fs → After (walkAll fs e false p s) (λ gs t. KeptBehind fs gs)
-    unfolding walk keep
+    behind-worked : (fs : Fields) (p : ℕ) (s : State) → Each CleanItem fs → After (walkAll fs e false p s) (λ gs t. PairedAll WorkedItem fs gs)
+    unfolding walk
     behind-worked none p s h = refl
-    behind-worked (more f fs) p s (inl h) =
-        after-bind (walk f e false p s) _ (λ g t. Clean i own context (fixedOf f) g) (λ gs t. KeptBehind (more f fs) gs) (clean-walk f p s (h .0) (h .1)) λ g s c.
-        after-bind (walkAll fs e false (p + size f) s) _ (λ gs t. KeptBehind fs gs) (λ gs t. KeptBehind (more f fs) gs) (behind-worked fs (p + size f) s (h .2)) λ gs s k.
-        inl (h .0, g, keep stays gs, keep-yes stays g gs (import-stays g (c .0)), c, k)
-    behind-worked (more f fs) p s (inr h) =
-        after-weaken (walkAll (more f fs) e false p s) (λ gs t. AlikeAll (more f fs) gs) (λ gs t. KeptBehind (more f fs) gs)
-        (λ gs t a. inr (h, keep-alike (more f fs) gs a)) (walkAll-alike e one (more f fs) false p s h)
+    behind-worked (more f fs) p s h =
+        after-bind (walk f e false p s) _ (λ g t. WorkedItem f g) (λ gs t. PairedAll WorkedItem (more f fs) gs) (item-worked f p s (h .0)) λ g s c.
+        after-bind (walkAll fs e false (p + size f) s) _ (λ gs t. PairedAll WorkedItem fs gs) (λ gs t. PairedAll WorkedItem (more f fs) gs)
+        (behind-worked fs (p + size f) s (h .1)) λ gs s k. (g, gs, refl, c, k)
 
     -- the namespace's own import
     note-own : (m : Option ℕ) (p : ℕ) (s : State) → After (noteSpecifiers m (more (field 0x22 i none) none) p s) (λ gs t. gs ≡ more (field 0x22 i none) none)
@@ -124,47 +113,47 @@ module _ (i lit : List ℕ) (own file : ℕ) (context : contextOf i ≡ four (lo
     own-walk : (f : Field) (p : ℕ) (s : State) → OwnImport i lit own file f → After (walk f e false p s) (λ g t. Redeclared i lit own file context (partsOf f) g)
     own-walk f p s w = rw (walk-first e one f p s (w .tag), w .literal) (own-import (partsOf f) p s (w .sole))
 
-    redeclared-tag : (ds : Fields) (g : Field) → Redeclared i lit own file context ds g → tagOf g ≡ 0x10
-    redeclared-tag ds g h = ap tagOf (h .1)
-
-    around-worked : (k : ℕ) (fs : Fields) (p : ℕ) (s : State) → CleanAround k fs → After (walkAll fs e false p s) (λ gs t. Worked k fs (keep stays gs))
-    unfolding walk keep
+    around-worked : (k : ℕ) (fs : Fields) (p : ℕ) (s : State) → CleanAround k fs → After (walkAll fs e false p s) (λ gs t. Worked k fs gs)
+    unfolding walk
     around-worked k none p s h = absurd h
     around-worked zero (more f fs) p s h =
-        after-bind (walk f e false p s) _ (λ g t. Redeclared i lit own file context (partsOf f) g) (λ gs t. Worked zero (more f fs) (keep stays gs)) (own-walk f p s (h .0)) λ g s c.
-        after-bind (walkAll fs e false (p + size f) s) _ (λ gs t. KeptBehind fs gs) (λ gs t. Worked zero (more f fs) (keep stays gs)) (behind-worked fs (p + size f) s (h .1)) λ gs s k.
-        (g, keep stays gs, keep-yes stays g gs (import-stays g (redeclared-tag (partsOf f) g c)), h .0 .tag, c, k)
+        after-bind (walk f e false p s) _ (λ g t. Redeclared i lit own file context (partsOf f) g) (λ gs t. Worked zero (more f fs) gs) (own-walk f p s (h .0)) λ g s c.
+        after-bind (walkAll fs e false (p + size f) s) _ (λ gs t. PairedAll WorkedItem fs gs) (λ gs t. Worked zero (more f fs) gs) (behind-worked fs (p + size f) s (h .1)) λ gs s k.
+        (g, gs, refl, (h .0 .tag, c), k)
     around-worked (suc k) (more f fs) p s h =
-        after-bind (walk f e false p s) _ (λ g t. Clean i own context (fixedOf f) g) (λ gs t. Worked (suc k) (more f fs) (keep stays gs)) (clean-walk f p s (h .0) (h .1)) λ g s c.
-        after-bind (walkAll fs e false (p + size f) s) _ (λ gs t. Worked k fs (keep stays gs)) (λ gs t. Worked (suc k) (more f fs) (keep stays gs))
-        (around-worked k fs (p + size f) s (h .2)) λ gs s r.
-        (h .0, g, keep stays gs, keep-yes stays g gs (import-stays g (c .0)), c, r)
+        after-bind (walk f e false p s) _ (λ g t. WorkedItem f g) (λ gs t. Worked (suc k) (more f fs) gs) (item-worked f p s (h .0)) λ g s c.
+        after-bind (walkAll fs e false (p + size f) s) _ (λ gs t. Worked k fs gs) (λ gs t. Worked (suc k) (more f fs) gs) (around-worked k fs (p + size f) s (h .1)) λ gs s r.
+        (g, gs, refl, c, r)
 
-    -- the first pass, as a tree
-    pub first-worked : (k : ℕ) (items : Fields) (s : State) → CleanAround k items → After (walkModule e items s) (λ works t. Worked k items works)
+    -- the first pass, as a tree: of the items that stay
+    pub first-worked : (k : ℕ) (items : Fields) (s : State) → CleanAround k items → After (walkModule e items s) (λ works t. Worked (placeKept k items) (keep stays items) works)
     unfolding walkModule
     first-worked k items s h =
-        after-bind (walkAll items e false 3 (setTop true s)) _ (λ gs t. Worked k items (keep stays gs)) (λ works t. Worked k items works)
-        (around-worked k items 3 (setTop true s) h) λ gs t r. r
+        after-bind (walkAll items e false 3 (setTop true s)) _ (λ gs t. Worked k items gs) (λ works t. Worked (placeKept k items) (keep stays items) works)
+        (around-worked k items 3 (setTop true s) h) λ gs t r. paired-keep WorkedOwn WorkedItem own-stays item-stays k items gs r
 
   -- ---- Namespaces and their usages
 
   module _ (Space : List ℕ → Type 0) (locals : (j : List ℕ) → Space j → contextOf j ≡ four (local own)) where
-    -- imports whose namespaces are those, then items without imports
+    -- imports whose namespaces are those, and other items, in any order
+    abbrev pub ReadyItem : Field → Type 0
+    ReadyItem f = ((tagOf f ≡ 0x10) × Each (OfImport Space own locals) (specifiersIn (partsOf f))) ⊎ Regular f
+
     abbrev pub Ready : Fields → Type 0
-    Ready none = Unit {0}
-    Ready (more f fs) = ((tagOf f ≡ 0x10) × Each (OfImport Space own locals) (specifiersIn (partsOf f)) × Ready fs) ⊎ RegularAll (more f fs)
+    Ready fs = Each ReadyItem fs
 
     module _ (e : Setting) (one : e .pass ≡ first) (mine : e .own ≡ own) (res : fileOf (valueOf lit) (e .table) ≡ some file)
         (inner : external e lit ≡ false) (named : same (nameOf i) (two require-atom) ≡ false) where
+      item-spaces : (f : Field) (p : ℕ) (s : State) → ReadyItem f → Spaces Space own locals s → After (walk f e false p s) (λ g t. Spaces Space own locals t)
+      item-spaces f p s (inl r) h = rw (walk-first e one f p s (r .0)) (import-space Space own locals e (fixedOf f) (partsOf f) p s (r .1) h)
+      item-spaces f p s (inr r) h = item-keeps e (Spaces Space own locals) (space-steps Space own locals e mine) one f false p s r h
+
       ready-spaces : (fs : Fields) (p : ℕ) (s : State) → Ready fs → Spaces Space own locals s → After (walkAll fs e false p s) (λ gs t. Spaces Space own locals t)
       unfolding walk
       ready-spaces none p s r h = h
-      ready-spaces (more f fs) p s (inl r) h =
-          after-bind (walk f e false p s) _ (λ g t. Spaces Space own locals t) (λ gs t. Spaces Space own locals t)
-          (rw (walk-first e one f p s (r .0)) (import-space Space own locals e (fixedOf f) (partsOf f) p s (r .1) h)) λ g s h.
-          after-bind (walkAll fs e false (p + size f) s) _ (λ gs t. Spaces Space own locals t) (λ gs t. Spaces Space own locals t) (ready-spaces fs (p + size f) s (r .2) h) λ gs s h. h
-      ready-spaces (more f fs) p s (inr r) h = items-keep e (Spaces Space own locals) (space-steps Space own locals e mine) one (more f fs) false p s r h
+      ready-spaces (more f fs) p s r h =
+          after-bind (walk f e false p s) _ (λ g t. Spaces Space own locals t) (λ gs t. Spaces Space own locals t) (item-spaces f p s (r .0) h) λ g s h.
+          after-bind (walkAll fs e false (p + size f) s) _ (λ gs t. Spaces Space own locals t) (λ gs t. Spaces Space own locals t) (ready-spaces fs (p + size f) s (r .1) h) λ gs s h. h
 
       pub first-spaces : (items : Fields) (ms : Modules) → Ready items → After (walkModule e items (start ms)) (λ gs t. Spaces Space own locals t)
       unfolding walkModule importedAs find

@@ -1,6 +1,6 @@
 -- Demand 3, first part: a namespace import is kept whole or taken apart completely. Its words as definitions, and its statement.
 -- Document 01, 'Demand 3's words'.
-use Prim.Native.Nat.{ℕ, zero, suc}
+use Prim.Native.Nat.{ℕ}
 use mathlib.Core.Path.{_≡_}
 use mathlib.Core.Bool.{Bool, true, false, cond, _&&_}
 use mathlib.Core.List.{List, [], _∷_, _++_}
@@ -20,8 +20,8 @@ use Rattle.inputs.specs.Table.{Row, rowsIn, atomsIn, fileOf}
 use Rattle.extraction_rules.specs.First.{specifiersIn, stays}
 use Rattle.extraction_rules.specs.Call.{Lent, Lengths, Extracted, itemsRead, extracted}
 use Rattle.resolving_rules.specs.Call.{Lent as LentRecords, Resolved, resolved}
-use Rattle.theorems.specs.Stands.{How, plain, computed, bare, original, imported, otherwise, Standing, headOf, tailOf, standingsAll, stands, isUse, isPlain, properties}
-use Rattle.theorems.specs.Placed.{all, wellPlaced}
+use Rattle.placement.specs.Stands.{How, plain, computed, bare, original, imported, otherwise, Standing, headOf, tailOf, standingsAll, stands, isUse, isPlain, properties}
+use Rattle.placement.specs.Placed.{all, itemAt, wellPlaced}
 
 -- ---- Uses in the lent tree and in *out*
 
@@ -59,12 +59,6 @@ Every P [] = Unit {0}
 Every P (s ∷ l) = P s × Every P l
 
 -- ---- Declaration and resolved record
-
--- the item at a place
-abbrev pub itemAt : ℕ → Fields → Option Field
-itemAt k none = nothing
-itemAt zero (more f fs) = some f
-itemAt (suc k) (more f fs) = itemAt k fs
 
 -- the specifiers of the import with the literal x at a place
 abbrev pub Declares : Fields → ℕ → List ℕ → Fields → Type 0

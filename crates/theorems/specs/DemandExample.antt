@@ -1,10 +1,10 @@
--- Demand 3 on whole calls, by computation: trees at both ends, and for each clause of 'well placed' a tree that breaks it. All are our own.
+-- Demand 3 on whole calls, by computation: trees at both ends, and for each clause of 'well placed' what becomes of a tree that breaks it. All
+-- are our own.
 use Prim.Native.Nat.{ℕ}
 use mathlib.Core.Path.{_≡_, refl, sym, ap, _∙_}
 use mathlib.Core.Bool.{Bool, true, false, true≢false}
-use mathlib.Core.List.{List, [], _∷_, _++_, map, cons≢nil}
+use mathlib.Core.List.{List, [], _∷_, _++_, cons≢nil}
 use mathlib.Core.Option.{some, Option·getD}
-use lib.ListN.{replicate}
 use Rattle.scope.specs.Id.{default-atom, export}
 use Rattle.scope.specs.Modules.{Module, Modules, unmarked, numberOf}
 use Rattle.tree.specs.Layout.{two, four, same, valueOf}
@@ -18,30 +18,22 @@ use Rattle.extraction_rules.specs.Build.{statement, ident, member, call, requir
 use Rattle.metadata.specs.Metadata.{contextKey, attribute}
 use Rattle.resolving_rules.specs.Call.{Resolved, resolved}
 use Rattle.resolving_rules.specs.Computes.{computing as computing-resolved}
-use Rattle.theorems.specs.Stands.{headOf, stands}
-use Rattle.theorems.specs.Placed.{all, importsIn, importsPrecede, sharesNone, ownLocals, soleNamespace, fitNamespaces, wellPlaced}
-use Rattle.theorems.specs.Demand.{takes, TakenApart, Kept, Ends, ResolvesTo, handedOn}
-use Rattle.theorems.specs.Example.{placing, spaced, ax, at}
+use Rattle.placement.specs.Stands.{headOf, stands}
+use Rattle.placement.specs.Placed.{wellPlaced}
+use Rattle.placement.specs.Example.{placing, ax, at, n, literal-n, ay, spaced-n, behind, late, shared-source, shared-local, other-context, in-company}
+use Rattle.placement.specs.Example.{as-target, below-object, as-shorthand, a-private, with-private, namespace-require, property-require}
+use Rattle.theorems.specs.Demand.{usesOf, recordFor, takes, TakenApart, Kept, Ends, ResolvesTo, handedOn}
+
+-- every definition of both calls and of their ends: a worked case says `unfolding ending`
+unfoldable ending : ℕ → Fields → Bool
+unfolding placing computing-resolved usesOf recordFor takes
+ending own items = wellPlaced own items
 
 -- ---- Fields
-
--- the atom of './n', and the literal
-abbrev n : ℕ
-n = 30
-
-abbrev literal-n : List ℕ
-literal-n = two n ++ four 1
-
-abbrev ay : Field
-ay = member (ident (own a)) y
 
 -- an export of one name: the 11's bytes, and the 23's
 abbrev exports : List ℕ → List ℕ → Field
 exports l i = field 0x11 l (listed (leaf 0x23 i ∷ []))
-
--- import * as i from './n'
-abbrev spaced-n : List ℕ → Field
-spaced-n i = field 0x10 literal-n (listed (namespace i ∷ []))
 
 -- an import of './m', and one of './n', with the metadata that the first pass appends: './m' is module 1, './n' is module 2
 abbrev from-m : List Field → Field
@@ -91,9 +83,6 @@ says i items = takes (rowsIn table) (literal 1) (stands items i)
 
 -- ---- Both ends of `import * as a from './m'`, in front of other items
 
-abbrev behind : List Field → Fields
-behind l = listed (spaced ∷ l)
-
 -- well placed, to be taken apart, and taken apart into these properties
 abbrev Apart : List (List ℕ) → Fields → Type 0
 Apart ps items =
@@ -108,17 +97,17 @@ Whole items =
 
 -- a.x
 one-use : Apart (two x ∷ []) (behind (statement ax ∷ []))
-unfolding placing computing-resolved
+unfolding ending
 one-use = (refl, refl, record { gone = refl; used = (refl, tt); declares = (_, refl, refl); records = refl })
 
 -- a.x; a.y; a.x
 repeated : Apart (two x ∷ two y ∷ two x ∷ []) (behind (statement ax ∷ statement ay ∷ statement ax ∷ []))
-unfolding placing computing-resolved
+unfolding ending
 repeated = (refl, refl, record { gone = refl; used = (refl, (refl, (refl, tt))); declares = (_, refl, refl); records = refl })
 
 -- ; { a.x }, where the empty statement is dropped
 in-block : Apart (two x ∷ []) (behind (leaf 0x40 [] ∷ fields 0x45 (statement ax ∷ []) ∷ []))
-unfolding placing computing-resolved
+unfolding ending
 in-block = (refl, refl, record { gone = refl; used = (refl, tt); declares = (_, refl, refl); records = refl })
 
 -- a.x.y
@@ -126,50 +115,50 @@ abbrev member-of-use : Fields
 member-of-use = behind (statement (member ax y) ∷ [])
 
 chained : Apart (two x ∷ []) member-of-use
-unfolding placing computing-resolved
+unfolding ending
 chained = (refl, refl, record { gone = refl; used = (refl, tt); declares = (_, refl, refl); records = refl })
 
 -- the use becomes x, and its member y stays
 chained-out : Accepted (λ r t. partsOf (r .out) ≡ listed (from-m (named (exp x) ∷ []) ∷ statement (member (ident (exp x)) y) ∷ [])) (after member-of-use)
-unfolding placing computing-resolved
+unfolding ending
 chained-out = refl
 
 -- export { b as a }; a.x: an exported name never counts
 exported-name : Apart (two x ∷ []) (behind (exports (0 ∷ []) (1 ∷ own b ++ 1 ∷ own a) ∷ statement ax ∷ []))
-unfolding placing computing-resolved
+unfolding ending
 exported-name = (refl, refl, record { gone = refl; used = (refl, tt); declares = (_, refl, refl); records = refl })
 
 -- no use
 unused : Whole (behind [])
-unfolding placing computing-resolved
+unfolding ending
 unused = (refl, refl, record { declares = (_, refl, refl); records = refl; used = tt })
 
 -- a.x; a[a.x]
 by-expression : Whole (behind (statement ax ∷ statement (at ax) ∷ []))
-unfolding placing computing-resolved
+unfolding ending
 by-expression = (refl, refl, record { declares = (_, refl, refl); records = refl; used = (refl, (refl, (refl, tt))) })
 
 -- import * as b from './n'; a[b.y]: what stands inside the brackets changes
 inside-brackets : Whole (behind (spaced-n (own b) ∷ statement (at (member (ident (own b)) y)) ∷ []))
-unfolding placing computing-resolved
+unfolding ending
 inside-brackets = (refl, refl, record { declares = (_, refl, refl); records = refl; used = (refl, tt) })
 
 -- a.x; a
 as-value : Whole (behind (statement ax ∷ statement (ident (own a)) ∷ []))
-unfolding placing computing-resolved
+unfolding ending
 as-value = (refl, refl, record { declares = (_, refl, refl); records = refl; used = (refl, (refl, tt)) })
 
 -- export { a }; a.x
 exported : Whole (behind (exports (0 ∷ []) (1 ∷ own a ++ 0 ∷ []) ∷ statement ax ∷ []))
-unfolding placing computing-resolved
+unfolding ending
 exported = (refl, refl, record { declares = (_, refl, refl); records = refl; used = (refl, (refl, tt)) })
 
 -- export { a } from './n'; a.x
 exported-from : Whole (behind (exports (1 ∷ literal-n) (1 ∷ own a ++ 0 ∷ []) ∷ statement ax ∷ []))
-unfolding placing computing-resolved
+unfolding ending
 exported-from = (refl, refl, record { declares = (_, refl, refl); records = refl; used = (refl, (refl, tt)) })
 
--- ---- A tree for each clause of 'well placed' that breaks this clause alone, and what goes wrong
+-- ---- What goes wrong, for each clause of 'well placed', with a tree that breaks this clause alone (placement, Example)
 
 -- of the namespace i that the import of './m' at the place k declares: what `takes` says, what the calls leave, and that this is not
 -- the end it says
@@ -192,33 +181,24 @@ elsewhere i p h e = unlike (λ g. same (fixedOf g) i) (e ∙ ap (λ j. ident (p 
 
 -- imports precede other items: a.x; import * as a from './m'
 -- The use is not listed, and the name stays.
-abbrev late : Fields
-late = listed (statement ax ∷ spaced ∷ [])
-
 late-fails : Wrong true 1 (own a) late (statement ax ∷ from-m (namespace (own a) ∷ []) ∷ []) (record-m (as-all (own a) ∷ []) ∷ [])
-unfolding placing computing-resolved
+unfolding ending
 late-fails = record { told = refl; left = (refl, refl); fails = λ e. cons≢nil (e .2 .gone) }
 
 -- share no source: import * as a from './m'; import * as b from './m'; a.x
 -- The unused b forces the source, and the record lists more than x.
-abbrev shared-source : Fields
-shared-source = behind (imports (namespace (own b) ∷ []) ∷ statement ax ∷ [])
-
 shared-source-fails : Wrong true 0 (own a) shared-source
     (from-m (named (exp x) ∷ []) ∷ from-m (namespace (own b) ∷ []) ∷ statement (ident (exp x)) ∷ [])
     (record-m (as-all (own a) ∷ as-all (own b) ∷ as-name (exp x) ∷ []) ∷ [])
-unfolding placing computing-resolved
+unfolding ending
 shared-source-fails = record { told = refl; left = (refl, refl); fails = λ e. unlike (λ o. has 0x92 (headOf (Option·getD o none))) (e .2 .records) refl refl }
 
 -- share no local id: import * as a from './m'; import * as a from './n'; a.x
 -- The use becomes x in the other source's export context, 7.
-abbrev shared-local : Fields
-shared-local = behind (spaced-n (own a) ∷ statement ax ∷ [])
-
 shared-local-fails : Wrong true 0 (own a) shared-local
     (from-m (named (exp x) ∷ []) ∷ from-n (named (exp x) ∷ []) ∷ statement (ident (two x ++ four 7)) ∷ [])
     (record-m (as-name (exp x) ∷ []) ∷ record-n 3 (as-name (exp x) ∷ []) ∷ [])
-unfolding placing computing-resolved
+unfolding ending
 shared-local-fails = record {
   told = refl;
   left = (refl, refl);
@@ -229,97 +209,70 @@ shared-local-fails = record {
 
 -- locals have own local context: import * as x from './m'; x.x, where x has the export context of './m'
 -- The property is the id that should be gone.
-abbrev other-context : Fields
-other-context = listed (imports (namespace (exp x) ∷ []) ∷ statement (member (ident (exp x)) x) ∷ [])
-
 other-context-fails : Wrong true 0 (exp x) other-context (from-m (named (exp x) ∷ []) ∷ statement (ident (exp x)) ∷ []) (record-m (as-name (exp x) ∷ []) ∷ [])
-unfolding placing computing-resolved
+unfolding ending
 other-context-fails = record { told = refl; left = (refl, refl); fails = λ e. cons≢nil (e .2 .gone) }
 
 -- a 22 is sole: import d, * as a from './m'; a.x
 -- The declaration keeps a and does not list x, nor does the record.
-abbrev in-company : Fields
-in-company = listed (imports (default (own d) ∷ namespace (own a) ∷ []) ∷ statement ax ∷ [])
-
 in-company-fails : Wrong true 0 (own a) in-company
     (from-m (default (own d) ∷ namespace (own a) ∷ []) ∷ statement (ident (exp x)) ∷ [])
     (record-m (leaf 0x91 (own d ++ 1 ∷ two default-atom ++ four 0) ∷ []) ∷ [])
-unfolding placing computing-resolved
+unfolding ending
 in-company-fails = record { told = refl; left = (refl, refl); fails = λ e. cons≢nil (e .2 .gone) }
 
 -- namespace ids stand elsewhere only as ..: a.x; a.y = b
 -- A target is neither rewritten nor does it force: the name stays.
-abbrev as-target : Fields
-as-target = behind (statement ax ∷ statement (fields 0x66 (ay ∷ ident (own b) ∷ [])) ∷ [])
-
 as-target-fails : Wrong true 0 (own a) as-target
     (from-m (named (exp x) ∷ []) ∷ statement (ident (exp x)) ∷ statement (fields 0x66 (ay ∷ ident (own b) ∷ [])) ∷ [])
     (record-m (as-name (exp x) ∷ []) ∷ [])
-unfolding placing computing-resolved
+unfolding ending
 as-target-fails = record { told = refl; left = (refl, refl); fails = λ e. cons≢nil (e .2 .gone) }
 
 -- with *object* set: a.x; f(a).y
-abbrev below-object : Fields
-below-object = behind (statement ax ∷ statement (member (call (ident (own f)) (ident (own a))) y) ∷ [])
-
 below-object-fails : Wrong true 0 (own a) below-object
     (from-m (named (exp x) ∷ []) ∷ statement (ident (exp x)) ∷ statement (member (call (ident (own f)) (ident (own a))) y) ∷ [])
     (record-m (as-name (exp x) ∷ []) ∷ [])
-unfolding placing computing-resolved
+unfolding ending
 below-object-fails = record { told = refl; left = (refl, refl); fails = λ e. cons≢nil (e .2 .gone) }
 
 -- as shorthand: a.x; ({ a })
-abbrev as-shorthand : Fields
-as-shorthand = behind (statement ax ∷ statement (fields 0x69 (leaf 0x77 (own a) ∷ [])) ∷ [])
-
 as-shorthand-fails : Wrong true 0 (own a) as-shorthand
     (from-m (named (exp x) ∷ []) ∷ statement (ident (exp x)) ∷ statement (fields 0x69 (leaf 0x77 (own a) ∷ [])) ∷ [])
     (record-m (as-name (exp x) ∷ []) ∷ [])
-unfolding placing computing-resolved
+unfolding ending
 as-shorthand-fails = record { told = refl; left = (refl, refl); fails = λ e. cons≢nil (e .2 .gone) }
 
 -- with a private name: a.#x
 -- The call is refused, so that no end is reached. Behind a use that forces a, as in a; a.#x, nothing goes wrong: it is kept.
-abbrev a-private : Field
-a-private = statement (fields 0x63 (ident (own a) ∷ leaf 0x72 (two x) ∷ []))
-
-abbrev with-private : Fields
-with-private = behind (a-private ∷ [])
-
 abbrev forced-private : Fields
 forced-private = behind (statement (ident (own a)) ∷ a-private ∷ [])
 
 with-private-refused : after with-private ≡ refused 7 36
-unfolding placing computing-resolved
+unfolding ending
 with-private-refused = refl
 
 with-private-kept : Accepted (λ r t. Kept (own a) (literal 1) 0 forced-private (partsOf (r .out)) (partsOf (t .list))) (after forced-private)
-unfolding placing computing-resolved
+unfolding ending
 with-private-kept = record { declares = (_, refl, refl); records = refl; used = (refl, tt) }
 
 -- no namespace is named require: import * as require from './m'; require('./m')
 -- The import is kept, but the callee gets the export context.
-abbrev namespace-require : Fields
-namespace-require = listed (imports (namespace (own 0) ∷ []) ∷ statement (requiring (own 0)) ∷ [])
-
 namespace-require-fails : Wrong false 0 (own 0) namespace-require
     (from-m (namespace (own 0) ∷ []) ∷ statement (requiring (exp 0)) ∷ [])
     (record-m (as-all (own 0) ∷ []) ∷ [])
-unfolding placing computing-resolved
+unfolding ending
 namespace-require-fails = record { told = refl; left = (refl, refl); fails = λ e. unlike (λ g. same (fixedOf g) (exp 0)) (e .used .0) refl refl }
 
 -- nor a property of one: const q = a.require('./n')
 -- The use becomes a call of require, whose callee gets the export context of './n'.
-abbrev property-require : Fields
-property-require = behind (const (own q) (call (member (ident (own a)) 0) (leaf 0x61 literal-n)) ∷ [])
-
 abbrev required-n : Module
 required-n = record { file = 11; loaded = false; stored = false; cjs = true; wrapping = false }
 
 property-require-fails : Wrong true 0 (own a) property-require
     (from-m (named (exp 0) ∷ []) ∷ const (own q) (call (ident (two 0 ++ four 7)) (leaf 0x61 literal-n)) ∷ [])
     (record-m (as-name (exp 0) ∷ []) ∷ record-n 1 (as-name (own q) ∷ []) ∷ [])
-unfolding placing computing-resolved
+unfolding ending
 property-require-fails = record {
   told = refl;
   left = (refl, refl);
@@ -327,20 +280,3 @@ property-require-fails = record {
       let h : e .0 ≡ 1 = one-module (rowsIn table) (unmarked 9 ∷ unmarked 10 ∷ required-n ∷ []) (literal 1) (e .1) refl refl in
       elsewhere (two 0 ++ four 7) (two 0) h (e .2 .used .0) refl refl;
 }
-
--- the five conjuncts of `wellPlaced`, in its order
-abbrev clauses : Fields → List Bool
-clauses items =
-    let fs : List Field = importsIn items in
-    importsPrecede items ∷ sharesNone fs ∷ all (ownLocals 0) fs ∷ all soleNamespace fs ∷ all (fitNamespaces items) fs ∷ []
-
-each-breaks-one : map clauses
-    (late ∷ shared-source ∷ shared-local ∷ other-context ∷ in-company ∷ as-target ∷ below-object ∷ as-shorthand ∷ with-private ∷ namespace-require ∷ property-require ∷ []) ≡
-    (false ∷ true ∷ true ∷ true ∷ true ∷ []) ∷
-    (true ∷ false ∷ true ∷ true ∷ true ∷ []) ∷
-    (true ∷ false ∷ true ∷ true ∷ true ∷ []) ∷
-    (true ∷ true ∷ false ∷ true ∷ true ∷ []) ∷
-    (true ∷ true ∷ true ∷ false ∷ true ∷ []) ∷
-    replicate 6 (true ∷ true ∷ true ∷ true ∷ false ∷ [])
-unfolding placing
-each-breaks-one = refl

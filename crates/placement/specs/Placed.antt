@@ -1,18 +1,25 @@
 -- 'Well placed', clause by clause. Document 01, 'Records and resolving'.
-use Prim.Native.Nat.{ℕ}
+use Prim.Native.Nat.{ℕ, zero, suc}
 use mathlib.Core.Bool.{Bool, true, false, not, cond, _&&_, _||_}
 use mathlib.Core.List.{List, [], _∷_}
+use mathlib.Core.Option.{Option, none as nothing, some}
 use Rattle.scope.specs.Id.{require-atom, local}
 use Rattle.tree.specs.Layout.{two, four, same, idAt, nameOf, contextOf, valueOf}
 use Rattle.tree.specs.Tree.{Field, Fields, none, more, fixedOf, partsOf}
 use Rattle.inputs.specs.Lists.{isSome, among}
 use Rattle.inputs.specs.Fields.{has, keep, findField, sole}
 use Rattle.extraction_rules.specs.First.{specifiersIn}
-use Rattle.theorems.specs.Stands.{How, stands, isMisplaced, properties}
+use Rattle.placement.specs.Stands.{How, stands, isMisplaced, properties}
 
 unfoldable pub all : {A : Type 0} → (A → Bool) → List A → Bool
 all p [] = true
 all p (a ∷ l) = p a && all p l
+
+-- the item at a place
+abbrev pub itemAt : ℕ → Fields → Option Field
+itemAt k none = nothing
+itemAt zero (more f fs) = some f
+itemAt (suc k) (more f fs) = itemAt k fs
 
 -- the imports among the items, in order
 unfoldable pub importsIn : Fields → List Field

@@ -17,10 +17,9 @@ use Rattle.extraction_rules.specs.First.{specifiersIn}
 use Rattle.extraction_rules.proofs.ShapeLaws.{Shaped, Specifiers, import-parts, shaped-parts}
 use Rattle.extraction_rules.proofs.SpaceLaws.{OfImport}
 use Rattle.extraction_rules.proofs.KeepLaws.{Each}
-use Rattle.theorems.specs.Placed.{importsIn, sharesNone, localIds, ownLocals, soleNamespace}
-use Rattle.theorems.specs.Demand.{itemAt}
-use Rattle.theorems.proofs.SpecifierLaws.{locals-other, locals-all, whole-specifier}
-use Rattle.theorems.proofs.PlacedLaws.{EachImport, EachBut, Apart, shares-apart, each-at, but-with}
+use Rattle.placement.specs.Placed.{importsIn, sharesNone, localIds, ownLocals, soleNamespace, itemAt}
+use Rattle.placement.proofs.LocalsLaws.{locals-other, locals-all, whole-specifier}
+use Rattle.placement.proofs.PlacedLaws.{EachImport, EachBut, Apart, shares-apart, each-at, but-with}
 
 -- ---- Each, by place
 

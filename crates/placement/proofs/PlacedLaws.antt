@@ -1,4 +1,5 @@
--- From 'well placed' and the grammar to what the passes need of the items around a namespace's import.
+-- What each clause of 'well placed' says item by item: of each import, of each but one, and of the namespace that one of them declares. That
+-- imports precede other items is the premise of one law, `front-imports`: in front of an import stand imports.
 use Prim.Native.Nat.{ℕ, zero, suc}
 use mathlib.Core.Path.{_≡_, refl, sym, ap, subst, _∙_}
 use mathlib.Core.Logic.{_⊎_, inl, inr}
@@ -7,50 +8,39 @@ use mathlib.Core.List.{List, [], _∷_}
 use mathlib.Core.Option.{Option, none as nothing, some}
 use native.Mathlib.Omega.{arith}
 use borrow.Author.Tests.{eqb-true, eq-eqb, not-true}
-use Rattle.tree.proofs.Table.{both-true}
 use Rattle.scope.specs.Id.{require-atom, local}
-use Rattle.tree.specs.Layout.{same, two, four, nameOf, contextOf, valueOf}
-use Rattle.tree.specs.Tree.{Field, field, Fields, none, more, tagOf, fixedOf, partsOf}
+use Rattle.tree.proofs.Table.{both-true}
+use Rattle.tree.specs.Layout.{same, two, four, nameOf, contextOf, valueOf, idAt}
+use Rattle.tree.specs.Tree.{Field, field, Fields, none, more, tagOf, fixedOf}
 use Rattle.tree.specs.Grammar.{ruleOf}
 use Rattle.tree.proofs.LayoutLaws.{same-refl, same-equal}
 use Rattle.tree.proofs.FixedLaws.{or-right}
-use Rattle.inputs.specs.Lists.{filter, isSome, among}
-use Rattle.inputs.specs.Fields.{has, findField}
+use Rattle.inputs.specs.Lists.{isSome, among}
+use Rattle.inputs.specs.Fields.{has, findField, keep}
 use Rattle.extraction_rules.specs.First.{specifiersIn}
 use Rattle.extraction_rules.proofs.TestLaws.{or-neither, is-false}
-use Rattle.extraction_rules.proofs.ShapeLaws.{ShapedAll}
-use Rattle.extraction_rules.proofs.AlikeLaws.{RegularAll}
+use Rattle.extraction_rules.proofs.ShapeLaws.{ShapedAll, Shaped, import-parts, shaped-parts, shaped-each, Specifiers}
+use Rattle.extraction_rules.proofs.AlikeLaws.{Regular}
 use Rattle.extraction_rules.proofs.RegularLaws.{regular, item-outer}
-use Rattle.extraction_rules.proofs.SpaceLaws.{OfImport}
 use Rattle.extraction_rules.proofs.ReadableLaws.{item-step}
-use Rattle.extraction_rules.proofs.KeepLaws.{Each, each-weaken, each-both}
-use Rattle.theorems.specs.Stands.{How, stands, isUse, properties}
-use Rattle.theorems.specs.Placed.{all, importsIn, importsPrecede, hasSource, hasLocal, sharesNone, localsOf, fitNamespace}
-use Rattle.theorems.specs.Demand.{itemAt, isUsed}
-use Rattle.theorems.proofs.WaysLaws.{waysAll, stands-ways}
-use Rattle.theorems.proofs.HowLaws.{allPlain}
-use Rattle.theorems.proofs.FirstPassLaws.{OtherImport, OwnImport, Behind, Around}
-use Rattle.theorems.proofs.WorkedLaws.{CleanImport, CleanBehind, CleanAround, Ready}
-use Rattle.theorems.proofs.SettledLaws.{takesApart}
-use Rattle.theorems.proofs.OutFieldLaws.{fits, Fine}
+use Rattle.extraction_rules.proofs.KeepLaws.{Each, each-weaken, each-both, keep-specifiers}
+use Rattle.placement.specs.Stands.{How, stands, properties}
+use Rattle.placement.specs.Placed.{all, importsIn, importsPrecede, hasSource, hasLocal, sharesNone, localsOf, fitNamespace, itemAt, localIds, ownLocals}
+use Rattle.placement.specs.Placed.{soleNamespace, fitNamespaces, wellPlaced}
+use Rattle.placement.proofs.WaysLaws.{waysAll, stands-ways}
+use Rattle.placement.proofs.HowLaws.{fits}
+use Rattle.placement.proofs.LocalsLaws.{locals-all, whole-specifier}
 
 -- ---- Items that are no imports
 
-rest-regular : (fs : Fields) → ShapedAll fs (ruleOf 0x01) → findField (has 0x10) fs ≡ nothing → RegularAll fs
-unfolding findField
-rest-regular none h k = tt
-rest-regular (more f fs) h k = go (has 0x10 f) refl k (rest-regular fs)
-  where
-    go : (b : Bool) → has 0x10 f ≡ b → cond b (some f) (findField (has 0x10) fs) ≡ nothing →
-        (ShapedAll fs (ruleOf 0x01) → findField (has 0x10) fs ≡ nothing → RegularAll fs) → RegularAll (more f fs)
-    go true q k ih = absurd (let z : _≡_ {A = ℕ} 0 1 = cc in omega arith)
-    go false q k ih = let w = item-step (tagOf f) (h .0) (h .1) in (regular f (item-outer (tagOf f) (w .0) q) (h .2), ih (subst (ShapedAll fs) (w .1) (h .3)) k)
+pub item-regular : (f : Field) (fs : Fields) → ShapedAll (more f fs) (ruleOf 0x01) → has 0x10 f ≡ false → Regular f
+item-regular f fs h q = regular f (item-outer (tagOf f) (item-step (tagOf f) (h .0) (h .1) .0) q) (h .2)
 
-pub not-some : {A : Type 0} (o : Option A) → not (isSome o) ≡ true → o ≡ nothing
+not-some : {A : Type 0} (o : Option A) → not (isSome o) ≡ true → o ≡ nothing
 not-some nothing h = refl
 not-some (some a) h = absurd (true≢false (sym h))
 
--- ---- Imports, then other items
+-- ---- Imports and other items
 
 -- P holds of each import, but for the one at a place
 abbrev pub EachImport : (Field → Type 0) → Fields → Type 0
@@ -67,12 +57,29 @@ each-at P k none f h e = absurd (let z : _≡_ {A = ℕ} 0 1 = cc in omega arith
 each-at P zero (more g fs) f h e = let q : g ≡ f = cc in subst P q (h .0)
 each-at P (suc k) (more g fs) f h e = each-at P k fs f (h .1) e
 
+-- P holds of the item at a place, and Q of the others
+abbrev pub Amid : (Field → Type 0) → (Field → Type 0) → ℕ → Fields → Type 0
+Amid P Q k none = ⊥
+Amid P Q zero (more f fs) = P f × Each Q fs
+Amid P Q (suc k) (more f fs) = Q f × Amid P Q k fs
+
+pub amid-each : (P Q S : Field → Type 0) (k : ℕ) (fs : Fields) → ((f : Field) → P f → S f) → ((f : Field) → Q f → S f) → Amid P Q k fs → Each S fs
+amid-each P Q S k none p q h = absurd h
+amid-each P Q S zero (more f fs) p q h = (p f (h .0), each-weaken Q S fs q (h .1))
+amid-each P Q S (suc k) (more f fs) p q h = (q f (h .0), amid-each P Q S k fs p q (h .1))
+
 -- what is known of each item, and of each but one, together
 pub but-with : (P Q R : Field → Type 0) (k : ℕ) (fs : Fields) → ((f : Field) → tagOf f ≡ 0x10 → P f → Q f → R f) → EachBut P k fs → Each Q fs → EachBut R k fs
 but-with P Q R k none j h w = tt
 but-with P Q R zero (more f fs) j h w =
     each-weaken (λ f. (tagOf f ≡ 0x10 → P f) × Q f) (λ f. tagOf f ≡ 0x10 → R f) fs (λ f k t. j f t (k .0 t) (k .1)) (each-both (λ f. tagOf f ≡ 0x10 → P f) Q fs h (w .1))
 but-with P Q R (suc k) (more f fs) j h w = ((λ t. j f t (h .0 t) (w .0)), but-with P Q R k fs j (h .1) (w .1))
+
+-- the items in front of a place are imports
+abbrev pub Front : ℕ → Fields → Type 0
+Front k none = Unit {0}
+Front zero (more f fs) = Unit {0}
+Front (suc k) (more f fs) = (tagOf f ≡ 0x10) × Front k fs
 
 -- 'imports precede other items'
 precede-cases : (f : Field) (fs : Fields) → importsPrecede (more f fs) ≡ true →
@@ -95,72 +102,19 @@ found-at (suc k) (more f fs) x cs e h = go (has 0x10 f) h (found-at k fs x cs e)
     go true h j = let z : _≡_ {A = ℕ} 0 1 = cc in omega arith
     go false h j = j h
 
-none-first : (f : Field) (fs : Fields) → has 0x10 f ≡ false → findField (has 0x10) fs ≡ nothing → findField (has 0x10) (more f fs) ≡ nothing
-unfolding findField
-none-first f fs q h = rw q h
+-- The one law that needs it: in front of an import stand imports. By induction on the place: an item that is none would have no import behind it
+pub front-imports : (k : ℕ) (fs : Fields) (x : List ℕ) (cs : Fields) → importsPrecede fs ≡ true → itemAt k fs ≡ some (field 0x10 x cs) → Front k fs
+front-imports k none x cs h e = tt
+front-imports zero (more f fs) x cs h e = tt
+front-imports (suc k) (more f fs) x cs h e = go (precede-cases f fs h) (λ v. front-imports k fs x cs v e)
+  where
+    go : ((tagOf f ≡ 0x10) × (importsPrecede fs ≡ true)) ⊎ ((has 0x10 f ≡ false) × (findField (has 0x10) fs ≡ nothing)) →
+        (importsPrecede fs ≡ true → Front k fs) → (tagOf f ≡ 0x10) × Front k fs
+    go (inl v) ih = (v .0, ih (v .1))
+    go (inr v) ih = absurd (found-at k fs x cs e (v .1))
 
-tail-shaped : (f : Field) (fs : Fields) → ShapedAll (more f fs) (ruleOf 0x01) → ShapedAll fs (ruleOf 0x01)
+pub tail-shaped : (f : Field) (fs : Fields) → ShapedAll (more f fs) (ruleOf 0x01) → ShapedAll fs (ruleOf 0x01)
 tail-shaped f fs h = subst (ShapedAll fs) (item-step (tagOf f) (h .0) (h .1) .1) (h .3)
-
-module _ (i lit : List ℕ) (own file : ℕ) (context : contextOf i ≡ four (local own)) where
-  -- all that is asked of another import
-  abbrev pub Others : Field → Type 0
-  Others f = OtherImport i lit own file f × CleanImport i lit own file context f
-
-  behind-placed : (fs : Fields) → ShapedAll fs (ruleOf 0x01) → importsPrecede fs ≡ true → EachImport Others fs → Behind i lit own file fs × CleanBehind i lit own file context fs
-  behind-placed none h p o = (tt, tt)
-  behind-placed (more f fs) h p o = go (precede-cases f fs p) (behind-placed fs (tail-shaped f fs h))
-    where
-      go : ((tagOf f ≡ 0x10) × (importsPrecede fs ≡ true)) ⊎ ((has 0x10 f ≡ false) × (findField (has 0x10) fs ≡ nothing)) →
-          (importsPrecede fs ≡ true → EachImport Others fs → Behind i lit own file fs × CleanBehind i lit own file context fs) →
-          Behind i lit own file (more f fs) × CleanBehind i lit own file context (more f fs)
-      go (inl w) ih = let r = ih (w .1) (o .1) in let a = o .0 (w .0) in (inl (a .0, r .0), inl (w .0, a .1, r .1))
-      go (inr w) ih = let r = rest-regular (more f fs) h (none-first f fs (w .0) (w .1)) in (inr r, inr r)
-
-  pub around-placed : (k : ℕ) (fs : Fields) (cs : Fields) → ShapedAll fs (ruleOf 0x01) → importsPrecede fs ≡ true →
-      itemAt k fs ≡ some (field 0x10 lit cs) → OwnImport i lit own file (field 0x10 lit cs) → EachBut Others k fs →
-      Around i lit own file k fs × CleanAround i lit own file context k fs
-  around-placed k none cs h p e w o = absurd (let z : _≡_ {A = ℕ} 0 1 = cc in omega arith)
-  around-placed zero (more f fs) cs h p e w o = go (precede-cases f fs p)
-    where
-      q : f ≡ field 0x10 lit cs
-      q = cc
-
-      go : ((tagOf f ≡ 0x10) × (importsPrecede fs ≡ true)) ⊎ ((has 0x10 f ≡ false) × (findField (has 0x10) fs ≡ nothing)) →
-          Around i lit own file zero (more f fs) × CleanAround i lit own file context zero (more f fs)
-      go (inl v) = let r = behind-placed fs (tail-shaped f fs h) (v .1) o in let m = subst (OwnImport i lit own file) (sym q) w in ((m, r .0), (m, r .1))
-      go (inr v) = absurd (true≢false (sym (ap (has 0x10) q) ∙ v .0))
-  around-placed (suc k) (more f fs) cs h p e w o = go (precede-cases f fs p) (λ v. around-placed k fs cs (tail-shaped f fs h) v e w (o .1))
-    where
-      go : ((tagOf f ≡ 0x10) × (importsPrecede fs ≡ true)) ⊎ ((has 0x10 f ≡ false) × (findField (has 0x10) fs ≡ nothing)) →
-          (importsPrecede fs ≡ true → Around i lit own file k fs × CleanAround i lit own file context k fs) →
-          Around i lit own file (suc k) (more f fs) × CleanAround i lit own file context (suc k) (more f fs)
-      go (inl v) ih = let r = ih (v .1) in let a = o .0 (v .0) in ((a .0, r .0), (v .0, a .1, r .1))
-      go (inr v) ih = absurd (found-at k fs lit cs e (v .1))
-
-  module _ (Space : List ℕ → Type 0) (locals : (j : List ℕ) → Space j → contextOf j ≡ four (local own)) where
-    pub ready-placed : (fs : Fields) → ShapedAll fs (ruleOf 0x01) → importsPrecede fs ≡ true →
-        EachImport (λ f. Each (OfImport Space own locals) (specifiersIn (partsOf f))) fs → Ready i lit own file context Space locals fs
-    ready-placed none h p o = tt
-    ready-placed (more f fs) h p o = go (precede-cases f fs p) (λ v. ready-placed fs (tail-shaped f fs h) v (o .1))
-      where
-        go : ((tagOf f ≡ 0x10) × (importsPrecede fs ≡ true)) ⊎ ((has 0x10 f ≡ false) × (findField (has 0x10) fs ≡ nothing)) →
-            (importsPrecede fs ≡ true → Ready i lit own file context Space locals fs) → Ready i lit own file context Space locals (more f fs)
-        go (inl v) ih = inl (v .0, o .0 (v .0), ih (v .1))
-        go (inr v) ih = inr (rest-regular (more f fs) h (none-first f fs (v .0) (v .1)))
-
--- ---- 'namespace ids stand elsewhere only as ..'
-
-pub fine-placed : (items : Fields) (i : List ℕ) → fitNamespace (stands items i) i ≡ true → (same (nameOf i) (two require-atom) ≡ false)
-    × Fine (takesApart (stands items i)) (waysAll items i false)
-unfolding fitNamespace
-fine-placed items i h =
-    let hs = stands items i in
-    let a = both-true (fits hs && not (same (nameOf i) (two require-atom))) (not (among (two require-atom) (properties hs))) h in
-    let b = both-true (fits hs) (not (same (nameOf i) (two require-atom))) (a .0) in (
-      not-true (same (nameOf i) (two require-atom)) (b .1),
-      subst (Fine (takesApart hs)) (stands-ways items i) ((λ t. both-true (isUsed (filter isUse hs)) (allPlain hs) t .1), not-true (among (two require-atom) (properties hs)) (a .1), λ _. b .0),
-    )
 
 -- ---- 'share no source or local id'
 
@@ -244,9 +198,78 @@ shares-apart i (suc k) (more g fs) f h e t m = go (has 0x10 g) refl h (λ v. sha
         )
     go false q h ih = ((λ t. absurd (true≢false (sym (eq-eqb (tagOf g) 0x10 t) ∙ q))), ih h)
 
+-- ---- All imports
+
+-- of each import of a list of items
+pub imports-all : (t : Field → Bool) (fs : Fields) → all t (importsIn fs) ≡ true → EachImport (λ f. t f ≡ true) fs
+unfolding importsIn all
+imports-all t none h = tt
+imports-all t (more f fs) h = go (has 0x10 f) refl h (imports-all t fs)
+  where
+    go : (b : Bool) → has 0x10 f ≡ b → all t (cond b (f ∷ importsIn fs) (importsIn fs)) ≡ true →
+        (all t (importsIn fs) ≡ true → EachImport (λ f. t f ≡ true) fs) → EachImport (λ f. t f ≡ true) (more f fs)
+    go true q h ih = let w = both-true (t f) (all t (importsIn fs)) h in ((λ _. w .0), ih (w .1))
+    go false q h ih = ((λ z. absurd (true≢false (sym (eq-eqb (tagOf f) 0x10 z) ∙ q))), ih h)
+
+-- ---- 'namespace ids stand elsewhere only as ..'
+
 pub fits-placed : (items : Fields) (i : List ℕ) → fitNamespace (stands items i) i ≡ true → fits (waysAll items i false) ≡ true
 unfolding fitNamespace
 fits-placed items i h =
     let hs = stands items i in
     let a = both-true (fits hs && not (same (nameOf i) (two require-atom))) (not (among (two require-atom) (properties hs))) h in
     subst (λ (l : List How). fits l ≡ true) (stands-ways items i) (both-true (fits hs) (not (same (nameOf i) (two require-atom))) (a .0) .0)
+
+-- ---- Well placed, clause by clause
+
+pub record Well (own : ℕ) (items : Fields) : Type 0 where
+  pub precede : importsPrecede items ≡ true
+  pub share : sharesNone (importsIn items) ≡ true
+  pub locals : all (ownLocals own) (importsIn items) ≡ true
+  pub soles : all soleNamespace (importsIn items) ≡ true
+  pub fit : all (fitNamespaces items) (importsIn items) ≡ true
+
+pub well-of : (own : ℕ) (items : Fields) → wellPlaced own items ≡ true → Well own items
+unfolding wellPlaced
+well-of own items h =
+    let fs = importsIn items in
+    let a = both-true (importsPrecede items && sharesNone fs && all (ownLocals own) fs && all soleNamespace fs) (all (fitNamespaces items) fs) h in
+    let b = both-true (importsPrecede items && sharesNone fs && all (ownLocals own) fs) (all soleNamespace fs) (a .0) in
+    let c = both-true (importsPrecede items && sharesNone fs) (all (ownLocals own) fs) (b .0) in
+    let d = both-true (importsPrecede items) (sharesNone fs) (c .0) in
+    record { precede = d .0; share = d .1; locals = c .1; soles = b .1; fit = a .1 }
+
+-- the namespace of the declaration
+namespaces-own : (cs : Fields) (i : List ℕ) → specifiersIn cs ≡ more (field 0x22 i none) none → keep (has 0x22) cs ≡ more (field 0x22 i none) none
+unfolding keep
+namespaces-own cs i q = sym (keep-specifiers cs) ∙ ap (keep (has 0x22)) q
+
+-- what the declaration's own clauses of 'well placed' say of i
+pub record Mine (own : ℕ) (items : Fields) (i : List ℕ) : Type 0 where
+  pub whole : idAt i 0 ≡ i
+  pub context : contextOf i ≡ four (local own)
+  pub fit : fitNamespace (stands items i) i ≡ true
+
+pub mine-of : (own : ℕ) (items : Fields) (k : ℕ) (x i : List ℕ) (cs : Fields) → ShapedAll items (ruleOf 0x01) → Well own items →
+    itemAt k items ≡ some (field 0x10 x cs) → specifiersIn cs ≡ more (field 0x22 i none) none → Mine own items i
+unfolding ownLocals fitNamespaces localIds all
+mine-of own items k x i cs shape w e q =
+    let f = field 0x10 x cs in
+    let s = shaped-parts f 0x10 (each-at Shaped k items f (shaped-each items (ruleOf 0x01) shape) e) refl in
+    let p = subst Specifiers q (import-parts cs s .0) in
+    let whole : idAt i 0 ≡ i = whole-specifier (field 0x22 i none) (inr refl) (p .0 .1) in
+    let loc : all (λ i. same (contextOf i) (four (local own))) (localIds (specifiersIn cs)) ≡ true =
+    each-at (λ f. tagOf f ≡ 0x10 → ownLocals own f ≡ true) k items f (imports-all (ownLocals own) items (w .locals)) e refl in
+    let one =
+    locals-all (λ i. same (contextOf i) (four (local own))) (more (field 0x22 i none) none)
+    (subst (λ (fs : Fields). all (λ i. same (contextOf i) (four (local own))) (localIds fs) ≡ true) q loc) in
+    let fit : all (λ i. fitNamespace (stands items i) i) (localIds (keep (has 0x22) cs)) ≡ true =
+    each-at (λ f. tagOf f ≡ 0x10 → fitNamespaces items f ≡ true) k items f (imports-all (fitNamespaces items) items (w .fit)) e refl in
+    let two =
+    locals-all (λ i. fitNamespace (stands items i) i) (more (field 0x22 i none) none)
+    (subst (λ (fs : Fields). all (λ i. fitNamespace (stands items i) i) (localIds fs) ≡ true) (namespaces-own cs i q) fit) in
+    record {
+      whole = whole;
+      context = ap contextOf (sym whole) ∙ same-equal (contextOf (idAt i 0)) (four (local own)) (one .0);
+      fit = subst (λ (j : List ℕ). fitNamespace (stands items j) j ≡ true) whole (two .0);
+    }

@@ -14,8 +14,8 @@ use Rattle.inputs.specs.Fields.{has}
 use Rattle.extraction_rules.specs.Walk.{Parts, unwalked, member, super, assignment, children, partsFor}
 use Rattle.extraction_rules.proofs.ListLaws.{same-not, not-same}
 use Rattle.extraction_rules.proofs.AlikeLaws.{SameBytes, equal, behind, callee, Alike, AlikeAll, alike-more, alike-none, same-other, alike-tag, first-byte}
-use Rattle.theorems.specs.Stands.{How, plain, computed, bare, otherwise, idsIn, Standing, matching, headOf, tailOf, byMember, objectIds}
-use Rattle.theorems.specs.Stands.{standings, standingsAll, standingsMember, standingsAssignment, standingsTarget, stands}
+use Rattle.placement.specs.Stands.{How, plain, computed, bare, otherwise, idsIn, Standing, matching, headOf, tailOf, byMember, objectIds, standings, standingsAll}
+use Rattle.placement.specs.Stands.{standingsMember, standingsAssignment, standingsTarget, stands}
 
 -- those of the ids that are i
 unfoldable pub met : List (How × List ℕ) → List ℕ → List How

@@ -1,21 +1,24 @@
--- Lists of ways to stand: which of them are uses, whether these are all plain, and their properties.
+-- Lists of ways to stand: which of them are uses, whether these are all plain, their properties, and whether one is misplaced.
 use Prim.Native.Nat.{ℕ}
 use mathlib.Core.Path.{_≡_, refl, sym, ap, _∙_}
-use mathlib.Core.Bool.{Bool, true, false, cond, _&&_, true≢false, and-assoc}
+use mathlib.Core.Bool.{Bool, true, false, cond, _&&_, true≢false, and-assoc, not}
 use mathlib.Core.List.{List, [], _∷_, _++_, append-nil}
 use lib.Dec.{eqb}
 use lib.ListN.{getD}
 use Rattle.tree.specs.Layout.{same, idAt}
 use Rattle.tree.specs.Tree.{field, Fields, none, more, fixedOf}
-use Rattle.extraction_rules.specs.Walk.{partsFor}
+use Rattle.tree.proofs.Table.{both-true}
 use Rattle.inputs.specs.Lists.{filter}
 use Rattle.inputs.specs.Fields.{has}
+use Rattle.extraction_rules.specs.Walk.{partsFor}
 use Rattle.extraction_rules.proofs.ListLaws.{All}
 use Rattle.extraction_rules.proofs.TagLaws.{find-any}
 use Rattle.extraction_rules.proofs.SeekLaws.{filter-append}
-use Rattle.theorems.specs.Stands.{How, plain, computed, bare, original, imported, otherwise, firstId, namedIds, originalIds, idsIn, isUse, isPlain, properties, objectIds}
-use Rattle.theorems.specs.Placed.{all}
-use Rattle.theorems.proofs.WaysLaws.{met, ways}
+use Rattle.extraction_rules.proofs.KeepLaws.{Each}
+use Rattle.placement.specs.Stands.{How, plain, computed, bare, original, imported, otherwise, firstId, namedIds, originalIds, idsIn, isUse, isPlain, properties}
+use Rattle.placement.specs.Stands.{objectIds, isMisplaced}
+use Rattle.placement.specs.Placed.{all}
+use Rattle.placement.proofs.WaysLaws.{met, ways, waysAll}
 
 -- every use is a plain property
 abbrev pub allPlain : List How → Bool
@@ -169,3 +172,17 @@ pub ident-neutral : (i : List ℕ) (t : ℕ) (x : List ℕ) (cs : Fields) → t 
 unfolding ways partsFor
 ident-neutral i t x cs q k =
     rw (q, k) (rw (append-nil (met (idsIn 0x60 x true) i)) (unused-neutral (idsIn 0x60 x true) i (ids-unused 0x60 x true refl (λ _. refl))))
+
+-- ---- Fit ways
+
+-- none is misplaced
+abbrev pub fits : List How → Bool
+fits l = all (λ h. not (isMisplaced h)) l
+
+pub fits-append : (l m : List How) → fits (l ++ m) ≡ true → (fits l ≡ true) × (fits m ≡ true)
+fits-append l m h = both-true (fits l) (fits m) (sym (all-append (λ h. not (isMisplaced h)) l m) ∙ h)
+
+pub fits-each : (fs : Fields) (i : List ℕ) → fits (waysAll fs i false) ≡ true → Each (λ f. fits (ways f i false) ≡ true) fs
+unfolding ways
+fits-each none i h = tt
+fits-each (more f fs) i h = let w = fits-append (ways f i false) (waysAll fs i false) h in (w .0, fits-each fs i (w .1))
