@@ -131,7 +131,8 @@ returns-5 c =
     let a = c15 .args in
     let new = c8 .number-sources .result .scope in
     let given = sym (c8 .number-sources .ensures) ∙ ap (λ (e : NumberAnswer). onNumber e (modulesOf new)) (c5 .enum-told4 .given .1) in
-    answers-list (a .table .now) (a .records .now) (a .scope) (a .list .now) (c11 .lists .ensures) (c9 .enum-told .given .1) new given (c3 .listing .result) (c3 .listing .ensures) (c .list-answer .ensures)
+    answers-list (a .table .now) (a .records .now) (a .scope) (a .list .now) (c11 .lists .ensures) (c9 .enum-told .given .1)
+    new given (c3 .listing .result) (c3 .listing .ensures) (c .list-answer .ensures)
 
 pub resolve-imports-spec : {M : Type 1} → statement M
 resolve-imports-spec =
