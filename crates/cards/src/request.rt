@@ -11,7 +11,7 @@ use text::fields::{Span, field, find};
 use text::hex::{Bytes, bytes_at, read_hex};
 
 // Where the lent bytes of an extraction end, one behind the other.
-#[derive(Drop)]
+#[derive(Clone, Copy)]
 pub struct Ends {
     pub files: usize,
     pub externals: usize,
@@ -33,7 +33,7 @@ pub struct Request {
     pub ends: Ends,
 }
 
-#[derive(Drop)]
+#[derive(Clone, Copy)]
 pub enum Asked {
     Extract(Request),
     Malformed,
@@ -52,7 +52,7 @@ pub enum Own {
     Bad,
 }
 
-#[derive(Drop)]
+#[derive(Clone, Copy)]
 pub enum Modes {
     Is(u32),
     Bad,

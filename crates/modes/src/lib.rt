@@ -3,7 +3,7 @@ ghost use Rattle.std.specs.Prelude.{◌≡◌};
 ghost use Rattle.modes.specs.Bits.{modesOf};
 
 // A later mode is a field here, and a bit in `modes_of`.
-#[derive(Drop)]
+#[derive(Clone, Copy)]
 pub struct Modes {
     // calls of require count
     pub require: bool,

@@ -11,7 +11,7 @@ use tree::layout::{LITERAL, same_run};
 pub const IN_WORK: u32 = 65536;
 
 // What a record is written for: its literal, by value and place, and whether it keeps namespaces.
-#[derive(Drop)]
+#[derive(Clone, Copy)]
 pub struct Wanted {
     pub value: Atom,
     pub place: u32,

@@ -10,7 +10,7 @@ use line::Tally;
 use text::fields::find;
 
 // What was read and not yet taken: the window from start up to end.
-#[derive(Drop)]
+#[derive(Clone, Copy)]
 pub struct Window {
     pub start: usize,
     pub end: usize,

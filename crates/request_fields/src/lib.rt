@@ -38,7 +38,7 @@ pub fn flag_at(s: &[u8], to: usize, k: usize) -> Flag
     }
 }
 
-#[derive(Drop)]
+#[derive(Clone, Copy)]
 pub enum Modes {
     Are(u32),
     Bad,

@@ -7,7 +7,7 @@ use text::decimal::Number;
 use text::hex::{Bytes, bytes_at};
 
 // Where the lent bytes of a request end, one behind the other: files, externals, table, tree.
-#[derive(Drop)]
+#[derive(Clone, Copy)]
 pub struct Ends {
     pub files: usize,
     pub externals: usize,
@@ -22,7 +22,7 @@ pub enum Lists {
 }
 
 // How long the buffers are.
-#[derive(Drop)]
+#[derive(Clone, Copy)]
 pub struct Rooms {
     pub work: usize,
     pub out: usize,
@@ -36,7 +36,7 @@ pub enum Lengths {
 }
 
 // What an extraction is asked.
-#[derive(Drop)]
+#[derive(Clone, Copy)]
 pub struct Asked {
     pub own: u16,
     pub modes: u32,

@@ -4,23 +4,23 @@ ghost use Rattle.std.specs.Prelude.{◌≡◌};
 ghost use Rattle.scope.specs.Id.{empty, context, localCtxt, exportCtxt};
 
 // A name; equal names have equal atoms.
-#[derive(Drop)]
+#[derive(Clone, Copy)]
 pub struct Atom(pub u16);
 
 // A context of identifiers.
-#[derive(Drop)]
+#[derive(Clone, Copy)]
 pub struct SyntaxContext(pub u32);
 
 // A module's number in a scope.
-#[derive(Drop)]
+#[derive(Clone, Copy)]
 pub struct ModuleId(pub u16);
 
 // A file's number.
-#[derive(Drop)]
+#[derive(Clone, Copy)]
 pub struct FileName(pub u16);
 
 // A name in a context.
-#[derive(Drop)]
+#[derive(Clone, Copy)]
 pub struct Id(pub Atom, pub SyntaxContext);
 
 impl Atom {

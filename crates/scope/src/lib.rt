@@ -20,7 +20,7 @@ pub enum Mark {
     Wrapping,
 }
 
-#[derive(Drop)]
+#[derive(Clone, Copy)]
 pub struct Scope {
     count: usize,
     files: [u16; 256],
@@ -29,14 +29,14 @@ pub struct Scope {
 }
 
 // Was a file's number given? A 257th file is refused.
-#[derive(Drop)]
+#[derive(Clone, Copy)]
 pub enum FileAnswer {
     Given,
     TooManyFiles,
 }
 
 // What a request for a file gives: the scope, and the file's module and contexts.
-#[derive(Drop)]
+#[derive(Clone, Copy)]
 pub struct Gen {
     pub scope: Scope,
     pub id: ModuleId,

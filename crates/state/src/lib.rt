@@ -69,7 +69,7 @@ pub const TABLE: Table = Table {
 pub const CELLS: usize = 22354;
 
 // A literal: its value, and the place of its bytes. Places below 65,536 are in the lent tree, the others in the tree after the first pass.
-#[derive(Drop)]
+#[derive(Clone, Copy)]
 pub struct Literal {
     pub value: Atom,
     pub place: u32,

@@ -4,7 +4,7 @@ ghost use Rattle.std.specs.Prelude.{◌≡◌, [], ◌∷◌, ◌++◌, map, ◌
 ghost use Rattle.tables.specs.Rows.{rows, RowPut, Lies, flip, firstIn, NoneBefore, placeBy, leastBy, lesser, leastOf, without, withoutRow, withValue};
 ghost use Rattle.tables.specs.Only.{Only};
 
-#[derive(Drop)]
+#[derive(Clone, Copy)]
 pub struct Table {
     pub count: usize,
     pub base: usize,

@@ -32,7 +32,7 @@ use tree::layout::{Reach, atom_at};
 
 // How the parts of a field are walked: all alike; as those of a 63, with *object* set for the first and clear for the others; as those of a
 // 66, whose first is a target.
-#[derive(Drop)]
+#[derive(Clone, Copy)]
 enum Way {
     Children(bool),
     Member,
