@@ -1,13 +1,13 @@
 -- Which modules sources resolve to. Document 01, 'Demand 3's words'.
 use Rattle.std.specs.Prelude.{ℕ, Bool, false, List, eqb}
-use Rattle.std.proofs.Math.Option.{bind, Option·elim}
+use Rattle.std.proofs.Math.Option.{bind, Option-elim}
 use Rattle.scope.specs.Modules.{Modules, number_of}
 use Rattle.inputs.specs.Lists.{find, is_some}
 use Rattle.inputs.specs.Table.{Row, fileOf}
 
 -- 'A source resolves to the module of the file its table names': the module n
 abbrev pub isModuleOf : ℕ → List Row → Modules → List ℕ → Bool
-isModuleOf n rows ms a = Option·elim (bind (fileOf a rows) (λ f. number_of f ms)) false (eqb n)
+isModuleOf n rows ms a = Option-elim (bind (fileOf a rows) (λ f. number_of f ms)) false (eqb n)
 
 -- one of these sources does
 abbrev pub reaches : ℕ → List Row → Modules → List (List ℕ) → Bool

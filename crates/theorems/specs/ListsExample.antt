@@ -1,6 +1,6 @@
 -- A worked list of calls, by computation: which calls wrap which modules, and the marks after it. It is our own.
 use Rattle.std.specs.Prelude.{ℕ, ◌≡◌, refl, true, false, List, [], ◌∷◌, ◌++◌, map}
-use Rattle.std.proofs.Math.Option.{bind, Option·elim}
+use Rattle.std.proofs.Math.Option.{bind, Option-elim}
 use Rattle.scope.specs.declared.Mark.TheVariants.{Stored, Cjs, Wrapping}
 use Rattle.scope.specs.Id.{moduleId}
 use Rattle.scope.specs.Modules.{gen, filesIn, requestAll, marking}
@@ -48,7 +48,7 @@ numbers = 0 ∷ 1 ∷ 2 ∷ []
 
 -- nothing is wrapped, neither by the calls nor in the scope
 quiet-wraps : map (λ n. wrapsAny n quiet []) numbers ≡ false ∷ false ∷ false ∷ []
-unfolding computing computing-resolved gen filesIn requestAll marking after wraps wrapsAny bind Option·elim
+unfolding computing computing-resolved gen filesIn requestAll marking after wraps wrapsAny bind Option-elim
 quiet-wraps = refl
 
 quiet-after : afterAll quiet [] ≡
@@ -59,7 +59,7 @@ quiet-after = refl
 
 -- both modules are wrapped
 wrapping-wraps : map (λ n. wrapsAny n (quiet ++ wrapping) []) numbers ≡ true ∷ true ∷ false ∷ []
-unfolding computing computing-resolved gen filesIn requestAll marking after wraps wrapsAny bind Option·elim
+unfolding computing computing-resolved gen filesIn requestAll marking after wraps wrapsAny bind Option-elim
 wrapping-wraps = refl
 
 wrapping-after : afterAll (quiet ++ wrapping) [] ≡

@@ -1,0 +1,12 @@
+-- `put_modules`: the invariant says that n is within the text, which keeps its length. Each way through the code is arithmetic.
+use Prim.Native.Nat.{◌-◌, ◌≤◌}
+use mathlib.Core.Path.{◌≡◌}
+use lib.ListN.{length}
+use native.Mathlib.Omega.{arith}
+use Rattle.answer_text.proofs.modules.put_modules.Given as goal
+
+abbrev pub invariant-loop-i : goal.invariant-loop-i
+invariant-loop-i l = (l.n ≤ length l.text) × (length l.text ≡ length l.initial.text)
+
+abbrev pub decreases-loop-i : goal.decreases-loop-i
+decreases-loop-i l = l.count - l.i

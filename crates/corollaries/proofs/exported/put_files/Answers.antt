@@ -1,0 +1,82 @@
+-- `put_files`: the invariant says that with the files from module i on all of them are written; `file-written` splits off the one at i.
+-- The measure is n - i.
+use Prim.Native.Nat.{ℕ, ◌+◌, ◌-◌, ◌*◌, ◌≤◌}
+use mathlib.Core.Path.{◌≡◌, refl, ◌∙◌}
+use mathlib.Core.List.{List}
+use native.Mathlib.Omega.{arith}
+use lib.ListN.{length}
+use borrow.Author.Rules.{rules}
+use Rattle.writer.specs.Wrote.{Wrote}
+use Rattle.corollaries.specs.Hosts.{filesFrom, filesBack}
+use Rattle.corollaries.proofs.FilesLaws.{file-written, all-files, no-files}
+use Rattle.corollaries.proofs.exported.put_files.Goals as goal
+
+pub bounds-scope-0 : goal.bounds-scope-0
+bounds-scope-0 c =
+    omega arith
+
+pub overflow_mul-n : goal.overflow_mul-n
+overflow_mul-n c =
+    omega arith
+
+pub bounds-scope-1 : goal.bounds-scope-1
+bounds-scope-1 c =
+    omega arith
+
+pub overflow_add-n : goal.overflow_add-n
+overflow_add-n c =
+    omega arith
+
+pub loop-i-init : goal.loop-i-init
+loop-i-init c =
+    let s = c.args.scope.now in (
+      λ l p w. all-files s (c.wide.result * 256 + c.wide-2.result) (omega (arith, c.wide.ensures, c.wide-2.ensures)) w,
+      refl,
+      omega (arith, c.wide.ensures, c.wide-2.ensures),
+    )
+
+pub overflow_mul-i : goal.overflow_mul-i
+overflow_mul-i c =
+    omega arith
+
+pub overflow_add-i : goal.overflow_add-i
+overflow_add-i c =
+    omega arith
+
+pub bounds-scope-i : goal.bounds-scope-i
+bounds-scope-i c =
+    omega arith
+
+pub overflow_mul-i-in-loop-i : goal.overflow_mul-i-in-loop-i
+overflow_mul-i-in-loop-i c =
+    omega arith
+
+pub overflow_add-i-in-loop-i : goal.overflow_add-i-in-loop-i
+overflow_add-i-in-loop-i c =
+    omega arith
+
+pub bounds-scope-i-in-loop-i : goal.bounds-scope-i-in-loop-i
+bounds-scope-i-in-loop-i c =
+    omega arith
+
+pub overflow_add-i-in-loop-i-2 : goal.overflow_add-i-in-loop-i-2
+overflow_add-i-in-loop-i-2 c =
+    omega arith
+
+pub loop-i-smaller : goal.loop-i-smaller
+loop-i-smaller c =
+    omega arith
+
+pub loop-i-preserved : goal.loop-i-preserved
+loop-i-preserved c =
+    let x = c.put-to.ensures in
+    let y = c.put-to-in-loop-i.ensures in (
+      λ l p w. c.loop-i.invariant.0 l p
+          (file-written c.args.scope.now (c.wide.result * 256 + c.wide-2.result) c.loop-i.i c.loop-i-test.true x y w),
+      y.size ∙ x.size ∙ c.loop-i.invariant.1,
+      c.loop-i.invariant.2,
+    )
+
+pub returns : goal.returns
+returns c =
+    c.loop-i.invariant.0 _ _ (no-files c.args.scope.now (c.wide.result * 256 + c.wide-2.result) c.loop-i.i c.loop-i-test.false)

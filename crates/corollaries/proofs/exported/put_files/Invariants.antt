@@ -1,0 +1,20 @@
+-- `put_files`: the invariant says that with the files from module i on all of them are written; `file-written` splits off the one at i.
+-- The measure is n - i.
+use Prim.Native.Nat.{ℕ, ◌+◌, ◌-◌, ◌*◌, ◌≤◌}
+use mathlib.Core.Path.{◌≡◌, refl, ◌∙◌}
+use mathlib.Core.List.{List}
+use native.Mathlib.Omega.{arith}
+use lib.ListN.{length}
+use borrow.Author.Rules.{rules}
+use Rattle.writer.specs.Wrote.{Wrote}
+use Rattle.corollaries.specs.Hosts.{filesFrom, filesBack}
+use Rattle.corollaries.proofs.FilesLaws.{file-written, all-files, no-files}
+use Rattle.corollaries.proofs.exported.put_files.Given as goal
+
+abbrev pub invariant-loop-i : goal.invariant-loop-i
+invariant-loop-i l = ((l : List ℕ) (p : ℕ) → Wrote l.files l.to (filesFrom (l.n - l.i) l.i l.scope) l p → Wrote l.initial.files 0 (filesBack l.scope) l p)
+    × (length l.files ≡ length l.initial.files)
+    × (l.n ≤ 256)
+
+abbrev pub decreases-loop-i : goal.decreases-loop-i
+decreases-loop-i l = l.n - l.i

@@ -1,0 +1,22 @@
+-- `resolve_with`: one way; `lent-part` says that the part up to n is the files in the scope's bytes, and the part up to `end` the field at the
+-- front of the records' buffer.
+use Rattle.modes.specs.Bits.{modesOf}
+use native.Mathlib.Omega.{arith}
+use lib.ListN.{length}
+use Rattle.corollaries.proofs.FilesLaws.{lent_fits, lent-part}
+use borrow.Author.Rules.{rules}
+use Rattle.corollaries.proofs.exported.resolve_with.Goals as goal
+
+-- UNTRANSLATED Need-slice-bounds-tychodrel-resolve-end
+-- part-tychodrel-resolve-end : tie.Need-slice-bounds-tychodrel-resolve-end
+-- part-tychodrel-resolve-end c =
+--     let c3 = c.before.before.before in
+--     let c9 = c3.before.before.before.before.before.before in
+--     let h = lent_fits c9.args.scope.now c9.requires.0 c3.put-files.ensures in
+--     omega arith
+
+pub returns : goal.returns
+returns c =
+    let a = c.args in
+    lent-part (modesOf a.modes) a.scope.now a.table.now a.records.now c.put_files-n.result c.front-end.result (length a.list.now) c.requires.0
+    c.put_files-n.ensures c.front-end.ensures.0 c.tychodrel_resolve.ensures

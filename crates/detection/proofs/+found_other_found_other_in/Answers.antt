@@ -1,0 +1,106 @@
+-- `found_other` and `found_other_in`: the loop's invariant says that the row from here on answers what the whole row answers.
+-- The measure is a field's length, and a row's length and one more: a field is no longer than the row around it, and its parts start
+-- behind its head of three bytes.
+use Prim.Native.Nat.{◌+◌, ◌-◌, ◌≤◌, ℕ, ◌<◌}
+use mathlib.Core.Path.{◌≡◌, refl, sym, ◌∙◌}
+use native.Mathlib.Omega.{arith}
+use borrow.Author.Rules.{rules}
+use Rattle.tree.specs.Standing.{row_at}
+use Rattle.tree.proofs.AccessLaws.{extent-upto, upto-in}
+use Rattle.detection.specs.Detection.{foundOtherIn}
+use Rattle.detection.proofs.DetectionLaws.{found_none, found-more, found-short, found-upto}
+use Rattle.detection.proofs.+found_other_found_other_in.Goals as goal
+
+pub found_other-bounds-s-at : goal.found_other-bounds-s-at
+found_other-bounds-s-at t c =
+    omega arith
+
+pub found_other-overflow_add-at : goal.found_other-overflow_add-at
+found_other-overflow_add-at t c =
+    omega arith
+
+pub found_other-fixed-requires : goal.found_other-fixed-requires
+found_other-fixed-requires t c =
+    omega arith
+
+pub found_other-returns-in_default : goal.found_other-returns-in_default
+found_other-returns-in_default t c =
+    let a = c.args in
+    sym (found-short a.s.now a.at a.stop (sym c.fixed.ensures ∙ c.in_default.is))
+
+pub found_other-other_here-requires : goal.found_other-other_here-requires
+found_other-other_here-requires t c =
+    let a = c.args in
+    let i =
+    upto-in a.s.now _ (a.at + 3) a.stop c.requires.0
+    (sym c.fixed.ensures ∙ c.in-Upto.is) in
+    omega arith
+
+pub found_other-found_other_in-requires : goal.found_other-found_other_in-requires
+found_other-found_other_in-requires t c =
+    let a = c.args in
+    let i =
+    upto-in a.s.now _ (a.at + 3) a.stop c.requires.0
+    (sym c.fixed.ensures ∙ c.in-Upto.is) in
+    omega arith
+
+pub found_other-returns-then-other_here : goal.found_other-returns-then-other_here
+found_other-returns-then-other_here t c =
+    let a = c.args in
+    sym (found-upto a.s.now a.at a.stop _
+    (sym c.fixed.ensures ∙ c.in-Upto.is)
+    ∙ rw (sym c.other_here.ensures ∙ c.if-other_here.true))
+
+pub found_other-returns-else-other_here : goal.found_other-returns-else-other_here
+found_other-returns-else-other_here t c =
+    let a = c.args in
+    c.found_other_in.ensures
+    ∙
+    sym (found-upto a.s.now a.at a.stop _
+    (sym c.fixed.ensures ∙ c.in-Upto.is)
+    ∙ rw (sym c.other_here.ensures ∙ c.if-other_here.false))
+
+pub found_other_in-loop-stop-init : goal.found_other_in-loop-stop-init
+found_other_in-loop-stop-init t c =
+    (omega arith, omega arith, refl)
+
+pub found_other_in-extent-requires : goal.found_other_in-extent-requires
+found_other_in-extent-requires t c =
+    omega arith
+
+pub found_other_in-returns-in_default : goal.found_other_in-returns-in_default
+found_other_in-returns-in_default t c =
+    let a = c.args in
+    let l = c.loop-stop in
+    sym (l.invariant.2 ∙ found_none a.s.now l.at a.end l.invariant.1 (sym c.extent.ensures ∙ c.in_default.is))
+
+pub found_other_in-found_other-requires : goal.found_other_in-found_other-requires
+found_other_in-found_other-requires t c =
+    let a = c.args in
+    let l = c.loop-stop in
+    let x = sym c.extent.ensures ∙ c.in-Upto.is in
+    let i = extent-upto a.s.now l.at a.end l.invariant.1 x in
+    omega arith
+
+pub found_other_in-returns-then-found_other : goal.found_other_in-returns-then-found_other
+found_other_in-returns-then-found_other t c =
+    let a = c.args in
+    let l = c.loop-stop in
+    let x = sym c.extent.ensures ∙ c.in-Upto.is in
+    sym (l.invariant.2 ∙ found-more a.s.now l.at a.end _ l.invariant.1 x ∙ rw (sym c.found_other.ensures ∙ c.if-found_other.true))
+
+pub found_other_in-loop-stop-smaller : goal.found_other_in-loop-stop-smaller
+found_other_in-loop-stop-smaller t c =
+    let a = c.args in
+    let l = c.loop-stop in
+    let x = sym c.extent.ensures ∙ c.in-Upto.is in
+    let i = extent-upto a.s.now l.at a.end l.invariant.1 x in
+    omega arith
+
+pub found_other_in-loop-stop-preserved : goal.found_other_in-loop-stop-preserved
+found_other_in-loop-stop-preserved t c =
+    let a = c.args in
+    let l = c.loop-stop in
+    let x = sym c.extent.ensures ∙ c.in-Upto.is in
+    let i = extent-upto a.s.now l.at a.end l.invariant.1 x in
+    (omega arith, omega arith, l.invariant.2 ∙ found-more a.s.now l.at a.end _ l.invariant.1 x ∙ rw (sym c.found_other.ensures ∙ c.if-found_other.false))

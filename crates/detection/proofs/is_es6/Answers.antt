@@ -1,0 +1,34 @@
+-- `is_es6`: too long, refused by reading, or read (`detect-long`, `detect-refused`, `detect-read`). `items-accepted` says that the items of
+-- a module that was read stand from 3 on and are accepted, which `items_es6` requires. Why and where are those of the verdict.
+use mathlib.Core.Path.{sym, ap, ◌∙◌}
+use native.Mathlib.Omega.{arith}
+use Rattle.tree.specs.declared.grammar.Set.TheVariants.{Module}
+use Rattle.tree.specs.Read.{read}
+use Rattle.tree.proofs.ReadLaws.{verdict-refused}
+use Rattle.detection.specs.Detection.{answers}
+use Rattle.detection.proofs.DetectionLaws.{items-accepted, detect-long, detect-refused, detect-read}
+use borrow.Author.Rules.{rules}
+use Rattle.detection.proofs.is_es6.Goals as goal
+
+pub returns-then-tree-gt-MOST : goal.returns-then-tree-gt-MOST
+returns-then-tree-gt-MOST c =
+    let a = c.args in
+    (sym (detect-long a.modes a.tree.now c.if-tree-gt-MOST.true), tt)
+
+pub items_es6-requires : goal.items_es6-requires
+items_es6-requires c =
+    let a = c.args in
+    let i = items-accepted a.tree.now (sym c.read_tree.ensures ∙ c.in-Good.is) in
+    (i.0, omega arith, i.1)
+
+pub returns-in-Good : goal.returns-in-Good
+returns-in-Good c =
+    let a = c.args in
+    let e = sym c.read_tree.ensures ∙ c.in-Good.is in
+    (ap answers c.items_es6.ensures ∙ sym (detect-read a.modes a.tree.now c.if-tree-gt-MOST.false e), tt)
+
+pub returns-in-Refused : goal.returns-in-Refused
+returns-in-Refused c =
+    let a = c.args in
+    let e = sym c.read_tree.ensures ∙ c.in-Refused.is in
+    (sym (detect-refused a.modes a.tree.now _ _ c.if-tree-gt-MOST.false e), verdict-refused (read Module a.tree.now) e)

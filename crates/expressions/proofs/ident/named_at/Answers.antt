@@ -1,0 +1,64 @@
+-- `named_at`: each return has its law of AfterLaws: no field, fixed bytes not whole, a 70, another tag.
+-- `extent-upto` and `plain-ends` say that the field and the atom of a 70 lie within end; so the reads are in bounds.
+-- src/ident.rt:70:29
+-- src/ident.rt:70:21
+-- src/ident.rt:71:9
+-- src/ident.rt:71:9
+-- src/ident.rt:73:15
+-- src/ident.rt:74:40
+-- src/ident.rt:74:26
+-- src/ident.rt:75:9
+-- src/ident.rt:75:9
+-- src/ident.rt:78:38
+-- src/ident.rt:78:27
+-- src/ident.rt:66:1
+-- src/ident.rt:66:1
+use Prim.Native.Nat.{◌+◌}
+use mathlib.Core.Path.{sym, ◌∙◌, refl}
+use native.Mathlib.Omega.{arith}
+use Rattle.tree.specs.Layout.{four}
+use Rattle.tree.proofs.AccessLaws.{extent-upto, upto-in}
+use Rattle.expressions.proofs.AfterLaws.{named_none, named-short, named-70, named-rest}
+use Rattle.tree.proofs.WidthLaws.{plain-ends}
+use Rattle.tree.specs.declared.grammar.Value.TheVariants.{Atom}
+use borrow.Author.Rules.{rules}
+use Rattle.expressions.proofs.ident.named_at.Goals as goal
+
+pub returns-in_default : goal.returns-in_default
+returns-in_default c =
+    named_none c.args.s.now c.args.at c.args.end (four c.args.c.0) c.requires.0 (sym c.extent.ensures ∙ c.in_default.is)
+
+pub bounds-s-at : goal.bounds-s-at
+bounds-s-at c =
+    let i = extent-upto c.args.s.now c.args.at c.args.end c.requires.0 (sym c.extent.ensures ∙ c.in-Upto.is) in omega arith
+
+pub fixed-requires : goal.fixed-requires
+fixed-requires c =
+    let i = extent-upto c.args.s.now c.args.at c.args.end c.requires.0 (sym c.extent.ensures ∙ c.in-Upto.is) in omega arith
+
+pub returns-in_default-fixed : goal.returns-in_default-fixed
+returns-in_default-fixed c =
+    named-short c.args.s.now c.args.at c.args.end (four c.args.c.0) c.requires.0
+    (sym c.extent.ensures ∙ c.in-Upto.is) (sym c.fixed.ensures ∙ c.in_default-fixed.is)
+
+pub atom_at-requires : goal.atom_at-requires
+atom_at-requires c =
+    let i = extent-upto c.args.s.now c.args.at c.args.end c.requires.0 (sym c.extent.ensures ∙ c.in-Upto.is) in let j =
+    upto-in c.args.s.now _ (c.args.at + 3) _ i.0 (sym c.fixed.ensures ∙ c.in-Upto-fixed.is) in let k =
+    plain-ends 0x70 Atom refl c.args.s.now _ (c.args.at + 3) _ _ c.if-tag-eq112.true
+    (sym c.fixed.ensures ∙ c.in-Upto-fixed.is) in omega arith
+
+pub returns-then-tag-eq112 : goal.returns-then-tag-eq112
+returns-then-tag-eq112 c =
+    let i = extent-upto c.args.s.now c.args.at c.args.end c.requires.0 (sym c.extent.ensures ∙ c.in-Upto.is) in
+    let j = upto-in c.args.s.now _ (c.args.at + 3) _ i.0 (sym c.fixed.ensures ∙ c.in-Upto-fixed.is) in let k =
+    plain-ends 0x70 Atom refl c.args.s.now _ (c.args.at + 3) _ _ c.if-tag-eq112.true
+    (sym c.fixed.ensures ∙ c.in-Upto-fixed.is) in
+    named-70 c.args.s.now c.args.at c.args.end (four c.args.c.0) c.requires.0
+    (sym c.extent.ensures ∙ c.in-Upto.is) (λ i. (c.shared_slice_known-1.given i).fits) (omega arith)
+    (sym c.fixed.ensures ∙ c.in-Upto-fixed.is) c.if-tag-eq112.true c.atom_at.ensures
+
+pub returns-else-tag-eq112 : goal.returns-else-tag-eq112
+returns-else-tag-eq112 c =
+    named-rest c.args.s.now c.args.at c.args.end (four c.args.c.0) c.requires.0
+    (sym c.extent.ensures ∙ c.in-Upto.is) (sym c.fixed.ensures ∙ c.in-Upto-fixed.is) c.if-tag-eq112.false

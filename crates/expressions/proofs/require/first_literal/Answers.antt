@@ -1,0 +1,53 @@
+-- `first_literal`: each return has its law of LiteralLaws: no field, fixed bytes not whole, a 61, another tag.
+-- `extent-upto` and `plain-ends` say that the field and the literal of a 61 lie within end.
+-- src/require.rt:128:29
+-- src/require.rt:128:21
+-- src/require.rt:129:9
+-- src/require.rt:129:9
+-- src/require.rt:131:15
+-- src/require.rt:132:40
+-- src/require.rt:132:26
+-- src/require.rt:133:9
+-- src/require.rt:133:9
+-- src/require.rt:136:22
+-- src/require.rt:124:1
+-- src/require.rt:124:1
+use Prim.Native.Nat.{◌+◌}
+use mathlib.Core.Path.{sym, ◌∙◌, refl}
+use native.Mathlib.Omega.{arith}
+use Rattle.tree.proofs.AccessLaws.{extent-upto, upto-in}
+use Rattle.expressions.proofs.LiteralLaws.{first-none, first_short, first-61, first_rest}
+use Rattle.tree.proofs.WidthLaws.{plain-ends}
+use Rattle.tree.specs.declared.grammar.Value.TheVariants.{Literal}
+use borrow.Author.Rules.{rules}
+use Rattle.expressions.proofs.require.first_literal.Goals as goal
+
+pub returns-in_default : goal.returns-in_default
+returns-in_default c =
+    first-none c.args.s.now c.args.at c.args.end c.requires.0 (sym c.extent.ensures ∙ c.in_default.is)
+
+pub bounds-s-at : goal.bounds-s-at
+bounds-s-at c =
+    let i = extent-upto c.args.s.now c.args.at c.args.end c.requires.0 (sym c.extent.ensures ∙ c.in-Upto.is) in omega arith
+
+pub fixed-requires : goal.fixed-requires
+fixed-requires c =
+    let i = extent-upto c.args.s.now c.args.at c.args.end c.requires.0 (sym c.extent.ensures ∙ c.in-Upto.is) in omega arith
+
+pub returns-in_default-fixed : goal.returns-in_default-fixed
+returns-in_default-fixed c =
+    first_short c.args.s.now c.args.at c.args.end c.requires.0 (sym c.extent.ensures ∙ c.in-Upto.is) (sym c.fixed.ensures ∙ c.in_default-fixed.is)
+
+pub returns-then-tag-eq97 : goal.returns-then-tag-eq97
+returns-then-tag-eq97 c =
+    let i = extent-upto c.args.s.now c.args.at c.args.end c.requires.0 (sym c.extent.ensures ∙ c.in-Upto.is) in let j =
+    upto-in c.args.s.now _ (c.args.at + 3) _ i.0 (sym c.fixed.ensures ∙ c.in-Upto-fixed.is) in let k =
+    plain-ends 0x61 Literal refl c.args.s.now _ (c.args.at + 3) _ _ c.if-tag-eq97.true
+    (sym c.fixed.ensures ∙ c.in-Upto-fixed.is) in
+    first-61 c.args.s.now c.args.at c.args.end c.requires.0 (sym c.extent.ensures ∙ c.in-Upto.is) (omega arith)
+    (sym c.fixed.ensures ∙ c.in-Upto-fixed.is) c.if-tag-eq97.true
+
+pub returns-else-tag-eq97 : goal.returns-else-tag-eq97
+returns-else-tag-eq97 c =
+    first_rest c.args.s.now c.args.at c.args.end c.requires.0 (sym c.extent.ensures ∙ c.in-Upto.is)
+    (sym c.fixed.ensures ∙ c.in-Upto-fixed.is) c.if-tag-eq97.false

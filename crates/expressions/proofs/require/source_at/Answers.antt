@@ -1,0 +1,32 @@
+-- `source_at`: each return has its law of RequiredAtLaws: no literal stands there, it is external, or it is the source. By `Reads` the
+-- place that `place_of` gives stands for the literal's bytes; `found-fits` says that they lie within the tree.
+-- src/require.rt:77:28
+-- src/require.rt:77:22
+-- src/require.rt:78:9
+-- src/require.rt:78:9
+-- src/require.rt:80:37
+-- src/require.rt:80:9
+-- src/require.rt:81:8
+-- src/require.rt:73:1
+-- src/require.rt:73:1
+use Rattle.expressions.proofs.RequiredAtLaws.{found-fits, source-none, source-external, source_is}
+use borrow.Author.Rules.{rules}
+use Rattle.expressions.proofs.require.source_at.Goals as goal
+
+pub returns-in_default : goal.returns-in_default
+returns-in_default c =
+    source-none c.sole_literal.ensures c.in_default.is
+
+pub literal_at-literal-requires : goal.literal_at-literal-requires
+literal_at-literal-requires c =
+    found-fits c.sole_literal.ensures c.in-At.is
+
+pub returns-then-is_external : goal.returns-then-is_external
+returns-then-is_external c =
+    source-external c.sole_literal.ensures c.literal_at-literal.result c.in-At.is
+    c.place_of.ensures c.literal_at-literal.ensures c.is_external.ensures c.if-is_external.true
+
+pub returns-else-is_external : goal.returns-else-is_external
+returns-else-is_external c =
+    source_is c.sole_literal.ensures c.literal_at-literal.result c.in-At.is
+    c.place_of.ensures c.literal_at-literal.ensures c.is_external.ensures c.if-is_external.false

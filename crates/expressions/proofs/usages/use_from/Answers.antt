@@ -1,0 +1,46 @@
+-- `use_from`: by whether a record is found, and then by what `module_for` gave; each of the four ways has its law of PropertyLaws.
+-- src/usages.rt:74:47
+-- src/usages.rt:74:32
+-- src/usages.rt:74:22
+-- src/usages.rt:75:9
+-- src/usages.rt:75:9
+-- src/usages.rt:75:9
+-- src/usages.rt:77:11
+-- src/usages.rt:78:20
+-- src/usages.rt:78:26
+-- src/usages.rt:79:31
+-- src/usages.rt:80:44
+-- src/usages.rt:60:1
+-- src/usages.rt:60:1
+-- src/usages.rt:60:1
+-- src/usages.rt:60:1
+-- src/usages.rt:60:1
+-- src/usages.rt:60:1
+use Rattle.tree.specs.Standing.{treeAt}
+use Rattle.expressions.proofs.PropertyLaws.{from-none, from-number, from-unresolved, from-full}
+use borrow.Author.Rules.{rules}
+use Rattle.expressions.proofs.usages.use_from.Goals as goal
+
+pub returns-in_default : goal.returns-in_default
+returns-in_default c =
+    from-none (treeAt c.args.s.now c.args.member c.args.end) c.args.at c.args.member c.args.id
+    c.own_module.ensures c.used_record.ensures
+    c.requires.2 c.in_default.is
+
+pub returns-in-Is : goal.returns-in-Is
+returns-in-Is c =
+    from-number (treeAt c.args.s.now c.args.member c.args.end) c.args.at c.args.member c.args.id
+    c.own_module.ensures c.used_record.ensures
+    c.in-From.is c.module_for.ensures c.in-Is.is c.use_property.ensures
+
+pub returns-in-Unresolved : goal.returns-in-Unresolved
+returns-in-Unresolved c =
+    from-unresolved (treeAt c.args.s.now c.args.member c.args.end) c.args.at c.args.member c.args.id
+    c.own_module.ensures c.used_record.ensures
+    c.in-From.is c.module_for.ensures c.in-Unresolved.is
+
+pub returns-in-TooMany : goal.returns-in-TooMany
+returns-in-TooMany c =
+    from-full (treeAt c.args.s.now c.args.member c.args.end) c.args.at c.args.member c.args.id
+    c.own_module.ensures c.used_record.ensures
+    c.in-From.is c.module_for.ensures c.in-TooMany.is

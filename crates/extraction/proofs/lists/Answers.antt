@@ -1,0 +1,22 @@
+-- `lists`: the tests of the code are those of `lists_of`, in the same order; each return has its law of ListsLaws.
+use Rattle.extraction.proofs.ListsLaws.{lists-bad, lists-twice, lists-read, lists-unread}
+use borrow.Author.Rules.{rules}
+use Rattle.extraction.proofs.lists.Goals as goal
+
+pub returns-then-bad_lists : goal.returns-then-bad_lists
+returns-then-bad_lists c =
+    lists-bad c.args.externals.now c.args.table.now c.args.tree.now c.bad_lists.ensures c.if-bad_lists.true
+
+pub returns-then-names_twice : goal.returns-then-names_twice
+returns-then-names_twice c =
+    lists-twice c.args.externals.now c.args.table.now c.args.tree.now c.bad_lists.ensures c.names_twice.ensures c.if-bad_lists.false c.if-names_twice.true
+
+pub returns-in-Good : goal.returns-in-Good
+returns-in-Good c =
+    lists-read c.args.externals.now c.args.table.now c.args.tree.now c.bad_lists.ensures c.names_twice.ensures c.read_tree.ensures
+    c.if-bad_lists.false c.if-names_twice.false c.in-Good.is
+
+pub returns-in-Refused : goal.returns-in-Refused
+returns-in-Refused c =
+    lists-unread c.args.externals.now c.args.table.now c.args.tree.now c.bad_lists.ensures c.names_twice.ensures c.read_tree.ensures
+    c.if-bad_lists.false c.if-names_twice.false c.in-Refused.is

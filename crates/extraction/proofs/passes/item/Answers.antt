@@ -1,0 +1,26 @@
+-- `item`: by the tag. An import has the contract of `import`; a 40 and a 41 without parts leave nothing (`item-40`, `item-bare`);
+-- any other item is what it is walked to (`item-41`, `item-plain`).
+use mathlib.Core.Path.{sym, ◌∙◌}
+use native.Mathlib.Omega.{arith}
+use Rattle.extraction.proofs.ItemLaws.{item-plain, item-40, item-41, item-bare}
+use borrow.Author.Rules.{rules}
+use Rattle.extraction.proofs.passes.item.Goals as goal
+
+pub returns-in-64 : goal.returns-in-64
+returns-in-64 c =
+    item-40 c.args.s.now (λ i. omega (arith, c.shared_slice_known-1.given i)) c.args.at c.args.stop c.in-64.is c.requires.2
+
+pub returns-in-Upto : goal.returns-in-Upto
+returns-in-Upto c =
+    item-41 c.args.s.now (λ i. omega (arith, c.shared_slice_known-1.given i)) c.args.at c.args.stop c.in-65.is c.requires.0 (sym c.extent.ensures
+    ∙ c.in-Upto.is) c.walk.ensures
+
+pub returns-in-Short : goal.returns-in-Short
+returns-in-Short c =
+    item-bare c.args.s.now (λ i. omega (arith, c.shared_slice_known-1.given i)) c.args.at c.args.stop c.in-65.is c.requires.0 (sym
+    c.extent.ensures ∙ c.in-Short.is) c.requires.2
+
+pub returns-in_default : goal.returns-in_default
+returns-in_default c =
+    item-plain c.args.s.now (λ i. omega (arith, c.shared_slice_known-1.given i)) c.args.at c.args.stop c.in_default.in_default-own.rest.0.0.1 c.in_default.in_default-own.rest.0.1
+    c.in_default.in_default-own.rest.1 c.walk-in_default.ensures

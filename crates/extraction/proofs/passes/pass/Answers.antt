@@ -1,0 +1,13 @@
+-- `pass`: bytes that are no module cannot have been read (`pass-short`); else the items are written into a module (`pass-made`).
+use native.Mathlib.Omega.{arith}
+use Rattle.extraction.proofs.PassLaws.{pass-short, pass-made}
+use borrow.Author.Rules.{rules}
+use Rattle.extraction.proofs.passes.pass.Goals as goal
+
+pub returns-then-s-lt-START : goal.returns-then-s-lt-START
+returns-then-s-lt-START c =
+    pass-short _ _ c.requires (omega arith)
+
+pub returns : goal.returns
+returns c =
+    pass-made c.items-r.result c.set_top.ensures c.open_field-content.ensures c.items-r.ensures c.end_field.ensures

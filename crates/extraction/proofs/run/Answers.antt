@@ -1,0 +1,83 @@
+-- `run`: the refusals of `prepare` are passed on; then by what each pass and the records gave. Each return has its law in TopLaws,
+-- which puts the steps before it together.
+use native.Mathlib.Omega.{arith}
+use Rattle.extraction.specs.Answer.{roomIn}
+use Rattle.extraction.proofs.TopLaws.{inside-fits, run-bad, run-twice, run-unread, run-full, run-turned, run_short, run-turned-again, run-short-again, run-accepted, run-unwritten}
+use borrow.Author.Rules.{rules}
+use Rattle.extraction.proofs.run.Goals as goal
+
+-- UNTRANSLATED Need-slice-bounds-second-pass-end
+-- part-second-pass-end : tie.Need-slice-bounds-second-pass-end
+-- part-second-pass-end c =
+--     let c8 = c.before.before.before.before.before.before.before.before in
+--     let b = inside-fits c.before.before.n.given.1 c8.first-pass.ensures.inside in omega arith
+
+-- UNTRANSLATED Need-slice-bounds-deliver-records-end
+-- part-deliver-records-end : tie.Need-slice-bounds-deliver-records-end
+-- part-deliver-records-end c =
+--     let c14 = c.before.before.before.before.before.before.before.before.before.before.before.before.before.before in
+--     let c20 = c14.before.before.before.before.before.before in
+--     let b = inside-fits c14.n.given.1 c20.first-pass.ensures.inside in omega arith
+
+-- UNTRANSLATED Need-slice-bounds-deliver-records-end-2
+-- part-deliver-records-end-2 : tie.Need-slice-bounds-deliver-records-end-2
+-- part-deliver-records-end-2 c =
+--     let c4 = c.before.before.before.before in
+--     let c10 = c4.before.before.before.before.before.before in
+--     let b = inside-fits c4.m.given.1 c10.second-pass.ensures.inside in omega arith
+
+pub returns-in-Bad : goal.returns-in-Bad
+returns-in-Bad c =
+    λ l ms q p. run-bad l ms q p (roomIn c.args.work.now c.args.out.now c.args.records.now) c.in-Bad.is
+
+pub returns-in-NamedTwice : goal.returns-in-NamedTwice
+returns-in-NamedTwice c =
+    λ l ms q p. run-twice l ms q p (roomIn c.args.work.now c.args.out.now c.args.records.now) c.in-NamedTwice.is
+
+pub returns-in-Unread : goal.returns-in-Unread
+returns-in-Unread c =
+    λ l ms q p. run-unread l ms q p (roomIn c.args.work.now c.args.out.now c.args.records.now) c.in-Unread.is
+
+pub returns-in-TooManyFiles : goal.returns-in-TooManyFiles
+returns-in-TooManyFiles c =
+    λ l ms q p. run-full l ms q p (roomIn c.args.work.now c.args.out.now c.args.records.now) c.in-TooManyFiles.is
+
+pub first_pass-requires : goal.first_pass-requires
+first_pass-requires c =
+    c.requires
+
+pub returns-in-Refused : goal.returns-in-Refused
+returns-in-Refused c =
+    λ l ms q p. run-turned l ms q p c.args.work.now c.args.out.now c.args.records.now c.in-Good.is c.first_pass.ensures c.in-Refused.is
+
+pub returns-in-NoRoom : goal.returns-in-NoRoom
+returns-in-NoRoom c =
+    λ l ms q p. run_short l ms q p c.args.work.now c.args.out.now c.args.records.now c.in-Good.is c.first_pass.ensures c.in-NoRoom.is
+
+pub second_pass-requires : goal.second_pass-requires
+second_pass-requires c =
+    c.first_pass.ensures.good
+
+pub returns-in-Refused-second_pass : goal.returns-in-Refused-second_pass
+returns-in-Refused-second_pass c =
+    λ l ms q p. run-turned-again l ms q p c.args.work.now c.args.out.now c.args.records.now c.in-Good.is c.first_pass.ensures
+    c.in-Fits.n c.in-Fits.is c.second_pass.ensures c.in-Refused-second_pass.is
+
+pub returns-in-NoRoom-second_pass : goal.returns-in-NoRoom-second_pass
+returns-in-NoRoom-second_pass c =
+    λ l ms q p. run-short-again l ms q p c.args.work.now c.args.out.now c.args.records.now c.in-Good.is c.first_pass.ensures
+    c.in-Fits.n c.in-Fits.is c.second_pass.ensures c.in-NoRoom-second_pass.is
+
+pub deliver_records-requires : goal.deliver_records-requires
+deliver_records-requires c =
+    c.second_pass.ensures.good
+
+pub returns-then-deliver_records : goal.returns-then-deliver_records
+returns-then-deliver_records c =
+    λ l ms q p. run-accepted l ms q p c.args.work.now c.args.out.now c.args.records.now c.in-Good.is c.first_pass.ensures
+    c.in-Fits.n c.in-Fits.is c.second_pass.ensures c.in-Fits-second_pass.m c.in-Fits-second_pass.is c.deliver_records.ensures c.if-deliver_records.true
+
+pub returns-else-deliver_records : goal.returns-else-deliver_records
+returns-else-deliver_records c =
+    λ l ms q p. run-unwritten l ms q p c.args.work.now c.args.out.now c.args.records.now c.in-Good.is c.first_pass.ensures
+    c.in-Fits.n c.in-Fits.is c.second_pass.ensures c.in-Fits-second_pass.m c.in-Fits-second_pass.is c.deliver_records.ensures c.if-deliver_records.false

@@ -1,0 +1,57 @@
+-- `note_all`: the invariant `Going` says that noting the fields from here on completes noting those from `from` on.
+-- The loop ends at the end of the row, at a 2F (behind which a row that was read has nothing), or at a refusal.
+-- The measure is end - at.
+use native.Mathlib.Omega.{arith}
+use mathlib.Core.Path.{sym, ◌∙◌}
+use borrow.Author.Rules.{rules}
+use Prim.Native.Nat.{◌-◌}
+use Rattle.tree.proofs.AccessLaws.{extent-upto}
+use Rattle.imports.proofs.NoteAllLaws.{Going, going_start, going_more, notes-end, notes-attributes, notes-refused}
+use Rattle.imports.proofs.note.note_all.Goals as goal
+
+pub loop-stop-init : goal.loop-stop-init
+loop-stop-init c =
+    going_start c.args.n.0 c.args.s.now c.args.from c.args.end c.requires.2 c.requires.0
+
+pub extent-requires : goal.extent-requires
+extent-requires c =
+    (c.loop-stop.invariant.before, c.requires.1)
+
+pub returns-in_default : goal.returns-in_default
+returns-in_default c =
+    c.loop-stop.invariant.rest _ _ _
+    (notes-end c.args.n.0 c.args.s.now c.loop-stop.at c.args.end (λ i. (c.shared_slice_known-1.given i).fits)
+    c.loop-stop.invariant.before c.requires.1 c.loop-stop.invariant.good (sym c.extent.ensures ∙ c.in_default.is))
+
+pub bounds-s-at : goal.bounds-s-at
+bounds-s-at c =
+    let f = c.requires.1 in let i = extent-upto c.args.s.now c.loop-stop.at c.args.end c.loop-stop.invariant.before (sym c.extent.ensures ∙ c.in-Upto.is) in omega arith
+
+pub returns-then-s-at-eq47 : goal.returns-then-s-at-eq47
+returns-then-s-at-eq47 c =
+    c.loop-stop.invariant.rest _ _ _
+    (notes-attributes c.args.n.0 c.args.s.now c.loop-stop.at c.args.end (λ i. (c.shared_slice_known-1.given i).fits)
+    c.loop-stop.invariant.before c.requires.1 (sym c.extent.ensures ∙ c.in-Upto.is) c.loop-stop.invariant.good c.if-s-at-eq47.true)
+
+pub note_specifier-requires : goal.note_specifier-requires
+note_specifier-requires c =
+    let f = c.requires.1 in let i =
+    extent-upto c.args.s.now c.loop-stop.at c.args.end c.loop-stop.invariant.before (sym c.extent.ensures ∙ c.in-Upto.is) in
+    (i.0, omega arith, c.loop-stop.invariant.good)
+
+pub loop-stop-smaller : goal.loop-stop-smaller
+loop-stop-smaller c =
+    let i = extent-upto c.args.s.now c.loop-stop.at c.args.end c.loop-stop.invariant.before (sym c.extent.ensures ∙ c.in-Upto.is) in omega arith
+
+pub loop-stop-preserved : goal.loop-stop-preserved
+loop-stop-preserved c =
+    going_more c.args.n.0 c.args.s.now c.args.from c.args.end c.loop-stop.invariant (λ i. (c.shared_slice_known-1.given i).fits)
+    c.requires.1 (sym c.extent.ensures ∙ c.in-Upto.is) c.if-s-at-eq47.false c.note_specifier.ensures c.in-Done.is
+    c.note_specifier.auto.1.1.1.1.0
+
+pub returns-in-Refused : goal.returns-in-Refused
+returns-in-Refused c =
+    c.loop-stop.invariant.rest _ _ _
+    (notes-refused c.args.n.0 c.args.s.now c.loop-stop.at c.args.end (λ i. (c.shared_slice_known-1.given i).fits)
+    c.loop-stop.invariant.before c.requires.1 (sym c.extent.ensures ∙ c.in-Upto.is) c.if-s-at-eq47.false c.note_specifier.ensures
+    c.in-Refused.is)

@@ -1,0 +1,42 @@
+-- `outside_at`: by the kind byte: 0, 1 or another. The precondition has room for a name unless it is 0; for a 1 `two_at` gives the name.
+use native.Mathlib.Omega.{arith}
+use mathlib.Core.Path.{◌∙◌, ap}
+use Rattle.tree.specs.Layout.{two}
+use Rattle.tree.proofs.LayoutLaws.{two_at}
+use Rattle.imports.proofs.note.outside_at.Goals as goal
+
+pub bounds-s-at : goal.bounds-s-at
+bounds-s-at c =
+    c.requires.0
+
+pub overflow_add-at : goal.overflow_add-at
+overflow_add-at c =
+    let h = c.requires.0 in omega arith
+
+pub atom_at-requires : goal.atom_at-requires
+atom_at-requires c =
+    let h = c.requires.1 (λ z. let k = c.in-1.is in omega arith) in omega arith
+
+pub overflow_add-at-in_default : goal.overflow_add-at-in_default
+overflow_add-at-in_default c =
+    let h = c.requires.0 in omega arith
+
+pub atom_at-requires-in_default : goal.atom_at-requires-in_default
+atom_at-requires-in_default c =
+    let h = c.requires.1 c.in_default.in_default-own.rest.0.1 in omega arith
+
+pub returns-in-0 : goal.returns-in-0
+returns-in-0 c =
+    c.in-0.is
+
+pub returns-in-1 : goal.returns-in-1
+returns-in-1 c =
+    let h = c.requires.1 (λ z. let k = c.in-1.is in omega arith) in (
+      c.in-1.is,
+      ap two c.atom_at.ensures
+          ∙ two_at c.args.s.now _ (λ i. (c.shared_slice_known-1.given i).fits) (omega arith),
+    )
+
+pub returns-in_default : goal.returns-in_default
+returns-in_default c =
+    (c.in_default.in_default-own.rest.0.1, c.in_default.in_default-own.rest.1)

@@ -1,0 +1,19 @@
+-- `put_attributes`: by whether a field stands at `at`. `attributes-copied` and `attributes-none` say which bytes its attributes are.
+use native.Mathlib.Omega.{arith}
+use mathlib.Core.Path.{sym, ◌∙◌}
+use Rattle.tree.proofs.AccessLaws.{extent-upto}
+use Rattle.imports.proofs.AttributesLaws.{attributes-copied, attributes-none}
+use borrow.Author.Rules.{rules}
+use Rattle.imports.proofs.note.put_attributes.Goals as goal
+
+pub copy-requires : goal.copy-requires
+copy-requires c =
+    let i = extent-upto c.args.s.now c.args.at c.args.end c.requires.0 (sym c.extent.ensures ∙ c.in-Upto.is) in let f = c.requires.1 in omega arith
+
+pub returns-in-Upto : goal.returns-in-Upto
+returns-in-Upto c =
+    attributes-copied (λ i. (c.shared_slice_known-1.given i).fits) c.requires.0 c.requires.1 (sym c.extent.ensures ∙ c.in-Upto.is) c.copy.ensures
+
+pub returns-in-Short : goal.returns-in-Short
+returns-in-Short c =
+    attributes-none (λ i. (c.shared_slice_known-1.given i).fits) c.requires.0 c.requires.1 (sym c.extent.ensures ∙ c.in-Short.is)

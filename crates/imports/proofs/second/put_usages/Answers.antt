@@ -1,0 +1,35 @@
+-- `put_usages`: the invariant `Listing` says that writing the usages from i on completes writing all of them. The measure is n - i.
+-- `usages-end` says that from n on there is none.
+use native.Mathlib.Omega.{arith}
+use Prim.Native.Nat.{◌-◌}
+use Rattle.state.specs.Cells.{idBy}
+use Rattle.imports.proofs.TakenLaws.{Listing, listing_start, listing-more, usages-end}
+use Rattle.imports.proofs.second.put_usages.Goals as goal
+
+pub count_usages-n-requires : goal.count_usages-n-requires
+count_usages-n-requires c =
+    c.requires
+
+pub loop-i-init : goal.loop-i-init
+loop-i-init c =
+    listing_start (idBy c.args.id)
+
+pub put_usage-to-requires : goal.put_usage-to-requires
+put_usage-to-requires c =
+    let k = c.count_usages-n.ensures.1 in (c.requires, omega arith)
+
+pub overflow_add-i : goal.overflow_add-i
+overflow_add-i c =
+    omega arith
+
+pub loop-i-smaller : goal.loop-i-smaller
+loop-i-smaller c =
+    omega arith
+
+pub loop-i-preserved : goal.loop-i-preserved
+loop-i-preserved c =
+    listing-more c.loop-i.invariant c.put_usage-to.ensures c.put_usage-to.auto.1.1.1.0
+
+pub returns : goal.returns
+returns c =
+    c.loop-i.invariant.rest _ _ (usages-end (idBy c.args.id) c.loop-i.i c.count_usages-n.ensures.0 (omega arith))

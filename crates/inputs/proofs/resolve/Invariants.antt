@@ -1,0 +1,17 @@
+-- `resolve`: the invariant says that the source's file in the table is its file in the rows from i on.
+-- A row of the source has it (`file-here`), another is passed (`file-on`), and with fewer than four bytes left there is none (`file-end`).
+use mathlib.Core.Path.{◌≡◌, refl, sym, ap, ◌∙◌}
+use mathlib.Core.Option.{some}
+use Prim.Native.Nat.{◌≤◌, ◌-◌, ◌+◌}
+use native.Mathlib.Omega.{arith}
+use lib.ListN.{length, drop}
+use Rattle.tree.specs.Layout.{two}
+use Rattle.inputs.specs.Table.{rowsIn, fileOf}
+use Rattle.inputs.proofs.TableLaws.{file-here, file-on, file-end}
+use Rattle.inputs.proofs.resolve.Given as goal
+
+abbrev pub invariant-loop-i : goal.invariant-loop-i
+invariant-loop-i l = (fileOf (two l.source.0) (rowsIn l.table) ≡ fileOf (two l.source.0) (rowsIn (drop l.i l.table))) × (l.i ≤ length l.table)
+
+abbrev pub decreases-loop-i : goal.decreases-loop-i
+decreases-loop-i l = length l.table - l.i

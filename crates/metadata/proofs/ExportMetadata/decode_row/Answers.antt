@@ -1,0 +1,56 @@
+-- `decode_row`: the invariant: what is left tells, onto what was told, what the whole row tells.
+use mathlib.Core.Path.{◌≡◌, sym, ap, ◌∙◌}
+use Prim.Native.Nat.{◌-◌, ◌≤◌}
+use native.Mathlib.Omega.{arith}
+use borrow.Author.Rules.{rules}
+use Rattle.tree.specs.Standing.{row_at}
+use Rattle.tree.proofs.AccessLaws.{extent-upto}
+use Rattle.metadata.specs.Metadata.{Metadata, merged, decode_from, decode}
+use Rattle.metadata.specs.MetadataValue.{metadataOf}
+use Rattle.metadata.proofs.DecodeLaws.{decode-more, decode-none}
+use Rattle.metadata.proofs.ExportMetadata.decode_row.Goals as goal
+
+pub loop-stop-init : goal.loop-stop-init
+unfolding decode
+loop-stop-init c =
+    let a = c.args in
+    (ap (λ (x : Metadata). decode_from x (row_at a.s.now a.from a.end)) c.unset-m.ensures, c.requires.0)
+
+pub extent-requires : goal.extent-requires
+extent-requires c =
+    omega arith
+
+pub told_at-requires : goal.told_at-requires
+told_at-requires c =
+    let a = c.args in
+    let here = c.loop-stop in
+    let e = sym c.extent.ensures ∙ c.in-Upto.is in
+    let i = extent-upto a.s.now here.at a.end here.invariant.1 e in
+    (i.0, omega arith)
+
+pub loop-stop-smaller : goal.loop-stop-smaller
+loop-stop-smaller c =
+    let a = c.args in
+    let here = c.loop-stop in
+    let e = sym c.extent.ensures ∙ c.in-Upto.is in
+    let i = extent-upto a.s.now here.at a.end here.invariant.1 e in
+    omega arith
+
+pub loop-stop-preserved : goal.loop-stop-preserved
+loop-stop-preserved c =
+    let a = c.args in
+    let here = c.loop-stop in
+    let e = sym c.extent.ensures ∙ c.in-Upto.is in
+    let i = extent-upto a.s.now here.at a.end here.invariant.1 e in
+    let m = metadataOf here.m in
+    let new = c.merge-m.ensures ∙ ap (merged m) c.told_at.ensures in (
+      ap (λ (x : Metadata). decode_from x (row_at a.s.now c.in-Upto.stop a.end)) new
+          ∙ sym (decode-more a.s.now m here.at a.end here.invariant.1 _ e) ∙ here.invariant.0,
+      i.1,
+    )
+
+pub returns-in-Short : goal.returns-in-Short
+returns-in-Short c =
+    let a = c.args in
+    let here = c.loop-stop in
+    sym (decode-none a.s.now (metadataOf here.m) here.at a.end here.invariant.1 (sym c.extent.ensures ∙ c.in-Short.is)) ∙ here.invariant.0

@@ -1,0 +1,17 @@
+-- `decode_row`: the invariant: what is left tells, onto what was told, what the whole row tells.
+use mathlib.Core.Path.{◌≡◌, sym, ap, ◌∙◌}
+use Prim.Native.Nat.{◌-◌, ◌≤◌}
+use native.Mathlib.Omega.{arith}
+use borrow.Author.Rules.{rules}
+use Rattle.tree.specs.Standing.{row_at}
+use Rattle.tree.proofs.AccessLaws.{extent-upto}
+use Rattle.metadata.specs.Metadata.{Metadata, merged, decode_from, decode}
+use Rattle.metadata.specs.MetadataValue.{metadataOf}
+use Rattle.metadata.proofs.DecodeLaws.{decode-more, decode-none}
+use Rattle.metadata.proofs.ExportMetadata.decode_row.Given as goal
+
+abbrev pub invariant-loop-stop : goal.invariant-loop-stop
+invariant-loop-stop l = (decode_from (metadataOf l.m) (row_at l.s l.at l.end) ≡ decode (row_at l.s l.from l.end)) × (l.at ≤ l.end)
+
+abbrev pub decreases-loop-stop : goal.decreases-loop-stop
+decreases-loop-stop l = l.end - l.at

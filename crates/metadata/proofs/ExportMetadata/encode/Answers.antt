@@ -1,0 +1,32 @@
+-- `encode`: by the verdict on what was lent, and by the room.
+use mathlib.Core.Path.{sym, ◌∙◌}
+use Rattle.tree.specs.Layout.{Bytes}
+use Rattle.metadata.specs.MetadataValue.{metadataOf}
+use Rattle.metadata.proofs.CallsLaws.{encode-done, encode-short, encode-refused}
+use borrow.Author.Rules.{rules}
+use Rattle.metadata.proofs.ExportMetadata.encode.Goals as goal
+
+pub returns-then-finish : goal.returns-then-finish
+returns-then-finish c =
+    let a = c.args in
+    let bytes : Bytes a.attributes.now = λ i. (c.shared_slice_known-1.given i).fits in
+    let good = sym c.read_lent.ensures
+    ∙ c.in-Good.is in
+    encode-done a.attributes.now (metadataOf a.self) bytes good c.write-n.ensures
+    c.finish.ensures c.if-finish.true
+
+pub returns-else-finish : goal.returns-else-finish
+returns-else-finish c =
+    let a = c.args in
+    let bytes : Bytes a.attributes.now = λ i. (c.shared_slice_known-1.given i).fits in
+    let good = sym c.read_lent.ensures
+    ∙ c.in-Good.is in
+    encode-short a.attributes.now (metadataOf a.self) bytes good c.write-n.ensures
+    c.finish.ensures c.if-finish.false
+
+pub returns-in-Refused : goal.returns-in-Refused
+returns-in-Refused c =
+    let a = c.args in
+    encode-refused a.attributes.now (metadataOf a.self) c.clear.ensures _ _
+    (sym c.read_lent.ensures
+    ∙ c.in-Refused.is)

@@ -1,0 +1,11 @@
+-- `is_digit`: the definition makes the same two tests.
+use borrow.Author.Tests.{le-leb, lt-leb}
+use Rattle.metadata.proofs.decimal.is_digit.Goals as goal
+
+pub returns-then-b-ge48 : goal.returns-then-b-ge48
+returns-then-b-ge48 c =
+    rw (le-leb _ _ c.if-b-ge48.true)
+
+pub returns-else-b-ge48 : goal.returns-else-b-ge48
+returns-else-b-ge48 c =
+    rw (lt-leb _ _ c.if-b-ge48.false)

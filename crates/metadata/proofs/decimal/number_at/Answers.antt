@@ -1,0 +1,91 @@
+-- `number_at`: the invariant says that what is left, behind the number so far, gives what the whole text gives.
+use Prim.Native.Nat.{◌+◌, ◌*◌, ◌-◌, ◌≤◌, ◌<◌}
+use lib.ListN.{get_or}
+use mathlib.Core.Path.{◌≡◌, refl, sym, ap, ◌∙◌}
+use native.Mathlib.Omega.{arith}
+use borrow.Author.Rules.{rules}
+use borrow.Author.Tests.{not-true, not-false, le-leb}
+use lib.Seq.{slice}
+use Rattle.metadata.specs.Decimal.{numberFrom, limited}
+use Rattle.metadata.proofs.DecimalLaws.{digit-is, number_more, number-other, number-end, too_large}
+use Rattle.metadata.proofs.decimal.number_at.Goals as goal
+
+pub loop-at-init : goal.loop-at-init
+loop-at-init c =
+    (refl, omega arith, c.requires.0)
+
+pub bounds-s-at : goal.bounds-s-at
+bounds-s-at c =
+    omega arith
+
+pub returns-then-not-is_digit : goal.returns-then-not-is_digit
+returns-then-not-is_digit c =
+    let a = c.args in
+    let here = c.loop-at in
+    sym (ap limited
+    (number-other a.s.now here.at a.end c.loop-at-test.true
+    c.requires.1 here.n (sym c.is_digit.ensures ∙ not-true _ c.if-not-is_digit.true)))
+    ∙ here.invariant.0
+
+pub overflow_mul-n : goal.overflow_mul-n
+overflow_mul-n c =
+    omega arith
+
+pub overflow_sub-n : goal.overflow_sub-n
+overflow_sub-n c =
+    let a = c.args in
+    let here = c.loop-at in
+    let digit = sym c.is_digit.ensures ∙ not-false _ c.if-not-is_digit.false in
+    let d = digit-is (get_or a.s.now here.at 0) digit in
+    omega arith
+
+pub overflow_cast-n : goal.overflow_cast-n
+overflow_cast-n c =
+    let a = c.args in
+    let here = c.loop-at in
+    let b = c.shared_slice_known-in-loop-at-1.given here.at in
+    omega arith
+
+pub overflow_add-n : goal.overflow_add-n
+overflow_add-n c =
+    let a = c.args in
+    let here = c.loop-at in
+    let digit = sym c.is_digit.ensures ∙ not-false _ c.if-not-is_digit.false in
+    let d = digit-is (get_or a.s.now here.at 0) digit in
+    let b = c.shared_slice_known-in-loop-at-1.given here.at in
+    omega arith
+
+pub returns-then-n-gt4294967295 : goal.returns-then-n-gt4294967295
+returns-then-n-gt4294967295 c =
+    let a = c.args in
+    let here = c.loop-at in
+    let digit = sym c.is_digit.ensures ∙ not-false _ c.if-not-is_digit.false in
+    let more = number_more a.s.now here.at a.end c.loop-at-test.true c.requires.1 here.n digit in
+    let large : 4294967295 < here.n * 10 + (get_or a.s.now here.at 0 - 48) = omega arith in
+    sym (ap limited more ∙ too_large _ _ large) ∙ here.invariant.0
+
+pub overflow_add-at : goal.overflow_add-at
+overflow_add-at c =
+    omega arith
+
+pub loop-at-smaller : goal.loop-at-smaller
+loop-at-smaller c =
+    omega arith
+
+pub loop-at-preserved : goal.loop-at-preserved
+loop-at-preserved c =
+    let a = c.args in
+    let here = c.loop-at in
+    let digit = sym c.is_digit.ensures ∙ not-false _ c.if-not-is_digit.false in
+    let more = number_more a.s.now here.at a.end c.loop-at-test.true c.requires.1 here.n digit in
+    (sym (ap limited more) ∙ here.invariant.0, omega arith, omega arith)
+
+pub overflow_cast-result : goal.overflow_cast-result
+overflow_cast-result c =
+    omega arith
+
+pub returns : goal.returns
+returns c =
+    let a = c.args in
+    let here = c.loop-at in
+    sym (ap limited (number-end a.s.now here.n {at = here.at} {end = a.end} (omega arith)) ∙ rw (le-leb _ _ here.invariant.1)) ∙ here.invariant.0

@@ -1,0 +1,17 @@
+-- `number_at`: the invariant says that what is left, behind the number so far, gives what the whole text gives.
+use Prim.Native.Nat.{◌+◌, ◌*◌, ◌-◌, ◌≤◌, ◌<◌}
+use lib.ListN.{get_or}
+use mathlib.Core.Path.{◌≡◌, refl, sym, ap, ◌∙◌}
+use native.Mathlib.Omega.{arith}
+use borrow.Author.Rules.{rules}
+use borrow.Author.Tests.{not-true, not-false, le-leb}
+use lib.Seq.{slice}
+use Rattle.metadata.specs.Decimal.{numberFrom, limited}
+use Rattle.metadata.proofs.DecimalLaws.{digit-is, number_more, number-other, number-end, too_large}
+use Rattle.metadata.proofs.decimal.number_at.Given as goal
+
+abbrev pub invariant-loop-at : goal.invariant-loop-at
+invariant-loop-at l = (limited (numberFrom l.n (slice l.at l.end l.s)) ≡ limited (numberFrom 0 (slice l.from l.end l.s))) × (l.n ≤ 4294967295) × (l.at ≤ l.end)
+
+abbrev pub decreases-loop-at : goal.decreases-loop-at
+decreases-loop-at l = l.end - l.at

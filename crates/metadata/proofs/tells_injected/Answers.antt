@@ -1,0 +1,25 @@
+-- `tells_injected`: a content of another length tells nothing.
+use Prim.Native.Nat.{ℕ, ◌+◌}
+use mathlib.Core.Path.{◌≡◌, sym, ap, ◌∙◌}
+use native.Mathlib.Omega.{arith}
+use lib.Seq.{slice, length-slice}
+use Rattle.tree.specs.Layout.{same}
+use Rattle.tree.specs.Tree.{fixed_of}
+use Rattle.metadata.specs.Metadata.{injectedAttribute}
+use Rattle.metadata.proofs.DecodeLaws.{other_length}
+use borrow.Author.Rules.{rules}
+use Rattle.metadata.proofs.tells_injected.Goals as goal
+
+pub returns-then-end-from-ne29 : goal.returns-then-end-from-ne29
+unfolding injectedAttribute
+returns-then-end-from-ne29 c =
+    let a = c.args in
+    let n = length-slice a.from a.end a.s.now c.requires.1 in
+    sym (other_length (slice a.from a.end a.s.now) (fixed_of injectedAttribute) (λ e. c.if-end-from-ne29.true (sym n ∙ e)))
+
+pub returns : goal.returns
+unfolding injectedAttribute
+returns c =
+    let a = c.args in
+    let e : a.from + 29 ≡ a.end = omega arith in
+    c.same_run.ensures ∙ ap (λ (n : ℕ). same (slice a.from n a.s.now) (fixed_of injectedAttribute)) e

@@ -1,0 +1,33 @@
+-- `put_below`, `put_bindings`, `put_left`: the measure is the number of bytes, one more for the fields of a row than for a field.
+-- The loop's invariant: with the ids of the fields from here on, those of all fields are written.
+use mathlib.Core.Path.{◌≡◌, refl, sym, ◌∙◌}
+use mathlib.Core.Logic.{inl, inr}
+use mathlib.Core.List.{List}
+use Prim.Native.Nat.{ℕ, ◌+◌, ◌-◌, ◌≤◌}
+use lib.ListN.{length}
+use native.Mathlib.Omega.{arith}
+use borrow.Author.Rules.{rules}
+use Rattle.tree.specs.Tree.{encodes}
+use Rattle.tree.specs.Standing.{row_at}
+use Rattle.tree.proofs.AccessLaws.{upto-in, extent-upto}
+use Rattle.writer.specs.Wrote.{Wrote}
+use Rattle.extraction_rules.specs.First.{bindingsAll}
+use Rattle.records.proofs.PatternLaws.{bindings-short, bound-ends, bindings-bound, bindings-left, bindings-below, first-none, first_more, all_none, all_more}
+use Prim.Native.Nat.{ℕ, ◌<◌}
+use Rattle.records.proofs.bindings.+put_below_put_bindings_put_left.Given as goal
+
+abbrev pub decreases-put_below : goal.decreases-put_below
+decreases-put_below l = l.end - l.from + 1
+
+abbrev pub decreases-put_bindings : goal.decreases-put_bindings
+decreases-put_bindings l = l.stop - l.at
+
+abbrev pub decreases-put_left : goal.decreases-put_left
+decreases-put_left l = l.end - l.from + 1
+
+abbrev pub invariant-put_below-loop-stop : goal.invariant-put_below-loop-stop
+invariant-put_below-loop-stop l = ((p : ℕ) (l : List ℕ) → Wrote l.records l.to (encodes (bindingsAll (row_at l.s l.at l.end))) l p →
+    Wrote l.initial.records l.o (encodes (bindingsAll (row_at l.s l.from l.end))) l p) × (l.from ≤ l.at) × (l.at ≤ l.end) × (length l.records ≡ length l.initial.records)
+
+abbrev pub decreases-put_below-loop-stop : goal.decreases-put_below-loop-stop
+decreases-put_below-loop-stop l = l.end - l.at

@@ -1,0 +1,21 @@
+-- `put_each`: the invariant says that with the records from i on all of them are written; `collected-more` splits off the record at i.
+-- The measure is n - i.
+use mathlib.Core.List.{map}
+use Prim.Native.Nat.{◌-◌, ◌≤◌}
+use lib.ListN.{drop}
+use native.Mathlib.Omega.{arith}
+use Rattle.tree.specs.Tree.{encodes}
+use Rattle.extraction_rules.specs.Records.{recordFields}
+use Rattle.records.specs.Model.{rebuilt}
+use Rattle.records.specs.Writes.{Placing, BothRead, Onward, items_in, retold}
+use Rattle.records.proofs.OnwardLaws.{onward-start, onward-end, drop-end}
+use Rattle.records.proofs.CollectedLaws.{onward-if, valued_by, collected-more, collected-none}
+use Rattle.records.proofs.collected.put_each.Given as goal
+
+abbrev pub invariant-loop-i : goal.invariant-loop-i
+invariant-loop-i l = Onward (λ x. Placing l.tree l.work x × BothRead l.work l.out) (λ s. encodes (recordFields 0x80 (retold l.work l.out s)))
+    (λ s. encodes (recordFields 0x80 (map (rebuilt (items_in l.work) (items_in l.out) s.forced) (drop l.i s.collected)))) l.t l.initial.records l.o l.records l.to
+    × (l.i ≤ l.n)
+
+abbrev pub decreases-loop-i : goal.decreases-loop-i
+decreases-loop-i l = l.n - l.i

@@ -1,0 +1,20 @@
+-- `put_forced`: the invariant says that with the sources from i on all of them are written; `forced-more` splits off the one at i.
+-- The measure is n - i.
+use Prim.Native.Nat.{◌-◌, ◌≤◌}
+use lib.ListN.{drop}
+use native.Mathlib.Omega.{arith}
+use borrow.Author.Rules.{rules}
+use Rattle.tree.specs.Tree.{encodes}
+use Rattle.writer.proofs.Wrote.{wrote_as, wrote-field}
+use Rattle.extraction_rules.specs.Records.{forcedFields}
+use Rattle.records.specs.Writes.{Onward}
+use Rattle.records.proofs.OnwardLaws.{onward-start, onward-step, onward-end, drop-end}
+use Rattle.records.proofs.LazyLaws.{forced-more, forced-none, forced-field}
+use Rattle.records.proofs.lazy.put_forced.Given as goal
+
+abbrev pub invariant-loop-i : goal.invariant-loop-i
+invariant-loop-i l = Onward (λ _. Unit {0}) (λ s. encodes (forcedFields s.forced)) (λ s. encodes (forcedFields (drop l.i s.forced))) l.t l.initial.records l.o l.records l.to
+    × (l.i ≤ l.n)
+
+abbrev pub decreases-loop-i : goal.decreases-loop-i
+decreases-loop-i l = l.n - l.i

@@ -1,0 +1,71 @@
+-- `put_pairs`: the invariant says that with what is taken of the items from here on in both trees, what is taken of all is written.
+-- `taken_more` splits off one item of each; the loop ends where either row ends. The measure is the length of `work` less at.
+use mathlib.Core.Path.{sym, ◌∙◌}
+use Prim.Native.Nat.{◌-◌, ◌≤◌}
+use lib.ListN.{length}
+use native.Mathlib.Omega.{arith}
+use borrow.Author.Rules.{rules}
+use Rattle.tree.specs.Tree.{encodes}
+use Rattle.tree.specs.Standing.{row_at}
+use Rattle.tree.proofs.AccessLaws.{extent-upto}
+use Rattle.records.specs.Model.{taken}
+use Rattle.records.specs.Writes.{sieve, literalIn, RowOnward}
+use Rattle.records.proofs.SpecifierLaws.{if_none, item-read, row-start, row_step, row-stop}
+use Rattle.records.proofs.CollectedLaws.{if-from, taken-past, taken-past-out, taken_none, taken-none-out, taken_more}
+use Rattle.records.proofs.namespaces.put_pairs.Goals as goal
+
+pub returns-then-work-from : goal.returns-then-work-from
+returns-then-work-from c =
+    let a = c.args in
+    if_none (taken-past a.wanted.namespaces (literalIn a.tree.now a.work.now a.wanted.place) a.work.now a.from.at (length a.work.now) a.out.now a.from.made
+    (length a.out.now) c.if-work-from.true)
+
+pub returns-then-out-from : goal.returns-then-out-from
+returns-then-out-from c =
+    let a = c.args in
+    if_none (taken-past-out a.wanted.namespaces (literalIn a.tree.now a.work.now a.wanted.place) a.work.now a.from.at (length a.work.now) a.out.now a.from.made
+    (length a.out.now) c.if-out-from.true)
+
+pub loop-stop-init : goal.loop-stop-init
+loop-stop-init c =
+    (row-start, omega arith, omega arith)
+
+pub extent-requires : goal.extent-requires
+extent-requires c =
+    omega arith
+
+pub returns-in_default : goal.returns-in_default
+returns-in_default c =
+    let a = c.args in
+    row-stop c.loop-stop.invariant.0
+    (taken_none a.wanted.namespaces (literalIn a.tree.now a.work.now a.wanted.place) a.work.now c.loop-stop.at (length a.work.now) a.out.now
+    c.loop-stop.made (length a.out.now) c.loop-stop.invariant.1
+    (sym c.extent.ensures ∙ c.in_default.is))
+
+pub extent-requires-in-loop-stop : goal.extent-requires-in-loop-stop
+extent-requires-in-loop-stop c =
+    omega arith
+
+pub returns-in_default-extent : goal.returns-in_default-extent
+returns-in_default-extent c =
+    let a = c.args in
+    row-stop c.loop-stop.invariant.0
+    (taken-none-out a.wanted.namespaces (literalIn a.tree.now a.work.now a.wanted.place) a.work.now c.loop-stop.at (length a.work.now) a.out.now
+    c.loop-stop.made (length a.out.now) c.loop-stop.invariant.2
+    (sym c.extent-in-loop-stop.ensures ∙ c.in_default-extent.is))
+
+pub loop-stop-smaller : goal.loop-stop-smaller
+loop-stop-smaller c =
+    let i = extent-upto c.args.work.now c.loop-stop.at (length c.args.work.now) c.loop-stop.invariant.1 (sym c.extent.ensures ∙ c.in-Upto.is) in omega arith
+
+pub loop-stop-preserved : goal.loop-stop-preserved
+loop-stop-preserved c =
+    let a = c.args in let i = extent-upto c.args.work.now c.loop-stop.at (length c.args.work.now) c.loop-stop.invariant.1 (sym c.extent.ensures ∙ c.in-Upto.is) in
+    let j = extent-upto c.args.out.now c.loop-stop.made (length c.args.out.now) c.loop-stop.invariant.2 (sym c.extent-in-loop-stop.ensures ∙ c.in-Upto-extent.is) in (
+      row_step c.loop-stop.invariant.2 (omega arith) (sym c.extent-in-loop-stop.ensures ∙ c.in-Upto-extent.is) c.loop-stop.invariant.0
+          (taken_more a.wanted.namespaces (literalIn a.tree.now a.work.now a.wanted.place) a.work.now c.loop-stop.at a.out.now c.loop-stop.made _ _
+          c.loop-stop.invariant.1 (sym c.extent.ensures ∙ c.in-Upto.is) c.loop-stop.invariant.2 (sym c.extent-in-loop-stop.ensures ∙ c.in-Upto-extent.is))
+          (if-from (item-read (sym c.extent-in-loop-stop.ensures ∙ c.in-Upto-extent.is)) c.put_pair-to.ensures),
+      i.1,
+      j.1,
+    )

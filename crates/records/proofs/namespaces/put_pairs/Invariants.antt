@@ -1,0 +1,24 @@
+-- `put_pairs`: the invariant says that with what is taken of the items from here on in both trees, what is taken of all is written.
+-- `taken_more` splits off one item of each; the loop ends where either row ends. The measure is the length of `work` less at.
+use mathlib.Core.Path.{sym, ◌∙◌}
+use Prim.Native.Nat.{◌-◌, ◌≤◌}
+use lib.ListN.{length}
+use native.Mathlib.Omega.{arith}
+use borrow.Author.Rules.{rules}
+use Rattle.tree.specs.Tree.{encodes}
+use Rattle.tree.specs.Standing.{row_at}
+use Rattle.tree.proofs.AccessLaws.{extent-upto}
+use Rattle.records.specs.Model.{taken}
+use Rattle.records.specs.Writes.{sieve, literalIn, RowOnward}
+use Rattle.records.proofs.SpecifierLaws.{if_none, item-read, row-start, row_step, row-stop}
+use Rattle.records.proofs.CollectedLaws.{if-from, taken-past, taken-past-out, taken_none, taken-none-out, taken_more}
+use Rattle.records.proofs.namespaces.put_pairs.Given as goal
+
+abbrev pub invariant-loop-stop : goal.invariant-loop-stop
+invariant-loop-stop l = RowOnward l.out l.initial.made l.made (length l.out)
+    (encodes (sieve l.wanted.namespaces (taken (literalIn l.tree l.work l.wanted.place) (row_at l.work l.initial.at (length l.work)) (row_at l.out l.initial.made (length l.out)))))
+    (encodes (sieve l.wanted.namespaces (taken (literalIn l.tree l.work l.wanted.place) (row_at l.work l.at (length l.work)) (row_at l.out l.made (length l.out))))) l.initial.records l.o l.records l.to
+    × (l.at ≤ length l.work) × (l.made ≤ length l.out)
+
+abbrev pub decreases-loop-stop : goal.decreases-loop-stop
+decreases-loop-stop l = length l.work - l.at

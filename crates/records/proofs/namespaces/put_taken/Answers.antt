@@ -1,0 +1,16 @@
+-- `put_taken`: the listed imports, then those behind them (`pairs-joined`).
+use mathlib.Core.Path.{sym, subst}
+use Prim.Native.Nat.{ℕ}
+use Rattle.records.specs.Writes.{literalIn}
+use Rattle.records.specs.Listing.{Paired, importsIn}
+use Rattle.records.proofs.ListingLaws.{pairs-joined}
+use borrow.Author.Rules.{rules}
+use Rattle.records.proofs.namespaces.put_taken.Goals as goal
+
+pub returns : goal.returns
+returns c =
+    let a = c.args in
+    pairs-joined a.wanted.namespaces (literalIn a.tree.now a.work.now a.wanted.place)
+    (subst (λ (x : ℕ). Paired a.work.now a.out.now (importsIn a.imports.now) x c.behind.result.made) (sym c.behind.ensures.0)
+    (subst (Paired a.work.now a.out.now (importsIn a.imports.now) _) (sym c.behind.ensures.1) c.requires.paired))
+    c.put_listed_pairs-q.ensures c.put_pairs.ensures

@@ -1,0 +1,45 @@
+-- `put_specifiers`: the invariant says that with the specifiers from here on all of them are written; `bytes-more` splits off one part.
+-- The measure is end - at.
+use mathlib.Core.Path.{sym, ◌∙◌}
+use Prim.Native.Nat.{◌-◌, ◌≤◌}
+use native.Mathlib.Omega.{arith}
+use borrow.Author.Rules.{rules}
+use Rattle.tree.specs.Tree.{encodes}
+use Rattle.tree.specs.Standing.{row_at}
+use Rattle.tree.proofs.AccessLaws.{extent-upto}
+use Rattle.extraction_rules.specs.First.{specifiersIn}
+use Rattle.records.specs.Writes.{sieve, RowOnward}
+use Rattle.records.proofs.SpecifierLaws.{bytes-none, bytes-more, row-start, row_step, row-stop}
+use Rattle.records.proofs.parts.put_specifiers.Goals as goal
+
+pub loop-stop-init : goal.loop-stop-init
+loop-stop-init c =
+    (row-start, omega arith, omega arith)
+
+pub extent-requires : goal.extent-requires
+extent-requires c =
+    omega arith
+
+pub returns-in_default : goal.returns-in_default
+returns-in_default c =
+    row-stop c.loop-stop.invariant.0
+    (bytes-none c.args.s.now c.loop-stop.at c.args.end c.loop-stop.invariant.2 c.args.namespaces
+    (sym c.extent.ensures ∙ c.in_default.is))
+
+pub put_specifier-to-requires : goal.put_specifier-to-requires
+put_specifier-to-requires c =
+    let i = extent-upto c.args.s.now c.loop-stop.at c.args.end c.loop-stop.invariant.2 (sym c.extent.ensures ∙ c.in-Upto.is) in omega arith
+
+pub loop-stop-smaller : goal.loop-stop-smaller
+loop-stop-smaller c =
+    let i = extent-upto c.args.s.now c.loop-stop.at c.args.end c.loop-stop.invariant.2 (sym c.extent.ensures ∙ c.in-Upto.is) in omega arith
+
+pub loop-stop-preserved : goal.loop-stop-preserved
+loop-stop-preserved c =
+    let i = extent-upto c.args.s.now c.loop-stop.at c.args.end c.loop-stop.invariant.2 (sym c.extent.ensures ∙ c.in-Upto.is) in (
+      row_step c.loop-stop.invariant.2 c.requires.1 (sym c.extent.ensures ∙ c.in-Upto.is) c.loop-stop.invariant.0
+          (bytes-more c.args.s.now c.loop-stop.at c.args.end c.loop-stop.invariant.2 c.args.namespaces _
+          (sym c.extent.ensures ∙ c.in-Upto.is)) c.put_specifier-to.ensures,
+      omega arith,
+      omega arith,
+    )

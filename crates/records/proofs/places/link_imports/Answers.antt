@@ -1,0 +1,86 @@
+-- `link_imports`: the invariant says that the places from i on are chained, and that no place has changed; `linked-step` puts the one in front of
+-- them at the start of its chain. The measure is i.
+use mathlib.Core.Path.{◌≡◌, refl, subst, ◌∙◌}
+use Prim.Native.Nat.{◌≤◌}
+use native.Mathlib.Omega.{arith}
+use borrow.Author.Rules.{rules}
+use Rattle.records.specs.Listing.{placesIn, Linked}
+use Rattle.records.proofs.ChainLaws.{linked-start, linked-step}
+use Rattle.records.proofs.places.link_imports.Goals as goal
+
+pub loop-i-init : goal.loop-i-init
+loop-i-init c =
+    (linked-start c.args.work.now c.args.imports.now c.args.n c.requires.0 c.requires.1, refl, omega arith)
+
+pub overflow_sub-i : goal.overflow_sub-i
+overflow_sub-i c =
+    omega arith
+
+pub overflow_mul-i : goal.overflow_mul-i
+overflow_mul-i c =
+    omega arith
+
+pub overflow_add-i : goal.overflow_add-i
+overflow_add-i c =
+    omega arith
+
+pub offset_bounds-imports-i : goal.offset_bounds-imports-i
+offset_bounds-imports-i c =
+    omega arith
+
+pub bounds-imports-i : goal.bounds-imports-i
+bounds-imports-i c =
+    omega arith
+
+pub offset_bounds-imports-chain : goal.offset_bounds-imports-chain
+offset_bounds-imports-chain c =
+    omega arith
+
+pub bounds-imports-chain : goal.bounds-imports-chain
+bounds-imports-chain c =
+    omega arith
+
+pub overflow_mul-imports : goal.overflow_mul-imports
+overflow_mul-imports c =
+    omega arith
+
+pub overflow_add-imports : goal.overflow_add-imports
+overflow_add-imports c =
+    omega arith
+
+pub offset_bounds-imports-i-in-loop-i : goal.offset_bounds-imports-i-in-loop-i
+offset_bounds-imports-i-in-loop-i c =
+    omega arith
+
+pub bounds-imports-i-in-loop-i : goal.bounds-imports-i-in-loop-i
+bounds-imports-i-in-loop-i c =
+    omega arith
+
+pub overflow_cast-imports : goal.overflow_cast-imports
+overflow_cast-imports c =
+    omega arith
+
+pub offset_bounds-imports-chain-in-loop-i : goal.offset_bounds-imports-chain-in-loop-i
+offset_bounds-imports-chain-in-loop-i c =
+    omega arith
+
+pub bounds-imports-chain-in-loop-i : goal.bounds-imports-chain-in-loop-i
+bounds-imports-chain-in-loop-i c =
+    omega arith
+
+pub loop-i-smaller : goal.loop-i-smaller
+loop-i-smaller c =
+    omega arith
+
+pub loop-i-preserved : goal.loop-i-preserved
+loop-i-preserved c =
+    let a = c.args in
+    let k = linked-step a.work.now c.loop-i.imports a.n c.loop-i.i c.chain_of-chain.result c.requires.0 c.loop-i-test.true c.loop-i.invariant.2 c.chain_of-chain.ensures.1
+    c.chain_of-chain.ensures.0 c.loop-i.invariant.0 in
+    (k.0, k.1 ∙ c.loop-i.invariant.1, omega arith)
+
+pub returns : goal.returns
+returns c =
+    let a = c.args in
+    let z : c.loop-i.i ≡ 0 = omega arith in
+    (subst (Linked a.work.now c.loop-i.imports a.n) z c.loop-i.invariant.0, c.loop-i.invariant.1)

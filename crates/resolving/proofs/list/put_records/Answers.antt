@@ -1,0 +1,62 @@
+-- `resolving::list::put_records`: the invariant: with the records from here on, all of them are written; their
+-- sources have numbers.
+use mathlib.Core.Path.{sym, ◌∙◌}
+use native.Mathlib.Omega.{arith}
+use Prim.Native.Nat.{◌-◌}
+use lib.ListN.{length}
+use borrow.Author.Rules.{rules}
+use Rattle.inputs.specs.Table.{rowsIn}
+use Rattle.scope.specs.ScopeValue.{modulesOf}
+use Rattle.tree.specs.Standing.{row_at}
+use Rattle.resolving_rules.specs.Resolve.{sourcesIn, forcedIn, resolvedAll}
+use Rattle.resolving.specs.Records.{RecordsFrom, recordsIn}
+use Rattle.resolving.specs.Numbers.{NumbersAll}
+use Rattle.resolving.specs.Writes.{Onward}
+use Rattle.resolving.proofs.RecordsLaws.{source-stands}
+use Rattle.resolving.proofs.WritesLaws.{onward-all, onward-end, onward-more, onward-stop}
+use Rattle.resolving.proofs.ListLaws.{list-end, list-more, numbers-next}
+use Rattle.resolving.proofs.list.put_records.Goals as goal
+
+pub loop-stop-init : goal.loop-stop-init
+loop-stop-init c =
+    (onward-all, c.requires.0, c.requires.1)
+
+pub source_end-requires : goal.source_end-requires
+source_end-requires c =
+    c.loop-stop.invariant.1.inside
+
+pub returns-in_default : goal.returns-in_default
+returns-in_default c =
+    onward-end c.loop-stop.invariant.0
+    (list-end (rowsIn c.args.table.now) (forcedIn (recordsIn c.args.records.now)) (modulesOf c.args.scope) c.loop-stop.invariant.1
+    (sym c.source_end.ensures ∙ c.in_default.is))
+
+pub put_record-requires : goal.put_record-requires
+put_record-requires c =
+    (
+      c.requires.0,
+      (source-stands c.loop-stop.invariant.1 (sym c.source_end.ensures ∙ c.in-Upto.is)).source,
+      (numbers-next (rowsIn c.args.table.now) (forcedIn (recordsIn c.args.records.now)) (modulesOf c.args.scope) c.loop-stop.invariant.1
+          (sym c.source_end.ensures ∙ c.in-Upto.is) c.loop-stop.invariant.2).0,
+    )
+
+pub loop-stop-smaller : goal.loop-stop-smaller
+loop-stop-smaller c =
+    let w = (source-stands c.loop-stop.invariant.1 (sym c.source_end.ensures ∙ c.in-Upto.is)) in let a = w.source.wide in let b = w.source.parts.fits in omega arith
+
+pub loop-stop-preserved : goal.loop-stop-preserved
+loop-stop-preserved c =
+    (
+      onward-more c.loop-stop.invariant.0
+          (list-more (rowsIn c.args.table.now) (forcedIn (recordsIn c.args.records.now)) (modulesOf c.args.scope)
+          c.loop-stop.invariant.1 (sym c.source_end.ensures ∙ c.in-Upto.is)) c.put_record.ensures c.in-Done.is,
+      (source-stands c.loop-stop.invariant.1 (sym c.source_end.ensures ∙ c.in-Upto.is)).rest,
+      (numbers-next (rowsIn c.args.table.now) (forcedIn (recordsIn c.args.records.now)) (modulesOf c.args.scope)
+          c.loop-stop.invariant.1 (sym c.source_end.ensures ∙ c.in-Upto.is) c.loop-stop.invariant.2).1,
+    )
+
+pub returns-in-Refused : goal.returns-in-Refused
+returns-in-Refused c =
+    onward-stop c.loop-stop.invariant.0
+    (list-more (rowsIn c.args.table.now) (forcedIn (recordsIn c.args.records.now)) (modulesOf c.args.scope)
+    c.loop-stop.invariant.1 (sym c.source_end.ensures ∙ c.in-Upto.is)) c.put_record.ensures c.in-Refused.is

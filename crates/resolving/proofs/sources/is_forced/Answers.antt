@@ -1,0 +1,59 @@
+-- `resolving::sources::is_forced`: the invariant: whether the source is forced is what the records from here on say.
+use mathlib.Core.Path.{◌≡◌, refl, sym, ap, ◌∙◌}
+use mathlib.Core.Bool.{Bool, ◌||◌}
+use native.Mathlib.Omega.{arith}
+use Prim.Native.Nat.{◌-◌}
+use lib.ListN.{length}
+use borrow.Author.Rules.{rules}
+use Rattle.inputs.specs.Lists.{among}
+use Rattle.tree.specs.Layout.{two}
+use Rattle.tree.specs.Standing.{row_at}
+use Rattle.tree.proofs.AccessLaws.{extent-upto}
+use Rattle.resolving_rules.specs.Resolve.{forcedIn}
+use Rattle.resolving.specs.Records.{RecordsFrom, recordsIn}
+use Rattle.resolving.proofs.RecordsLaws.{records-next, forced-end, forced-inside, forced-step}
+use Rattle.resolving.proofs.sources.is_forced.Goals as goal
+
+pub loop-stop-init : goal.loop-stop-init
+loop-stop-init c =
+    (refl, c.requires)
+
+pub extent-requires : goal.extent-requires
+extent-requires c =
+    let i = c.loop-stop.invariant.1.inside in omega arith
+
+pub returns-in_default : goal.returns-in_default
+returns-in_default c =
+    sym (c.loop-stop.invariant.0 ∙ forced-end c.args.source.0 (omega (arith, c.before.before.before.before.before.well-formed.1.0)) c.loop-stop.invariant.1 (sym c.extent.ensures ∙ c.in_default.is))
+-- WARN c.before.before.before.before.before.well-formed.1.0 at After-enum_told
+
+pub forces_at-requires : goal.forces_at-requires
+forces_at-requires c =
+    forced-inside c.args.source.0 (omega (arith, c.before.before.before.before.before.before.well-formed.1.0)) c.loop-stop.invariant.1 (sym c.extent.ensures ∙ c.in-Upto.is)
+-- WARN c.before.before.before.before.before.before.well-formed.1.0 at After-known_told
+
+pub returns-then-forces_at : goal.returns-then-forces_at
+returns-then-forces_at c =
+    sym (c.loop-stop.invariant.0
+    ∙ forced-step c.args.source.0 (omega (arith, c.before.before.before.before.before.before.before.before.well-formed.1.0)) c.loop-stop.invariant.1 (sym c.extent.ensures ∙ c.in-Upto.is)
+    ∙
+    ap (λ (b : Bool). b || among (two c.args.source.0)
+    (forcedIn (row_at c.args.records.now c.in-Upto.stop (length c.args.records.now))))
+    (sym c.forces_at.ensures ∙ c.if-forces_at.true))
+-- WARN c.before.before.before.before.before.before.before.before.well-formed.1.0 at Then1
+
+pub loop-stop-smaller : goal.loop-stop-smaller
+loop-stop-smaller c =
+    let i = extent-upto c.args.records.now c.loop-stop.at _ c.loop-stop.invariant.1.inside (sym c.extent.ensures ∙ c.in-Upto.is) in omega arith
+
+pub loop-stop-preserved : goal.loop-stop-preserved
+loop-stop-preserved c =
+    (
+      c.loop-stop.invariant.0 ∙ forced-step c.args.source.0 (omega (arith, c.before.before.before.before.before.before.before.before.well-formed.1.0)) c.loop-stop.invariant.1 (sym c.extent.ensures ∙ c.in-Upto.is)
+          ∙
+          ap (λ (b : Bool). b || among (two c.args.source.0)
+          (forcedIn (row_at c.args.records.now c.in-Upto.stop (length c.args.records.now))))
+          (sym c.forces_at.ensures ∙ c.if-forces_at.false),
+      records-next c.loop-stop.invariant.1 (sym c.extent.ensures ∙ c.in-Upto.is),
+    )
+-- WARN c.before.before.before.before.before.before.before.before.well-formed.1.0 at Else1

@@ -1,0 +1,112 @@
+-- `from_cells`: the invariant says that the first k modules of the arrays are the first k in the cells.
+-- `cells-taken` adds module k: its five stores touch no module before it. At the end k is n, which is at most 256.
+use mathlib.Core.Path.{◌≡◌, refl}
+use Prim.Native.Nat.{◌≤◌, ◌-◌, min}
+use native.Mathlib.Omega.{arith}
+use borrow.Author.Rules.{rules}
+use lib.ListN.{length, length-set}
+use Rattle.scope.specs.ScopeValue.{modulesFrom, modulesOf, modulesIn}
+use Rattle.scope.proofs.ScopeValueLaws.{cells-taken}
+use Rattle.scope.proofs.Scope.from_cells.Goals as goal
+
+pub loop-k-init : goal.loop-k-init
+unfolding modulesFrom modulesIn
+loop-k-init c =
+    (refl, omega arith, refl, refl)
+
+pub overflow_mul-at : goal.overflow_mul-at
+overflow_mul-at c =
+    omega arith
+
+pub overflow_add-at : goal.overflow_add-at
+overflow_add-at c =
+    omega arith
+
+pub offset_bounds-cells-at : goal.offset_bounds-cells-at
+offset_bounds-cells-at c =
+    omega arith
+
+pub bounds-cells-at : goal.bounds-cells-at
+bounds-cells-at c =
+    omega arith
+
+pub offset_bounds-files-k : goal.offset_bounds-files-k
+offset_bounds-files-k c =
+    omega arith
+
+pub bounds-files-k : goal.bounds-files-k
+bounds-files-k c =
+    omega arith
+
+pub overflow_add-m : goal.overflow_add-m
+overflow_add-m c =
+    omega arith
+
+pub offset_bounds-cells-at-in-loop-k : goal.offset_bounds-cells-at-in-loop-k
+offset_bounds-cells-at-in-loop-k c =
+    omega arith
+
+pub bounds-cells-at-in-loop-k : goal.bounds-cells-at-in-loop-k
+bounds-cells-at-in-loop-k c =
+    omega arith
+
+pub slot-loaded-requires : goal.slot-loaded-requires
+slot-loaded-requires c =
+    omega arith
+
+pub bounds-marks-loaded : goal.bounds-marks-loaded
+bounds-marks-loaded c =
+    omega arith
+
+pub slot-stored-requires : goal.slot-stored-requires
+slot-stored-requires c =
+    omega arith
+
+pub bounds-marks-stored : goal.bounds-marks-stored
+bounds-marks-stored c =
+    omega arith
+
+pub slot-cjs-requires : goal.slot-cjs-requires
+slot-cjs-requires c =
+    omega arith
+
+pub bounds-marks-cjs : goal.bounds-marks-cjs
+bounds-marks-cjs c =
+    omega arith
+
+pub slot-wrapping-requires : goal.slot-wrapping-requires
+slot-wrapping-requires c =
+    omega arith
+
+pub bounds-marks-wrapping : goal.bounds-marks-wrapping
+bounds-marks-wrapping c =
+    omega arith
+
+pub overflow_add-k : goal.overflow_add-k
+overflow_add-k c =
+    omega arith
+
+pub loop-k-smaller : goal.loop-k-smaller
+loop-k-smaller c =
+    omega arith
+
+pub loop-k-preserved : goal.loop-k-preserved
+loop-k-preserved c =
+    (
+      cells-taken c.args.cells.now c.loop-k.files c.loop-k.marks c.args.base c.loop-k.k c.low_file.result
+          c.slot-loaded.result c.slot-stored.result c.slot-cjs.result c.slot-wrapping.result c.last_bit.result c.last_bit-in-loop-k.result
+          c.last_bit-in-loop-k-2.result c.last_bit-in-loop-k-3.result c.loop-k.invariant.2 c.loop-k.invariant.3 (omega arith) c.low_file.ensures
+          c.last_bit.ensures c.last_bit-in-loop-k.ensures c.last_bit-in-loop-k-2.ensures c.last_bit-in-loop-k-3.ensures c.slot-loaded.ensures.0
+          c.slot-stored.ensures.0 c.slot-cjs.ensures.0 c.slot-wrapping.ensures.0 c.loop-k.invariant.0,
+      omega arith,
+      simp length-set
+          c.loop-k.invariant.2,
+      simp length-set c.loop-k.invariant.3,
+    )
+
+pub returns : goal.returns
+unfolding modulesOf
+returns c =
+    let e : c.loop-k.k ≡ c.args.n = omega arith in
+    let m : min c.args.n 256 ≡ c.args.n = omega arith in
+    rw m (rw e at c.loop-k.invariant.0)

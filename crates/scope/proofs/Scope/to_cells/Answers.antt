@@ -1,0 +1,120 @@
+-- `to_cells`: the invariant says that the first k modules in the cells are the first k of the scope, and that only cells from base up to
+-- base + 512 were written, files of two bytes and marks of four bits (`small_put`). `cells-put` adds module k, whose marks `four_bits` lets be
+-- read back; `rewrites-set` allows the two stores.
+use mathlib.Core.Path.{◌≡◌, refl, ◌∙◌}
+use Prim.Native.Nat.{ℕ, ◌≤◌, ◌<◌, ◌-◌, ◌+◌, ◌*◌}
+use native.Mathlib.Omega.{arith}
+use borrow.Author.Rules.{rules}
+use lib.ListN.{get_or, length-set}
+use Rattle.scope.specs.ScopeValue.{modulesFrom, modulesIn, Rewrites}
+use Rattle.scope.proofs.Laws.{rewrites-none, rewrites-set, small_put}
+use Rattle.scope.proofs.ScopeValueLaws.{cells-put, modules-length, modules-first}
+use Rattle.scope.proofs.Scope.to_cells.Goals as goal
+
+pub loop-k-init : goal.loop-k-init
+unfolding modulesFrom modulesIn
+loop-k-init c =
+    (refl, omega arith, rewrites-none _ _ _, λ i h. absurd (omega arith))
+
+pub overflow_mul-at : goal.overflow_mul-at
+overflow_mul-at c =
+    omega arith
+
+pub overflow_add-at : goal.overflow_add-at
+overflow_add-at c =
+    omega arith
+
+pub slot-loaded-requires : goal.slot-loaded-requires
+slot-loaded-requires c =
+    omega arith
+
+pub slot-stored-requires : goal.slot-stored-requires
+slot-stored-requires c =
+    omega arith
+
+pub slot-cjs-requires : goal.slot-cjs-requires
+slot-cjs-requires c =
+    omega arith
+
+pub slot-wrapping-requires : goal.slot-wrapping-requires
+slot-wrapping-requires c =
+    omega arith
+
+pub offset_bounds-self-k : goal.offset_bounds-self-k
+offset_bounds-self-k c =
+    omega arith
+
+pub bounds-self-k : goal.bounds-self-k
+bounds-self-k c =
+    omega arith
+
+pub offset_bounds-cells-at : goal.offset_bounds-cells-at
+offset_bounds-cells-at c =
+    omega arith
+
+pub bounds-cells-at : goal.bounds-cells-at
+bounds-cells-at c =
+    omega arith
+
+pub bounds-self-loaded : goal.bounds-self-loaded
+bounds-self-loaded c =
+    omega arith
+
+pub bounds-self-stored : goal.bounds-self-stored
+bounds-self-stored c =
+    omega arith
+
+pub bounds-self-cjs : goal.bounds-self-cjs
+bounds-self-cjs c =
+    omega arith
+
+pub bounds-self-wrapping : goal.bounds-self-wrapping
+bounds-self-wrapping c =
+    omega arith
+
+pub overflow_add-cells : goal.overflow_add-cells
+overflow_add-cells c =
+    omega arith
+
+pub offset_bounds-cells-at-in-loop-k : goal.offset_bounds-cells-at-in-loop-k
+offset_bounds-cells-at-in-loop-k c =
+    omega arith
+
+pub bounds-cells-at-in-loop-k : goal.bounds-cells-at-in-loop-k
+bounds-cells-at-in-loop-k c =
+    simp length-set (omega arith)
+
+pub overflow_add-k : goal.overflow_add-k
+overflow_add-k c =
+    omega arith
+
+pub loop-k-smaller : goal.loop-k-smaller
+loop-k-smaller c =
+    omega arith
+
+pub loop-k-preserved : goal.loop-k-preserved
+loop-k-preserved c =
+    (
+      cells-put c.loop-k.cells c.args.self.files c.args.self.marks c.args.base c.loop-k.k c.wide_file.result
+          c.four_bits.result c.slot-loaded.result c.slot-stored.result c.slot-cjs.result c.slot-wrapping.result (omega arith)
+          c.wide_file.ensures.0 c.wide_file.ensures.1 c.four_bits.ensures.0 c.four_bits.ensures.1 c.four_bits.ensures.2
+          c.four_bits.ensures.3 c.slot-loaded.ensures.0 c.slot-stored.ensures.0 c.slot-cjs.ensures.0 c.slot-wrapping.ensures.0
+          c.loop-k.invariant.0,
+      omega arith,
+      rewrites-set _ _ (omega arith) (omega arith)
+          (rewrites-set _ _ (omega arith) (omega arith) c.loop-k.invariant.2),
+      small_put c.loop-k.cells c.args.base c.loop-k.k c.wide_file.result c.four_bits.result (omega arith)
+          c.wide_file.ensures.1 c.four_bits.ensures.4 c.loop-k.invariant.3,
+    )
+
+pub returns : goal.returns
+returns c =
+    let l = modules-length c.args.self in
+    let e : c.loop-k.k ≡ c.counted-n.result = omega arith in (
+      omega arith,
+      c.counted-n.ensures.1,
+      rw e at c.loop-k.invariant.0
+          ∙ modules-first c.args.self c.counted-n.result c.counted-n.ensures.0,
+      c.loop-k.invariant.2,
+      λ i h. c.loop-k.invariant.3 i (omega arith),
+    )

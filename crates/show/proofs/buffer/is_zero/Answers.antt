@@ -1,0 +1,33 @@
+-- `is_zero`: no contract; the loop's test keeps each index inside, and what is left of the bytes is the measure.
+use Prim.Native.Nat.{◌-◌}
+use lib.ListN.{length}
+use native.Mathlib.Omega.{arith}
+use Rattle.show.proofs.buffer.is_zero.Goals as goal
+
+pub loop-i-init : goal.loop-i-init
+loop-i-init c =
+    omega arith
+
+pub bounds-s-i : goal.bounds-s-i
+bounds-s-i c =
+    omega arith
+
+pub returns-then-s-i-ne0 : goal.returns-then-s-i-ne0
+returns-then-s-i-ne0 c =
+    omega arith
+
+pub overflow_add-i : goal.overflow_add-i
+overflow_add-i c =
+    omega arith
+
+pub loop-i-smaller : goal.loop-i-smaller
+loop-i-smaller c =
+    omega arith
+
+pub loop-i-preserved : goal.loop-i-preserved
+loop-i-preserved c =
+    omega arith
+
+pub returns : goal.returns
+returns c =
+    omega arith

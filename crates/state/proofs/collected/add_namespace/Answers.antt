@@ -1,0 +1,48 @@
+-- `add_namespace`: a full table shows no state that may get one more (`extended-full`). Else the row that enters keeps the records
+-- (`met-records`); then by the record's value: 0, and this is its first namespace (`extended-first`), or it has one (`extended-again`).
+use native.Mathlib.Omega.{arith}
+use mathlib.Core.Path.{sym, ap, ◌∙◌}
+use lib.ListN.{length}
+use Rattle.state.specs.Cells.{records, namespaces, idBy}
+use Rattle.state.proofs.FrameLaws.{room-for}
+use Rattle.state.proofs.ExtendLaws.{met-records, extended-again, extended-first, extended-full}
+use borrow.Author.Rules.{rules}
+use Rattle.state.proofs.collected.add_namespace.Goals as goal
+
+pub count_of-requires : goal.count_of-requires
+count_of-requires c =
+    c.requires.0.lies namespaces
+
+pub returns-then-count_of-ge3641 : goal.returns-then-count_of-ge3641
+returns-then-count_of-ge3641 c =
+    extended-full c.args.i (idBy c.args.id) c.requires.0 (omega arith)
+
+pub add_held-requires : goal.add_held-requires
+add_held-requires c =
+    (c.requires.0, c.id_number-n.ensures.1, let r = room-for records c.requires.0 in let b = c.requires.1 in omega arith, omega arith)
+
+pub value_of-requires : goal.value_of-requires
+value_of-requires c =
+    (
+      c.add_held.ensures.good.lies records,
+      let e = ap length
+          (met-records c.id_number-n.ensures.0 c.id_number-n.ensures.1 c.requires.1 c.add_held.ensures) in let b = c.requires.1 in omega arith,
+    )
+
+pub set_first-requires : goal.set_first-requires
+set_first-requires c =
+    (
+      c.add_held.ensures.good,
+      let e = ap length
+          (met-records c.id_number-n.ensures.0 c.id_number-n.ensures.1 c.requires.1 c.add_held.ensures) in let b = c.requires.1 in omega arith,
+      c.id_number-n.ensures.1,
+    )
+
+pub returns-then-value_of-eq0 : goal.returns-then-value_of-eq0
+returns-then-value_of-eq0 c =
+    extended-first c.id_number-n.ensures.0 c.id_number-n.ensures.1 c.requires.1 c.add_held.ensures (sym c.value_of.ensures ∙ c.if-value_of-eq0.true)
+    c.set_first.ensures
+
+pub returns-else-value_of-eq0 : goal.returns-else-value_of-eq0
+returns-else-value_of-eq0 c =
+    extended-again c.id_number-n.ensures.0 c.id_number-n.ensures.1 c.requires.1 c.add_held.ensures (λ e. c.if-value_of-eq0.false (c.value_of.ensures ∙ e))

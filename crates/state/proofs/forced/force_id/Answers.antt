@@ -1,0 +1,27 @@
+-- `force_id`: an id without a hint is in no table, and nothing changes (`forced-nowhere`). Else by what `holder` found after the id was
+-- forgotten: no record, and this is all (`forced-none`), or a record, whose source is forced (`forced-some`).
+use mathlib.Core.Path.{sym, ap, subst, ◌∙◌}
+use Rattle.inputs.specs.Lists.{find}
+use Rattle.extraction_rules.specs.First.{holdsNamespace}
+use Rattle.state.specs.Cells.{idBy}
+use Rattle.state.specs.Does.{Tells, source_of, sourceBy}
+use Rattle.state.proofs.ForcedLaws.{forced-none, forced-some, forced-nowhere}
+use borrow.Author.Rules.{rules}
+use Rattle.state.proofs.forced.force_id.Goals as goal
+
+pub returns-then-hint_of-eq0 : goal.returns-then-hint_of-eq0
+returns-then-hint_of-eq0 c =
+    forced-nowhere c.id_number.result c.requires c.id_number.ensures.0 c.id_number.ensures.1
+    (sym c.hint_of.ensures ∙ c.if-hint_of-eq0.true)
+
+pub returns-in_default : goal.returns-in_default
+returns-in_default c =
+    forced-none (idBy c.args.id) c.forget.ensures
+    (subst (Tells (λ s. source_of (find (holdsNamespace (idBy c.args.id)) s.collected)) c.forget.new.0)
+    (ap sourceBy c.in_default.is) c.holder.ensures)
+
+pub returns : goal.returns
+returns c =
+    forced-some (idBy c.args.id) c.forget.ensures
+    (subst (Tells (λ s. source_of (find (holdsNamespace (idBy c.args.id)) s.collected)) c.forget.new.0)
+    (ap sourceBy c.in-From.is) c.holder.ensures) c.force_source.ensures

@@ -1,0 +1,17 @@
+-- `add_held`: the hint is set first and names the namespaces, so the row may enter (`held-added`).
+use native.Mathlib.Omega.{arith}
+use mathlib.Core.Path.{ap}
+use lib.ListN.{length}
+use Rattle.state.specs.Cells.{namespaces}
+use Rattle.state.proofs.ChangeLaws.{held-added}
+use borrow.Author.Rules.{rules}
+use Rattle.state.proofs.hints.add_held.Goals as goal
+
+pub push-requires : goal.push-requires
+push-requires c =
+    (c.set_hint.ensures.0.good.lies namespaces, let e = ap length (c.set_hint.ensures.0.same_rows namespaces) in omega arith)
+
+pub returns : goal.returns
+returns c =
+    held-added c.requires.0 c.set_hint.ensures.0 c.requires.1 c.requires.2 c.requires.3
+    (let e = c.set_hint.ensures.1 in omega arith) c.push.ensures.0 c.push.ensures.1

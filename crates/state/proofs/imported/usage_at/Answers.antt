@@ -1,0 +1,28 @@
+-- `usage_at`: by whether the row's key is the id: its value is then the next usage in the list (`listed-is`), else the list goes on without
+-- it (`listed-other`).
+use mathlib.Core.Path.{sym, ap, ◌∙◌}
+use Rattle.state.specs.Cells.{uses, id_of}
+use Rattle.state.proofs.UsageLaws.{listed-is, listed-other, property-small}
+use borrow.Author.Rules.{rules}
+use Rattle.state.proofs.imported.usage_at.Goals as goal
+
+pub key_of-requires : goal.key_of-requires
+key_of-requires c =
+    (c.requires.0.lies uses, c.requires.1)
+
+pub value_of-requires : goal.value_of-requires
+value_of-requires c =
+    (c.requires.0.lies uses, c.requires.1)
+
+pub numbered_id-requires : goal.numbered_id-requires
+numbered_id-requires c =
+    property-small c.requires.0 c.requires.1 c.value_of.ensures
+
+pub returns-then-key_of-id_number : goal.returns-then-key_of-id_number
+returns-then-key_of-id_number c =
+    listed-is c.requires.0 c.id_number.ensures.0 c.id_number.ensures.1 c.requires.1 (sym c.key_of.ensures ∙ c.if-key_of-id_number.true)
+    (c.numbered_id.ensures ∙ ap id_of c.value_of.ensures)
+
+pub returns-else-key_of-id_number : goal.returns-else-key_of-id_number
+returns-else-key_of-id_number c =
+    listed-other c.requires.0 c.id_number.ensures.0 c.id_number.ensures.1 c.requires.1 (λ e. c.if-key_of-id_number.false (c.key_of.ensures ∙ e))

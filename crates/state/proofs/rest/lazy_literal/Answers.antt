@@ -1,0 +1,17 @@
+-- `lazy_literal`: the row at the place has the literal's number, and what stands there is the state's entry (`lazy-literal-at`).
+use native.Mathlib.Omega.{arith}
+use Rattle.state.specs.Cells.{lazies}
+use Rattle.state.proofs.PlaceLaws.{lazy-small, lazy-literal-at}
+use Rattle.state.proofs.rest.lazy_literal.Goals as goal
+
+pub key_of-requires : goal.key_of-requires
+key_of-requires c =
+    (c.requires.0.lies lazies, c.requires.1)
+
+pub numbered_literal-requires : goal.numbered_literal-requires
+numbered_literal-requires c =
+    let b = (lazy-small c.requires.0 c.requires.1).0 in let e = c.key_of.ensures in omega arith
+
+pub returns : goal.returns
+returns c =
+    lazy-literal-at c.numbered_literal.ensures.0 c.numbered_literal.ensures.1 c.requires.1 c.key_of.ensures

@@ -1,0 +1,54 @@
+-- `lend_externals`: the invariant says that the rows put so far, with the atoms from i on, are the atoms of the list (`Lending`), and that
+-- there is a row for two bytes each: so there is room. At the end less than two bytes are left, and no atom (`externals-lent`).
+use Rattle.tables.specs.Rows.{rows}
+use Rattle.state.specs.Cells.{externals as kind, held, table_of, atomOf}
+use mathlib.Core.Path.{◌≡◌, ap}
+use Prim.Native.Nat.{◌*◌, ◌-◌, ◌≤◌}
+use native.Mathlib.Omega.{arith}
+use lib.ListN.{length}
+use Rattle.inputs.specs.Table.{atomsIn}
+use Rattle.state.proofs.ListLaws.{length_more}
+use Rattle.state.proofs.SettingLaws.{Lending, lend-start, external-more, externals-lent}
+use Rattle.state.proofs.setting.lend_externals.Goals as goal
+
+pub loop-i-init : goal.loop-i-init
+loop-i-init c =
+    (lend-start c.requires.0 c.requires.2, let e = ap length c.requires.2 in omega arith, omega arith)
+
+pub overflow_sub-externals : goal.overflow_sub-externals
+overflow_sub-externals c =
+    omega arith
+
+pub atom_at-requires : goal.atom_at-requires
+atom_at-requires c =
+    omega arith
+
+pub overflow_cast-atom_at : goal.overflow_cast-atom_at
+overflow_cast-atom_at c =
+    omega arith
+
+pub push-requires : goal.push-requires
+push-requires c =
+    (c.loop-i.invariant.0.good.lies kind, let h = c.requires.1 in omega arith)
+
+pub overflow_add-i : goal.overflow_add-i
+overflow_add-i c =
+    omega arith
+
+pub loop-i-smaller : goal.loop-i-smaller
+loop-i-smaller c =
+    omega arith
+
+pub loop-i-preserved : goal.loop-i-preserved
+loop-i-preserved c =
+    (
+      external-more c.loop-i.invariant.0 (λ i. (c.shared_slice_known-1.given i).fits) (omega arith) (let h = c.requires.1 in omega arith) (omega arith) c.atom_at.ensures
+          c.push.ensures.0
+          c.push.ensures.1,
+      let e = ap length c.push.ensures.0 in let m = length_more (rows (table_of kind) c.loop-i.t) (c.atom_at.result, 0) in omega arith,
+      omega arith,
+    )
+
+pub returns : goal.returns
+returns c =
+    externals-lent c.loop-i.invariant.0 (omega arith)

@@ -1,0 +1,71 @@
+-- `drop_key`: the invariant (`Dropping`) says that the first `kept` rows are the first i of the start without those of the key, and that no
+-- cell outside these i rows has changed, so row i is read as it was. A step is `drop-skips` or `drop_keeps`; `rows_dropped` ends it.
+use mathlib.Core.Path.{◌≡◌, sym, ◌∙◌, subst}
+use Prim.Native.Nat.{ℕ, ◌-◌}
+use native.Mathlib.Omega.{arith}
+use lib.ListN.{length-set}
+use Rattle.tables.proofs.RowLaws.{Dropping, drop-starts, drop-skips, drop_keeps}
+use Rattle.tables.proofs.OnlyLaws.{rows_dropped}
+use Rattle.tables.proofs.drop_key.Goals as goal
+
+pub count_of-n-requires : goal.count_of-n-requires
+count_of-n-requires c =
+    c.requires
+
+pub loop-i-init : goal.loop-i-init
+loop-i-init c =
+    drop-starts c.args.key c.args.b.base c.count_of-n.result c.args.t.now
+
+pub key_in-k-requires : goal.key_in-k-requires
+key_in-k-requires c =
+    omega arith
+
+pub value_in-v-requires : goal.value_in-v-requires
+value_in-v-requires c =
+    omega arith
+
+pub overflow_add-i : goal.overflow_add-i
+overflow_add-i c =
+    omega arith
+
+pub loop-i-smaller-then-k-key : goal.loop-i-smaller-then-k-key
+loop-i-smaller-then-k-key c =
+    omega arith
+
+pub loop-i-preserved-then-k-key : goal.loop-i-preserved-then-k-key
+loop-i-preserved-then-k-key c =
+    drop-skips c.args.key c.args.b.base c.count_of-n.result c.args.t.now c.loop-i.i c.loop-i.auto c.loop-i.t
+    c.loop-i.invariant c.loop-i-test.true (sym c.key_in-k.ensures ∙ c.if-k-key.true)
+
+pub put_row-requires : goal.put_row-requires
+put_row-requires c =
+    omega arith
+
+pub overflow_add-kept : goal.overflow_add-kept
+overflow_add-kept c =
+    omega arith
+
+pub loop-i-smaller : goal.loop-i-smaller
+loop-i-smaller c =
+    omega arith
+
+pub loop-i-preserved : goal.loop-i-preserved
+loop-i-preserved c =
+    drop_keeps c.args.key c.args.b.base c.count_of-n.result c.args.t.now c.loop-i.i c.loop-i.auto c.loop-i.t
+    c.loop-i.invariant c.loop-i-test.true c.key_in-k.result c.value_in-v.result _ c.key_in-k.ensures c.value_in-v.ensures
+    c.if-k-key.false c.put_row.ensures
+
+pub offset_bounds-t-cell : goal.offset_bounds-t-cell
+offset_bounds-t-cell c =
+    omega arith
+
+pub bounds-t-cell : goal.bounds-t-cell
+bounds-t-cell c =
+    omega arith
+
+pub returns : goal.returns
+returns c =
+    let u = c.loop-i.invariant.upto in
+    let e : c.loop-i.i ≡ c.count_of-n.result = omega arith in
+    rows_dropped c.args.b c.args.key c.count_of-n.result c.loop-i.auto c.args.t.now c.loop-i.t c.requires c.count_of-n.ensures.0
+    (subst (λ (i : ℕ). Dropping c.args.key c.args.b.base c.count_of-n.result c.args.t.now i c.loop-i.auto c.loop-i.t) e c.loop-i.invariant)

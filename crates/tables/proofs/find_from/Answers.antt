@@ -1,0 +1,48 @@
+-- `find_from`: the invariant says that what is found from row i on is what is found from row 0 on (`found-begin`). A key below lo or above hi is passed
+-- (`found-low`, `found-high`), one between is the first (`found_here`), and behind the last row there is none (`found-end`).
+use mathlib.Core.Path.{◌≡◌, sym, ◌∙◌}
+use mathlib.Core.Logic.{⊎_elim}
+use Rattle.tables.proofs.RowLaws.{found_from, found-start, found-begin, found-low, found-high, found_here, found-end}
+use Prim.Native.Nat.{◌-◌}
+use native.Mathlib.Omega.{arith}
+use Rattle.tables.proofs.find_from.Goals as goal
+
+pub count_of-n-requires : goal.count_of-n-requires
+count_of-n-requires c =
+    c.requires.0
+
+pub loop-i-init : goal.loop-i-init
+loop-i-init c =
+    found-begin _ _ _ c.args.b _ _ c.count_of-n.ensures.0 c.requires.1
+
+pub key_in-k-requires : goal.key_in-k-requires
+key_in-k-requires c =
+    omega arith
+
+pub returns-then-k-hi : goal.returns-then-k-hi
+returns-then-k-hi c =
+    sym (found-start c.args.lo c.args.hi c.args.b c.count_of-n.result c.args.t.now c.count_of-n.ensures.0 ∙ c.loop-i.invariant
+    ∙ found_here c.args.lo c.args.hi c.count_of-n.result c.loop-i.i c.args.b.base c.args.t.now c.loop-i-test.true (omega arith) (omega arith))
+
+pub overflow_add-i : goal.overflow_add-i
+overflow_add-i c =
+    omega arith
+
+pub loop-i-smaller : goal.loop-i-smaller
+loop-i-smaller c =
+    omega arith
+
+pub loop-i-preserved : goal.loop-i-preserved
+loop-i-preserved c =
+    c.loop-i.invariant
+    ∙ ⊎_elim
+    (λ w. let a = w.0.taken in let b = w.1.left in
+    found-high c.args.lo c.args.hi c.count_of-n.result c.loop-i.i c.args.b.base c.args.t.now c.loop-i-test.true (omega arith) (omega arith))
+    (λ w. let a = w.left in
+    found-low c.args.lo c.args.hi c.count_of-n.result c.loop-i.i c.args.b.base c.args.t.now c.loop-i-test.true (omega arith))
+    c.if-lo-k.branch
+
+pub returns : goal.returns
+returns c =
+    sym (found-start c.args.lo c.args.hi c.args.b c.count_of-n.result c.args.t.now c.count_of-n.ensures.0 ∙ c.loop-i.invariant
+    ∙ found-end c.args.lo c.args.hi c.count_of-n.result c.loop-i.i c.args.b.base c.args.t.now (omega arith))

@@ -1,0 +1,15 @@
+-- `least_value`: the loop goes down; the invariant says that `best` is the least value of the key among the rows from i on.
+-- The row before them is joined by `least-here` where it has the key, by `least_other` where not.
+use mathlib.Core.Path.{◌≡◌, sym, ap, ◌∙◌}
+use Prim.Native.Nat.{ℕ, ◌≤◌, ◌+◌, ◌*◌, ◌-◌}
+use native.Mathlib.Omega.{arith}
+use borrow.Author.Rules.{rules}
+use Rattle.tables.specs.Rows.{rows_from, lesser, leastBy, leastOf}
+use Rattle.tables.proofs.RowLaws.{least_start, least-here, least_other, least-end, back}
+use Rattle.tables.proofs.least_value.Given as goal
+
+abbrev pub invariant-loop-i : goal.invariant-loop-i
+invariant-loop-i l = (leastBy l.best ≡ leastOf l.key (rows_from (l.initial.i - l.i) (l.base + 2 * l.i) l.t)) × (l.i ≤ l.initial.i)
+
+abbrev pub decreases-loop-i : goal.decreases-loop-i
+decreases-loop-i l = l.i

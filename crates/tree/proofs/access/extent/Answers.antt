@@ -1,0 +1,27 @@
+-- `extent`: two length bytes, each below 256, and the definition's test.
+use Rattle.tree.specs.Access.{extentAt, length_at}
+use mathlib.Core.Path.{sym}
+use Prim.Native.Nat.{◌+◌}
+use native.Mathlib.Omega.{arith}
+use borrow.Author.Tests.{le-leb, lt-leb}
+use Rattle.tree.specs.Access.{extentAt}
+use borrow.Author.Rules.{rules}
+use Rattle.tree.proofs.access.extent.Goals as goal
+
+pub overflow_mul-n : goal.overflow_mul-n
+overflow_mul-n c =
+    omega (arith, c.shared_slice_known-1.given (c.args.at + 1), c.wide.ensures)
+
+pub overflow_add-n : goal.overflow_add-n
+overflow_add-n c =
+    omega (arith, c.shared_slice_known-1.given (c.args.at + 1), c.shared_slice_known-1.given (c.args.at + 2), c.wide.ensures, c.wide-then-end-at-ge3.ensures)
+
+pub returns-then-end-at-ge3 : goal.returns-then-end-at-ge3
+unfolding extentAt length_at
+returns-then-end-at-ge3 c =
+    rw (le-leb _ _ c.if-end-at-ge3.true, sym c.wide.ensures, sym c.wide-then-end-at-ge3.ensures) c.skip.ensures
+
+pub returns-else-end-at-ge3 : goal.returns-else-end-at-ge3
+unfolding extentAt
+returns-else-end-at-ge3 c =
+    rw (lt-leb _ _ c.if-end-at-ge3.false)

@@ -1,0 +1,26 @@
+-- `pieces_end`: a 75 has a spread byte alone; else the second piece starts where the first ends, which is inside.
+use mathlib.Core.Path.{sym, ap, ◌∙◌, subst}
+use Prim.Native.Nat.{ℕ}
+use native.Mathlib.Omega.{arith}
+use Rattle.tree.specs.Access.{fixed_at, thenPiece}
+use Rattle.tree.proofs.AccessLaws.{ReachIn, piece-in}
+use borrow.Author.Rules.{rules}
+use Rattle.tree.proofs.access.pieces_end.Goals as goal
+
+pub returns-then-tag-eq117 : goal.returns-then-tag-eq117
+returns-then-tag-eq117 c =
+    c.spread_end.ensures ∙ ap (λ (t : ℕ). fixed_at c.args.s.now t c.args.at c.args.stop) (sym c.if-tag-eq117.true)
+
+pub piece_end-requires-in-Upto : goal.piece_end-requires-in-Upto
+piece_end-requires-in-Upto c =
+    let r = subst (ReachIn c.args.at c.args.stop) (sym c.piece_end.ensures ∙ c.in-Upto.is) (piece-in _ _ _ _ c.requires.0) in omega arith
+
+pub returns-in-Upto : goal.returns-in-Upto
+unfolding fixed_at thenPiece
+returns-in-Upto c =
+    rw (sym c.pieces_of-ps.ensures, sym c.piece_end.ensures ∙ c.in-Upto.is) c.piece_end-in-Upto.ensures
+
+pub returns-in-Short : goal.returns-in-Short
+unfolding fixed_at thenPiece
+returns-in-Short c =
+    rw (sym c.pieces_of-ps.ensures, sym c.piece_end.ensures ∙ c.in-Short.is)

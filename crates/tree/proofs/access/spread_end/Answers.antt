@@ -1,0 +1,17 @@
+-- `spread_end`: the byte is there and 0 or 1, or it is none of these, or it is not there.
+use mathlib.Core.Path.{sym}
+use Rattle.tree.proofs.TagWidthLaws.{spread-upto, spread-bad, spread_cut}
+use borrow.Author.Rules.{rules}
+use Rattle.tree.proofs.access.spread_end.Goals as goal
+
+pub returns-then-s-at-lt2 : goal.returns-then-s-at-lt2
+returns-then-s-at-lt2 c =
+    sym (spread-upto c.args.s.now c.args.at c.args.stop c.if-at-stop.true c.if-s-at-lt2.true)
+
+pub returns-else-s-at-lt2 : goal.returns-else-s-at-lt2
+returns-else-s-at-lt2 c =
+    sym (spread-bad c.args.s.now c.args.at c.args.stop c.if-at-stop.true c.if-s-at-lt2.false)
+
+pub returns-else-at-stop : goal.returns-else-at-stop
+returns-else-at-stop c =
+    sym (spread_cut c.args.s.now c.args.at c.args.stop c.if-at-stop.false)

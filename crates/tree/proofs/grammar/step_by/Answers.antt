@@ -1,0 +1,65 @@
+-- `step_by`: the loop's invariant: what is left of the rule says to the tag what the whole says. Each turn takes the lowest byte off, so the
+-- rule falls; the bit of the byte's set says whether the slot takes the tag.
+use borrow.Author.Rules.{rules}
+use mathlib.Core.Path.{◌≡◌, refl, sym, ap, ◌∙◌}
+use Prim.Native.Nat.{ℕ, ◌<◌, ◌^◌}
+use native.Mathlib.Omega.{arith}
+use Rattle.tree.specs.Grammar.{stepAt}
+use Rattle.tree.specs.Packed.{unpackRule}
+use Rattle.tree.proofs.PackedLaws.{step-nothing, step-used, step-stay, step-off, step-over, step_end}
+use Rattle.tree.proofs.grammar.step_by.Goals as goal
+
+pub loop-rule-init : goal.loop-rule-init
+loop-rule-init c =
+    (refl, search rules)
+
+pub loop-rule-smaller-then-slot-eq0 : goal.loop-rule-smaller-then-slot-eq0
+loop-rule-smaller-then-slot-eq0 c =
+    omega arith
+
+pub loop-rule-preserved-then-slot-eq0 : goal.loop-rule-preserved-then-slot-eq0
+loop-rule-preserved-then-slot-eq0 c =
+    let l = c.loop-rule in
+    let q = c.sets_of-sets in
+    let tag = c.args.tag in
+    (l.invariant.0 ∙ step-nothing tag l.rule q.result (search rules) l.invariant.1 q.ensures c.if-slot-eq0.true, omega arith)
+
+pub overflow_shr-sets : goal.overflow_shr-sets
+overflow_shr-sets c =
+    omega arith
+
+pub returns-then-slot-lt96 : goal.returns-then-slot-lt96
+returns-then-slot-lt96 c =
+    let l = c.loop-rule in
+    let q = c.sets_of-sets in
+    let tag = c.args.tag in
+    sym (l.invariant.0 ∙ step-used tag l.rule q.result (search rules) l.invariant.1 q.ensures c.if-slot-eq0.false c.if-sets-slot-eq1.true c.if-slot-lt96.true)
+
+pub returns-then-sets-slot-eq1 : goal.returns-then-sets-slot-eq1
+returns-then-sets-slot-eq1 c =
+    let l = c.loop-rule in
+    let q = c.sets_of-sets in
+    let tag = c.args.tag in
+    sym (l.invariant.0 ∙ step-stay tag l.rule q.result (search rules) l.invariant.1 q.ensures c.if-sets-slot-eq1.true c.if-slot-lt96.false)
+
+pub returns-then-slot-lt64 : goal.returns-then-slot-lt64
+returns-then-slot-lt64 c =
+    let l = c.loop-rule in
+    let q = c.sets_of-sets in
+    let tag = c.args.tag in
+    sym (l.invariant.0 ∙ step-off tag l.rule q.result (search rules) l.invariant.1 q.ensures c.if-slot-eq0.false c.if-sets-slot-eq1.false c.if-slot-lt64.true)
+
+pub loop-rule-smaller : goal.loop-rule-smaller
+loop-rule-smaller c =
+    omega arith
+
+pub loop-rule-preserved : goal.loop-rule-preserved
+loop-rule-preserved c =
+    let l = c.loop-rule in
+    let q = c.sets_of-sets in
+    let tag = c.args.tag in
+    (l.invariant.0 ∙ step-over tag l.rule q.result (search rules) l.invariant.1 q.ensures c.if-sets-slot-eq1.false c.if-slot-lt64.false, omega arith)
+
+pub returns : goal.returns
+returns c =
+    sym (c.loop-rule.invariant.0 ∙ ap (λ (n : ℕ). stepAt (unpackRule n) c.args.tag) c.loop-rule-test.false ∙ step_end c.args.tag)

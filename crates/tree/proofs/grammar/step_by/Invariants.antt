@@ -1,0 +1,16 @@
+-- `step_by`: the loop's invariant: what is left of the rule says to the tag what the whole says. Each turn takes the lowest byte off, so the
+-- rule falls; the bit of the byte's set says whether the slot takes the tag.
+use borrow.Author.Rules.{rules}
+use mathlib.Core.Path.{◌≡◌, refl, sym, ap, ◌∙◌}
+use Prim.Native.Nat.{ℕ, ◌<◌, ◌^◌}
+use native.Mathlib.Omega.{arith}
+use Rattle.tree.specs.Grammar.{stepAt}
+use Rattle.tree.specs.Packed.{unpackRule}
+use Rattle.tree.proofs.PackedLaws.{step-nothing, step-used, step-stay, step-off, step-over, step_end}
+use Rattle.tree.proofs.grammar.step_by.Given as goal
+
+abbrev pub invariant-loop-rule : goal.invariant-loop-rule
+invariant-loop-rule l = (stepAt (unpackRule l.initial.rule) l.tag ≡ stepAt (unpackRule l.rule) l.tag) × (l.rule < 2 ^ 32)
+
+abbrev pub decreases-loop-rule : goal.decreases-loop-rule
+decreases-loop-rule l = l.rule

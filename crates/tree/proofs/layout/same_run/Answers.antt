@@ -1,0 +1,61 @@
+-- `same_run`: the loop's invariant: the runs are the same just where what is left of them is.
+use mathlib.Core.Path.{◌≡◌, sym, ◌∙◌, ap₂}
+use Prim.Native.Nat.{ℕ, ◌+◌, ◌-◌, ◌≤◌}
+use native.Mathlib.Omega.{arith}
+use lib.Seq.{slice}
+use Rattle.tree.specs.Layout.{same}
+use Rattle.tree.proofs.LayoutLaws.{same_more, same-other, same_end}
+use Rattle.tree.proofs.layout.same_run.Goals as goal
+
+pub loop-i-init : goal.loop-i-init
+loop-i-init c =
+    let ea : c.args.a ≡ c.args.a + 0 = omega arith in let eb : c.args.b ≡ c.args.b + 0 = omega arith in (
+  ap₂ (λ (x y : ℕ). same (slice x (c.args.a + c.args.n) c.args.s.now) (slice y (c.args.b + c.args.n) c.args.t.now)) ea eb,
+  omega arith,
+)
+
+pub overflow_add-a : goal.overflow_add-a
+overflow_add-a c =
+    omega arith
+
+pub bounds-s-a : goal.bounds-s-a
+bounds-s-a c =
+    omega arith
+
+pub overflow_add-b : goal.overflow_add-b
+overflow_add-b c =
+    omega arith
+
+pub bounds-t-b : goal.bounds-t-b
+bounds-t-b c =
+    omega arith
+
+pub returns-then-s-a : goal.returns-then-s-a
+returns-then-s-a c =
+    sym (c.loop-i.invariant.0
+    ∙ same-other c.args.s.now c.args.t.now c.args.a c.args.b c.loop-i.i (c.args.a + c.args.n)
+    (c.args.b + c.args.n) (omega arith) (omega arith) (omega arith) (omega arith) c.if-s-a.true)
+
+pub overflow_add-i : goal.overflow_add-i
+overflow_add-i c =
+    omega arith
+
+pub loop-i-smaller : goal.loop-i-smaller
+loop-i-smaller c =
+    omega arith
+
+pub loop-i-preserved : goal.loop-i-preserved
+loop-i-preserved c =
+    (
+      c.loop-i.invariant.0
+          ∙ same_more c.args.s.now c.args.t.now c.args.a c.args.b c.loop-i.i (c.args.a + c.args.n)
+          (c.args.b + c.args.n) (omega arith) (omega arith) (omega arith) (omega arith) c.if-s-a.false,
+      omega arith,
+    )
+
+pub returns : goal.returns
+returns c =
+    sym (c.loop-i.invariant.0
+    ∙ same_end c.args.s.now c.args.t.now (c.args.a + c.loop-i.i)
+    (c.args.b + c.loop-i.i) (c.args.a + c.args.n)
+    (c.args.b + c.args.n) (omega arith) (omega arith))

@@ -1,0 +1,15 @@
+-- `skip`: the definition makes the same test.
+use borrow.Author.Tests.{le-leb, lt-leb}
+use Rattle.tree.specs.Layout.{skipAt}
+use borrow.Author.Rules.{rules}
+use Rattle.tree.proofs.layout.skip.Goals as goal
+
+pub returns-then-n-stop : goal.returns-then-n-stop
+unfolding skipAt
+returns-then-n-stop c =
+    simp (le-leb _ _ c.if-n-stop.true)
+
+pub returns-else-n-stop : goal.returns-else-n-stop
+unfolding skipAt
+returns-else-n-stop c =
+    simp (lt-leb _ _ c.if-n-stop.false)

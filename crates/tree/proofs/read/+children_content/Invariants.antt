@@ -1,0 +1,30 @@
+-- `children` and `content`: the loop's invariant: the verdict from here is the verdict from the start, the rules unpacked.
+-- The measure is a field's length, and a row's length and one more: a field is no longer than the row around it, and its parts start
+-- behind its head of three bytes. A field whose packed rule is 0 has no parts: it is good where its fixed bytes are all of it, and else
+-- what follows them is misplaced.
+use borrow.Author.Rules.{rules}
+use mathlib.Core.Path.{◌≡◌, refl, sym, ◌∙◌, ap}
+use Prim.Native.Nat.{◌+◌, ◌-◌, ◌≤◌}
+use native.Mathlib.Omega.{arith}
+use Rattle.tree.specs.declared.read.Head.TheVariants.{Done, Missing}
+use Rattle.tree.specs.Packed.{unpackRule, unpackHead}
+use Rattle.tree.specs.Read.{verdict, childrenAt}
+use Rattle.tree.proofs.AccessLaws.{upto-in}
+use Rattle.tree.proofs.ReadLaws.{child-in, content-short, children-verdict, after-good, after-refused}
+use Rattle.tree.proofs.LeafLaws.{parts-read, leaf-good, leaf-bad}
+use Prim.Native.Nat.{ℕ, ◌<◌}
+use Rattle.tree.proofs.read.+children_content.Given as goal
+
+abbrev pub decreases-children : goal.decreases-children
+decreases-children l = l.end - l.from + 1
+
+abbrev pub decreases-content : goal.decreases-content
+decreases-content l = l.stop - l.at
+
+abbrev pub invariant-children-loop-why : goal.invariant-children-loop-why
+invariant-children-loop-why l = (verdict (childrenAt l.s l.from l.end l.depth (unpackRule l.initial.rule) l.place) ≡ verdict (childrenAt l.s l.at l.end l.depth (unpackRule l.rule) l.place))
+    × (l.from ≤ l.at)
+    × (l.at ≤ l.end)
+
+abbrev pub decreases-children-loop-why : goal.decreases-children-loop-why
+decreases-children-loop-why l = l.end - l.at

@@ -1,0 +1,67 @@
+-- `put_modules`: the invariant says that with the modules from i on all n are written; `module-written` splits off the one at i.
+-- The measure is n - i.
+use Prim.Native.Nat.{ℕ, ◌-◌, ◌*◌}
+use mathlib.Core.Path.{◌≡◌, refl, ◌∙◌}
+use mathlib.Core.List.{List}
+use native.Mathlib.Omega.{arith}
+use lib.ListN.{length}
+use borrow.Author.Rules.{rules}
+use Rattle.scope.specs.ScopeValue.{modulesIn}
+use Rattle.writer.specs.Wrote.{Wrote}
+use Rattle.tychodrel.specs.Answer.{modulesBytes}
+use Rattle.tychodrel.proofs.ListingLaws.{module-written, all_left, none_left}
+use Rattle.tychodrel.proofs.listing.put_modules.Goals as goal
+
+pub loop-i-init : goal.loop-i-init
+loop-i-init c =
+    (λ l p w. all_left c.args.cells.now c.args.n w, refl)
+
+pub overflow_mul-i : goal.overflow_mul-i
+overflow_mul-i c =
+    omega arith
+
+pub offset_bounds-cells-i : goal.offset_bounds-cells-i
+offset_bounds-cells-i c =
+    omega arith
+
+pub bounds-cells-i : goal.bounds-cells-i
+bounds-cells-i c =
+    omega arith
+
+pub overflow_mul-i-in-loop-i : goal.overflow_mul-i-in-loop-i
+overflow_mul-i-in-loop-i c =
+    omega arith
+
+pub overflow_add-i : goal.overflow_add-i
+overflow_add-i c =
+    omega arith
+
+pub offset_bounds-cells-i-in-loop-i : goal.offset_bounds-cells-i-in-loop-i
+offset_bounds-cells-i-in-loop-i c =
+    omega arith
+
+pub bounds-cells-i-in-loop-i : goal.bounds-cells-i-in-loop-i
+bounds-cells-i-in-loop-i c =
+    omega arith
+
+pub overflow_add-i-in-loop-i : goal.overflow_add-i-in-loop-i
+overflow_add-i-in-loop-i c =
+    omega arith
+
+pub loop-i-smaller : goal.loop-i-smaller
+loop-i-smaller c =
+    omega arith
+
+pub loop-i-preserved : goal.loop-i-preserved
+loop-i-preserved c =
+    (
+      λ l p w. c.loop-i.invariant.0 l p
+          (module-written c.args.cells.now c.args.n c.loop-i.i c.loop-i-test.true c.low_file.ensures c.low_marks.ensures
+          c.put_u16-to.ensures c.put-to.ensures w),
+      c.put-to.ensures.size ∙ c.put_u16-to.ensures.size
+          ∙ c.loop-i.invariant.1,
+    )
+
+pub returns : goal.returns
+returns c =
+    c.loop-i.invariant.0 _ _ (none_left c.args.cells.now c.args.n c.loop-i.i c.loop-i-test.false)

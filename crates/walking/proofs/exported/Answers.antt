@@ -1,0 +1,38 @@
+-- `exported`: the fixed bytes of a 23 that was read are whole; `node-23` says that its rule is that of `export_specifier`.
+-- src/lib.rt:201:44
+-- src/lib.rt:201:29
+-- src/lib.rt:201:21
+-- src/lib.rt:202:9
+-- src/lib.rt:202:9
+-- src/lib.rt:204:5
+-- src/lib.rt:187:1
+-- src/lib.rt:187:1
+-- src/lib.rt:187:1
+use mathlib.Core.Path.{◌≡◌, sym, ap, subst, ◌∙◌}
+use Prim.Native.Nat.{ℕ, ◌+◌}
+use lib.ListN.{get_or}
+use native.Mathlib.Omega.{arith}
+use Rattle.tree.specs.Access.{fixed_at}
+use Rattle.tree.specs.declared.layout.Reach.TheVariants.{Upto, Short}
+use Rattle.walking.proofs.NodeLaws.{walk-short, node-23}
+use borrow.Author.Rules.{rules}
+use Rattle.walking.proofs.exported.Goals as goal
+
+pub overflow_add-at : goal.overflow_add-at
+overflow_add-at c =
+    omega arith
+
+pub returns-in_default : goal.returns-in_default
+returns-in_default c =
+    λ object. walk-short _ _ c.requires.3 (ap (λ (n : ℕ). fixed_at c.args.s.now n (c.args.at + 3) c.args.stop) c.requires.0 ∙ sym c.fixed.ensures
+    ∙ c.in_default.is)
+
+pub export_specifier-requires : goal.export_specifier-requires
+export_specifier-requires c =
+    (c.requires.1, c.requires.2, c.requires.0, sym c.fixed.ensures ∙ c.in-Upto.is, c.requires.3)
+
+pub returns : goal.returns
+returns c =
+    λ object. node-23 c.args.s.now c.args.at c.in-Upto.from c.args.stop c.requires.1 c.requires.2
+    (ap (λ (n : ℕ). fixed_at c.args.s.now n (c.args.at + 3) c.args.stop) c.requires.0 ∙ sym c.fixed.ensures ∙ c.in-Upto.is) object c.requires.0
+    c.export_specifier.ensures

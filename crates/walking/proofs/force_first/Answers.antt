@@ -1,0 +1,24 @@
+-- `force_first`: by *object* and by the pass; `forced-object`, `forced-again` and `forced-first` say what the rule does then.
+-- src/lib.rt:372:9
+-- src/lib.rt:374:8
+-- src/lib.rt:375:9
+-- src/lib.rt:375:9
+-- src/lib.rt:377:5
+-- src/lib.rt:367:1
+-- src/lib.rt:367:1
+use Rattle.state.specs.Cells.{idBy}
+use Rattle.walking.proofs.ExpressionLaws.{pass-second, pass-first, forced-object, forced-again, forced-first}
+use borrow.Author.Rules.{rules}
+use Rattle.walking.proofs.force_first.Goals as goal
+
+pub returns-then-object : goal.returns-then-object
+returns-then-object c =
+    forced-object (idBy c.args.id) c.requires c.if-object.true
+
+pub returns-then-is_second : goal.returns-then-is_second
+returns-then-is_second c =
+    forced-again (idBy c.args.id) c.args.object c.requires (pass-second c.is_second.ensures c.if-is_second.true)
+
+pub returns : goal.returns
+returns c =
+    forced-first (idBy c.args.id) c.if-object.false (pass-first c.is_second.ensures c.if-is_second.false) c.force_id.ensures

@@ -1,0 +1,23 @@
+-- `ident`: a 60 that was read has nine bytes (`ident-short`); what is forced and written is what the walk makes of it (`ident-written`).
+-- src/lib.rt:223:15
+-- src/lib.rt:224:9
+-- src/lib.rt:226:23
+-- src/lib.rt:226:9
+-- src/lib.rt:227:5
+-- src/lib.rt:228:16
+-- src/lib.rt:208:1
+-- src/lib.rt:208:1
+-- src/lib.rt:208:1
+use native.Mathlib.Omega.{arith}
+use Rattle.walking.proofs.ExpressionLaws.{ident-short, ident-written}
+use borrow.Author.Rules.{rules}
+use Rattle.walking.proofs.ident.Goals as goal
+
+pub returns-then-stop-at : goal.returns-then-stop-at
+returns-then-stop-at c =
+    ident-short c.args.s.now c.args.at c.args.stop _ _ c.requires.0 c.if-stop-at.true c.requires.3
+
+pub returns : goal.returns
+returns c =
+    ident-written c.args.s.now c.args.at c.args.stop c.args.object c.id_at-id.result c.requires.0 c.if-stop-at.false c.id_at-id.ensures c.force_first.ensures
+    c.put_ident.ensures

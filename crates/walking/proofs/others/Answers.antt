@@ -1,0 +1,26 @@
+-- `others`: by the way.
+-- src/lib.rt:157:23
+-- src/lib.rt:158:24
+-- src/lib.rt:159:25
+-- src/lib.rt:153:1
+-- src/lib.rt:153:1
+-- src/lib.rt:153:1
+use mathlib.Core.Path.{sym, ap}
+use Rattle.walking.specs.Walking.{othersBy}
+use borrow.Author.Rules.{rules}
+use Rattle.walking.proofs.others.Goals as goal
+
+pub returns-in-Children : goal.returns-in-Children
+unfolding othersBy
+returns-in-Children c =
+    sym (ap othersBy c.in-Children.is)
+
+pub returns-in-Member : goal.returns-in-Member
+unfolding othersBy
+returns-in-Member c =
+    sym (ap othersBy c.in-Member.is)
+
+pub returns-in-Assignment : goal.returns-in-Assignment
+unfolding othersBy
+returns-in-Assignment c =
+    sym (ap othersBy c.in-Assignment.is)

@@ -1,0 +1,31 @@
+-- `require`: by what `mark_required` gave; each answer has its law of AmendLaws: the module is marked, then the record is made.
+-- `require-marked` also has the callee set in what was written.
+-- src/lib.rt:393:11
+-- src/lib.rt:394:26
+-- src/lib.rt:395:13
+-- src/lib.rt:396:13
+-- src/lib.rt:398:58
+-- src/lib.rt:398:33
+-- src/lib.rt:399:44
+-- src/lib.rt:380:1
+-- src/lib.rt:380:1
+-- src/lib.rt:380:1
+-- src/lib.rt:380:1
+-- src/lib.rt:380:1
+-- src/lib.rt:380:1
+-- src/lib.rt:380:1
+use Rattle.walking.proofs.AmendLaws.{require-marked, require-unresolved, require-full}
+use borrow.Author.Rules.{rules}
+use Rattle.walking.proofs.require.Goals as goal
+
+pub returns-in-Marked : goal.returns-in-Marked
+returns-in-Marked c =
+    require-marked c.args.literal c.args.at c.mark_required.ensures c.in-Marked.n c.in-Marked.is c.set_callee.ensures (c.make_record.ensures _)
+
+pub returns-in-Unresolved : goal.returns-in-Unresolved
+returns-in-Unresolved c =
+    require-unresolved c.args.literal c.args.at c.mark_required.ensures c.in-Unresolved.is (c.make_record-in-Unresolved.ensures _)
+
+pub returns-in-TooMany : goal.returns-in-TooMany
+returns-in-TooMany c =
+    require-full c.args.literal c.args.at c.mark_required.ensures c.in-TooMany.is

@@ -1,0 +1,34 @@
+-- `require_lazily`: by what `mark_required` gave; each answer has its law of AmendLaws: the module is marked, then the lazy record is made.
+-- `lazily-marked` also has the callee set in what was written.
+-- src/lib.rt:446:9
+-- src/lib.rt:447:11
+-- src/lib.rt:448:26
+-- src/lib.rt:449:13
+-- src/lib.rt:450:13
+-- src/lib.rt:452:63
+-- src/lib.rt:452:33
+-- src/lib.rt:453:44
+-- src/lib.rt:431:1
+-- src/lib.rt:431:1
+-- src/lib.rt:431:1
+-- src/lib.rt:431:1
+-- src/lib.rt:431:1
+-- src/lib.rt:431:1
+-- src/lib.rt:431:1
+use Rattle.walking.proofs.AmendLaws.{lazily-marked, lazily-unresolved, lazily-full}
+use borrow.Author.Rules.{rules}
+use Rattle.walking.proofs.require_lazily.Goals as goal
+
+pub returns-in-Marked : goal.returns-in-Marked
+returns-in-Marked c =
+    λ q. lazily-marked c.args.literal c.args.at c.args.pattern q c.mark_required.ensures c.place_of-place.ensures c.in-Marked.n c.in-Marked.is
+    c.set_callee.ensures (c.make_lazy.ensures _)
+
+pub returns-in-Unresolved : goal.returns-in-Unresolved
+returns-in-Unresolved c =
+    λ q. lazily-unresolved c.args.literal c.args.at c.args.pattern q c.mark_required.ensures c.place_of-place.ensures c.in-Unresolved.is
+    (c.make_lazy-in-Unresolved.ensures _)
+
+pub returns-in-TooMany : goal.returns-in-TooMany
+returns-in-TooMany c =
+    λ q. lazily-full c.args.literal c.args.at c.args.pattern q c.mark_required.ensures c.place_of-place.ensures c.in-TooMany.is

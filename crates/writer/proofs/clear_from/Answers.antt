@@ -1,0 +1,33 @@
+-- `clear_from`: the invariant: zeroing what is left, from here, zeroes all.
+use mathlib.Core.Path.{◌≡◌, refl, sym, ◌∙◌}
+use Prim.Native.Nat.{◌-◌}
+use native.Mathlib.Omega.{arith}
+use lib.ListN.{length, length-set}
+use Rattle.writer.specs.Finished.{zeroedFrom}
+use Rattle.writer.proofs.Finished.{zeroed-next, zeroed-end}
+use Rattle.writer.proofs.clear_from.Goals as goal
+
+pub loop-i-init : goal.loop-i-init
+loop-i-init c =
+    (refl, refl)
+
+pub bounds-out-i : goal.bounds-out-i
+bounds-out-i c =
+    omega arith
+
+pub overflow_add-i : goal.overflow_add-i
+overflow_add-i c =
+    omega arith
+
+pub loop-i-smaller : goal.loop-i-smaller
+loop-i-smaller c =
+    simp length-set (omega arith)
+
+pub loop-i-preserved : goal.loop-i-preserved
+loop-i-preserved c =
+    let here = c.loop-i in
+    (zeroed-next here.out here.i (omega arith) ∙ here.invariant.0, simp length-set here.invariant.1)
+
+pub returns : goal.returns
+returns c =
+    let here = c.loop-i in sym (zeroed-end here.out here.i (omega arith)) ∙ here.invariant.0

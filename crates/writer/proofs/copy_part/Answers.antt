@@ -1,0 +1,42 @@
+-- `copy_part`: the invariant: writing what is left of the part, from here, writes the whole of it.
+use mathlib.Core.List.{List}
+use mathlib.Core.Path.{◌≡◌, refl, ◌∙◌}
+use Prim.Native.Nat.{ℕ, ◌-◌}
+use native.Mathlib.Omega.{arith}
+use borrow.Author.Rules.{rules}
+use lib.ListN.{length}
+use lib.Seq.{slice}
+use Rattle.writer.specs.Wrote.{Wrote}
+use Rattle.writer.proofs.Wrote.{wrote_none, wrote-slice, slice-none}
+use Rattle.writer.proofs.copy_part.Goals as goal
+
+pub loop-at-init : goal.loop-at-init
+loop-at-init c =
+    (λ l p w. w, refl)
+
+pub bounds-s-at : goal.bounds-s-at
+bounds-s-at c =
+    omega arith
+
+pub overflow_add-at : goal.overflow_add-at
+overflow_add-at c =
+    omega arith
+
+pub loop-at-smaller : goal.loop-at-smaller
+loop-at-smaller c =
+    omega arith
+
+pub loop-at-preserved : goal.loop-at-preserved
+loop-at-preserved c =
+    let a = c.args in
+    let here = c.loop-at in
+    let byte = c.put-to.ensures in (
+      λ l p w. here.invariant.0 l p (wrote-slice a.s.now here.at a.end (omega arith) (omega arith) byte w),
+      byte.size ∙ here.invariant.1,
+    )
+
+pub returns : goal.returns
+returns c =
+    let a = c.args in
+    let here = c.loop-at in
+    here.invariant.0 _ _ (rw (slice-none a.s.now here.at a.end (omega arith)) wrote_none)

@@ -1,0 +1,20 @@
+-- `copy_whole`: the invariant: writing what is left of the part, from its i-th byte on, writes the whole of it. A turn stores one byte
+-- (`wrote-byte`) inside the buffer, since o + i is below o + (end - from), and no position is past its end.
+use mathlib.Core.List.{List}
+use mathlib.Core.Path.{◌≡◌, refl, ◌∙◌}
+use Prim.Native.Nat.{ℕ, ◌+◌, ◌-◌, ◌≤◌}
+use native.Mathlib.Nat.{add-zero}
+use native.Mathlib.Omega.{arith}
+use lib.ListN.{length, get_or}
+use lib.Seq.{slice}
+use Rattle.writer.specs.Wrote.{Wrote}
+use Rattle.writer.proofs.Wrote.{wrote_none, wrote-byte, wrote-slice, slice-none}
+use Rattle.writer.proofs.copy_whole.Given as goal
+
+abbrev pub invariant-loop-i : goal.invariant-loop-i
+invariant-loop-i l = ((l : List ℕ) (p : ℕ) → Wrote l.out (l.o + l.i) (slice (l.from + l.i) l.end l.s) l p → Wrote l.initial.out l.o (slice l.from l.end l.s) l p)
+    × (length l.out ≡ length l.initial.out)
+    × (l.i ≤ l.end - l.from)
+
+abbrev pub decreases-loop-i : goal.decreases-loop-i
+decreases-loop-i l = l.end - l.from - l.i
