@@ -34,7 +34,7 @@ loop-i-smaller-then-k-key c =
 
 pub loop-i-preserved-then-k-key : goal.loop-i-preserved-then-k-key
 loop-i-preserved-then-k-key c =
-    drop-skips c.args.key c.args.b.base c.count_of-n.result c.args.t.now c.loop-i.i c.loop-i.auto c.loop-i.t
+    drop-skips c.args.key c.args.b.base c.count_of-n.result c.args.t.now c.loop-i.i c.loop-i.kept c.loop-i.t
     c.loop-i.invariant c.loop-i-test.true (sym c.key_in-k.ensures ∙ c.if-k-key.true)
 
 pub put_row-requires : goal.put_row-requires
@@ -51,7 +51,7 @@ loop-i-smaller c =
 
 pub loop-i-preserved : goal.loop-i-preserved
 loop-i-preserved c =
-    drop_keeps c.args.key c.args.b.base c.count_of-n.result c.args.t.now c.loop-i.i c.loop-i.auto c.loop-i.t
+    drop_keeps c.args.key c.args.b.base c.count_of-n.result c.args.t.now c.loop-i.i c.loop-i.kept c.loop-i.t
     c.loop-i.invariant c.loop-i-test.true c.key_in-k.result c.value_in-v.result _ c.key_in-k.ensures c.value_in-v.ensures
     c.if-k-key.false c.put_row.ensures
 
@@ -67,5 +67,5 @@ pub returns : goal.returns
 returns c =
     let u = c.loop-i.invariant.upto in
     let e : c.loop-i.i ≡ c.count_of-n.result = omega arith in
-    rows_dropped c.args.b c.args.key c.count_of-n.result c.loop-i.auto c.args.t.now c.loop-i.t c.requires c.count_of-n.ensures.0
-    (subst (λ (i : ℕ). Dropping c.args.key c.args.b.base c.count_of-n.result c.args.t.now i c.loop-i.auto c.loop-i.t) e c.loop-i.invariant)
+    rows_dropped c.args.b c.args.key c.count_of-n.result c.loop-i.kept c.args.t.now c.loop-i.t c.requires c.count_of-n.ensures.0
+    (subst (λ (i : ℕ). Dropping c.args.key c.args.b.base c.count_of-n.result c.args.t.now i c.loop-i.kept c.loop-i.t) e c.loop-i.invariant)

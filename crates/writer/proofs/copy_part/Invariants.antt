@@ -11,8 +11,8 @@ use Rattle.writer.proofs.Wrote.{wrote_none, wrote-slice, slice-none}
 use Rattle.writer.proofs.copy_part.Given as goal
 
 abbrev pub invariant-loop-at : goal.invariant-loop-at
-invariant-loop-at l = ((l : List ℕ) (p : ℕ) → Wrote l.out l.to (slice l.at l.end l.s) l p → Wrote l.initial.out l.o (slice l.from l.end l.s) l p)
-    × (length l.out ≡ length l.initial.out)
+invariant-loop-at it = ((l : List ℕ) (p : ℕ) → Wrote it.out it.to (slice it.at it.end it.s) l p → Wrote it.initial.out it.o (slice it.from it.end it.s) l p)
+    × (length it.out ≡ length it.initial.out)
 
 abbrev pub decreases-loop-at : goal.decreases-loop-at
 decreases-loop-at l = l.end - l.at

@@ -12,9 +12,9 @@ use Rattle.writer.proofs.Wrote.{wrote_none, wrote-byte, wrote-slice, slice-none}
 use Rattle.writer.proofs.copy_whole.Given as goal
 
 abbrev pub invariant-loop-i : goal.invariant-loop-i
-invariant-loop-i l = ((l : List ℕ) (p : ℕ) → Wrote l.out (l.o + l.i) (slice (l.from + l.i) l.end l.s) l p → Wrote l.initial.out l.o (slice l.from l.end l.s) l p)
-    × (length l.out ≡ length l.initial.out)
-    × (l.i ≤ l.end - l.from)
+invariant-loop-i it = ((l : List ℕ) (p : ℕ) → Wrote it.out (it.o + it.i) (slice (it.from + it.i) it.end it.s) l p → Wrote it.initial.out it.o (slice it.from it.end it.s) l p)
+    × (length it.out ≡ length it.initial.out)
+    × (it.i ≤ it.end - it.from)
 
 abbrev pub decreases-loop-i : goal.decreases-loop-i
 decreases-loop-i l = l.end - l.from - l.i

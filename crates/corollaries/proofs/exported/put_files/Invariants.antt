@@ -12,9 +12,9 @@ use Rattle.corollaries.proofs.FilesLaws.{file-written, all-files, no-files}
 use Rattle.corollaries.proofs.exported.put_files.Given as goal
 
 abbrev pub invariant-loop-i : goal.invariant-loop-i
-invariant-loop-i l = ((l : List ℕ) (p : ℕ) → Wrote l.files l.to (filesFrom (l.n - l.i) l.i l.scope) l p → Wrote l.initial.files 0 (filesBack l.scope) l p)
-    × (length l.files ≡ length l.initial.files)
-    × (l.n ≤ 256)
+invariant-loop-i it = ((l : List ℕ) (p : ℕ) → Wrote it.files it.to (filesFrom (it.n - it.i) it.i it.scope) l p → Wrote it.initial.files 0 (filesBack it.scope) l p)
+    × (length it.files ≡ length it.initial.files)
+    × (it.n ≤ 256)
 
 abbrev pub decreases-loop-i : goal.decreases-loop-i
 decreases-loop-i l = l.n - l.i

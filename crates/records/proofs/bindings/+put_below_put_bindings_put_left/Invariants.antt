@@ -26,8 +26,8 @@ abbrev pub decreases-put_left : goal.decreases-put_left
 decreases-put_left l = l.end - l.from + 1
 
 abbrev pub invariant-put_below-loop-stop : goal.invariant-put_below-loop-stop
-invariant-put_below-loop-stop l = ((p : ℕ) (l : List ℕ) → Wrote l.records l.to (encodes (bindingsAll (row_at l.s l.at l.end))) l p →
-    Wrote l.initial.records l.o (encodes (bindingsAll (row_at l.s l.from l.end))) l p) × (l.from ≤ l.at) × (l.at ≤ l.end) × (length l.records ≡ length l.initial.records)
+invariant-put_below-loop-stop it = ((p : ℕ) (l : List ℕ) → Wrote it.records it.to (encodes (bindingsAll (row_at it.s it.at it.end))) l p →
+    Wrote it.initial.records it.o (encodes (bindingsAll (row_at it.s it.from it.end))) l p) × (it.from ≤ it.at) × (it.at ≤ it.end) × (length it.records ≡ length it.initial.records)
 
 abbrev pub decreases-put_below-loop-stop : goal.decreases-put_below-loop-stop
 decreases-put_below-loop-stop l = l.end - l.at

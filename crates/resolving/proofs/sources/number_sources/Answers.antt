@@ -46,20 +46,16 @@ loop-stop-preserved c =
       c.loop-stop.invariant.0
           ∙ numbers_more (rowsIn c.args.table.now) (modulesOf c.loop-stop.scope) c.loop-stop.invariant.1
           (sym c.source_end.ensures ∙ c.in-Upto.is) c.literal_value.ensures
-          (sym c.before.before.before.number_Source.ensures
-          ∙ ap (λ (e : NumberAnswer). onNumber e (modulesOf c.before.before.before.number_Source.result.scope)) c.in-Given.is),
+          (sym c.number_source-n.ensures
+          ∙ ap (λ (e : NumberAnswer). onNumber e (modulesOf c.number_source-n.result.scope)) c.in-Given.is),
       (source-stands
           c.loop-stop.invariant.1 (sym c.source_end.ensures ∙ c.in-Upto.is)).rest,
     )
--- WARN c.before.before.before.number_Source.ensures at After-enum_told2
--- WARN c.before.before.before.number_Source.result.scope at After-enum_told2
 
 pub returns-in-TooManyFiles : goal.returns-in-TooManyFiles
 returns-in-TooManyFiles c =
     numbers-stop (rowsIn c.args.table.now) (modulesOf c.loop-stop.scope) c.loop-stop.invariant.1
     (sym c.source_end.ensures ∙ c.in-Upto.is) c.literal_value.ensures
-    (sym c.before.before.before.before.number_Source.ensures
-    ∙ ap (λ (e : NumberAnswer). onNumber e (modulesOf c.before.before.before.before.number_Source.result.scope)) c.in-TooManyFiles.is)
+    (sym c.number_source-n.ensures
+    ∙ ap (λ (e : NumberAnswer). onNumber e (modulesOf c.number_source-n.result.scope)) c.in-TooManyFiles.is)
     ∙ sym c.loop-stop.invariant.0
--- WARN c.before.before.before.before.number_Source.ensures at After-known_told2
--- WARN c.before.before.before.before.number_Source.result.scope at After-known_told2

@@ -17,11 +17,11 @@ returns-then-hint_of-eq0 c =
 pub returns-in_default : goal.returns-in_default
 returns-in_default c =
     forced-none (idBy c.args.id) c.forget.ensures
-    (subst (Tells (λ s. source_of (find (holdsNamespace (idBy c.args.id)) s.collected)) c.forget.new.0)
+    (subst (Tells (λ s. source_of (find (holdsNamespace (idBy c.args.id)) s.collected)) c.forget.new.t)
     (ap sourceBy c.in_default.is) c.holder.ensures)
 
 pub returns : goal.returns
 returns c =
     forced-some (idBy c.args.id) c.forget.ensures
-    (subst (Tells (λ s. source_of (find (holdsNamespace (idBy c.args.id)) s.collected)) c.forget.new.0)
+    (subst (Tells (λ s. source_of (find (holdsNamespace (idBy c.args.id)) s.collected)) c.forget.new.t)
     (ap sourceBy c.in-From.is) c.holder.ensures) c.force_source.ensures

@@ -63,7 +63,7 @@ loop-i-preserved c =
           c.atom_at.ensures c.hint_row.ensures.0 (let z = c.hint_row.auto in omega arith) (let r = c.hint_row.ensures.1 in omega arith) c.push.ensures.0
           c.push.ensures.1,
       let x = ap length (c.hint_row.ensures.0.same_rows kind) in let e = ap length c.push.ensures.0 in let m = length_more
-          (rows (table_of kind) c.hint_row.new.0) (c.atom_at-source.result, c.atom_at.result) in omega arith,
+          (rows (table_of kind) c.hint_row.new.t) (c.atom_at-source.result, c.atom_at.result) in omega arith,
       omega arith,
     )
 

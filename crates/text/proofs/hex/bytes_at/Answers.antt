@@ -27,9 +27,9 @@ returns c =
     (
       subst
           (λ (x : Span). BytesFrom x c.args.s.now c.args.out.now c.args.at c.read_bytes.result
-          c.read_bytes.new.1.1.1.0) (sym (sym c.field.ensures.0 ∙ c.in-At.is))
+          c.read_bytes.new.out) (sym (sym c.field.ensures.0 ∙ c.in-At.is))
           c.read_bytes.ensures,
       bytes-in spelt c.args.s.now c.in-At.a c.in-At.e
-          c.args.out.now c.args.at c.read_bytes.result c.read_bytes.new.1.1.1.0
+          c.args.out.now c.args.at c.read_bytes.result c.read_bytes.new.out
           c.read_bytes.ensures,
     )

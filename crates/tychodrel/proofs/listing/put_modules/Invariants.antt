@@ -13,8 +13,8 @@ use Rattle.tychodrel.proofs.ListingLaws.{module-written, all_left, none_left}
 use Rattle.tychodrel.proofs.listing.put_modules.Given as goal
 
 abbrev pub invariant-loop-i : goal.invariant-loop-i
-invariant-loop-i l = ((l : List ℕ) (p : ℕ) → Wrote l.out l.to (modulesBytes (modulesIn (l.n - l.i) (2 * l.i) l.cells)) l p → Wrote l.initial.out l.o (modulesBytes (modulesIn l.n 0 l.cells)) l p)
-    × (length l.out ≡ length l.initial.out)
+invariant-loop-i it = ((l : List ℕ) (p : ℕ) → Wrote it.out it.to (modulesBytes (modulesIn (it.n - it.i) (2 * it.i) it.cells)) l p → Wrote it.initial.out it.o (modulesBytes (modulesIn it.n 0 it.cells)) l p)
+    × (length it.out ≡ length it.initial.out)
 
 abbrev pub decreases-loop-i : goal.decreases-loop-i
 decreases-loop-i l = l.n - l.i
