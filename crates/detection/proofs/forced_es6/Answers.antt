@@ -38,7 +38,7 @@ returns-in-16-to-20 c =
     let a = c.args in
     let l = c.loop-stop in
     let x = sym c.extent.ensures ∙ c.in-Upto.is in
-    sym (l.invariant.2 ∙ forced-more a.s.now l.at a.end _ l.invariant.1 l.invariant.3 x ∙ rw (within-true 0x10 0x14 _ c.if-s-at-lt16.false (omega arith)))
+    sym (l.invariant.2 ∙ forced-more a.s.now l.at a.end _ l.invariant.1 l.invariant.3 x ∙ rw (within-true 0x10 0x14 _ (omega arith) (omega arith)))
 
 pub loop-stop-smaller-in_default-s : goal.loop-stop-smaller-in_default-s
 loop-stop-smaller-in_default-s c =
@@ -57,7 +57,7 @@ loop-stop-preserved-in_default-s c =
       omega arith,
       omega arith,
       l.invariant.2 ∙ forced-more a.s.now l.at a.end _ l.invariant.1 l.invariant.3 x
-          ∙ rw (within-below 0x10 0x14 _ c.in_default-s.if-s-at-lt16-own.true),
+          ∙ rw (within-below 0x10 0x14 _ (omega arith)),
       (accepted-next a.s.now l.at a.end _ l.invariant.1 l.invariant.3 x).1,
     )
 
@@ -78,7 +78,7 @@ loop-stop-preserved c =
       omega arith,
       omega arith,
       l.invariant.2 ∙ forced-more a.s.now l.at a.end _ l.invariant.1 l.invariant.3 x
-          ∙ rw (within-above 0x10 0x14 _ c.if-s-at-lt16.false c.in_default-s.if-this-lt21-own.false),
+          ∙ rw (within-above 0x10 0x14 _ (omega arith) (omega arith)),
       (accepted-next a.s.now l.at a.end _ l.invariant.1 l.invariant.3 x
           ).1,
     )

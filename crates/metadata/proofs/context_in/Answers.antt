@@ -1,7 +1,6 @@
 -- `context_in`: by whether the content starts with the key, and by what parses.
 use mathlib.Core.Path.{sym, ap, ◌∙◌}
 use native.Mathlib.Omega.{arith}
-use borrow.Author.Tests.{not-true, not-false}
 use Rattle.metadata.specs.MetadataValue.{numberBy}
 use Rattle.metadata.proofs.DecodeLaws.{context-told, context-untold}
 use borrow.Author.Rules.{rules}
@@ -10,18 +9,18 @@ use Rattle.metadata.proofs.context_in.Goals as goal
 pub returns-then-not-starts_with : goal.returns-then-not-starts_with
 returns-then-not-starts_with c =
     let a = c.args in
-    sym (context-untold a.s.now a.from a.end c.requires.1 (sym c.starts_with.ensures ∙ not-true _ c.if-not-starts_with.true))
+    sym (context-untold a.s.now a.from a.end c.requires.1 (sym c.starts_with.ensures ∙ c.if-not-starts_with.true))
 
 pub overflow_add-from : goal.overflow_add-from
 overflow_add-from c =
     let a = c.args in
-    let w = context-told a.s.now a.from a.end c.requires.1 (sym c.starts_with.ensures ∙ not-false _ c.if-not-starts_with.false) in
+    let w = context-told a.s.now a.from a.end c.requires.1 (sym c.starts_with.ensures ∙ c.if-not-starts_with.false) in
     omega arith
 
 pub parse-requires : goal.parse-requires
 parse-requires c =
     let a = c.args in
-    let w = context-told a.s.now a.from a.end c.requires.1 (sym c.starts_with.ensures ∙ not-false _ c.if-not-starts_with.false) in
+    let w = context-told a.s.now a.from a.end c.requires.1 (sym c.starts_with.ensures ∙ c.if-not-starts_with.false) in
     (w.0, c.requires.1)
 
 pub returns-in-Number : goal.returns-in-Number
@@ -29,7 +28,7 @@ returns-in-Number c =
     let a = c.args in
     let w =
     context-told a.s.now a.from a.end c.requires.1
-    (sym c.starts_with.ensures ∙ not-false _ c.if-not-starts_with.false) in
+    (sym c.starts_with.ensures ∙ c.if-not-starts_with.false) in
     sym (ap numberBy c.in-Number.is) ∙ c.parse.ensures ∙ sym w.1
 
 pub returns-in-Nothing : goal.returns-in-Nothing
@@ -37,5 +36,5 @@ returns-in-Nothing c =
     let a = c.args in
     let w =
     context-told a.s.now a.from a.end c.requires.1
-    (sym c.starts_with.ensures ∙ not-false _ c.if-not-starts_with.false) in
+    (sym c.starts_with.ensures ∙ c.if-not-starts_with.false) in
     sym (ap numberBy c.in-Nothing.is) ∙ c.parse.ensures ∙ sym w.1

@@ -5,6 +5,7 @@ use mathlib.Core.Logic.{⊎_elim}
 use Rattle.tables.proofs.RowLaws.{found_from, found-start, found-begin, found-low, found-high, found_here, found-end}
 use Prim.Native.Nat.{◌-◌}
 use native.Mathlib.Omega.{arith}
+use Rattle.tables.proofs.find_from.Goals.{then-lo-k+else-k-hi, else-lo-k}
 use Rattle.tables.proofs.find_from.Goals as goal
 
 pub count_of-n-requires : goal.count_of-n-requires
@@ -35,12 +36,12 @@ loop-i-smaller c =
 pub loop-i-preserved : goal.loop-i-preserved
 loop-i-preserved c =
     c.loop-i.invariant
-    ∙ ⊎_elim
-    (λ w. let a = w.0.taken in let b = w.1.left in
-    found-high c.args.lo c.args.hi c.count_of-n.result c.loop-i.i c.args.b.base c.args.t.now c.loop-i-test.true (omega arith) (omega arith))
-    (λ w. let a = w.left in
-    found-low c.args.lo c.args.hi c.count_of-n.result c.loop-i.i c.args.b.base c.args.t.now c.loop-i-test.true (omega arith))
-    c.if-lo-k.branch
+    ∙ elim c.if-lo-k.branch [
+      then-lo-k+else-k-hi w ↦
+        found-high c.args.lo c.args.hi c.count_of-n.result c.loop-i.i c.args.b.base c.args.t.now c.loop-i-test.true (omega arith) (omega arith)
+      | else-lo-k w ↦
+        found-low c.args.lo c.args.hi c.count_of-n.result c.loop-i.i c.args.b.base c.args.t.now c.loop-i-test.true (omega arith)
+    ]
 
 pub returns : goal.returns
 returns c =

@@ -4,7 +4,7 @@ use lib.ListN.{get_or}
 use mathlib.Core.Path.{◌≡◌, refl, sym, ap, ◌∙◌}
 use native.Mathlib.Omega.{arith}
 use borrow.Author.Rules.{rules}
-use borrow.Author.Tests.{not-true, not-false, le-leb}
+use borrow.Author.Tests.{le-leb}
 use lib.Seq.{slice}
 use Rattle.metadata.specs.Decimal.{numberFrom, limited}
 use Rattle.metadata.proofs.DecimalLaws.{digit-is, number_more, number-other, number-end, too_large}
@@ -24,7 +24,7 @@ returns-then-not-is_digit c =
     let here = c.loop-at in
     sym (ap limited
     (number-other a.s.now here.at a.end c.loop-at-test.true
-    c.requires.1 here.n (sym c.is_digit.ensures ∙ not-true _ c.if-not-is_digit.true)))
+    c.requires.1 here.n (sym c.is_digit.ensures ∙ c.if-not-is_digit.true)))
     ∙ here.invariant.0
 
 pub overflow_mul-n : goal.overflow_mul-n
@@ -35,7 +35,7 @@ pub overflow_sub-n : goal.overflow_sub-n
 overflow_sub-n c =
     let a = c.args in
     let here = c.loop-at in
-    let digit = sym c.is_digit.ensures ∙ not-false _ c.if-not-is_digit.false in
+    let digit = sym c.is_digit.ensures ∙ c.if-not-is_digit.false in
     let d = digit-is (get_or a.s.now here.at 0) digit in
     omega arith
 
@@ -50,7 +50,7 @@ pub overflow_add-n : goal.overflow_add-n
 overflow_add-n c =
     let a = c.args in
     let here = c.loop-at in
-    let digit = sym c.is_digit.ensures ∙ not-false _ c.if-not-is_digit.false in
+    let digit = sym c.is_digit.ensures ∙ c.if-not-is_digit.false in
     let d = digit-is (get_or a.s.now here.at 0) digit in
     let b = c.shared_slice_known-in-loop-at-1.given here.at in
     omega arith
@@ -59,7 +59,7 @@ pub returns-then-n-gt4294967295 : goal.returns-then-n-gt4294967295
 returns-then-n-gt4294967295 c =
     let a = c.args in
     let here = c.loop-at in
-    let digit = sym c.is_digit.ensures ∙ not-false _ c.if-not-is_digit.false in
+    let digit = sym c.is_digit.ensures ∙ c.if-not-is_digit.false in
     let more = number_more a.s.now here.at a.end c.loop-at-test.true c.requires.1 here.n digit in
     let large : 4294967295 < here.n * 10 + (get_or a.s.now here.at 0 - 48) = omega arith in
     sym (ap limited more ∙ too_large _ _ large) ∙ here.invariant.0
@@ -76,7 +76,7 @@ pub loop-at-preserved : goal.loop-at-preserved
 loop-at-preserved c =
     let a = c.args in
     let here = c.loop-at in
-    let digit = sym c.is_digit.ensures ∙ not-false _ c.if-not-is_digit.false in
+    let digit = sym c.is_digit.ensures ∙ c.if-not-is_digit.false in
     let more = number_more a.s.now here.at a.end c.loop-at-test.true c.requires.1 here.n digit in
     (sym (ap limited more) ∙ here.invariant.0, omega arith, omega arith)
 

@@ -16,7 +16,5 @@ returns c =
     (wrote_then (wrote_then (wrote_then c.put-a.ensures c.put_u16-b.ensures) c.put_u16-c.ensures) c.put_u32-d.ensures)
     c.put_u32-e.ensures) c.copy.ensures)
     (heading-bytes c.args.kind c.args.id.0 c.args.file.0 _ _ (slice c.args.from c.args.end c.args.records.now)
-    (omega (arith, c.before.before.before.before.before.before.before.before.before.before.before.before.before.before.before.before.before.before.before.before.before.before.before.before.before.before.before.before.well-formed.1.0)) (omega (arith, c.before.before.before.before.before.before.before.before.before.before.before.before.before.before.before.before.before.before.before.before.before.before.before.before.before.before.before.before.well-formed.1.1.0)) (ap (λ (x : SyntaxContext). x.0) c.local_ctxt.ensures)
+    (omega arith) (omega arith) (ap (λ (x : SyntaxContext). x.0) c.local_ctxt.ensures)
     (ap (λ (x : SyntaxContext). x.0) c.export_ctxt.ensures))
--- WARN c.before.before.before.before.before.before.before.before.before.before.before.before.before.before.before.before.before.before.before.before.before.before.before.before.before.before.before.before.well-formed.1.0 at After-slice_known7
--- WARN c.before.before.before.before.before.before.before.before.before.before.before.before.before.before.before.before.before.before.before.before.before.before.before.before.before.before.before.before.well-formed.1.1.0 at After-slice_known7

@@ -24,23 +24,20 @@ extent-requires c =
 
 pub returns-in_default : goal.returns-in_default
 returns-in_default c =
-    sym (c.loop-stop.invariant.0 ∙ forced-end c.args.source.0 (omega (arith, c.before.before.before.before.before.well-formed.1.0)) c.loop-stop.invariant.1 (sym c.extent.ensures ∙ c.in_default.is))
--- WARN c.before.before.before.before.before.well-formed.1.0 at After-enum_told
+    sym (c.loop-stop.invariant.0 ∙ forced-end c.args.source.0 (omega arith) c.loop-stop.invariant.1 (sym c.extent.ensures ∙ c.in_default.is))
 
 pub forces_at-requires : goal.forces_at-requires
 forces_at-requires c =
-    forced-inside c.args.source.0 (omega (arith, c.before.before.before.before.before.before.well-formed.1.0)) c.loop-stop.invariant.1 (sym c.extent.ensures ∙ c.in-Upto.is)
--- WARN c.before.before.before.before.before.before.well-formed.1.0 at After-known_told
+    forced-inside c.args.source.0 (omega arith) c.loop-stop.invariant.1 (sym c.extent.ensures ∙ c.in-Upto.is)
 
 pub returns-then-forces_at : goal.returns-then-forces_at
 returns-then-forces_at c =
     sym (c.loop-stop.invariant.0
-    ∙ forced-step c.args.source.0 (omega (arith, c.before.before.before.before.before.before.before.before.well-formed.1.0)) c.loop-stop.invariant.1 (sym c.extent.ensures ∙ c.in-Upto.is)
+    ∙ forced-step c.args.source.0 (omega arith) c.loop-stop.invariant.1 (sym c.extent.ensures ∙ c.in-Upto.is)
     ∙
     ap (λ (b : Bool). b || among (two c.args.source.0)
     (forcedIn (row_at c.args.records.now c.in-Upto.stop (length c.args.records.now))))
     (sym c.forces_at.ensures ∙ c.if-forces_at.true))
--- WARN c.before.before.before.before.before.before.before.before.well-formed.1.0 at Then1
 
 pub loop-stop-smaller : goal.loop-stop-smaller
 loop-stop-smaller c =
@@ -49,11 +46,10 @@ loop-stop-smaller c =
 pub loop-stop-preserved : goal.loop-stop-preserved
 loop-stop-preserved c =
     (
-      c.loop-stop.invariant.0 ∙ forced-step c.args.source.0 (omega (arith, c.before.before.before.before.before.before.before.before.well-formed.1.0)) c.loop-stop.invariant.1 (sym c.extent.ensures ∙ c.in-Upto.is)
+      c.loop-stop.invariant.0 ∙ forced-step c.args.source.0 (omega arith) c.loop-stop.invariant.1 (sym c.extent.ensures ∙ c.in-Upto.is)
           ∙
           ap (λ (b : Bool). b || among (two c.args.source.0)
           (forcedIn (row_at c.args.records.now c.in-Upto.stop (length c.args.records.now))))
           (sym c.forces_at.ensures ∙ c.if-forces_at.false),
       records-next c.loop-stop.invariant.1 (sym c.extent.ensures ∙ c.in-Upto.is),
     )
--- WARN c.before.before.before.before.before.before.before.before.well-formed.1.0 at Else1

@@ -1,8 +1,9 @@
 -- `gen_id`: `found_number` says that what the search found is the file's number by the rule. Then the rule's three cases:
 -- a known file (`gen-known`), a new one (`modules-added`), and a new one where there are 256 modules (`gen-refused`).
-use mathlib.Core.Path.{sym, ◌∙◌, ap}
+use mathlib.Core.Path.{◌≡◌, sym, ◌∙◌, ap}
+use lib.ListN.{length}
 use native.Mathlib.Omega.{arith}
-use borrow.Author.Rules.{length_unmapped, rules}
+use borrow.Author.Rules.{rules}
 use Rattle.scope.specs.ScopeValue.{modulesOf, placeBy}
 use Rattle.scope.proofs.Laws.{number-below, gen-known, gen-refused}
 use Rattle.scope.proofs.ScopeValueLaws.{modules-length, modules-added, found_number}
@@ -10,15 +11,14 @@ use Rattle.scope.proofs.Scope.gen_id.Goals as goal
 
 pub find_file-requires : goal.find_file-requires
 find_file-requires c =
-    let files = length_unmapped _ c.args.self.files 256 c.before.before.before.well-formed.0.1.1.1.0.1.0.1 in
+    let files : length c.args.self.files ≡ 256 = search rules in
     omega arith
--- WARN c.before.before.before.well-formed.0.1.1.1.0.1.0.1 at After-find_file-arg
 
 pub numbered-requires : goal.numbered-requires
 numbered-requires c =
     let s = c.args.self in
     let f = c.args.file in
-    let files = length_unmapped _ s.files 256 c.before.before.before.before.before.before.before.well-formed.0.1.1.1.0.1.0.1 in
+    let files : length s.files ≡ 256 = search rules in
     let number =
     found_number s f.0 c.counted-n.result c.find_file.result
     files c.counted-n.ensures.0 c.find_file.ensures
@@ -26,25 +26,23 @@ numbered-requires c =
     let below = number-below f.0 (modulesOf s) number in
     let count = modules-length s in
     omega arith
--- WARN c.before.before.before.before.before.before.before.well-formed.0.1.1.1.0.1.0.1 at After-known_told
 
 pub returns-in-At : goal.returns-in-At
 returns-in-At c =
     let s = c.args.self in
     let f = c.args.file in
-    let files = length_unmapped _ s.files 256 c.before.before.before.before.before.before.before.before.well-formed.0.1.1.1.0.1.0.1 in
+    let files : length s.files ≡ 256 = search rules in
     let number =
     found_number s f.0 c.counted-n.result
     c.find_file.result files c.counted-n.ensures.0
     c.find_file.ensures ∙ ap placeBy c.in-At.is in
     c.numbered.ensures ∙ sym (gen-known f (modulesOf s) number)
--- WARN c.before.before.before.before.before.before.before.before.well-formed.0.1.1.1.0.1.0.1 at After-numbered
 
 pub returns-then-n-lt256 : goal.returns-then-n-lt256
 returns-then-n-lt256 c =
     let s = c.args.self in
     let f = c.args.file in
-    let files = length_unmapped _ s.files 256 c.before.before.before.before.before.before.before.before.before.well-formed.0.1.1.1.0.1.0.1 in
+    let files : length s.files ≡ 256 = search rules in
     let number =
     found_number s f.0 c.counted-n.result
     c.find_file.result files
@@ -54,13 +52,12 @@ returns-then-n-lt256 c =
     ∙ modules-added s c.add.result f c.counted-n.result
     c.counted-n.ensures.0 c.if-n-lt256.true number
     c.add.ensures
--- WARN c.before.before.before.before.before.before.before.before.before.well-formed.0.1.1.1.0.1.0.1 at After-numbered2
 
 pub returns-else-n-lt256 : goal.returns-else-n-lt256
 returns-else-n-lt256 c =
     let s = c.args.self in
     let f = c.args.file in
-    let files = length_unmapped _ s.files 256 c.before.before.before.before.before.before.before.before.before.well-formed.0.1.1.1.0.1.0.1 in
+    let files : length s.files ≡ 256 = search rules in
     let number =
     found_number s f.0 c.counted-n.result
     c.find_file.result files
@@ -68,4 +65,3 @@ returns-else-n-lt256 c =
     c.find_file.ensures ∙ ap placeBy c.in-Nowhere.is in
     let count = modules-length s in
     cc (gen-refused f (modulesOf s) number (omega arith))
--- WARN c.before.before.before.before.before.before.before.before.before.well-formed.0.1.1.1.0.1.0.1 at After-empty2

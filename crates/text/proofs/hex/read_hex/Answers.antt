@@ -49,7 +49,7 @@ returns-in_default-digit_of c =
     let a = c.args in let l =
     c.loop-i in
     let d = subst (DigitIs _) c.in_default-digit_of.is c.digit_of-in-loop-i.ensures in
-    l.inv.0 Bad l.out
+    l.invariant.0 Bad l.out
     (hex-second a.s.now l.i a.to
     c.requires.1 (omega arith) d
     l.out l.out l.o)

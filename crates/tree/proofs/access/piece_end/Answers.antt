@@ -1,7 +1,5 @@
 -- `piece_end`: a value and a key with its value by their lines of the definition; every other piece is a kind byte (`kind-piece`).
 use mathlib.Core.Path.{sym, ◌∙◌}
-use mathlib.Core.Logic.{⊎_elim}
-use native.Mathlib.Omega.{arith}
 use Rattle.tree.specs.Access.{piece_at}
 use Rattle.tree.proofs.AccessLaws.{kind-piece}
 use borrow.Author.Rules.{rules}
@@ -20,7 +18,4 @@ returns-in-KeyValue c =
 pub returns-in_default : goal.returns-in_default
 returns-in_default c =
     let a = c.args in
-    let k = c.in_default.in_default-own.keys3 in
-    c.kind_end.ensures ∙ sym (kind-piece a.s.now a.p a.at a.stop
-    (λ v h. ⊎_elim (λ w. omega arith) (λ x. ⊎_elim (λ w. omega arith) (λ y. ⊎_elim (λ w. omega arith) (λ w. omega arith) y) x) (rw h at k))
-    (λ h. ⊎_elim (λ w. omega arith) (λ x. ⊎_elim (λ w. omega arith) (λ y. ⊎_elim (λ w. omega arith) (λ w. omega arith) y) x) (rw h at k)))
+    c.kind_end.ensures ∙ sym (kind-piece a.s.now a.p a.at a.stop c.in_default.not-Plain c.in_default.not-KeyValue)
