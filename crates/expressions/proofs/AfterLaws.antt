@@ -139,24 +139,24 @@ module _ (s : List ℕ) (at end : ℕ) (le : at ≤ end) where
       object-is : {x : Env} (u : State) → Shows x t u → some (idBy n) ≡ identAfter (treeAt s at stop) second u
       object-is u v = ap identBy (sym h) ∙ w.is u v
 
-      pub member-unused : {b : Bool} → not b ≡ true → Tells (λ u. any (usagesOf (idBy n) u.usages)) t b → Tells (memberAfter (row_at s at end) second) t nothing
-      member-unused {b} k p =
-          record { is = λ u v. sym (row_is u ∙ object-unused (treeAt s at stop) (row_at s stop end) u (idBy n) (object-is u v) (sym (not-true b k) ∙ p.is u v)) }
+      pub member-unused : {b : Bool} → b ≡ false → Tells (λ u. any (usagesOf (idBy n) u.usages)) t b → Tells (memberAfter (row_at s at end) second) t nothing
+      member-unused k p =
+          record { is = λ u v. sym (row_is u ∙ object-unused (treeAt s at stop) (row_at s stop end) u (idBy n) (object-is u v) (sym k ∙ p.is u v)) }
 
       pub member-nowhere : {c : Context} → c ≡ Nowhere → Tells (λ u. importedAs (idBy n) u.imported) t (contextBy c) →
           Tells (memberAfter (row_at s at end) second) t nothing
       member-nowhere k p = record { is = λ u v. sym (row_is u ∙ object-nowhere (treeAt s at stop) (row_at s stop end) u (idBy n) (object-is u v) (ap contextBy (sym k) ∙ p.is u v)) }
 
-      pub member-named : {b : Bool} {c : Context} {d : SyntaxContext} (q : Ident) → not b ≡ false → Tells (λ u. any (usagesOf (idBy n) u.usages)) t b → c ≡ Of d →
+      pub member-named : {b : Bool} {c : Context} {d : SyntaxContext} (q : Ident) → b ≡ true → Tells (λ u. any (usagesOf (idBy n) u.usages)) t b → c ≡ Of d →
           Tells (λ u. importedAs (idBy n) u.imported) t (contextBy c) → identBy q ≡ namedFirst (row_at s stop end) (four d.0) →
           Tells (memberAfter (row_at s at end) second) t (identBy q)
-      member-named {b} {d = d} q k p m o f =
+      member-named {d = d} q k p m o f =
           record {
             is = λ u v.
                 f
                 ∙
                 sym (row_is u
-                ∙ object-named (treeAt s at stop) (row_at s stop end) u (idBy n) (four d.0) (object-is u v) (sym (not-false b k) ∙ p.is u v)
+                ∙ object-named (treeAt s at stop) (row_at s stop end) u (idBy n) (four d.0) (object-is u v) (sym k ∙ p.is u v)
                 (ap contextBy (sym m) ∙ o.is u v));
           }
 

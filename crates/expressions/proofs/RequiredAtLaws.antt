@@ -126,10 +126,10 @@ module _ (s : List ℕ) (at stop : ℕ) where
       go e u (Upto b) x = ap (λ (f : Field). requiredAfter e f u) (tree-upto s at stop b x) ∙ not_call e (get_or s at 0) (slice (at + 3) b s) (row_at s b stop) u h
 
   module _ {t : List ℕ} {on : Bool} (o : Says (λ e. e.config.require) t on) where
-    pub call-off : not on ≡ true → Answers t NoLit
-    call-off h = record { is = λ {x} u v n. not_on x.setting (treeAt s at stop) u (sym (o.is u v) ∙ not-true on h) }
+    pub call-off : on ≡ false → Answers t NoLit
+    call-off h = record { is = λ {x} u v n. not_on x.setting (treeAt s at stop) u (sym (o.is u v) ∙ h) }
 
-    module _ (h : not on ≡ false) (le : at + 3 ≤ stop) (tag : get_or s at 0 ≡ 0x65) where
+    module _ (h : on ≡ true) (le : at + 3 ≤ stop) (tag : get_or s at 0 ≡ 0x65) where
       pub call-bare : extentAt s (at + 3) stop ≡ Short → Answers t NoLit
       unfolding requiredAfter
       call-bare x =
@@ -145,7 +145,7 @@ module _ (s : List ℕ) (at stop : ℕ) where
             requiredAfter y.setting (treeAt s at stop) u ≡ ifRequire (identBy r) (notExternal y.setting (argument (sole (row_at s callee stop))))
         call-is {y} u v =
             ap (λ (f : Field). requiredAfter y.setting f u) (tree-bare 0x65 refl s at stop le tag ∙ ap (field 0x65 []) (row_more s (at + 3) stop callee le x))
-            ∙ is_call y.setting (treeAt s (at + 3) callee) (row_at s callee stop) u (sym (o.is u v) ∙ not-false on h)
+            ∙ is_call y.setting (treeAt s (at + 3) callee) (row_at s callee stop) u (sym (o.is u v) ∙ h)
             ∙ ap (λ (i : Option (List ℕ)). ifRequire i (notExternal y.setting (argument (sole (row_at s callee stop)))))
             (sym (w.is u v ∙ ap (λ (k : Pass). identAfter (treeAt s (at + 3) callee) k u) (ap passOf (p.is u v) ∙ pass-is y.setting.pass)))
 

@@ -1,7 +1,7 @@
 -- A call that stands written is amended as the rules for calls of require do it: the module is marked, the callee set, the record made.
 use Prim.Native.Nat.{ℕ}
 use mathlib.Core.Path.{◌≡◌, refl, sym, ap, subst, ◌∙◌}
-use mathlib.Core.Bool.{Bool, true, false, not, cond, not-not}
+use mathlib.Core.Bool.{Bool, true, false, cond}
 use mathlib.Core.List.{List, [], ◌++◌, append-nil}
 use mathlib.Core.Option.{some}
 use lib.ListN.{length}
@@ -49,13 +49,13 @@ Bare l x = (x.bound 0 ≡ none) × Valued x l
 
 -- 'collected if *top*, else lazy'; the code asks whether *top* is clear
 module _ (l : Literal) (at : ℕ) (out : List ℕ) {t : List ℕ} {b : Bool} (d : Tells (λ s. s.top) t b) where
-  recorded-as : {x : Env} (i : List ℕ) (c : Bool) → not b ≡ not c → (s : State) → Shows x t s →
+  recorded-as : {x : Env} (i : List ℕ) (c : Bool) → b ≡ c → (s : State) → Shows x t s →
       recorded i at s ≡ cond c (collect (record { literal = i; specifiers = none }) at) (addLazy (record { literal = i; specifiers = none }) at) s
   recorded-as i c e s w =
       ap (λ (z : Bool). cond z (collect (record { literal = i; specifiers = none }) at) (addLazy (record { literal = i; specifiers = none }) at) s)
-      (sym (d.is s w) ∙ sym (not-not b) ∙ ap not e ∙ not-not c)
+      (sym (d.is s w) ∙ e)
 
-  pub record-lazy : {t' : List ℕ} {p : ℕ} {k : Step} → not b ≡ true →
+  pub record-lazy : {t' : List ℕ} {p : ℕ} {k : Step} → b ≡ false →
       Steps (λ _. []) (λ x u. Unit {0}) (λ x. addLazy (record { literal = literalBy x l; specifiers = x.bound 0 }) at) t out p t' out k →
       Steps (λ _. []) (λ x u. Bare l x) (λ x. recorded (literalBy x l) at) t out p t' out k
   record-lazy e m =
@@ -64,7 +64,7 @@ module _ (l : Literal) (at : ℕ) (out : List ℕ) {t : List ℕ} {b : Bool} (d 
         recorded-as (literalBy x l) false e s w ∙ ap (λ (fs : Fields). addLazy (record { literal = literalBy x l; specifiers = fs }) at s) (sym c.0),
       ))
 
-  pub record-collected : {t' : List ℕ} {p i : ℕ} {r : Place} → not b ≡ false → Collects l t t' r → r ≡ Index i →
+  pub record-collected : {t' : List ℕ} {p i : ℕ} {r : Place} → b ≡ true → Collects l t t' r → r ≡ Index i →
       Steps (λ _. []) (λ x u. Bare l x) (λ x. recorded (literalBy x l) at) t out p t' out (Done p)
   record-collected {i = i} e m h =
       steps-did m.good (λ x s w c.
@@ -75,7 +75,7 @@ module _ (l : Literal) (at : ℕ) (out : List ℕ) {t : List ℕ} {b : Bool} (d 
         shows = g.shows;
       })
 
-  pub record-full : {t' : List ℕ} {p : ℕ} {r : Place} → not b ≡ false → Collects l t t' r → r ≡ NoRoom →
+  pub record-full : {t' : List ℕ} {p : ℕ} {r : Place} → b ≡ true → Collects l t t' r → r ≡ NoRoom →
       Steps (λ _. []) (λ x u. Bare l x) (λ x. recorded (literalBy x l) at) t out p t' out (Refused TableFull at)
   record-full e m h = steps-refused m.good refl (λ x s w c. recorded-as (literalBy x l) true e s w ∙ m.full h s w c.1 none at)
 

@@ -2,7 +2,7 @@
 use Prim.Native.Nat.{ℕ, ◌+◌, ◌≤◌}
 use native.Mathlib.Omega.{arith}
 use mathlib.Core.Path.{◌≡◌, refl, sym, ap, subst, ◌∙◌}
-use mathlib.Core.Bool.{Bool, true, false, not, not-not}
+use mathlib.Core.Bool.{Bool, true, false}
 use mathlib.Core.List.{List, [], ◌∷◌, ◌++◌}
 use mathlib.Core.Option.{Option, none as nothing, some}
 use lib.ListN.{length, get_or}
@@ -91,13 +91,13 @@ module _ (s : List ℕ) (bytes : Bytes s) (at stop : ℕ) (h : at + 3 ≤ stop) 
         (both-stay y.setting d.object d.name (inside at []) u d.object-regular d.name-regular (ap tag_of d.object-is) (ap tag_of d.name-is))
         ∙ ap (λ (f : Field). done (f, u)) (sym z))
 
-    pub name-unused : (object : Bool) {b : Bool} {out out' : List ℕ} {o p : ℕ} → InPass second t → Tells (λ u. any (usagesOf (idBy id) u.usages)) t b → not b ≡ true →
+    pub name-unused : (object : Bool) {b : Bool} {out out' : List ℕ} {o p : ℕ} → InPass second t → Tells (λ u. any (usagesOf (idBy id) u.usages)) t b → b ≡ false →
         Wrote out o (slice at stop s) out' p → FieldSteps s at stop (λ y. walk (treeAt s at stop) y.setting object at) t out o t out' (Done p)
     name-unused object {b} two m e v =
         stays object two v (λ y u w r.
         name-after (idBy id) (atomAt s (at + 15)) u
         ∙ as-unused (usagesOf (idBy id) u.usages) (importedAs (idBy id) u.imported) (field 0x70 (atomAt s (at + 15)) none)
-        (sym (m.is u r) ∙ sym (not-not b) ∙ ap not e))
+        (sym (m.is u r) ∙ e))
 
     pub name-nowhere : (object : Bool) {c : Context} {out out' : List ℕ} {o p : ℕ} → InPass second t → Tells (λ u. importedAs (idBy id) u.imported) t (contextBy c) → c ≡ Nowhere →
         Wrote out o (slice at stop s) out' p → FieldSteps s at stop (λ y. walk (treeAt s at stop) y.setting object at) t out o t out' (Done p)
@@ -109,7 +109,7 @@ module _ (s : List ℕ) (bytes : Bytes s) (at stop : ℕ) (h : at + 3 ≤ stop) 
 
     -- or becomes a 60
     pub name-becomes : (object : Bool) {b : Bool} {c : Context} {a : ℕ} {d : SyntaxContext} {out out' : List ℕ} {o p : ℕ} → InPass second t →
-        Tells (λ u. any (usagesOf (idBy id) u.usages)) t b → not b ≡ false → Tells (λ u. importedAs (idBy id) u.imported) t (contextBy c) → c ≡ Of d → a ≡ twoAt s (at + 15) →
+        Tells (λ u. any (usagesOf (idBy id) u.usages)) t b → b ≡ true → Tells (λ u. importedAs (idBy id) u.imported) t (contextBy c) → c ≡ Of d → a ≡ twoAt s (at + 15) →
         Wrote out o (encode (field 0x60 (two a ++ four d.0) none)) out' p → FieldSteps s at stop (λ y. walk (treeAt s at stop) y.setting object at) t out o t out' (Done p)
     name-becomes object {b} {a = a} {d} again m e k f z v =
         steps-done g v.size (λ y u r w. record {
@@ -119,7 +119,7 @@ module _ (s : List ℕ) (bytes : Bytes s) (at stop : ℕ) (h : at + 3 ≤ stop) 
               ident-walks y.setting (again y u r) (treeAt s at stop) object at u (two a ++ four d.0) w.0.regular
               (ap (λ (f : Field). identAfter f second u) (name-tree w.0) ∙ name-after (idBy id) (atomAt s (at + 15)) u
               ∙ ap (λ (c : Option (List ℕ)). asIdent (usagesOf (idBy id) u.usages) c (field 0x70 (atomAt s (at + 15)) none)) (sym (k.is u r) ∙ ap contextBy f)
-              ∙ as-used (usagesOf (idBy id) u.usages) (four d.0) (atomAt s (at + 15)) (sym (m.is u r) ∙ sym (not-not b) ∙ ap not e)
+              ∙ as-used (usagesOf (idBy id) u.usages) (four d.0) (atomAt s (at + 15)) (sym (m.is u r) ∙ e)
               ∙ ap (λ (l : List ℕ). some (l ++ four d.0)) (sym (ap two z ∙ two_at s (at + 15) bytes (fits n.3))));
           wrote = v;
           shows = r;

@@ -4,6 +4,7 @@ use Prim.Native.Nat.{◌-◌, ◌≤◌}
 use Rattle.tree.proofs.GrammarLaws.{within-true, within-below, within-above}
 use mathlib.Core.Path.{◌≡◌, refl, sym, ◌∙◌}
 use native.Mathlib.Omega.{arith}
+use lib.ListN.{get_or}
 use borrow.Author.Rules.{rules}
 use Rattle.tree.specs.Standing.{row_at}
 use Rattle.tree.proofs.AccessLaws.{extent-upto}
@@ -38,7 +39,7 @@ returns-in-16-to-20 c =
     let a = c.args in
     let l = c.loop-stop in
     let x = sym c.extent.ensures ∙ c.in-Upto.is in
-    sym (l.invariant.2 ∙ forced-more a.s.now l.at a.end _ l.invariant.1 l.invariant.3 x ∙ rw (within-true 0x10 0x14 _ (omega arith) (omega arith)))
+    sym (l.invariant.2 ∙ forced-more a.s.now l.at a.end _ l.invariant.1 l.invariant.3 x ∙ rw (within-true 0x10 0x14 (get_or a.s.now l.at 0) (omega arith) (omega arith)))
 
 pub loop-stop-smaller-in_default-s : goal.loop-stop-smaller-in_default-s
 loop-stop-smaller-in_default-s c =
@@ -57,7 +58,7 @@ loop-stop-preserved-in_default-s c =
       omega arith,
       omega arith,
       l.invariant.2 ∙ forced-more a.s.now l.at a.end _ l.invariant.1 l.invariant.3 x
-          ∙ rw (within-below 0x10 0x14 _ (omega arith)),
+          ∙ rw (within-below 0x10 0x14 (get_or a.s.now l.at 0) (omega arith)),
       (accepted-next a.s.now l.at a.end _ l.invariant.1 l.invariant.3 x).1,
     )
 
@@ -78,7 +79,7 @@ loop-stop-preserved c =
       omega arith,
       omega arith,
       l.invariant.2 ∙ forced-more a.s.now l.at a.end _ l.invariant.1 l.invariant.3 x
-          ∙ rw (within-above 0x10 0x14 _ (omega arith) (omega arith)),
+          ∙ rw (within-above 0x10 0x14 (get_or a.s.now l.at 0) (omega arith) (omega arith)),
       (accepted-next a.s.now l.at a.end _ l.invariant.1 l.invariant.3 x
           ).1,
     )

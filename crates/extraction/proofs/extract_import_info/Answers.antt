@@ -28,4 +28,4 @@ returns-in_default c =
     left-refused (lent_as c.args.file.0 c.args.modes c.args.externals.now c.args.table.now c.args.tree.now) c.args.scope c.run-answer.result
     (c.run-answer.ensures (lent_as c.args.file.0 c.args.modes c.args.externals.now c.args.table.now c.args.tree.now) (modulesOf c.args.scope) refl
     c.prepare-tested.ensures) (λ h. accepted-other (rw h at c.in_default.in_default-own.keys2)) c.no_counts-in_default.ensures c.clear.ensures c.clear-in_default.ensures c.clear-in_default-2.ensures
-    c.run-answer.auto.1.1.1.0 c.run-answer.auto.1.1.1.1.0 c.run-answer.auto.1.1.1.1.1.0
+    c.run-answer.auto.work c.run-answer.auto.out c.run-answer.auto.records

@@ -19,8 +19,6 @@ use Rattle.walking.proofs.ExpressionLaws.{tells_as, pass-second, pass-first, mem
 use Rattle.walking.proofs.CallWalkLaws.{call-second, call-plain, call-turned, call-required}
 use Rattle.walking.proofs.DeclaratorLaws.{behind-from, behind-over, behind-plain, behind-turned, behind-required, declared-over, declared-then, declared-turned}
 use Prim.Native.Nat.{ℕ, ◌<◌}
-use Rattle.walking.proofs.+call_chain_declarator_initialiser_member_node_part_parts_pattern_walk.{
-  statement,
 use Rattle.walking.proofs.+call_chain_declarator_initialiser_member_node_part_parts_pattern_walk.Given as goal
 
 abbrev pub decreases-call : goal.decreases-call

@@ -36,4 +36,4 @@ pub loop-stop-preserved : goal.loop-stop-preserved
 loop-stop-preserved c =
     filling-more c.args.i c.args.s.now c.args.from c.args.end c.loop-stop.invariant
     (sym c.extent.ensures ∙ c.in-Upto.is) c.gather_namespace.ensures
-    c.gather_namespace.auto.1.1.1.1.0
+    c.gather_namespace.auto.t

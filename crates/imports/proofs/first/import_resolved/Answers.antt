@@ -41,7 +41,7 @@ gathered-requires c =
 pub returns-in-Done : goal.returns-in-Done
 returns-in-Done c =
     let k =
-    c.close_field.auto.0 ∙ c.put_context_attributes-p.auto.1.1.1.1.0 ∙ c.note_all.auto.1.1.1.1.1.0 ∙ c.begin_field-content.auto.1.1.1.0 in
+    c.close_field.auto.out ∙ c.put_context_attributes-p.auto.out ∙ c.note_all.auto.out ∙ c.begin_field-content.auto.out in
     first-resolved (λ i. (c.shared_slice_known-1.given i).fits) (headed c.requires.0 c.requires.1 c.requires.2 (sym c.fixed.ensures ∙ c.in-Upto.is)) c.args.n.0
     c.begin_field-content.ensures c.note_all.ensures c.in-Done.is
     c.specifiers_end-attributes.ensures c.put_context_attributes-p.ensures c.close_field.ensures k c.gathered.ensures

@@ -47,7 +47,7 @@ pub loop-stop-preserved : goal.loop-stop-preserved
 loop-stop-preserved c =
     going_more c.args.n.0 c.args.s.now c.args.from c.args.end c.loop-stop.invariant (λ i. (c.shared_slice_known-1.given i).fits)
     c.requires.1 (sym c.extent.ensures ∙ c.in-Upto.is) c.if-s-at-eq47.false c.note_specifier.ensures c.in-Done.is
-    c.note_specifier.auto.1.1.1.1.0
+    c.note_specifier.auto.t
 
 pub returns-in-Refused : goal.returns-in-Refused
 returns-in-Refused c =

@@ -28,7 +28,7 @@ loop-i-smaller c =
 
 pub loop-i-preserved : goal.loop-i-preserved
 loop-i-preserved c =
-    listing-more c.loop-i.invariant c.put_usage-to.ensures c.put_usage-to.auto.1.1.1.0
+    listing-more c.loop-i.invariant c.put_usage-to.ensures c.put_usage-to.auto.out
 
 pub returns : goal.returns
 returns c =

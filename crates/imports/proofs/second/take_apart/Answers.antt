@@ -13,7 +13,7 @@ pub returns-then-has_usages : goal.returns-then-has_usages
 returns-then-has_usages c =
     let a = c.requires.0 in
     apart_some c.args.s.now c.args.at c.args.stop (λ i. (c.shared_slice_known-1.given i).fits) (omega arith) c.requires.1 c.requires.2 c.args.id c.requires.3
-    c.put_taken_apart.auto.1.1.1.1.1.0 c.has_usages.ensures c.if-has_usages.true c.put_taken_apart.ensures
+    c.put_taken_apart.auto.out c.has_usages.ensures c.if-has_usages.true c.put_taken_apart.ensures
 
 pub atom_at-requires : goal.atom_at-requires
 atom_at-requires c =

@@ -21,23 +21,23 @@ returns-in_default c =
 
 pub bounds-records-at : goal.bounds-records-at
 bounds-records-at c =
-    let w = c.requires.1.wide in let f = c.requires.1.parts.fits in let g = c.before.before.before.before.before.before.before.before.before.before.before.before.before.before.before.ranges.stop.fits in omega arith
+    let w = c.requires.1.wide in let f = c.requires.1.parts.fits in omega arith
 
 pub overflow_add-at-2 : goal.overflow_add-at-2
 overflow_add-at-2 c =
-    let w = c.requires.1.wide in let f = c.requires.1.parts.fits in let g = c.before.before.before.before.before.before.before.before.before.before.before.before.before.before.before.before.ranges.stop.fits in omega arith
+    let w = c.requires.1.wide in let f = c.requires.1.parts.fits in omega arith
 
 pub overflow_add-at-3 : goal.overflow_add-at-3
 overflow_add-at-3 c =
-    let w = c.requires.1.wide in let f = c.requires.1.parts.fits in let g = c.before.before.before.before.before.before.before.before.before.before.before.before.before.before.before.before.ranges.stop.fits in omega arith
+    let w = c.requires.1.wide in let f = c.requires.1.parts.fits in omega arith
 
 pub put_heading-c-requires : goal.put_heading-c-requires
 put_heading-c-requires c =
-    let w = c.requires.1.wide in let f = c.requires.1.parts.fits in let g = c.before.before.before.before.before.before.before.before.before.before.before.before.before.before.before.before.before.ranges.stop.fits in omega arith
+    let w = c.requires.1.wide in let f = c.requires.1.parts.fits in omega arith
 
 pub overflow_add-at-4 : goal.overflow_add-at-4
 overflow_add-at-4 c =
-    let w = c.requires.1.wide in let f = c.requires.1.parts.fits in let g = c.before.before.before.before.before.before.before.before.before.before.before.before.before.before.before.before.before.before.before.before.ranges.stop.fits in omega arith
+    let w = c.requires.1.wide in let f = c.requires.1.parts.fits in omega arith
 
 pub is_forced-requires : goal.is_forced-requires
 is_forced-requires c =
