@@ -7,7 +7,7 @@ use native.Mathlib.Omega.{arith}
 use native.Mathlib.Nat.{pow-suc, pow-le-pow_right, eq-or-lt_of_le}
 use lib.ListN.{length, get_or, take, drop, length-append, get_or-append}
 use lib.Seq.{slice, slice_empty, length-take-le, take-suc, drop-append-le, get_or-drop, get_or-take, get_or_at}
-use Rattle.io.specs.Digits.{hex_digit_ascii, last_digits}
+use Rattle.text.specs.Digits.{hex_digit_ascii, last_digits}
 use Rattle.text.specs.declared.hex.Digit.TheVariants.{Value, Other}
 use Rattle.text.specs.declared.decimal.Number.TheVariants.{Of, Bad}
 use Rattle.text.specs.Hex.{DigitIs}

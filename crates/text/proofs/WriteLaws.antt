@@ -10,7 +10,7 @@ use lib.Dec.{ltb}
 use native.Mathlib.Numerals.{add-one}
 use lib.ListN.{length, get_or, drop, set, length-set, length-append, drop_of_length-le}
 use lib.Seq.{sets, length-sets, set_out, drop-cons}
-use Rattle.io.specs.Digits.{hex_digit_ascii}
+use Rattle.text.specs.Digits.{hex_digit_ascii}
 use Rattle.text.specs.Hex.{hexed}
 use Rattle.text.specs.Write.{Written}
 

@@ -1,7 +1,7 @@
--- Numbers in decimal. `digits 10 k n` is the last k digits of n, of the library io.
+-- Numbers in decimal. `digits 10 k n` is the last k digits of n.
 use Rattle.std.specs.Prelude.{ℕ, ◌-◌, ◌^◌, ◌≤◌, ◌<◌, ◌≡◌, List}
 use Rattle.std.proofs.Math.Seq.{slice}
-use Rattle.io.specs.Digits.{last_digits, IsDigitCount}
+use Rattle.text.specs.Digits.{last_digits, IsDigitCount}
 use Rattle.text.specs.Write.{Written}
 use Rattle.text.specs.declared.fields.Span.{Span}
 use Rattle.text.specs.declared.fields.Span.TheVariants.{At, Missing}

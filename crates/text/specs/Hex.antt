@@ -1,8 +1,8 @@
--- Bytes in lowercase hexadecimal: the text of some bytes, and what reading a text answers. `glyph` is the digit of a value, of the library io.
+-- Bytes in lowercase hexadecimal: the text of some bytes, and what reading a text answers. `glyph` is the digit of a value.
 use Rattle.std.specs.Prelude.{ℕ, ◌+◌, ◌/◌, ◌%◌, ◌≤◌, ◌<◌, ◌≡◌, List, [], ◌∷◌, length}
 use Rattle.std.proofs.Math.Seq.{slice}
 use Rattle.std.proofs.lemmas.List.Edits.{sets}
-use Rattle.io.specs.Digits.{hex_digit_ascii}
+use Rattle.text.specs.Digits.{hex_digit_ascii}
 use Rattle.text.specs.declared.fields.Span.{Span}
 use Rattle.text.specs.declared.fields.Span.TheVariants.{At, Missing}
 use Rattle.text.specs.declared.hex.Digit.{Digit}

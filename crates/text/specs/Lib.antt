@@ -1,3 +1,4 @@
+pub mod Digits
 pub mod Write
 pub mod Hex
 pub mod Decimal

@@ -4,8 +4,8 @@ ghost use Rattle.text.specs.Fields.{field_at};
 ghost use Rattle.text.specs.Decimal.{NumberRead, NumberIn, NumberWritten};
 
 use crate::fields::{Span, field};
-use crate::hex::{Digit, digit_of};
-use crate::write::put_all;
+use crate::hex::{Digit, digit_of, glyph_of};
+use crate::write::put;
 
 #[derive(Drop)]
 pub enum Number {
@@ -50,12 +50,15 @@ pub fn number_at(s: &[u8], to: usize, k: usize) -> Number
     read_decimal(s, a, e)
 }
 
-// Writes n.
+// Writes n: what stands before its last digit, and that digit.
 pub fn put_decimal(out: &mut [u8], at: usize, n: u64) -> usize
     requires { at ≤ length out.old }
     ensures { NumberWritten out.old at n out.new result }
 {
-    let mut digits = [0u8; 20];
-    let k = io::decimal(n, &mut digits);
-    put_all(out, at, &digits[..k])
+    let last = glyph_of((n % 10) as u8);
+    if n < 10 {
+        return put(out, at, last);
+    }
+    let next = put_decimal(out, at, n / 10);
+    put(out, next, last)
 }

@@ -1,6 +1,6 @@
 // Bytes in lowercase hexadecimal, two digits a byte; a field without bytes is `-`.
 ghost use Rattle.std.specs.Prelude.{◌≤◌, ◌<◌, ◌≡◌, length};
-ghost use Rattle.io.specs.Digits.{hex_digit_ascii};
+ghost use Rattle.text.specs.Digits.{hex_digit_ascii};
 ghost use Rattle.text.specs.Write.{Written};
 ghost use Rattle.text.specs.Fields.{field_at};
 ghost use Rattle.text.specs.Hex.{DigitIs, hexed, spelt, BytesRead, BytesFrom, BytesIn};

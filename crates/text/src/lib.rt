@@ -1,5 +1,7 @@
 // The text of the vectors: fields apart by single spaces, bytes in hexadecimal, numbers in decimal.
 // Reading answers what a field spells, or that it spells nothing; writing goes on from a place of a lent buffer.
+#![tactic(auto)]
+
 pub mod decimal;
 pub mod fields;
 pub mod hex;

@@ -3,7 +3,7 @@
 use mathlib.Core.Path.{refl}
 use Rattle.scope.specs.ScopeValue.{modulesOf}
 use Rattle.extraction.specs.Answer.{lent_as}
-use Rattle.extraction.proofs.TopLaws.{accepted-good, accepted-other, left-accepted, left-refused}
+use Rattle.extraction.proofs.TopLaws.{accepted-good, left-accepted, left-refused}
 use borrow.Author.Rules.{rules}
 use Rattle.extraction.proofs.extract_import_info.Goals as goal
 
@@ -27,5 +27,5 @@ pub returns-in_default : goal.returns-in_default
 returns-in_default c =
     left-refused (lent_as c.args.file.0 c.args.modes c.args.externals.now c.args.table.now c.args.tree.now) c.args.scope c.run-answer.result
     (c.run-answer.ensures (lent_as c.args.file.0 c.args.modes c.args.externals.now c.args.table.now c.args.tree.now) (modulesOf c.args.scope) refl
-    c.prepare-tested.ensures) (λ h. accepted-other (rw h at c.in_default.in_default-own.keys2)) c.no_counts-in_default.ensures c.clear.ensures c.clear-in_default.ensures c.clear-in_default-2.ensures
+    c.prepare-tested.ensures) c.in_default.not-Extracted c.no_counts-in_default.ensures c.clear.ensures c.clear-in_default.ensures c.clear-in_default-2.ensures
     c.run-answer.auto.work c.run-answer.auto.out c.run-answer.auto.records

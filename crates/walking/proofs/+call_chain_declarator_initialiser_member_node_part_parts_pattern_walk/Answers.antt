@@ -151,7 +151,7 @@ initialiser-walk-requires-2 t c =
 
 pub initialiser-overflow_add-at-in-Done : goal.initialiser-overflow_add-at-in-Done
 initialiser-overflow_add-at-in-Done t c =
-    omega (arith, c.before.before.before.before.before.before.before.before.before.before.before.before.before.before.before.before.before.before.before.before.before.before.before.before.before.before.ranges, c.requires.0)
+    omega arith
 
 pub initialiser-require_lazily-requires : goal.initialiser-require_lazily-requires
 initialiser-require_lazily-requires t c =

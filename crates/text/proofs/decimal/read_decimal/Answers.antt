@@ -4,7 +4,7 @@ use borrow.Author.Rules.{rules}
 use lib.Seq.{slice}
 use mathlib.Core.Path.{◌≡◌, subst}
 use native.Mathlib.Omega.{arith}
-use Rattle.io.specs.Digits.{last_digits}
+use Rattle.text.specs.Digits.{last_digits}
 use Rattle.text.proofs.DecimalLaws.{other-no-decimal, high-no-decimal, number-bad, number_more, number-grows, number_fits, number-none, number-all}
 use Rattle.text.specs.Decimal.{Short}
 use Rattle.text.specs.Hex.{DigitIs}
