@@ -519,18 +519,6 @@ turned (Unread w p) z e = z.is
 turned (Refused w p) z e = z.is
 turned NoRoom z e = z.is
 
--- the numbers of the other answers
-abbrev Numbers : Type 0
-Numbers = ◌≡◌ {A = ℕ} 0 1 ⊎ (◌≡◌ {A = ℕ} 0 2 ⊎ (◌≡◌ {A = ℕ} 0 3 ⊎ (◌≡◌ {A = ℕ} 0 4 ⊎ ◌≡◌ {A = ℕ} 0 5)))
-
--- acceptance is none of them
-pub accepted-other : Numbers → ⊥
-accepted-other (inl e) = omega arith
-accepted-other (inr (inl e)) = omega arith
-accepted-other (inr (inr (inl e))) = omega arith
-accepted-other (inr (inr (inr (inl e)))) = omega arith
-accepted-other (inr (inr (inr (inr e)))) = omega arith
-
 zeroed-is : (l k : List ℕ) {m : List ℕ} → m ≡ zeroed l → length l ≡ length k → m ≡ replicate (length k) 0
 unfolding zeroed
 zeroed-is l k e h = e ∙ ap (λ (n : ℕ). replicate n 0) h

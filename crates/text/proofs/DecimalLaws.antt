@@ -7,12 +7,14 @@ use native.Mathlib.Omega.{arith}
 use native.Mathlib.Nat.{pow-suc, pow-le-pow_right, eq-or-lt_of_le}
 use lib.ListN.{length, get_or, take, drop, length-append, get_or-append}
 use lib.Seq.{slice, slice_empty, length-take-le, take-suc, drop-append-le, get_or-drop, get_or-take, get_or_at}
-use Rattle.text.specs.Digits.{hex_digit_ascii, last_digits}
+use Rattle.text.specs.Digits.{hex_digit_ascii, last_digits, IsDigitCount}
 use Rattle.text.specs.declared.hex.Digit.TheVariants.{Value, Other}
 use Rattle.text.specs.declared.decimal.Number.TheVariants.{Of, Bad}
 use Rattle.text.specs.Hex.{DigitIs}
-use Rattle.text.specs.Decimal.{Short, NumberRead}
+use Rattle.text.specs.Decimal.{Short, NumberRead, NumberWritten}
+use Rattle.text.specs.Write.{Written}
 use Rattle.text.proofs.HexLaws.{glyph-low, glyph-high}
+use Rattle.text.proofs.WriteLaws.{written_as, written_then}
 
 length_digits : (k n : ℕ) → length (last_digits 10 k n) ≡ k
 length_digits zero n = refl
@@ -87,3 +89,30 @@ number-none s from to h k =
 pub number-all : (s : List ℕ) (from to i : ℕ) (n : ℕ) → i ≡ to → slice from i s ≡ last_digits 10 (i - from) n → n < 10 ^ (i - from) → Short from to → NumberRead s from to (Of n)
 number-all s from to i n e t h k =
     (subst (λ (j : ℕ). slice from j s ≡ last_digits 10 (j - from) n) e t, subst (λ (j : ℕ). n < 10 ^ (j - from)) e h, k)
+
+lead-more : (n j : ℕ) → 10 ≤ n → (1 < suc j → 10 ^ (suc j - 1) ≤ n / 10) → 10 ^ (suc (suc j) - 1) ≤ n
+lead-more n zero h w = omega arith
+lead-more n (suc i) h w =
+    let p = pow-suc 10 (suc i) in
+    let l : 10 ^ (suc (suc i) - 1) ≤ n / 10 = w (omega arith) in
+    let e : suc (suc i) - 1 ≡ suc i = omega arith in
+    let k : 10 ^ suc i ≤ n / 10 = subst (λ (m : ℕ). 10 ^ m ≤ n / 10) e l in
+    let f : suc (suc (suc i)) - 1 ≡ suc (suc i) = omega arith in
+    subst (λ (m : ℕ). 10 ^ m ≤ n) (sym f) (omega arith)
+
+-- one digit behind the fewest of what stands before it
+fewest-more : (n k : ℕ) → 10 ≤ n → IsDigitCount 10 1 (n / 10) k → IsDigitCount 10 1 n (suc k)
+fewest-more n zero h w = absurd (omega (arith, w.0))
+fewest-more n (suc j) h w =
+    let p = pow-suc 10 (suc j) in
+    let q = pow-suc 10 j in
+    (omega arith, omega (arith, w.1), λ m. lead-more n j h w.2)
+
+pub number_next : {out m k : List ℕ} {at p q n g : ℕ} → 10 ≤ n → NumberWritten out at (n / 10) m p → g ≡ hex_digit_ascii (n % 10) →
+    Written m p (g ∷ []) k q → NumberWritten out at n k q
+number_next {n = n} h w e v =
+    record {
+      count = suc w.count;
+      fewest = fewest-more n w.count h w.fewest;
+      written = written_as (ap (λ (x : ℕ). last_digits 10 w.count (n / 10) ++ (x ∷ [])) e) (written_then w.written v);
+    }

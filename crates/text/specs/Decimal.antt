@@ -1,4 +1,4 @@
--- Numbers in decimal. `digits 10 k n` is the last k digits of n.
+-- Numbers in decimal. `last_digits 10 k n` is the last k digits of n.
 use Rattle.std.specs.Prelude.{ℕ, ◌-◌, ◌^◌, ◌≤◌, ◌<◌, ◌≡◌, List}
 use Rattle.std.proofs.Math.Seq.{slice}
 use Rattle.text.specs.Digits.{last_digits, IsDigitCount}

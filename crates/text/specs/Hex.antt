@@ -1,4 +1,4 @@
--- Bytes in lowercase hexadecimal: the text of some bytes, and what reading a text answers. `glyph` is the digit of a value.
+-- Bytes in lowercase hexadecimal: the text of some bytes, and what reading a text answers. `hex_digit_ascii` is the digit of a value.
 use Rattle.std.specs.Prelude.{ℕ, ◌+◌, ◌/◌, ◌%◌, ◌≤◌, ◌<◌, ◌≡◌, List, [], ◌∷◌, length}
 use Rattle.std.proofs.Math.Seq.{slice}
 use Rattle.std.proofs.lemmas.List.Edits.{sets}

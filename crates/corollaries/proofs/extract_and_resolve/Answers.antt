@@ -1,7 +1,5 @@
 -- `extract_and_resolve`: by both answers. If both calls accept, `pairs-both` is the theorem on namespace imports, from their contracts.
 -- `pairs-unlisted` and `pairs-unextracted` say that any other answer is a refusal of the rules.
-use native.Mathlib.Omega.{arith}
-use mathlib.Core.Logic.{⊎_elim}
 use lib.ListN.{length}
 use Rattle.extraction.specs.Answer.{lent_as, roomIn}
 use Rattle.corollaries.proofs.PairLaws.{pairs-both, pairs-unlisted, pairs-unextracted}
@@ -20,16 +18,11 @@ returns-in_default-listed c =
     pairs-unlisted (lent_as c.args.file.0 c.args.modes c.args.externals.now c.args.table.now c.args.tree.now)
     (roomIn c.args.work.now c.args.out.now c.args.records.now) (length c.args.list.now) c.args.scope
     c.extract_import_info-r.result c.extract_import_info-r.ensures.0 c.resolve_front-q.result c.resolve_front-q.ensures
-    (λ h. ⊎_elim (λ w. omega arith)
-    (λ v. ⊎_elim (λ w. omega arith)
-    (λ v2. ⊎_elim (λ w. omega arith) (λ v3. ⊎_elim (λ w. omega arith) (λ v4. ⊎_elim (λ w. omega arith) (λ w. omega arith) v4) v3) v2) v)
-    (rw h at c.in_default-listed.in_default-listed-own.keys2))
+    c.in_default-listed.not-Listed
 
 pub returns-in_default : goal.returns-in_default
 returns-in_default c =
     pairs-unextracted (lent_as c.args.file.0 c.args.modes c.args.externals.now c.args.table.now c.args.tree.now)
     (roomIn c.args.work.now c.args.out.now c.args.records.now) (length c.args.list.now) c.args.scope
     c.extract_import_info-r.result c.extract_import_info-r.ensures.0 c.extract_import_info-r.result.scope
-    (λ h. ⊎_elim (λ w. omega arith)
-    (λ v. ⊎_elim (λ w. omega arith) (λ v2. ⊎_elim (λ w. omega arith) (λ v3. ⊎_elim (λ w. omega arith) (λ w. omega arith) v3) v2) v)
-    (rw h at c.in_default.in_default-own.keys2))
+    c.in_default.not-Extracted

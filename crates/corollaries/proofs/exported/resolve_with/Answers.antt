@@ -7,13 +7,8 @@ use Rattle.corollaries.proofs.FilesLaws.{lent_fits, lent-part}
 use borrow.Author.Rules.{rules}
 use Rattle.corollaries.proofs.exported.resolve_with.Goals as goal
 
--- UNTRANSLATED Need-slice-bounds-tychodrel-resolve-end
--- part-tychodrel-resolve-end : tie.Need-slice-bounds-tychodrel-resolve-end
--- part-tychodrel-resolve-end c =
---     let c3 = c.before.before.before in
---     let c9 = c3.before.before.before.before.before.before in
---     let h = lent_fits c9.args.scope.now c9.requires.0 c3.put-files.ensures in
---     omega arith
+pub slice_bounds-tychodrel_resolve-end : goal.slice_bounds-tychodrel_resolve-end
+slice_bounds-tychodrel_resolve-end c = let h = lent_fits c.args.scope.now c.requires.0 c.put_files-n.ensures in omega arith
 
 pub returns : goal.returns
 returns c =

@@ -2,7 +2,6 @@
 -- lies within the text.
 use mathlib.Core.Path.{subst, sym, refl, ◌∙◌}
 use native.Mathlib.Omega.{arith}
-use borrow.Author.Rules.{rules}
 use Rattle.text.specs.Fields.{SpanIn}
 use Rattle.text.specs.Decimal.{NumberIn}
 use Rattle.text.specs.declared.fields.Span.{Span}

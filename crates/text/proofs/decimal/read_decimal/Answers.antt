@@ -1,12 +1,7 @@
 -- `text::decimal::read_decimal`: the invariant: the characters so far are the digits of the number so far.
-use Prim.Native.Nat.{◌-◌, ◌^◌, ◌≤◌, ◌<◌}
-use borrow.Author.Rules.{rules}
-use lib.Seq.{slice}
-use mathlib.Core.Path.{◌≡◌, subst}
+use mathlib.Core.Path.{subst}
 use native.Mathlib.Omega.{arith}
-use Rattle.text.specs.Digits.{last_digits}
 use Rattle.text.proofs.DecimalLaws.{other-no-decimal, high-no-decimal, number-bad, number_more, number-grows, number_fits, number-none, number-all}
-use Rattle.text.specs.Decimal.{Short}
 use Rattle.text.specs.Hex.{DigitIs}
 use Rattle.text.proofs.decimal.read_decimal.Goals as goal
 

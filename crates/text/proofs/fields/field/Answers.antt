@@ -1,9 +1,7 @@
 -- `field`: the invariant says that the field number `left` from the place reached is the field number k from the start; `left` falls.
-use Prim.Native.Nat.{◌≤◌}
-use mathlib.Core.Path.{◌≡◌, refl, sym, ◌∙◌}
+use mathlib.Core.Path.{refl, sym, ◌∙◌}
 use native.Mathlib.Omega.{arith}
 use Rattle.text.proofs.FieldsLaws.{field_found, field-missing, field_next}
-use Rattle.text.specs.Fields.{field_at}
 use Rattle.text.proofs.fields.field.Goals as goal
 
 pub loop-left-init : goal.loop-left-init

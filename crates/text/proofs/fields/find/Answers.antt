@@ -1,10 +1,7 @@
 -- `find`: the invariant says that i and the distance from it to the first b (or to the end) add up to the place that is looked for.
-use Prim.Native.Nat.{◌+◌, ◌-◌, ◌≤◌}
-use lib.Seq.{slice}
-use mathlib.Core.Path.{◌≡◌, refl}
+use mathlib.Core.Path.{refl}
 use native.Mathlib.Omega.{arith}
 use Rattle.text.proofs.FieldsLaws.{first-none, first-here, first-later}
-use Rattle.text.specs.Fields.{first_of}
 use Rattle.text.proofs.fields.find.Goals as goal
 
 pub loop-i-init : goal.loop-i-init

@@ -1,5 +1,4 @@
 -- `digit_of`: the two ranges are those of the digits (`digit_low`, `digit-high`); every way to the last arm lies outside both (`no_digit`).
-use borrow.Author.Rules.{rules}
 use native.Mathlib.Omega.{arith}
 use Rattle.text.proofs.HexLaws.{digit_low, digit-high, no_digit}
 use Rattle.text.proofs.HexLaws.{no_digit}

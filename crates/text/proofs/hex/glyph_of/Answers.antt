@@ -1,5 +1,4 @@
 -- `glyph_of`: a split at 10, as in the definition (`glyph-low`, `glyph-high`).
-use borrow.Author.Rules.{rules}
 use mathlib.Core.Path.{sym}
 use Rattle.text.proofs.HexLaws.{glyph-low, glyph-high}
 use Rattle.text.proofs.hex.glyph_of.Goals as goal

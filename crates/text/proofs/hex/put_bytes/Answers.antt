@@ -1,5 +1,4 @@
 -- `put_bytes`: no bytes are spelt `-` (`spelt-none`), others by their digits (`spelt-some`).
-use borrow.Author.Rules.{rules}
 use mathlib.Core.Path.{sym}
 use Rattle.text.proofs.HexLaws.{spelt-none, spelt-some}
 use Rattle.text.proofs.WriteLaws.{written_as}

@@ -1,12 +1,8 @@
 -- `text::hex::put_hex`: the invariant: what writing the rest leaves is what writing all the bytes leaves.
-use Prim.Native.Nat.{ℕ, ◌-◌, ◌≤◌}
-use lib.ListN.{length, drop}
-use mathlib.Core.List.{List}
-use mathlib.Core.Path.{◌≡◌, refl}
+use mathlib.Core.Path.{refl}
 use native.Mathlib.Omega.{arith}
 use Rattle.text.proofs.WriteLaws.{written-end, written-pair, written-length}
 use Rattle.text.specs.Hex.{hexed}
-use Rattle.text.specs.Write.{Written}
 use Rattle.text.proofs.hex.put_hex.Goals as goal
 
 pub loop-i-init : goal.loop-i-init
@@ -16,10 +12,6 @@ loop-i-init c =
 pub bounds-bytes-i : goal.bounds-bytes-i
 bounds-bytes-i c =
     omega arith
-
-pub glyph_of-requires : goal.glyph_of-requires
-glyph_of-requires c =
-    omega (arith, c.shared_slice_known-in-loop-i-1.given c.loop-i.i)
 
 pub put-o-requires : goal.put-o-requires
 put-o-requires c =

@@ -2,9 +2,7 @@
 use Prim.Native.Nat.{ℕ, ◌-◌, ◌≤◌}
 use lib.ListN.{length, drop}
 use mathlib.Core.List.{List}
-use mathlib.Core.Path.{◌≡◌, refl}
-use native.Mathlib.Omega.{arith}
-use Rattle.text.proofs.WriteLaws.{written-end, written-pair, written-length}
+use mathlib.Core.Path.{◌≡◌}
 use Rattle.text.specs.Hex.{hexed}
 use Rattle.text.specs.Write.{Written}
 use Rattle.text.proofs.hex.put_hex.Given as goal

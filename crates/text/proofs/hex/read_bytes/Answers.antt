@@ -1,6 +1,5 @@
 -- `read_bytes`: an empty text spells nothing (`field-none`), `-` alone no bytes (`field-dash`), a longer text that starts with `-` nothing
 -- (`field-longer`), and any other what its digits spell (`field-digits`).
-use borrow.Author.Rules.{rules}
 use native.Mathlib.Omega.{arith}
 use Rattle.text.proofs.HexLaws.{field-none, field-dash, field-longer, field-digits}
 use Rattle.text.proofs.hex.read_bytes.Goals as goal

@@ -1,14 +1,10 @@
 -- `text::hex::read_hex`: the invariant: what reading the rest answers is what reading the whole answers.
-use Prim.Native.Nat.{ℕ, ◌-◌, ◌≤◌}
-use borrow.Author.Rules.{rules}
-use lib.ListN.{length, length-set}
-use mathlib.Core.List.{List}
-use mathlib.Core.Path.{◌≡◌, refl, subst}
+use lib.ListN.{length-set}
+use mathlib.Core.Path.{refl, subst}
 use native.Mathlib.Omega.{arith}
 use Rattle.text.proofs.HexLaws.{hex-end, hex-odd, hex-first, hex-second, hex-full, hex-more}
-use Rattle.text.specs.Hex.{hexed, BytesRead, DigitIs}
+use Rattle.text.specs.Hex.{DigitIs}
 use Rattle.text.specs.declared.hex.Bytes.TheVariants.{Upto, Bad}
-use Rattle.text.specs.declared.hex.Bytes.{Bytes}
 use Rattle.text.proofs.hex.read_hex.Goals as goal
 
 pub loop-i-init : goal.loop-i-init

@@ -1,13 +1,9 @@
 -- `text::hex::read_hex`: the invariant: what reading the rest answers is what reading the whole answers.
 use Prim.Native.Nat.{ℕ, ◌-◌, ◌≤◌}
-use borrow.Author.Rules.{rules}
-use lib.ListN.{length, length-set}
+use lib.ListN.{length}
 use mathlib.Core.List.{List}
-use mathlib.Core.Path.{◌≡◌, refl, subst}
-use native.Mathlib.Omega.{arith}
-use Rattle.text.proofs.HexLaws.{hex-end, hex-odd, hex-first, hex-second, hex-full, hex-more}
-use Rattle.text.specs.Hex.{hexed, BytesRead, DigitIs}
-use Rattle.text.specs.declared.hex.Bytes.TheVariants.{Upto, Bad}
+use mathlib.Core.Path.{◌≡◌}
+use Rattle.text.specs.Hex.{hexed, BytesRead}
 use Rattle.text.specs.declared.hex.Bytes.{Bytes}
 use Rattle.text.proofs.hex.read_hex.Given as goal
 

@@ -1,5 +1,4 @@
 -- `put`: inside the buffer the store is the definition's; at its end a store changes nothing (`set_out`).
-use borrow.Author.Rules.{rules}
 use lib.Seq.{set_out}
 use mathlib.Core.Path.{sym}
 use native.Mathlib.Omega.{arith}

@@ -1,12 +1,8 @@
 -- `text::write::put_all`: the invariant: what writing the rest leaves is what writing all of s leaves.
-use Prim.Native.Nat.{ℕ, ◌-◌, ◌≤◌}
-use lib.ListN.{length, drop}
-use mathlib.Core.List.{List}
-use mathlib.Core.Path.{◌≡◌, refl}
+use mathlib.Core.Path.{refl}
 use native.Mathlib.Omega.{arith}
 use Rattle.text.proofs.WriteLaws.{written-end, written_byte, written-length}
 use Rattle.text.proofs.WriteLaws.{written-length}
-use Rattle.text.specs.Write.{Written}
 use Rattle.text.proofs.write.put_all.Goals as goal
 
 pub loop-i-init : goal.loop-i-init
