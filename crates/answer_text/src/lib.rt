@@ -1,5 +1,7 @@
 // The text of answers, as the vectors have it: what a call left in its buffers, a refusal, the modules of a scope.
 // A part is written with the space before it, from a place of the text on, and the next place is answered.
+#![tactic(auto)]
+
 pub mod modules;
 
 ghost use Rattle.std.specs.Prelude.{◌≤◌, length};

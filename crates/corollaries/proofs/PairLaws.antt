@@ -11,20 +11,20 @@ use Rattle.scope.specs.declared.Mark.TheVariants.{Wrapping}
 use Rattle.scope.specs.declared.ReadAnswer.{ReadAnswer}
 use Rattle.scope.specs.declared.Scope.{Scope}
 use Rattle.scope.specs.declared.id.ModuleId.{ModuleId}
-use Rattle.scope.specs.Modules.{Modules, readMark}
-use Rattle.scope.specs.ScopeValue.{modulesOf, read_by}
-use Rattle.tree.specs.Layout.{twoAt, Bytes}
-use Rattle.tree.specs.Layout.{fieldIn}
+use Rattle.scope.specs.Modules.{Modules, read_mark}
+use Rattle.scope.specs.ScopeValue.{modules_of, read_by}
+use Rattle.tree.specs.Layout.{two_at, Bytes}
+use Rattle.tree.specs.Layout.{field_in}
 use Rattle.extraction_rules.specs.Call.{Lent, Lengths, Left, extraction}
 use Rattle.extraction.specs.declared.ExtractAnswer.{ExtractAnswer}
 use Rattle.extraction.specs.declared.ExtractAnswer.TheVariants.{Extracted as Accepted, BadLists, NamedTwice, Unread, Refused, NoRoom}
 use Rattle.extraction.specs.declared.Extraction.{Extraction}
-use Rattle.extraction.specs.Answer.{answerRefusal, left}
+use Rattle.extraction.specs.Answer.{answer_refusal, left}
 use Rattle.resolving_rules.specs.Call.{Left as LeftList, resolving}
 use Rattle.resolving.specs.declared.ResolveAnswer.{ResolveAnswer}
 use Rattle.resolving.specs.declared.ResolveAnswer.TheVariants.{Listed, BadTable, NamedTwice as TwiceNamed, Unread as NotRead, TooManyFiles, Refused as TurnedBack, NoRoom as TooLong}
 use Rattle.resolving.specs.declared.Resolution.{Resolution}
-use Rattle.resolving.specs.Answer.{lent_as, answerRefusal as listRefusal, left as leftList}
+use Rattle.resolving.specs.Answer.{lent_as, answer_refusal as list_refusal, left as left_list}
 use Rattle.corollaries.specs.declared.PairAnswer.TheVariants.{Both, NotExtracted, NotListed}
 use Rattle.corollaries.specs.declared.Pair.{Pair}
 use Rattle.corollaries.specs.Functions.{Exact, Pairs}
@@ -32,17 +32,17 @@ use Rattle.corollaries.proofs.FunctionsLaws.{answers-exactly, answers-none, func
 
 -- ---- The field at the front of a buffer
 
-pub front_cut : (s : List ℕ) → length s ≤ 3 + twoAt s 1 → take (length s) s ≡ fieldIn s
-unfolding fieldIn
-front_cut s h = take-length s ∙ sym (take_all (3 + twoAt s 1) s h)
+pub front_cut : (s : List ℕ) → length s ≤ 3 + two_at s 1 → take (length s) s ≡ field_in s
+unfolding field_in
+front_cut s h = take-length s ∙ sym (take_all (3 + two_at s 1) s h)
 
-pub front-whole : (s : List ℕ) (n : ℕ) → n ≡ 3 + twoAt s 1 → take n s ≡ fieldIn s
-unfolding fieldIn
+pub front-whole : (s : List ℕ) (n : ℕ) → n ≡ 3 + two_at s 1 → take n s ≡ field_in s
+unfolding field_in
 front-whole s n e = ap (λ (n : ℕ). take n s) e
 
 -- the field at the front as a part of the buffer
-pub front-resolved : (modes : Modes) (table s : List ℕ) (n room : ℕ) (ms : Modules) {x : LeftList} → take n s ≡ fieldIn s →
-    x ≡ resolving (lent_as modes table (take (n - 0) (drop 0 s))) room ms → x ≡ resolving (lent_as modes table (fieldIn s)) room ms
+pub front-resolved : (modes : Modes) (table s : List ℕ) (n room : ℕ) (ms : Modules) {x : LeftList} → take n s ≡ field_in s →
+    x ≡ resolving (lent_as modes table (take (n - 0) (drop 0 s))) room ms → x ≡ resolving (lent_as modes table (field_in s)) room ms
 front-resolved modes table s n room ms h e =
     let z : n - 0 ≡ n = omega arith in
     e ∙ ap (λ (p : List ℕ). resolving (lent_as modes table p) room ms) (ap (λ (i : ℕ). take i s) z ∙ h)
@@ -50,7 +50,7 @@ front-resolved modes table s n room ms h e =
 -- ---- Both calls
 
 -- an answer without a refusal accepts
-unrefused : (a : ExtractAnswer) → answerRefusal a ≡ nothing → a ≡ Accepted
+unrefused : (a : ExtractAnswer) → answer_refusal a ≡ nothing → a ≡ Accepted
 unrefused Accepted e = refl
 unrefused BadLists e = absurd (let z : ◌≡◌ {A = ℕ} 0 1 = cc in omega arith)
 unrefused NamedTwice e = absurd (let z : ◌≡◌ {A = ℕ} 0 1 = cc in omega arith)
@@ -58,7 +58,7 @@ unrefused (Unread w p) e = absurd (let z : ◌≡◌ {A = ℕ} 0 1 = cc in omega
 unrefused (Refused w p) e = absurd (let z : ◌≡◌ {A = ℕ} 0 1 = cc in omega arith)
 unrefused NoRoom e = absurd (let z : ◌≡◌ {A = ℕ} 0 1 = cc in omega arith)
 
-unrefused-list : (a : ResolveAnswer) → listRefusal a ≡ nothing → a ≡ Listed
+unrefused-list : (a : ResolveAnswer) → list_refusal a ≡ nothing → a ≡ Listed
 unrefused-list Listed e = refl
 unrefused-list BadTable e = absurd (let z : ◌≡◌ {A = ℕ} 0 1 = cc in omega arith)
 unrefused-list TwiceNamed e = absurd (let z : ◌≡◌ {A = ℕ} 0 1 = cc in omega arith)
@@ -67,14 +67,14 @@ unrefused-list (TooManyFiles p) e = absurd (let z : ◌≡◌ {A = ℕ} 0 1 = cc
 unrefused-list (TurnedBack w p) e = absurd (let z : ◌≡◌ {A = ℕ} 0 1 = cc in omega arith)
 unrefused-list TooLong e = absurd (let z : ◌≡◌ {A = ℕ} 0 1 = cc in omega arith)
 
-module _ (l : Lent) (room : Lengths) (n : ℕ) (s : Scope) (r : Extraction) {w o k : List ℕ} (e : left r w o k ≡ extraction l room (modulesOf s)) where
-  pair-records : k ≡ (extraction l room (modulesOf s)).records
+module _ (l : Lent) (room : Lengths) (n : ℕ) (s : Scope) (r : Extraction) {w o k : List ℕ} (e : left r w o k ≡ extraction l room (modules_of s)) where
+  pair-records : k ≡ (extraction l room (modules_of s)).records
   pair-records = ap (λ (x : Left). x.records) e
 
-  pair-modules : modulesOf r.scope ≡ (extraction l room (modulesOf s)).modules
+  pair-modules : modules_of r.scope ≡ (extraction l room (modules_of s)).modules
   pair-modules = ap (λ (x : Left). x.modules) e
 
-  pub pairs-both : (q : Resolution) {g : List ℕ} → r.answer ≡ Accepted → leftList q g ≡ resolving (lent_as l.modes l.table (fieldIn k)) n (modulesOf r.scope) →
+  pub pairs-both : (q : Resolution) {g : List ℕ} → r.answer ≡ Accepted → left_list q g ≡ resolving (lent_as l.modes l.table (field_in k)) n (modules_of r.scope) →
       q.answer ≡ Listed → Bytes l.tree → Pairs l room n s o k g (record { extracted = r.scope; resolved = q.scope; answer = Both })
   pairs-both q {g} a f b bs =
       record {
@@ -85,7 +85,7 @@ module _ (l : Lent) (room : Lengths) (n : ℕ) (s : Scope) (r : Extraction) {w o
         modules = pair-modules;
       }
 
-  pub pairs-unlisted : (q : Resolution) {g : List ℕ} → leftList q g ≡ resolving (lent_as l.modes l.table (fieldIn k)) n (modulesOf r.scope) →
+  pub pairs-unlisted : (q : Resolution) {g : List ℕ} → left_list q g ≡ resolving (lent_as l.modes l.table (field_in k)) n (modules_of r.scope) →
       (q.answer ≡ Listed → ⊥) → Pairs l room n s o k g (record { extracted = r.scope; resolved = q.scope; answer = NotListed })
   pairs-unlisted q f b =
       record {
@@ -108,7 +108,7 @@ module _ (l : Lent) (room : Lengths) (n : ℕ) (s : Scope) (r : Extraction) {w o
 
 -- ---- The sentence on lists
 
-pub exact : (m : ModuleId) (t : Scope) (r : ReadAnswer) → read_by r ≡ readMark Wrapping m (modulesOf t) → Exact m t r
+pub exact : (m : ModuleId) (t : Scope) (r : ReadAnswer) → read_by r ≡ read_mark Wrapping m (modules_of t) → Exact m t r
 exact m t r e =
     record {
       is = λ calls s fresh h b q. answers-exactly calls s t fresh h m b (sym (ap read_by q) ∙ e);

@@ -10,43 +10,43 @@ use Rattle.scope.specs.declared.ReadAnswer.{ReadAnswer}
 use Rattle.scope.specs.declared.ReadAnswer.TheVariants.{Is, NoSuchModule}
 use Rattle.scope.specs.declared.Scope.{Scope}
 use Rattle.scope.specs.declared.id.ModuleId.{ModuleId}
-use Rattle.scope.specs.Modules.{Modules, gen, filesIn, requestAll, marking, readMark, request}
-use Rattle.scope.specs.ScopeValue.{modulesOf, generated, requested, markedBy, read_by}
+use Rattle.scope.specs.Modules.{Modules, gen, files_in, request_all, marking, read_mark, request}
+use Rattle.scope.specs.ScopeValue.{modules_of, generated, requested, marked_by, read_by}
 use Rattle.tree.specs.declared.grammar.Set.TheVariants.{Module, Records}
 use Rattle.tree.specs.Layout.{value_of, Bytes}
 use Rattle.tree.specs.Tree.{field, Fields, none, more, encode}
 use Rattle.tree.specs.Read.{fine, read}
 use Rattle.inputs.specs.Outcome.{done}
 use Rattle.inputs.specs.Lists.{among}
-use Rattle.inputs.specs.Table.{rowsIn, atomsIn}
-use Rattle.tree.specs.Layout.{fieldIn}
-use Rattle.extraction_rules.specs.Call.{Lent, Lengths, Extracted, itemsRead, extracted, extraction}
+use Rattle.inputs.specs.Table.{rows_in, atoms_in}
+use Rattle.tree.specs.Layout.{field_in}
+use Rattle.extraction_rules.specs.Call.{Lent, Lengths, Extracted, items_read, extracted, extraction}
 use Rattle.extraction.specs.declared.ExtractAnswer.TheVariants.{Extracted as Accepted}
 use Rattle.extraction.specs.declared.Extraction.{Extraction}
 use Rattle.extraction.specs.Answer.{left}
 use Rattle.resolving_rules.specs.Call.{Resolved, resolved, resolving}
 use Rattle.resolving.specs.declared.ResolveAnswer.TheVariants.{Listed}
 use Rattle.resolving.specs.declared.Resolution.{Resolution}
-use Rattle.resolving.specs.Answer.{lent_as, left as leftList}
+use Rattle.resolving.specs.Answer.{lent_as, left as left_list}
 use Rattle.placement.specs.Stands.{stands}
-use Rattle.placement.specs.Placed.{wellPlaced}
+use Rattle.placement.specs.Placed.{well_placed}
 use Rattle.theorems.specs.Demand.{Declares, takes, Ends}
 use Rattle.corollaries.specs.declared.PairAnswer.TheVariants.{Both, NotExtracted, NotListed}
 use Rattle.corollaries.specs.declared.Pair.{Pair}
-use Rattle.theorems.specs.Lists.{Call, requests, requestsAll, sets, reads, readsEsm, extracts, resolves, wrapsAny}
+use Rattle.theorems.specs.Lists.{Call, requests, requests_all, sets, reads, reads_esm, extracts, resolves, wraps_any}
 
 -- ---- The sentence on lists
 
 -- a call on the scope s hands back the scope t; calls that read hand none back
 abbrev pub HandsBack : Call → Scope → Scope → Type 0
-HandsBack (requests f) s t = (r : Gen) × (generated r ≡ gen f (modulesOf s)) × (t ≡ r.scope)
-HandsBack (requestsAll files) s t = (r : Requested) × (requested r ≡ requestAll (filesIn files) (modulesOf s)) × (t ≡ r.scope)
-HandsBack (sets k m) s t = (r : Marked) × (markedBy r ≡ marking k m (modulesOf s)) × (t ≡ r.scope)
+HandsBack (requests f) s t = (r : Gen) × (generated r ≡ gen f (modules_of s)) × (t ≡ r.scope)
+HandsBack (requests_all files) s t = (r : Requested) × (requested r ≡ request_all (files_in files) (modules_of s)) × (t ≡ r.scope)
+HandsBack (sets k m) s t = (r : Marked) × (marked_by r ≡ marking k m (modules_of s)) × (t ≡ r.scope)
 HandsBack (reads k m) s t = t ≡ s
-HandsBack (readsEsm m) s t = t ≡ s
+HandsBack (reads_esm m) s t = t ≡ s
 HandsBack (extracts l room) s t =
-    (r : Extraction) × (w : List ℕ) × (o : List ℕ) × (k : List ℕ) × (left r w o k ≡ extraction l room (modulesOf s)) × (t ≡ r.scope)
-HandsBack (resolves l room) s t = (r : Resolution) × (g : List ℕ) × (leftList r g ≡ resolving l room (modulesOf s)) × (t ≡ r.scope)
+    (r : Extraction) × (w : List ℕ) × (o : List ℕ) × (k : List ℕ) × (left r w o k ≡ extraction l room (modules_of s)) × (t ≡ r.scope)
+HandsBack (resolves l room) s t = (r : Resolution) × (g : List ℕ) × (left_list r g ≡ resolving l room (modules_of s)) × (t ≡ r.scope)
 
 -- each call on the scope that the call before it handed back
 abbrev pub HandOn : List Call → Scope → Scope → Type 0
@@ -56,22 +56,22 @@ HandOn (c ∷ calls) s t = (u : Scope) × HandsBack c s u × HandOn calls u t
 -- After any list of calls from a fresh scope on, `should_be_wrapped_with_a_fn` answers exactly whether a call of the list wrapped the module.
 abbrev pub AnswersExactly : Type 0
 AnswersExactly =
-    (calls : List Call) (s t : Scope) → modulesOf s ≡ [] → HandOn calls s t →
-    (m : ModuleId) (b : Bool) → read_by (Is b) ≡ readMark Wrapping m (modulesOf t) → b ≡ wrapsAny m.0 calls []
+    (calls : List Call) (s t : Scope) → modules_of s ≡ [] → HandOn calls s t →
+    (m : ModuleId) (b : Bool) → read_by (Is b) ≡ read_mark Wrapping m (modules_of t) → b ≡ wraps_any m.0 calls []
 
 -- the same of an answer in the scope t; a module whose number no call gave was wrapped by none
 pub record Exact (m : ModuleId) (t : Scope) (r : ReadAnswer) : Type 0 where
-  pub is : (calls : List Call) (s : Scope) → modulesOf s ≡ [] → HandOn calls s t → (b : Bool) → r ≡ Is b → b ≡ wrapsAny m.0 calls []
-  pub never : (calls : List Call) (s : Scope) → modulesOf s ≡ [] → HandOn calls s t → r ≡ NoSuchModule → wrapsAny m.0 calls [] ≡ false
+  pub is : (calls : List Call) (s : Scope) → modules_of s ≡ [] → HandOn calls s t → (b : Bool) → r ≡ Is b → b ≡ wraps_any m.0 calls []
+  pub never : (calls : List Call) (s : Scope) → modules_of s ≡ [] → HandOn calls s t → r ≡ NoSuchModule → wraps_any m.0 calls [] ≡ false
 
 -- ---- Kept whole or taken apart
 
 -- the trees that the buffers hold as read back, and the scopes' modules: a and b are those after extraction and after resolving,
 -- o and k *out* and the records, g the resolved list
 pub record Holds (a b : Modules) (o k g : List ℕ) (t : Extracted) (u : Resolved) : Type 0 where
-  pub out : read Module (fieldIn o) ≡ fine (more t.out none)
-  pub records : read Records (fieldIn k) ≡ fine (more t.records none)
-  pub list : fieldIn g ≡ encode u.list
+  pub out : read Module (field_in o) ≡ fine (more t.out none)
+  pub records : read Records (field_in k) ≡ fine (more t.records none)
+  pub list : field_in g ≡ encode u.list
   pub extracted : a ≡ t.modules
   pub resolved : b ≡ u.modules
 
@@ -80,37 +80,37 @@ pub record Holds (a b : Modules) (o k g : List ℕ) (t : Extracted) (u : Resolve
 abbrev pub KeepOrPart : Lent → Lengths → ℕ → Fields → Modules → Modules → Modules → Modules → List ℕ → List ℕ → List ℕ → Type 0
 KeepOrPart l room n items ms a c b o k g =
     (t : Extracted) × (u : Resolved) × (extracted l room ms ≡ done t)
-    × (resolved (lent_as l.modes l.table (fieldIn k)) n c ≡ done u)
+    × (resolved (lent_as l.modes l.table (field_in k)) n c ≡ done u)
     × Holds a b o k g t u
-    × ((k : ℕ) (x i : List ℕ) → Declares items k x (more (field 0x22 i none) none) → among (value_of x) (atomsIn l.externals) ≡ false →
-    Ends (takes (rowsIn l.table) x (stands items i)) i x k (stands items i) items l t u)
+    × ((k : ℕ) (x i : List ℕ) → Declares items k x (more (field 0x22 i none) none) → among (value_of x) (atoms_in l.externals) ≡ false →
+    Ends (takes (rows_in l.table) x (stands items i)) i x k (stands items i) items l t u)
 
 -- the same of scopes: s before both calls, a and b after extraction, in whose scope resolving goes on, and after resolving
 abbrev pub InScopes : Lent → Lengths → ℕ → Fields → Scope → Scope → Scope → List ℕ → List ℕ → List ℕ → Type 0
-InScopes l room n items s a b o k g = KeepOrPart l room n items (modulesOf s) (modulesOf a) (modulesOf a) (modulesOf b) o k g
+InScopes l room n items s a b o k g = KeepOrPart l room n items (modules_of s) (modules_of a) (modules_of a) (modules_of b) o k g
 
 -- the items of a well placed tree, with the modules ms
 pub record WellPlaced (l : Lent) (ms : Modules) (items : Fields) : Type 0 where
   pub own : ℕ × Modules
-  pub reading : itemsRead (read Module l.tree) ≡ done items
+  pub reading : items_read (read Module l.tree) ≡ done items
   pub requesting : request l.file ms ≡ some own
-  pub placed : wellPlaced own.0 items ≡ true
+  pub placed : well_placed own.0 items ≡ true
 
 -- `extract_import_info` accepted a well placed tree, and `resolve_imports` the records that it left, with the same table and its scope:
 -- of what the buffers then hold, every namespace import with a non-external source is taken apart or kept as demand 3 says.
 abbrev pub FunctionsKeepOrPart : Type 0
 FunctionsKeepOrPart =
     (l : Lent) (room : Lengths) (s : Scope) (r : Extraction) (w o k : List ℕ) (n : ℕ) (q : Resolution) (g : List ℕ) →
-    left r w o k ≡ extraction l room (modulesOf s) → r.answer ≡ Accepted →
-    leftList q g ≡ resolving (lent_as l.modes l.table (fieldIn k)) n (modulesOf r.scope) → q.answer ≡ Listed →
-    Bytes l.tree → (items : Fields) → WellPlaced l (modulesOf s) items →
+    left r w o k ≡ extraction l room (modules_of s) → r.answer ≡ Accepted →
+    left_list q g ≡ resolving (lent_as l.modes l.table (field_in k)) n (modules_of r.scope) → q.answer ≡ Listed →
+    Bytes l.tree → (items : Fields) → WellPlaced l (modules_of s) items →
     InScopes l room n items s r.scope q.scope o k g
 
 -- The same of `extract_and_resolve`, which makes both calls: o, k and g are what it leaves in *out*, the records and the list, n the
 -- list's room. It says that a call is refused only where the rules refuse it.
 pub record Pairs (l : Lent) (room : Lengths) (n : ℕ) (s : Scope) (o k g : List ℕ) (p : Pair) : Type 0 where
-  pub both : p.answer ≡ Both → (items : Fields) → WellPlaced l (modulesOf s) items → InScopes l room n items s p.extracted p.resolved o k g
-  pub unextracted : p.answer ≡ NotExtracted → (extraction l room (modulesOf s)).refusal ≡ nothing → ⊥
-  pub unlisted : p.answer ≡ NotListed → (resolving (lent_as l.modes l.table (fieldIn k)) n (modulesOf p.extracted)).refusal ≡ nothing → ⊥
-  pub records : k ≡ (extraction l room (modulesOf s)).records
-  pub modules : modulesOf p.extracted ≡ (extraction l room (modulesOf s)).modules
+  pub both : p.answer ≡ Both → (items : Fields) → WellPlaced l (modules_of s) items → InScopes l room n items s p.extracted p.resolved o k g
+  pub unextracted : p.answer ≡ NotExtracted → (extraction l room (modules_of s)).refusal ≡ nothing → ⊥
+  pub unlisted : p.answer ≡ NotListed → (resolving (lent_as l.modes l.table (field_in k)) n (modules_of p.extracted)).refusal ≡ nothing → ⊥
+  pub records : k ≡ (extraction l room (modules_of s)).records
+  pub modules : modules_of p.extracted ≡ (extraction l room (modules_of s)).modules

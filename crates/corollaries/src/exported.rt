@@ -1,12 +1,12 @@
 // Demand 3's first sentence for hosts: the exported calls one after the other, the second lent the files of the scope that came back.
 ghost use Rattle.std.specs.Prelude.{◌≡◌, ◌≤◌, length};
-ghost use Rattle.modes.specs.Bits.{modesOf};
-ghost use Rattle.tree.specs.Layout.{twoAt, fieldIn};
+ghost use Rattle.modes.specs.Bits.{modes_of};
+ghost use Rattle.tree.specs.Layout.{two_at, field_in};
 ghost use Rattle.writer.specs.Wrote.{Wrote};
-ghost use Rattle.extraction.specs.Answer.{lent_as, roomIn};
-ghost use Rattle.resolving.specs.Answer.{lent_as as recordsAs};
-ghost use Rattle.tychodrel.specs.Calls.{resolveCall, LeavesList};
-ghost use Rattle.corollaries.specs.Hosts.{filesBack, LeavesBoth};
+ghost use Rattle.extraction.specs.Answer.{lent_as, room_in};
+ghost use Rattle.resolving.specs.Answer.{lent_as as records_as};
+ghost use Rattle.tychodrel.specs.Calls.{resolve_call, LeavesList};
+ghost use Rattle.corollaries.specs.Hosts.{files_back, LeavesBoth};
 
 use crate::{PairAnswer, front, wide};
 use tychodrel::{tychodrel_extract, tychodrel_resolve};
@@ -28,8 +28,8 @@ pub fn extract_then_resolve(
     after: &mut [u8; 770],
     list: &mut [u8],
 ) -> PairAnswer
-    ensures { LeavesBoth files.now (lent_as file (modesOf modes) externals.now table.now tree.now)
-        (roomIn work.old out.old records.old) (length list.old) scope.new out.new
+    ensures { LeavesBoth files.now (lent_as file (modes_of modes) externals.now table.now tree.now)
+        (room_in work.old out.old records.old) (length list.old) scope.new out.new
         records.new after.new list.new result }
 {
     let mut report = [0u8; 32];
@@ -66,9 +66,9 @@ fn resolve_with(
     report: &mut [u8; 32],
     list: &mut [u8],
 ) -> u64
-    requires { (twoAt scope.now 0 ≤ 256) × (length scope.now ≡ 770) }
+    requires { (two_at scope.now 0 ≤ 256) × (length scope.now ≡ 770) }
     ensures { LeavesList
-        (resolveCall (filesBack scope.now) (recordsAs (modesOf modes) table.now (fieldIn records.now)) (length list.old)) result
+        (resolve_call (files_back scope.now) (records_as (modes_of modes) table.now (field_in records.now)) (length list.old)) result
         after.new report.new list.new }
 {
     let mut files = [0u8; 512];
@@ -87,8 +87,8 @@ fn resolve_with(
 
 // Puts the files in a scope's bytes into a buffer, and answers how many bytes they are.
 fn put_files(scope: &[u8], files: &mut [u8]) -> usize
-    requires { (twoAt scope.now 0 ≤ 256) × (length scope.now ≡ 770) }
-    ensures { Wrote files.old 0 (filesBack scope.now) files.new result }
+    requires { (two_at scope.now 0 ≤ 256) × (length scope.now ≡ 770) }
+    ensures { Wrote files.old 0 (files_back scope.now) files.new result }
 {
     let n = wide(scope[0]) * 256 + wide(scope[1]);
     let mut to = 0;

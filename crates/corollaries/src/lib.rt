@@ -1,14 +1,16 @@
 // The theorems of the functions themselves. Each function here makes calls and ensures what a theorem says of them, so that the
 // sentence stands on the contracts of what it speaks of: where one is weakened, this crate is no longer proved. Nothing calls them.
+#![tactic(auto)]
+
 pub mod exported; // the exported calls, for hosts
 
 ghost use Rattle.std.specs.Prelude.{◌≡◌, [], ◌<◌, ◌≤◌, length, take};
-ghost use Rattle.scope.specs.ScopeValue.{modulesOf};
-ghost use Rattle.tree.specs.Layout.{fieldIn};
-ghost use Rattle.extraction.specs.Answer.{lent_as, roomIn};
+ghost use Rattle.scope.specs.ScopeValue.{modules_of};
+ghost use Rattle.tree.specs.Layout.{field_in};
+ghost use Rattle.extraction.specs.Answer.{lent_as, room_in};
 ghost use Rattle.resolving_rules.specs.Call.{resolving};
-ghost use Rattle.resolving.specs.Answer.{lent_as as recordsAs, left as leftList};
-ghost use Rattle.theorems.specs.Lists.{requests, requestsAll, sets, reads, readsEsm, extracts, resolves};
+ghost use Rattle.resolving.specs.Answer.{lent_as as records_as, left as left_list};
+ghost use Rattle.theorems.specs.Lists.{requests, requests_all, sets, reads, reads_esm, extracts, resolves};
 ghost use Rattle.corollaries.specs.Functions.{HandsBack, Exact, Pairs};
 
 use extraction::{ExtractAnswer, extract_import_info};
@@ -47,7 +49,7 @@ pub fn extract_and_resolve(
     list: &mut [u8],
 ) -> Pair
     ensures { Pairs (lent_as file.0 modes externals.now table.now tree.now)
-        (roomIn work.old out.old records.old) (length list.old) scope out.new
+        (room_in work.old out.old records.old) (length list.old) scope out.new
         records.new list.new result }
 {
     let r = extract_import_info(
@@ -89,8 +91,8 @@ fn resolve_front(
     records: &[u8],
     list: &mut [u8],
 ) -> Resolution
-    ensures { leftList result list.new ≡ resolving (recordsAs modes table.now (fieldIn records.now)) (length list.old)
-        (modulesOf scope) }
+    ensures { left_list result list.new ≡ resolving (records_as modes table.now (field_in records.now)) (length list.old)
+        (modules_of scope) }
 {
     let end = front(records);
     resolve_imports(scope, modes, table, &records[0..end], list)
@@ -104,7 +106,7 @@ fn wide(x: u8) -> usize
 
 // Where the field at the front of a buffer ends, or the buffer.
 fn front(s: &[u8]) -> usize
-    ensures { (take result s.now ≡ fieldIn s.now) × (result ≤ length s.now) }
+    ensures { (take result s.now ≡ field_in s.now) × (result ≤ length s.now) }
 {
     if s.len() < 3 {
         return s.len();
@@ -123,7 +125,7 @@ pub fn request_file(scope: Scope, file: FileName) -> Scope
 }
 
 pub fn request_files(scope: Scope, files: &[u8]) -> Scope
-    ensures { HandsBack (requestsAll files.now) scope result }
+    ensures { HandsBack (requests_all files.now) scope result }
 {
     let g = scope.gen_ids(files);
     g.scope
@@ -176,7 +178,7 @@ pub fn read_mark(scope: Scope, kind: Mark, id: ModuleId) -> Scope
 }
 
 pub fn read_esm(scope: Scope, id: ModuleId) -> Scope
-    ensures { HandsBack (readsEsm id) scope result }
+    ensures { HandsBack (reads_esm id) scope result }
 {
     let _ = scope.wrapped_esm_id(id);
     scope
@@ -195,7 +197,7 @@ pub fn extract(
 ) -> Scope
     ensures { HandsBack
         (extracts (lent_as file.0 modes externals.now table.now tree.now)
-        (roomIn work.old out.old records.old)) scope result }
+        (room_in work.old out.old records.old)) scope result }
 {
     let e = extract_import_info(
         scope, file, modes, externals, table, tree, work, out, records,
@@ -204,7 +206,7 @@ pub fn extract(
 }
 
 pub fn resolve(scope: Scope, modes: Modes, table: &[u8], records: &[u8], list: &mut [u8]) -> Scope
-    ensures { HandsBack (resolves (recordsAs modes table.now records.now) (length list.old)) scope result }
+    ensures { HandsBack (resolves (records_as modes table.now records.now) (length list.old)) scope result }
 {
     let e = resolve_imports(scope, modes, table, records, list);
     e.scope
@@ -212,7 +214,7 @@ pub fn resolve(scope: Scope, modes: Modes, table: &[u8], records: &[u8], list: &
 
 // A scope that no call was made on.
 pub fn fresh() -> Scope
-    ensures { modulesOf result ≡ [] }
+    ensures { modules_of result ≡ [] }
 {
     Scope::new()
 }

@@ -15,13 +15,13 @@ use Rattle.tree.specs.declared.grammar.Set.TheVariants.{Module}
 use Rattle.tree.specs.declared.grammar.Value.TheVariants.{Id}
 use Rattle.tree.specs.declared.read.Why.{Why}
 use Rattle.tree.specs.declared.read.Verdict.TheVariants.{Good, Refused}
-use Rattle.tree.specs.Layout.{twoAt}
+use Rattle.tree.specs.Layout.{two_at}
 use Rattle.tree.specs.Tree.{Field, Fields, more}
-use Rattle.tree.specs.Grammar.{within, ruleOf}
-use Rattle.tree.specs.Access.{fixed_at, extentAt}
-use Rattle.tree.specs.Read.{Reading, fine, verdict, refusalOf, read}
-use Rattle.tree.specs.Standing.{row_at, treeAt, Whole}
-use Rattle.tree.proofs.SliceLaws.{getD-slice}
+use Rattle.tree.specs.Grammar.{within, rule_of}
+use Rattle.tree.specs.Access.{fixed_at, extent_at}
+use Rattle.tree.specs.Read.{Reading, fine, verdict, refusal_of, read}
+use Rattle.tree.specs.Standing.{row_at, tree_at, Whole}
+use Rattle.tree.proofs.SliceLaws.{get_d-slice}
 use Rattle.tree.proofs.AccessLaws.{extent-upto}
 use Rattle.tree.proofs.FixedLaws.{upto-inj}
 use Rattle.tree.proofs.ReadLaws.{good-fine, verdict-refused}
@@ -29,81 +29,81 @@ use Rattle.tree.proofs.StandingLaws.{row_more, row-none, tree-upto, tree-short, 
 use Rattle.tree.proofs.WidthLaws.{plain-ends, read_module}
 use Rattle.detection.specs.declared.Ident.{Ident}
 use Rattle.detection.specs.declared.Ident.TheVariants.{Name, Other}
-use Rattle.detection.specs.Detection.{firstIdent, anyName, moduleOrExports, otherHere, foundOther, foundOtherIn, forcedEs6, es6, items_of, answers, refuses, onReading, detect, Accepted}
+use Rattle.detection.specs.Detection.{first_ident, any_name, module_or_exports, other_here, found_other, found_other_in, forced_es6, es6, items_of, answers, refuses, on_reading, detect, Accepted}
 
 -- ---- the walk
 
-pub found_none : (s : List ℕ) (at end : ℕ) → at ≤ end → extentAt s at end ≡ Short → foundOtherIn (row_at s at end) ≡ false
-unfolding foundOther
-found_none s at end le e = ap foundOtherIn (row-none s at end le e)
+pub found_none : (s : List ℕ) (at end : ℕ) → at ≤ end → extent_at s at end ≡ Short → found_other_in (row_at s at end) ≡ false
+unfolding found_other
+found_none s at end le e = ap found_other_in (row-none s at end le e)
 
-pub found-more : (s : List ℕ) (at end stop : ℕ) → at ≤ end → extentAt s at end ≡ Upto stop →
-    foundOtherIn (row_at s at end) ≡ foundOther (treeAt s at stop) || foundOtherIn (row_at s stop end)
-unfolding foundOther
-found-more s at end stop le e = ap foundOtherIn (row_more s at end stop le e)
+pub found-more : (s : List ℕ) (at end stop : ℕ) → at ≤ end → extent_at s at end ≡ Upto stop →
+    found_other_in (row_at s at end) ≡ found_other (tree_at s at stop) || found_other_in (row_at s stop end)
+unfolding found_other
+found-more s at end stop le e = ap found_other_in (row_more s at end stop le e)
 
-pub found-short : (s : List ℕ) (at stop : ℕ) → fixed_at s (get_or s at 0) (at + 3) stop ≡ Short → foundOther (treeAt s at stop) ≡ false
-unfolding foundOther otherHere
-found-short s at stop e = ap foundOther (tree-short s at stop e)
+pub found-short : (s : List ℕ) (at stop : ℕ) → fixed_at s (get_or s at 0) (at + 3) stop ≡ Short → found_other (tree_at s at stop) ≡ false
+unfolding found_other other_here
+found-short s at stop e = ap found_other (tree-short s at stop e)
 
 pub found-upto : (s : List ℕ) (at stop b : ℕ) → fixed_at s (get_or s at 0) (at + 3) stop ≡ Upto b →
-    foundOther (treeAt s at stop) ≡ otherHere (get_or s at 0) (row_at s b stop) || foundOtherIn (row_at s b stop)
-unfolding foundOther
-found-upto s at stop b e = ap foundOther (tree-upto s at stop b e)
+    found_other (tree_at s at stop) ≡ other_here (get_or s at 0) (row_at s b stop) || found_other_in (row_at s b stop)
+unfolding found_other
+found-upto s at stop b e = ap found_other (tree-upto s at stop b e)
 
 -- ---- a field by itself
 
-pub member-here : {t : ℕ} (cs : Fields) {i : Ident} → t ≡ 0x63 → firstIdent cs ≡ i → otherHere t cs ≡ moduleOrExports i
-unfolding otherHere
-member-here cs h e = ap (λ (u : ℕ). otherHere u cs) h ∙ ap moduleOrExports e
+pub member-here : {t : ℕ} (cs : Fields) {i : Ident} → t ≡ 0x63 → first_ident cs ≡ i → other_here t cs ≡ module_or_exports i
+unfolding other_here
+member-here cs h e = ap (λ (u : ℕ). other_here u cs) h ∙ ap module_or_exports e
 
-pub call-here : {t : ℕ} (cs : Fields) {i : Ident} → t ≡ 0x65 → firstIdent cs ≡ i → otherHere t cs ≡ anyName i
-unfolding otherHere
-call-here cs h e = ap (λ (u : ℕ). otherHere u cs) h ∙ ap anyName e
+pub call-here : {t : ℕ} (cs : Fields) {i : Ident} → t ≡ 0x65 → first_ident cs ≡ i → other_here t cs ≡ any_name i
+unfolding other_here
+call-here cs h e = ap (λ (u : ℕ). other_here u cs) h ∙ ap any_name e
 
-pub none_here : (t : ℕ) (cs : Fields) → (t ≡ 0x63 → ⊥) → (t ≡ 0x65 → ⊥) → otherHere t cs ≡ false
-unfolding otherHere
+pub none_here : (t : ℕ) (cs : Fields) → (t ≡ 0x63 → ⊥) → (t ≡ 0x65 → ⊥) → other_here t cs ≡ false
+unfolding other_here
 none_here t cs h k = rw (ne_eqb t 0x63 h, ne_eqb t 0x65 k)
 
 -- ---- the first part
 
-pub first-none : (s : List ℕ) (at end : ℕ) → at ≤ end → extentAt s at end ≡ Short → firstIdent (row_at s at end) ≡ Other
-unfolding firstIdent
-first-none s at end le e = ap firstIdent (row-none s at end le e)
+pub first-none : (s : List ℕ) (at end : ℕ) → at ≤ end → extent_at s at end ≡ Short → first_ident (row_at s at end) ≡ Other
+unfolding first_ident
+first-none s at end le e = ap first_ident (row-none s at end le e)
 
-pub first_short : (s : List ℕ) (at end stop : ℕ) → at ≤ end → extentAt s at end ≡ Upto stop →
-    fixed_at s (get_or s at 0) (at + 3) stop ≡ Short → firstIdent (row_at s at end) ≡ Other
-unfolding firstIdent
+pub first_short : (s : List ℕ) (at end stop : ℕ) → at ≤ end → extent_at s at end ≡ Upto stop →
+    fixed_at s (get_or s at 0) (at + 3) stop ≡ Short → first_ident (row_at s at end) ≡ Other
+unfolding first_ident
 first_short s at end stop le e x =
-    ap firstIdent (row_more s at end stop le e ∙ ap (λ (f : Field). more f (row_at s stop end)) (tree-short s at stop x))
+    ap first_ident (row_more s at end stop le e ∙ ap (λ (f : Field). more f (row_at s stop end)) (tree-short s at stop x))
 
-pub first-upto : (s : List ℕ) (at end stop b : ℕ) → at ≤ end → extentAt s at end ≡ Upto stop →
+pub first-upto : (s : List ℕ) (at end stop b : ℕ) → at ≤ end → extent_at s at end ≡ Upto stop →
     fixed_at s (get_or s at 0) (at + 3) stop ≡ Upto b →
-    firstIdent (row_at s at end) ≡ cond (eqb (get_or s at 0) 0x60) (Name (atom (twoAt (slice (at + 3) b s) 0))) Other
-unfolding firstIdent
+    first_ident (row_at s at end) ≡ cond (eqb (get_or s at 0) 0x60) (Name (atom (two_at (slice (at + 3) b s) 0))) Other
+unfolding first_ident
 first-upto s at end stop b le e x =
-    ap firstIdent (row_more s at end stop le e ∙ ap (λ (f : Field). more f (row_at s stop end)) (tree-upto s at stop b x))
+    ap first_ident (row_more s at end stop le e ∙ ap (λ (f : Field). more f (row_at s stop end)) (tree-upto s at stop b x))
 
-name-slice : (s : List ℕ) (at b : ℕ) → b ≡ at + 6 → twoAt (slice at b s) 0 ≡ twoAt s at
+name-slice : (s : List ℕ) (at b : ℕ) → b ≡ at + 6 → two_at (slice at b s) 0 ≡ two_at s at
 name-slice s at b h =
     let z : at + 0 ≡ at = omega arith in
-    ap₂ (λ (x y : ℕ). x * 256 + y) (getD-slice at b s 0 (omega arith) ∙ ap (λ (i : ℕ). get_or s i 0) z)
-    (getD-slice at b s 1 (omega arith))
+    ap₂ (λ (x y : ℕ). x * 256 + y) (get_d-slice at b s 0 (omega arith) ∙ ap (λ (i : ℕ). get_or s i 0) z)
+    (get_d-slice at b s 1 (omega arith))
 
-pub first-named : (s : List ℕ) (at end stop b : ℕ) → at ≤ end → extentAt s at end ≡ Upto stop →
-    fixed_at s (get_or s at 0) (at + 3) stop ≡ Upto b → get_or s at 0 ≡ 0x60 → firstIdent (row_at s at end) ≡ Name (atom (twoAt s (at + 3)))
+pub first-named : (s : List ℕ) (at end stop b : ℕ) → at ≤ end → extent_at s at end ≡ Upto stop →
+    fixed_at s (get_or s at 0) (at + 3) stop ≡ Upto b → get_or s at 0 ≡ 0x60 → first_ident (row_at s at end) ≡ Name (atom (two_at s (at + 3)))
 first-named s at end stop b le e x h =
     let six = plain-ends 0x60 Id refl s (get_or s at 0) (at + 3) stop b h x in
     first-upto s at end stop b le e x ∙ rw (eq-eqb _ _ h) (ap (λ (n : ℕ). Name (atom n)) (name-slice s (at + 3) b six))
 
-pub first-other : (s : List ℕ) (at end stop b : ℕ) → at ≤ end → extentAt s at end ≡ Upto stop →
-    fixed_at s (get_or s at 0) (at + 3) stop ≡ Upto b → (get_or s at 0 ≡ 0x60 → ⊥) → firstIdent (row_at s at end) ≡ Other
+pub first-other : (s : List ℕ) (at end stop b : ℕ) → at ≤ end → extent_at s at end ≡ Upto stop →
+    fixed_at s (get_or s at 0) (at + 3) stop ≡ Upto b → (get_or s at 0 ≡ 0x60 → ⊥) → first_ident (row_at s at end) ≡ Other
 first-other s at end stop b le e x h = first-upto s at end stop b le e x ∙ rw (ne_eqb _ _ h)
 
 -- ---- rows that reading accepts
 
 -- the field that stands first in an accepted row is accepted, and so is the row behind it
-pub accepted-next : (s : List ℕ) (at end stop : ℕ) → at ≤ end → Accepted s at end → extentAt s at end ≡ Upto stop →
+pub accepted-next : (s : List ℕ) (at end stop : ℕ) → at ≤ end → Accepted s at end → extent_at s at end ≡ Upto stop →
     Whole s at stop × Accepted s stop end
 accepted-next s at end stop le (q, w) x =
     let i = extent-upto s at end le x in
@@ -113,16 +113,16 @@ accepted-next s at end stop le (q, w) x =
 
 -- ---- the items
 
-pub forced-none : (s : List ℕ) (at end : ℕ) → at ≤ end → extentAt s at end ≡ Short → forcedEs6 (row_at s at end) ≡ false
-unfolding forcedEs6
-forced-none s at end le e = ap forcedEs6 (row-none s at end le e)
+pub forced-none : (s : List ℕ) (at end : ℕ) → at ≤ end → extent_at s at end ≡ Short → forced_es6 (row_at s at end) ≡ false
+unfolding forced_es6
+forced-none s at end le e = ap forced_es6 (row-none s at end le e)
 
-pub forced-more : (s : List ℕ) (at end stop : ℕ) → at ≤ end → Accepted s at end → extentAt s at end ≡ Upto stop →
-    forcedEs6 (row_at s at end) ≡ within 0x10 0x14 (get_or s at 0) || forcedEs6 (row_at s stop end)
-unfolding forcedEs6
+pub forced-more : (s : List ℕ) (at end stop : ℕ) → at ≤ end → Accepted s at end → extent_at s at end ≡ Upto stop →
+    forced_es6 (row_at s at end) ≡ within 0x10 0x14 (get_or s at 0) || forced_es6 (row_at s stop end)
+unfolding forced_es6
 forced-more s at end stop le a e =
-    ap forcedEs6 (row_more s at end stop le e)
-    ∙ ap (λ (t : ℕ). within 0x10 0x14 t || forcedEs6 (row_at s stop end))
+    ap forced_es6 (row_more s at end stop le e)
+    ∙ ap (λ (t : ℕ). within 0x10 0x14 t || forced_es6 (row_at s stop end))
     (whole-tag s at stop (accepted-next s at end stop le a e).0)
 
 -- ---- the whole call
@@ -131,17 +131,17 @@ items-are : (s : List ℕ) (fs : Fields) → read Module s ≡ fine fs → items
 items-are s fs e = ap items_of (read_module s fs e).tree
 
 pub items-accepted : (s : List ℕ) → verdict (read Module s) ≡ Good → (3 ≤ length s) × Accepted s 3 (length s)
-items-accepted s e = let r = good-fine (read Module s) e in let m = read_module s r.0 r.1 in (m.room, (ruleOf 0x01, m.row))
+items-accepted s e = let r = good-fine (read Module s) e in let m = read_module s r.0 r.1 in (m.room, (rule_of 0x01, m.row))
 
 pub detect-long : (modes : Modes) (s : List ℕ) → 65538 < length s → detect modes s ≡ refuses 1 0
 unfolding detect
 detect-long modes s h = rw (lt-ltb _ _ h)
 
 pub detect-refused : (modes : Modes) (s : List ℕ) (w : Why) (p : ℕ) → length s ≤ 65538 →
-    verdict (read Module s) ≡ Refused w p → detect modes s ≡ refuses (refusalOf w) p
+    verdict (read Module s) ≡ Refused w p → detect modes s ≡ refuses (refusal_of w) p
 unfolding detect
 detect-refused modes s w p h e =
-    rw (le-ltb _ _ h) (ap (λ (r : Reading Fields). onReading r modes) (verdict-refused (read Module s) e))
+    rw (le-ltb _ _ h) (ap (λ (r : Reading Fields). on_reading r modes) (verdict-refused (read Module s) e))
 
 pub detect-read : (modes : Modes) (s : List ℕ) → length s ≤ 65538 → verdict (read Module s) ≡ Good →
     detect modes s ≡ answers (es6 modes (row_at s 3 (length s)))
@@ -149,5 +149,5 @@ unfolding detect
 detect-read modes s h e =
     let r = good-fine (read Module s) e in
     rw (le-ltb _ _ h)
-    (ap (λ (x : Reading Fields). onReading x modes) r.1
+    (ap (λ (x : Reading Fields). on_reading x modes) r.1
     ∙ ap (λ (x : Fields). answers (es6 modes x)) (items-are s r.0 r.1))

@@ -4,10 +4,10 @@ use Rattle.modes.specs.declared.Modes.{Modes}
 use Rattle.scope.specs.Id.{atom, module-atom, exports-atom}
 use Rattle.tree.specs.declared.grammar.Set.TheVariants.{Module}
 use Rattle.tree.specs.declared.grammar.Rule.{Rule}
-use Rattle.tree.specs.Layout.{twoAt}
+use Rattle.tree.specs.Layout.{two_at}
 use Rattle.tree.specs.Tree.{Field, field, Fields, none, more, tag_of, fixed_of, parts_of}
 use Rattle.tree.specs.Grammar.{find, within}
-use Rattle.tree.specs.Read.{Reading, fine, refused, refusalOf, read}
+use Rattle.tree.specs.Read.{Reading, fine, refused, refusal_of, read}
 use Rattle.tree.specs.Standing.{Row}
 use Rattle.detection.specs.declared.Ident.{Ident}
 use Rattle.detection.specs.declared.Ident.TheVariants.{Name, Other}
@@ -15,26 +15,26 @@ use Rattle.detection.specs.declared.DetectAnswer.{DetectAnswer}
 use Rattle.detection.specs.declared.DetectAnswer.TheVariants.{Es6, TooLong, Unread}
 
 -- the first of the parts, a call's callee or a member's object: its name, if it is a plain 60
-unfoldable pub firstIdent : Fields → Ident
-firstIdent none = Other
-firstIdent (more f fs) = cond (eqb (tag_of f) 0x60) (Name (atom (twoAt (fixed_of f) 0))) Other
+unfoldable pub first_ident : Fields → Ident
+first_ident none = Other
+first_ident (more f fs) = cond (eqb (tag_of f) 0x60) (Name (atom (two_at (fixed_of f) 0))) Other
 
 -- 'ANY plain 60'
-abbrev pub anyName : Ident → Bool
-anyName Other = false
-anyName (Name a) = true
+abbrev pub any_name : Ident → Bool
+any_name Other = false
+any_name (Name a) = true
 
 -- 'module or exports', in any context
-abbrev pub moduleOrExports : Ident → Bool
-moduleOrExports Other = false
-moduleOrExports (Name a) = eqb a.0 module-atom || eqb a.0 exports-atom
+abbrev pub module_or_exports : Ident → Bool
+module_or_exports Other = false
+module_or_exports (Name a) = eqb a.0 module-atom || eqb a.0 exports-atom
 
 -- a field with this tag and these parts is 'a call on ANY plain 60' or 'a member of module or exports'; 'super excepted': a 64 is no 63
-unfoldable pub otherHere : ℕ → Fields → Bool
-otherHere t cs =
+unfoldable pub other_here : ℕ → Fields → Bool
+other_here t cs =
     find t
-    ((0x63, moduleOrExports (firstIdent cs)) ∷
-    (0x65, anyName (firstIdent cs)) ∷
+    ((0x63, module_or_exports (first_ident cs)) ∷
+    (0x65, any_name (first_ident cs)) ∷
     [])
     false
 
@@ -42,22 +42,22 @@ unfoldable mutual
   -- 'targets too': a call or a member counts wherever it stands, so the field itself, or a field below it.
   -- The Rust's walk reaches all of them in a statement: in a 66's target, a pattern's expression, a 71, a function's body.
   -- What it does not walk is below an item 10 to 14, which decides the answer by itself.
-  pub foundOther : Field → Bool
-  foundOther (field t x cs) = otherHere t cs || foundOtherIn cs
+  pub found_other : Field → Bool
+  found_other (field t x cs) = other_here t cs || found_other_in cs
 
   -- the same for a row of fields
-  pub foundOtherIn : Fields → Bool
-  foundOtherIn none = false
-  foundOtherIn (more f fs) = foundOther f || foundOtherIn fs
+  pub found_other_in : Fields → Bool
+  found_other_in none = false
+  found_other_in (more f fs) = found_other f || found_other_in fs
 
 -- 'a module item 10 to 14'
-unfoldable pub forcedEs6 : Fields → Bool
-forcedEs6 none = false
-forcedEs6 (more f fs) = within 0x10 0x14 (tag_of f) || forcedEs6 fs
+unfoldable pub forced_es6 : Fields → Bool
+forced_es6 none = false
+forced_es6 (more f fs) = within 0x10 0x14 (tag_of f) || forced_es6 fs
 
 -- 'config off, or a module item 10 to 14, or neither a call .. nor a member ..', for a module with these items: config is the mode require
 unfoldable pub es6 : Modes → Fields → Bool
-es6 modes items = not modes.require || (forcedEs6 items || not (foundOtherIn items))
+es6 modes items = not modes.require || (forced_es6 items || not (found_other_in items))
 
 -- the items of the module that was read
 abbrev pub items_of : Fields → Fields
@@ -70,10 +70,10 @@ pub data Outcome : Type 0 where
   refuses : ℕ → ℕ → Outcome
 
 -- the number and the values of each answer
-abbrev pub outcomeOf : DetectAnswer → Outcome
-outcomeOf (Es6 b) = answers b
-outcomeOf TooLong = refuses 1 0
-outcomeOf (Unread w p) = refuses (refusalOf w) p
+abbrev pub outcome_of : DetectAnswer → Outcome
+outcome_of (Es6 b) = answers b
+outcome_of TooLong = refuses 1 0
+outcome_of (Unread w p) = refuses (refusal_of w) p
 
 -- an unread tree: why and where are those of its reading
 abbrev pub UnreadAs : DetectAnswer → Reading Fields → Type 0
@@ -81,13 +81,13 @@ UnreadAs (Es6 b) r = Unit {0}
 UnreadAs TooLong r = Unit {0}
 UnreadAs (Unread w p) r = r ≡ refused w p
 
-abbrev pub onReading : Reading Fields → Modes → Outcome
-onReading (fine fs) modes = answers (es6 modes (items_of fs))
-onReading (refused w p) modes = refuses (refusalOf w) p
+abbrev pub on_reading : Reading Fields → Modes → Outcome
+on_reading (fine fs) modes = answers (es6 modes (items_of fs))
+on_reading (refused w p) modes = refuses (refusal_of w) p
 
 -- the whole call: 1 for a 'tree over .. 65,538', then reading's refusal, in any modes, then the rule
 unfoldable pub detect : Modes → List ℕ → Outcome
-detect modes s = cond (ltb 65538 (length s)) (refuses 1 0) (onReading (read Module s) modes)
+detect modes s = cond (ltb 65538 (length s)) (refuses 1 0) (on_reading (read Module s) modes)
 
 -- parts that reading accepts by some rule
 abbrev pub Accepted : List ℕ → ℕ → ℕ → Type 0

@@ -1,24 +1,24 @@
 -- Worked examples of detection, by computation.
 use Rattle.std.specs.Prelude.{ℕ, ◌≡◌, refl, Bool, true, false, [], ◌∷◌}
 use Rattle.modes.specs.declared.Modes.{Modes}
-use Rattle.modes.specs.Bits.{modesOf}
+use Rattle.modes.specs.Bits.{modes_of}
 use Rattle.scope.specs.Id.{module-atom, exports-atom}
 use Rattle.tree.specs.Tree.{Field, field, Fields, none, more, framed, encode}
 use Rattle.tree.specs.Grammar.{within}
 use Rattle.tree.specs.Example.{reading}
-use Rattle.detection.specs.Detection.{firstIdent, otherHere, foundOther, forcedEs6, es6, answers, refuses, detect}
+use Rattle.detection.specs.Detection.{first_ident, other_here, found_other, forced_es6, es6, answers, refuses, detect}
 
 -- `es6`, with all that it computes by: an example says `unfolding judged`
 unfoldable judged : Modes → Fields → Bool
-unfolding firstIdent otherHere foundOther forcedEs6 within es6
+unfolding first_ident other_here found_other forced_es6 within es6
 judged modes items = es6 modes items
 
 -- the mode require
 abbrev on : Modes
-on = modesOf 1
+on = modes_of 1
 
 abbrev off : Modes
-off = modesOf 0
+off = modes_of 0
 
 abbrev ident : ℕ → Field
 ident a = field 0x60 (0 ∷ a ∷ 0 ∷ 0 ∷ 0 ∷ 2 ∷ []) none

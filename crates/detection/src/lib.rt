@@ -1,9 +1,11 @@
 // Whether a module is an ES module. Port of `Es6ModuleDetector` and the `is_es6` expression in swc_bundler's `load.rs`.
+#![tactic(auto)]
+
 ghost use Rattle.std.specs.Prelude.{◌≡◌, ◌+◌, ◌≤◌, length};
 ghost use Rattle.tree.specs.declared.grammar.Set.TheVariants.{Module as module-set};
 ghost use Rattle.tree.specs.Read.{read};
-ghost use Rattle.tree.specs.Standing.{treeAt, row_at};
-ghost use Rattle.detection.specs.Detection.{firstIdent, moduleOrExports, otherHere, foundOther, foundOtherIn, forcedEs6, es6, outcomeOf, UnreadAs, detect, Accepted};
+ghost use Rattle.tree.specs.Standing.{tree_at, row_at};
+ghost use Rattle.detection.specs.Detection.{first_ident, module_or_exports, other_here, found_other, found_other_in, forced_es6, es6, outcome_of, UnreadAs, detect, Accepted};
 
 use modes::Modes;
 use scope::id::Atom;
@@ -38,7 +40,7 @@ enum Ident {
 // The first of the fields from `from` up to end: a call's callee, a member's object.
 fn first_ident(s: &[u8], from: usize, end: usize) -> Ident
     requires { (from ≤ end) × (end ≤ length s.now) }
-    ensures { result ≡ firstIdent (row_at s.now from end) }
+    ensures { result ≡ first_ident (row_at s.now from end) }
 {
     let Reach::Upto(stop) = extent(s, from, end) else {
         return Ident::Other;
@@ -55,7 +57,7 @@ fn first_ident(s: &[u8], from: usize, end: usize) -> Ident
 }
 
 fn is_module_or_exports(name: Atom) -> bool
-    ensures { result ≡ moduleOrExports (Ident.Name name) }
+    ensures { result ≡ module_or_exports (Ident.Name name) }
 {
     if name.0 == Atom::MODULE.0 {
         true
@@ -68,7 +70,7 @@ fn is_module_or_exports(name: Atom) -> bool
 // `visit_call_expr` have it.
 fn other_here(s: &[u8], tag: u8, from: usize, end: usize) -> bool
     requires { (from ≤ end) × (end ≤ length s.now) }
-    ensures { result ≡ otherHere tag (row_at s.now from end) }
+    ensures { result ≡ other_here tag (row_at s.now from end) }
 {
     match tag {
         // a member, in any context
@@ -89,7 +91,7 @@ fn other_here(s: &[u8], tag: u8, from: usize, end: usize) -> bool
 #[cycle(found_other_found_other_in)]
 fn found_other(s: &[u8], at: usize, stop: usize) -> bool
     requires { (at + 3 ≤ stop) × (stop ≤ length s.now) }
-    ensures { result ≡ foundOther (treeAt s.now at stop) }
+    ensures { result ≡ found_other (tree_at s.now at stop) }
 {
     let tag = s[at];
     let Reach::Upto(from) = fixed(s, tag, at + 3, stop) else {
@@ -106,7 +108,7 @@ fn found_other(s: &[u8], at: usize, stop: usize) -> bool
 #[cycle(found_other_found_other_in)]
 fn found_other_in(s: &[u8], from: usize, end: usize) -> bool
     requires { (from ≤ end) × (end ≤ length s.now) }
-    ensures { result ≡ foundOtherIn (row_at s.now from end) }
+    ensures { result ≡ found_other_in (row_at s.now from end) }
 {
     let mut at = from;
     loop {
@@ -123,7 +125,7 @@ fn found_other_in(s: &[u8], from: usize, end: usize) -> bool
 // Whether an import or an export is among the items from `from` up to end, as `visit_module_decl` has it.
 fn forced_es6(s: &[u8], from: usize, end: usize) -> bool
     requires { (from ≤ end) × (end ≤ length s.now) × Accepted s.now from end }
-    ensures { result ≡ forcedEs6 (row_at s.now from end) }
+    ensures { result ≡ forced_es6 (row_at s.now from end) }
 {
     let mut at = from;
     loop {
@@ -153,7 +155,7 @@ fn items_es6(modes: Modes, s: &[u8], from: usize, end: usize) -> bool
 
 // Whether a tree is an ES module. It is read first, also with require off.
 pub fn is_es6(modes: Modes, tree: &[u8]) -> DetectAnswer
-    ensures { (outcomeOf result ≡ detect modes tree.now) × UnreadAs result (read module-set tree.now) }
+    ensures { (outcome_of result ≡ detect modes tree.now) × UnreadAs result (read module-set tree.now) }
 {
     if tree.len() > MOST {
         return DetectAnswer::TooLong;

@@ -10,179 +10,179 @@ use lib.ListN.{length, get_or}
 use lib.Seq.{slice}
 use borrow.Author.Tests.{eq-eqb, ne_eqb, not-true, not-false}
 use Rattle.tree.specs.declared.layout.Reach.TheVariants.{Upto, Short}
-use Rattle.tree.specs.Layout.{Bytes, two, four, twoAt, id_at}
+use Rattle.tree.specs.Layout.{Bytes, two, four, two_at, id_at}
 use Rattle.tree.specs.Tree.{Field, Fields, none, more, fixed_of}
-use Rattle.tree.specs.Access.{fixed_at, extentAt}
-use Rattle.tree.specs.Standing.{treeAt, row_at}
-use Rattle.tree.proofs.LayoutLaws.{two_at}
+use Rattle.tree.specs.Access.{fixed_at, extent_at}
+use Rattle.tree.specs.Standing.{tree_at, row_at}
+use Rattle.tree.proofs.LayoutLaws.{two_at-is}
 use Rattle.tree.proofs.StandingLaws.{row_more, row-none, tree-upto, tree-short}
 use Rattle.tree.proofs.WidthLaws.{plain-ends}
 use Rattle.tree.specs.declared.grammar.Value.TheVariants.{Atom, Id as SixBytes}
 use Rattle.inputs.specs.Fields.{has}
 use Rattle.extraction_rules.specs.State.{Usage, State, Pass, first, second}
-use Rattle.extraction_rules.specs.First.{importedAs}
-use Rattle.extraction_rules.specs.Second.{usagesOf}
-use Rattle.state.specs.Cells.{Env, idBy, Shows}
-use Rattle.state.specs.Does.{Tells, contextBy, any}
+use Rattle.extraction_rules.specs.First.{imported_as}
+use Rattle.extraction_rules.specs.Second.{usages_of}
+use Rattle.state.specs.Cells.{Env, id_by, Shows}
+use Rattle.state.specs.Does.{Tells, context_by, any}
 use Rattle.state.specs.declared.Context.{Context}
 use Rattle.state.specs.declared.Context.TheVariants.{Of, Nowhere}
 use Rattle.scope.specs.declared.id.SyntaxContext.{SyntaxContext}
 use Rattle.scope.specs.declared.id.Id.{Id}
-use Rattle.steps.specs.Step.{identBy}
+use Rattle.steps.specs.Step.{ident_by}
 use Rattle.steps.specs.declared.Ident.{Ident}
 use Rattle.steps.specs.declared.Ident.TheVariants.{Is, Other}
-use Rattle.expressions.specs.After.{passOf, asIdent, becomes, identAfter, memberAfter, namedFirst}
+use Rattle.expressions.specs.After.{pass_of, as_ident, becomes, ident_after, member_after, named_first}
 
 -- ---- A field
 
-pub first-none : (cs : Fields) (u : State) → memberAfter cs first u ≡ nothing
-unfolding identAfter becomes
+pub first-none : (cs : Fields) (u : State) → member_after cs first u ≡ nothing
+unfolding ident_after becomes
 first-none none u = refl
 first-none (more o none) u = refl
 first-none (more o (more q qs)) u = refl
 
 module _ (s : List ℕ) (at stop : ℕ) where
-  pub after-short : (k : Pass) {t : List ℕ} → fixed_at s (get_or s at 0) (at + 3) stop ≡ Short → Tells (identAfter (treeAt s at stop) k) t nothing
-  unfolding identAfter
-  after-short k e = record { is = λ u _. sym (ap (λ (f : Field). identAfter f k u) (tree-short s at stop e)) }
+  pub after-short : (k : Pass) {t : List ℕ} → fixed_at s (get_or s at 0) (at + 3) stop ≡ Short → Tells (ident_after (tree_at s at stop) k) t nothing
+  unfolding ident_after
+  after-short k e = record { is = λ u _. sym (ap (λ (f : Field). ident_after f k u) (tree-short s at stop e)) }
 
   is-tree : (k : Pass) (u : State) (b : ℕ) → fixed_at s (get_or s at 0) (at + 3) stop ≡ Upto b →
-      identAfter (treeAt s at stop) k u ≡ cond (eqb (get_or s at 0) 0x63) (memberAfter (row_at s b stop) k u) (cond (eqb (get_or s at 0) 0x60) (some (slice (at + 3) b s)) nothing)
-  unfolding identAfter
-  is-tree k u b e = ap (λ (f : Field). identAfter f k u) (tree-upto s at stop b e)
+      ident_after (tree_at s at stop) k u ≡ cond (eqb (get_or s at 0) 0x63) (member_after (row_at s b stop) k u) (cond (eqb (get_or s at 0) 0x60) (some (slice (at + 3) b s)) nothing)
+  unfolding ident_after
+  is-tree k u b e = ap (λ (f : Field). ident_after f k u) (tree-upto s at stop b e)
 
-  pub after-60 : (k : Pass) (n : Id) {b : ℕ} {t : List ℕ} → fixed_at s (get_or s at 0) (at + 3) stop ≡ Upto b → get_or s at 0 ≡ 0x60 → idBy n ≡ id_at s (at + 3) →
-      Tells (identAfter (treeAt s at stop) k) t (some (idBy n))
+  pub after-60 : (k : Pass) (n : Id) {b : ℕ} {t : List ℕ} → fixed_at s (get_or s at 0) (at + 3) stop ≡ Upto b → get_or s at 0 ≡ 0x60 → id_by n ≡ id_at s (at + 3) →
+      Tells (ident_after (tree_at s at stop) k) t (some (id_by n))
   after-60 k n {b} e h i =
       let w = plain-ends 0x60 SixBytes refl s (get_or s at 0) (at + 3) stop b h e in
-      let x : idBy n ≡ slice (at + 3) b s = i ∙ ap (λ (c : ℕ). slice (at + 3) c s) (sym w) in
+      let x : id_by n ≡ slice (at + 3) b s = i ∙ ap (λ (c : ℕ). slice (at + 3) c s) (sym w) in
       record { is = λ u _. sym (is-tree k u b e ∙ rw (ne_eqb (get_or s at 0) 0x63 (λ z. omega arith), eq-eqb (get_or s at 0) 0x60 h) (ap some (sym x))) }
 
   pub after-rest : (k : Pass) {b : ℕ} {t : List ℕ} → fixed_at s (get_or s at 0) (at + 3) stop ≡ Upto b → (get_or s at 0 ≡ 0x60 → ⊥) → (get_or s at 0 ≡ 0x63 → ⊥) →
-      Tells (identAfter (treeAt s at stop) k) t nothing
+      Tells (ident_after (tree_at s at stop) k) t nothing
   after-rest k {b} e h m = record { is = λ u _. sym (is-tree k u b e ∙ rw (ne_eqb (get_or s at 0) 0x63 m, ne_eqb (get_or s at 0) 0x60 h)) }
 
   -- in the second pass a 63 is what its parts become
   pub after-63 : {b : ℕ} {c : Bool} (r : Ident) {t : List ℕ} → fixed_at s (get_or s at 0) (at + 3) stop ≡ Upto b → get_or s at 0 ≡ 0x63 → c ≡ true →
-      Tells (memberAfter (row_at s b stop) second) t (identBy r) → Tells (identAfter (treeAt s at stop) (passOf c)) t (identBy r)
+      Tells (member_after (row_at s b stop) second) t (ident_by r) → Tells (ident_after (tree_at s at stop) (pass_of c)) t (ident_by r)
   after-63 {b} {c} r e h z w =
-      record { is = λ u v. w.is u v ∙ sym (ap (λ (p : Bool). identAfter (treeAt s at stop) (passOf p) u) z ∙ is-tree second u b e ∙ rw (eq-eqb (get_or s at 0) 0x63 h)) }
+      record { is = λ u v. w.is u v ∙ sym (ap (λ (p : Bool). ident_after (tree_at s at stop) (pass_of p) u) z ∙ is-tree second u b e ∙ rw (eq-eqb (get_or s at 0) 0x63 h)) }
 
   -- in the first it is no id
   pub after_first : {b : ℕ} {c : Bool} {t : List ℕ} → fixed_at s (get_or s at 0) (at + 3) stop ≡ Upto b → get_or s at 0 ≡ 0x63 → c ≡ false →
-      Tells (identAfter (treeAt s at stop) (passOf c)) t nothing
+      Tells (ident_after (tree_at s at stop) (pass_of c)) t nothing
   after_first {b} {c} e h z =
-      record { is = λ u v. sym (ap (λ (p : Bool). identAfter (treeAt s at stop) (passOf p) u) z ∙ is-tree first u b e ∙ rw (eq-eqb (get_or s at 0) 0x63 h) (first-none (row_at s b stop) u)) }
+      record { is = λ u v. sym (ap (λ (p : Bool). ident_after (tree_at s at stop) (pass_of p) u) z ∙ is-tree first u b e ∙ rw (eq-eqb (get_or s at 0) 0x63 h) (first-none (row_at s b stop) u)) }
 
 -- ---- The parts of a 63, in the second pass
 
 -- the object is no id
-no-object : (o : Field) (r : Fields) (u : State) → identAfter o second u ≡ nothing → memberAfter (more o r) second u ≡ nothing
-unfolding identAfter becomes
+no-object : (o : Field) (r : Fields) (u : State) → ident_after o second u ≡ nothing → member_after (more o r) second u ≡ nothing
+unfolding ident_after becomes
 no-object o none u h = refl
 no-object o (more q qs) u h = ap (λ (i : Option (List ℕ)). becomes second i q u) h
 
 -- it has no usages, or it is not imported, or the member names the id
-no-usages : (us : List Usage) (c : Option (List ℕ)) (q : Field) → any us ≡ false → asIdent us c q ≡ nothing
-unfolding asIdent
+no-usages : (us : List Usage) (c : Option (List ℕ)) (q : Field) → any us ≡ false → as_ident us c q ≡ nothing
+unfolding as_ident
 no-usages [] c q h = refl
 no-usages (x ∷ us) c q h = absurd (let z : ◌≡◌ {A = ℕ} 0 1 = cc in omega arith)
 
-no-context : (us : List Usage) (q : Field) → asIdent us nothing q ≡ nothing
-unfolding asIdent
+no-context : (us : List Usage) (q : Field) → as_ident us nothing q ≡ nothing
+unfolding as_ident
 no-context [] q = refl
 no-context (x ∷ us) q = refl
 
-with-both : (us : List Usage) (c : List ℕ) (q : Field) → any us ≡ true → asIdent us (some c) q ≡ cond (has 0x70 q) (some (fixed_of q ++ c)) nothing
-unfolding asIdent
+with-both : (us : List Usage) (c : List ℕ) (q : Field) → any us ≡ true → as_ident us (some c) q ≡ cond (has 0x70 q) (some (fixed_of q ++ c)) nothing
+unfolding as_ident
 with-both [] c q h = absurd (let z : ◌≡◌ {A = ℕ} 0 1 = cc in omega arith)
 with-both (x ∷ us) c q h = refl
 
-on-object : (o : Field) (q : Field) (qs : Fields) (u : State) (i : List ℕ) → some i ≡ identAfter o second u →
-    memberAfter (more o (more q qs)) second u ≡ asIdent (usagesOf i u.usages) (importedAs i u.imported) q
-unfolding identAfter becomes
+on-object : (o : Field) (q : Field) (qs : Fields) (u : State) (i : List ℕ) → some i ≡ ident_after o second u →
+    member_after (more o (more q qs)) second u ≡ as_ident (usages_of i u.usages) (imported_as i u.imported) q
+unfolding ident_after becomes
 on-object o q qs u i h = ap (λ (j : Option (List ℕ)). becomes second j q u) (sym h)
 
-object-unused : (o : Field) (r : Fields) (u : State) (i : List ℕ) → some i ≡ identAfter o second u → false ≡ any (usagesOf i u.usages) → memberAfter (more o r) second u ≡ nothing
-unfolding identAfter
+object-unused : (o : Field) (r : Fields) (u : State) (i : List ℕ) → some i ≡ ident_after o second u → false ≡ any (usages_of i u.usages) → member_after (more o r) second u ≡ nothing
+unfolding ident_after
 object-unused o none u i h k = refl
-object-unused o (more q qs) u i h k = on-object o q qs u i h ∙ no-usages (usagesOf i u.usages) (importedAs i u.imported) q (sym k)
+object-unused o (more q qs) u i h k = on-object o q qs u i h ∙ no-usages (usages_of i u.usages) (imported_as i u.imported) q (sym k)
 
-object-nowhere : (o : Field) (r : Fields) (u : State) (i : List ℕ) → some i ≡ identAfter o second u → nothing ≡ importedAs i u.imported → memberAfter (more o r) second u ≡ nothing
-unfolding identAfter
+object-nowhere : (o : Field) (r : Fields) (u : State) (i : List ℕ) → some i ≡ ident_after o second u → nothing ≡ imported_as i u.imported → member_after (more o r) second u ≡ nothing
+unfolding ident_after
 object-nowhere o none u i h k = refl
 object-nowhere o (more q qs) u i h k =
-    on-object o q qs u i h ∙ ap (λ (c : Option (List ℕ)). asIdent (usagesOf i u.usages) c q) (sym k) ∙ no-context (usagesOf i u.usages) q
+    on-object o q qs u i h ∙ ap (λ (c : Option (List ℕ)). as_ident (usages_of i u.usages) c q) (sym k) ∙ no-context (usages_of i u.usages) q
 
-object-named : (o : Field) (r : Fields) (u : State) (i c : List ℕ) → some i ≡ identAfter o second u → true ≡ any (usagesOf i u.usages) → some c ≡ importedAs i u.imported →
-    memberAfter (more o r) second u ≡ namedFirst r c
-unfolding identAfter namedFirst
+object-named : (o : Field) (r : Fields) (u : State) (i c : List ℕ) → some i ≡ ident_after o second u → true ≡ any (usages_of i u.usages) → some c ≡ imported_as i u.imported →
+    member_after (more o r) second u ≡ named_first r c
+unfolding ident_after named_first
 object-named o none u i c h k m = refl
 object-named o (more q qs) u i c h k m =
-    on-object o q qs u i h ∙ ap (λ (d : Option (List ℕ)). asIdent (usagesOf i u.usages) d q) (sym m) ∙ with-both (usagesOf i u.usages) c q (sym k)
+    on-object o q qs u i h ∙ ap (λ (d : Option (List ℕ)). as_ident (usages_of i u.usages) d q) (sym m) ∙ with-both (usages_of i u.usages) c q (sym k)
 
 module _ (s : List ℕ) (at end : ℕ) (le : at ≤ end) where
-  pub member-none : {t : List ℕ} → extentAt s at end ≡ Short → Tells (memberAfter (row_at s at end) second) t nothing
-  unfolding identAfter
-  member-none e = record { is = λ u _. sym (ap (λ (f : Fields). memberAfter f second u) (row-none s at end le e)) }
+  pub member-none : {t : List ℕ} → extent_at s at end ≡ Short → Tells (member_after (row_at s at end) second) t nothing
+  unfolding ident_after
+  member-none e = record { is = λ u _. sym (ap (λ (f : Fields). member_after f second u) (row-none s at end le e)) }
 
-  module _ {stop : ℕ} (e : extentAt s at end ≡ Upto stop) where
-    row_is : (u : State) → memberAfter (row_at s at end) second u ≡ memberAfter (more (treeAt s at stop) (row_at s stop end)) second u
-    row_is u = ap (λ (f : Fields). memberAfter f second u) (row_more s at end stop le e)
+  module _ {stop : ℕ} (e : extent_at s at end ≡ Upto stop) where
+    row_is : (u : State) → member_after (row_at s at end) second u ≡ member_after (more (tree_at s at stop) (row_at s stop end)) second u
+    row_is u = ap (λ (f : Fields). member_after f second u) (row_more s at end stop le e)
 
-    pub member-other : {r : Ident} {t : List ℕ} → r ≡ Other → Tells (identAfter (treeAt s at stop) second) t (identBy r) →
-        Tells (memberAfter (row_at s at end) second) t nothing
+    pub member-other : {r : Ident} {t : List ℕ} → r ≡ Other → Tells (ident_after (tree_at s at stop) second) t (ident_by r) →
+        Tells (member_after (row_at s at end) second) t nothing
     member-other h w =
-        record { is = λ u v. sym (row_is u ∙ no-object (treeAt s at stop) (row_at s stop end) u (sym (w.is u v) ∙ ap identBy h)) }
+        record { is = λ u v. sym (row_is u ∙ no-object (tree_at s at stop) (row_at s stop end) u (sym (w.is u v) ∙ ap ident_by h)) }
 
-    module _ {n : Id} {r : Ident} {t : List ℕ} (h : r ≡ Is n) (w : Tells (identAfter (treeAt s at stop) second) t (identBy r)) where
-      object-is : {x : Env} (u : State) → Shows x t u → some (idBy n) ≡ identAfter (treeAt s at stop) second u
-      object-is u v = ap identBy (sym h) ∙ w.is u v
+    module _ {n : Id} {r : Ident} {t : List ℕ} (h : r ≡ Is n) (w : Tells (ident_after (tree_at s at stop) second) t (ident_by r)) where
+      object-is : {x : Env} (u : State) → Shows x t u → some (id_by n) ≡ ident_after (tree_at s at stop) second u
+      object-is u v = ap ident_by (sym h) ∙ w.is u v
 
-      pub member-unused : {b : Bool} → b ≡ false → Tells (λ u. any (usagesOf (idBy n) u.usages)) t b → Tells (memberAfter (row_at s at end) second) t nothing
+      pub member-unused : {b : Bool} → b ≡ false → Tells (λ u. any (usages_of (id_by n) u.usages)) t b → Tells (member_after (row_at s at end) second) t nothing
       member-unused k p =
-          record { is = λ u v. sym (row_is u ∙ object-unused (treeAt s at stop) (row_at s stop end) u (idBy n) (object-is u v) (sym k ∙ p.is u v)) }
+          record { is = λ u v. sym (row_is u ∙ object-unused (tree_at s at stop) (row_at s stop end) u (id_by n) (object-is u v) (sym k ∙ p.is u v)) }
 
-      pub member-nowhere : {c : Context} → c ≡ Nowhere → Tells (λ u. importedAs (idBy n) u.imported) t (contextBy c) →
-          Tells (memberAfter (row_at s at end) second) t nothing
-      member-nowhere k p = record { is = λ u v. sym (row_is u ∙ object-nowhere (treeAt s at stop) (row_at s stop end) u (idBy n) (object-is u v) (ap contextBy (sym k) ∙ p.is u v)) }
+      pub member-nowhere : {c : Context} → c ≡ Nowhere → Tells (λ u. imported_as (id_by n) u.imported) t (context_by c) →
+          Tells (member_after (row_at s at end) second) t nothing
+      member-nowhere k p = record { is = λ u v. sym (row_is u ∙ object-nowhere (tree_at s at stop) (row_at s stop end) u (id_by n) (object-is u v) (ap context_by (sym k) ∙ p.is u v)) }
 
-      pub member-named : {b : Bool} {c : Context} {d : SyntaxContext} (q : Ident) → b ≡ true → Tells (λ u. any (usagesOf (idBy n) u.usages)) t b → c ≡ Of d →
-          Tells (λ u. importedAs (idBy n) u.imported) t (contextBy c) → identBy q ≡ namedFirst (row_at s stop end) (four d.0) →
-          Tells (memberAfter (row_at s at end) second) t (identBy q)
+      pub member-named : {b : Bool} {c : Context} {d : SyntaxContext} (q : Ident) → b ≡ true → Tells (λ u. any (usages_of (id_by n) u.usages)) t b → c ≡ Of d →
+          Tells (λ u. imported_as (id_by n) u.imported) t (context_by c) → ident_by q ≡ named_first (row_at s stop end) (four d.0) →
+          Tells (member_after (row_at s at end) second) t (ident_by q)
       member-named {d = d} q k p m o f =
           record {
             is = λ u v.
                 f
                 ∙
                 sym (row_is u
-                ∙ object-named (treeAt s at stop) (row_at s stop end) u (idBy n) (four d.0) (object-is u v) (sym k ∙ p.is u v)
-                (ap contextBy (sym m) ∙ o.is u v));
+                ∙ object-named (tree_at s at stop) (row_at s stop end) u (id_by n) (four d.0) (object-is u v) (sym k ∙ p.is u v)
+                (ap context_by (sym m) ∙ o.is u v));
           }
 
 -- ---- The member
 
 module _ (s : List ℕ) (at end : ℕ) (c : List ℕ) (le : at ≤ end) where
-  pub named_none : extentAt s at end ≡ Short → nothing ≡ namedFirst (row_at s at end) c
-  unfolding namedFirst
-  named_none e = sym (ap (λ (f : Fields). namedFirst f c) (row-none s at end le e))
+  pub named_none : extent_at s at end ≡ Short → nothing ≡ named_first (row_at s at end) c
+  unfolding named_first
+  named_none e = sym (ap (λ (f : Fields). named_first f c) (row-none s at end le e))
 
-  module _ {stop : ℕ} (e : extentAt s at end ≡ Upto stop) where
-    pub named-short : fixed_at s (get_or s at 0) (at + 3) stop ≡ Short → nothing ≡ namedFirst (row_at s at end) c
-    unfolding namedFirst
-    named-short x = sym (ap (λ (f : Fields). namedFirst f c) (row_more s at end stop le e ∙ ap (λ (f : Field). more f (row_at s stop end)) (tree-short s at stop x)))
+  module _ {stop : ℕ} (e : extent_at s at end ≡ Upto stop) where
+    pub named-short : fixed_at s (get_or s at 0) (at + 3) stop ≡ Short → nothing ≡ named_first (row_at s at end) c
+    unfolding named_first
+    named-short x = sym (ap (λ (f : Fields). named_first f c) (row_more s at end stop le e ∙ ap (λ (f : Field). more f (row_at s stop end)) (tree-short s at stop x)))
 
     named-is : (b : ℕ) → fixed_at s (get_or s at 0) (at + 3) stop ≡ Upto b →
-        namedFirst (row_at s at end) c ≡ cond (eqb (get_or s at 0) 0x70) (some (slice (at + 3) b s ++ c)) nothing
-    unfolding namedFirst
-    named-is b x = ap (λ (f : Fields). namedFirst f c) (row_more s at end stop le e ∙ ap (λ (f : Field). more f (row_at s stop end)) (tree-upto s at stop b x))
+        named_first (row_at s at end) c ≡ cond (eqb (get_or s at 0) 0x70) (some (slice (at + 3) b s ++ c)) nothing
+    unfolding named_first
+    named-is b x = ap (λ (f : Fields). named_first f c) (row_more s at end stop le e ∙ ap (λ (f : Field). more f (row_at s stop end)) (tree-upto s at stop b x))
 
-    pub named-70 : {b a : ℕ} → Bytes s → at + 5 ≤ length s → fixed_at s (get_or s at 0) (at + 3) stop ≡ Upto b → get_or s at 0 ≡ 0x70 → a ≡ twoAt s (at + 3) →
-        some (two a ++ c) ≡ namedFirst (row_at s at end) c
+    pub named-70 : {b a : ℕ} → Bytes s → at + 5 ≤ length s → fixed_at s (get_or s at 0) (at + 3) stop ≡ Upto b → get_or s at 0 ≡ 0x70 → a ≡ two_at s (at + 3) →
+        some (two a ++ c) ≡ named_first (row_at s at end) c
     named-70 {b} {a} bs fits x h z =
         let w = plain-ends 0x70 Atom refl s (get_or s at 0) (at + 3) stop b h x in
-        let y : two a ≡ slice (at + 3) b s = ap two z ∙ two_at s (at + 3) bs (omega arith) ∙ ap (λ (k : ℕ). slice (at + 3) k s) (sym w) in
+        let y : two a ≡ slice (at + 3) b s = ap two z ∙ two_at-is s (at + 3) bs (omega arith) ∙ ap (λ (k : ℕ). slice (at + 3) k s) (sym w) in
         sym (named-is b x ∙ rw (eq-eqb (get_or s at 0) 0x70 h) (ap some (sym (ap (λ (l : List ℕ). l ++ c) y))))
 
-    pub named-rest : {b : ℕ} → fixed_at s (get_or s at 0) (at + 3) stop ≡ Upto b → (get_or s at 0 ≡ 0x70 → ⊥) → nothing ≡ namedFirst (row_at s at end) c
+    pub named-rest : {b : ℕ} → fixed_at s (get_or s at 0) (at + 3) stop ≡ Upto b → (get_or s at 0 ≡ 0x70 → ⊥) → nothing ≡ named_first (row_at s at end) c
     named-rest {b} x h = sym (named-is b x ∙ rw (ne_eqb (get_or s at 0) 0x70 h))

@@ -6,12 +6,12 @@ use native.Mathlib.Omega.{arith}
 use lib.ListN.{length, set, length-append, length-set}
 use lib.Seq.{sets, length-sets, set_out}
 use Rattle.scope.specs.Id.{export}
-use Rattle.writer.specs.Bytes.{fourBytes}
+use Rattle.writer.specs.Bytes.{four_bytes}
 use Rattle.writer.specs.Wrote.{capped, Wrote}
 use Rattle.writer.proofs.Wrote.{sets-append, set-sets}
 use Rattle.tree.specs.Layout.{four}
 use Rattle.tree.specs.Tree.{Field, field, Fields, more, framed, encode, encodes}
-use Rattle.extraction_rules.specs.First.{withCallee}
+use Rattle.extraction_rules.specs.First.{with_callee}
 use Rattle.expressions.specs.Require.{CalleeSet}
 
 -- ---- Runs of stores
@@ -40,7 +40,7 @@ sets-past (v ∷ vs) l i h = let e = length-set l i v in sets-past vs (set l i v
 
 -- ---- The bytes of a callee
 
-pub four-written : (n : ℕ) → n < 4294967296 → fourBytes n ≡ four n
+pub four-written : (n : ℕ) → n < 4294967296 → four_bytes n ≡ four n
 four-written n h =
     let b₀ : n / 65536 / 256 ≡ n / 16777216 % 256 = omega arith in
     let b₂ : n % 65536 / 256 ≡ n / 256 % 256 = omega arith in
@@ -53,7 +53,7 @@ record Parts (n : ℕ) (f : Field) (bs : List ℕ) : Type 0 where
   old : List ℕ
   tail : List ℕ
   before : encode f ++ bs ≡ head ++ (old ++ tail)
-  after : encode (withCallee n f) ++ bs ≡ head ++ (four (export n) ++ tail)
+  after : encode (with_callee n f) ++ bs ≡ head ++ (four (export n) ++ tail)
   eight : length head ≡ 8
   wide : length old ≡ 4
 
@@ -65,7 +65,7 @@ head_of a b x z =
     0x65 ∷ k / 256 ∷ k % 256 ∷ 0x60 ∷ m / 256 ∷ m % 256 ∷ a ∷ b ∷ []
 
 split_callee : (n : ℕ) (y bs : List ℕ) (ds gs : Fields) → length y ≡ 6 → Parts n (field 0x65 [] (more (field 0x60 y ds) gs)) bs
-unfolding encode framed withCallee
+unfolding encode framed with_callee
 split_callee n [] bs ds gs h = absurd (omega arith)
 split_callee n (a ∷ []) bs ds gs h = absurd (omega arith)
 split_callee n (a ∷ (b ∷ [])) bs ds gs h = absurd (omega arith)
@@ -87,7 +87,7 @@ split_callee n (a ∷ (b ∷ (c ∷ (d ∷ (e ∷ (f ∷ (g ∷ y))))))) bs ds g
 -- ---- The stores
 
 module _ {n : ℕ} {f : Field} {bs : List ℕ} (w : Parts n f bs) where
-  as_long : length (encode (withCallee n f) ++ bs) ≡ length (encode f ++ bs)
+  as_long : length (encode (with_callee n f) ++ bs) ≡ length (encode f ++ bs)
   as_long =
       let a = length-append w.head (w.old ++ w.tail) in
       let b = length-append w.old w.tail in
@@ -108,20 +108,20 @@ module _ {n : ℕ} {f : Field} {bs : List ℕ} (w : Parts n f bs) where
   from-eight : (l : List ℕ) (o : ℕ) (vs : List ℕ) → sets l o (w.head ++ vs) ≡ sets (sets l o w.head) (o + 8) vs
   from-eight l o vs = sets-append w.head vs l o ∙ ap (λ (k : ℕ). sets (sets l o w.head) (o + k) vs) w.eight
 
-  stored : (l : List ℕ) (o : ℕ) → sets (sets l o (encode f ++ bs)) (o + 8) (four (export n)) ≡ sets l o (encode (withCallee n f) ++ bs)
+  stored : (l : List ℕ) (o : ℕ) → sets (sets l o (encode f ++ bs)) (o + 8) (four (export n)) ≡ sets l o (encode (with_callee n f) ++ bs)
   stored l o =
       ap (λ (x : List ℕ). sets (sets l o x) (o + 8) (four (export n))) w.before
       ∙ ap (λ (x : List ℕ). sets x (o + 8) (four (export n))) (from-eight l o (w.old ++ w.tail))
       ∙ sets_over (four (export n)) w.old w.tail (sets l o w.head) (o + 8) (sym w.wide)
       ∙ sym (from-eight l o (four (export n) ++ w.tail)) ∙ ap (sets l o) (sym w.after)
 
-  past : (l : List ℕ) (o : ℕ) → length l ≤ o + 8 → sets l o (encode f ++ bs) ≡ sets l o (encode (withCallee n f) ++ bs)
+  past : (l : List ℕ) (o : ℕ) → length l ≤ o + 8 → sets l o (encode f ++ bs) ≡ sets l o (encode (with_callee n f) ++ bs)
   past l o h =
       let e = length-sets l o w.head in
       ap (sets l o) w.before ∙ from-eight l o (w.old ++ w.tail) ∙ sets-past (w.old ++ w.tail) (sets l o w.head) (o + 8) (omega arith)
       ∙ sym (ap (sets l o) w.after ∙ from-eight l o (four (export n) ++ w.tail) ∙ sets-past (four (export n) ++ w.tail) (sets l o w.head) (o + 8) (omega arith))
 
-  wrote-stored : {l out out' : List ℕ} {o p q : ℕ} → Wrote l o (encode f ++ bs) out p → Wrote out (o + 8) (four (export n)) out' q → Wrote l o (encode (withCallee n f) ++ bs) out' p
+  wrote-stored : {l out out' : List ℕ} {o p q : ℕ} → Wrote l o (encode f ++ bs) out p → Wrote out (o + 8) (four (export n)) out' q → Wrote l o (encode (with_callee n f) ++ bs) out' p
   wrote-stored {l} {out} {out'} {o} {p} {q} u v =
       let e = as_long in
       let g = long in
@@ -131,7 +131,7 @@ module _ {n : ℕ} {f : Field} {bs : List ℕ} (w : Parts n f bs) where
         size = v.size ∙ u.size;
       }
 
-  wrote-past : {l out : List ℕ} {o p : ℕ} → length out ≤ o + 8 → Wrote l o (encode f ++ bs) out p → Wrote l o (encode (withCallee n f) ++ bs) out p
+  wrote-past : {l out : List ℕ} {o p : ℕ} → length out ≤ o + 8 → Wrote l o (encode f ++ bs) out p → Wrote l o (encode (with_callee n f) ++ bs) out p
   wrote-past {l} {out} {o} {p} k u =
       let e = as_long in
       let z = u.size in
@@ -145,8 +145,8 @@ pub callee-past : (n o : ℕ) {out : List ℕ} → length out ≤ o + 8 → Call
 callee-past n o k =
     record { size = refl; writes = λ l p y bs ds gs h u. let w = split_callee n y bs ds gs h in wrote-past w k u }
 
-pub callee-set : (n o : ℕ) {c q : ℕ} {out out' : List ℕ} → c ≡ export n → c < 4294967296 → Wrote out (o + 8) (fourBytes c) out' q → CalleeSet n o out out'
+pub callee-set : (n o : ℕ) {c q : ℕ} {out out' : List ℕ} → c ≡ export n → c < 4294967296 → Wrote out (o + 8) (four_bytes c) out' q → CalleeSet n o out out'
 callee-set n o {c} {q} {out} {out'} e k v =
-    let b : fourBytes c ≡ four (export n) = four-written c k ∙ ap four e in
+    let b : four_bytes c ≡ four (export n) = four-written c k ∙ ap four e in
     let v' : Wrote out (o + 8) (four (export n)) out' q = rw b at v in
     record { size = v.size; writes = λ l p y bs ds gs h u. let w = split_callee n y bs ds gs h in wrote-stored w u v' }

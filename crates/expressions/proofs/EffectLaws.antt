@@ -9,7 +9,7 @@ use Rattle.state.specs.Does.{Turns, Acts}
 use Rattle.state.specs.declared.Room.{Room}
 use Rattle.state.specs.declared.Room.TheVariants.{Made, Full}
 use Rattle.steps.specs.Step.{Effects}
-use Rattle.steps.specs.Refusal.{refusalOf}
+use Rattle.steps.specs.Refusal.{refusal_of}
 use Rattle.steps.specs.declared.Why.{Why}
 use Rattle.steps.specs.declared.Why.TheVariants.{TableFull}
 use Rattle.steps.specs.declared.Effect.{Effect}
@@ -22,7 +22,7 @@ module _ {P : Env → State → Type 0} {act : Env → Act (Unit {0})} {t : List
   effects-skip g h =
       record { good = g; fine = λ _ {x} s v w. record { state = s; is = h x s v w; shows = v }; turned = λ w q e. fine-turned e }
 
-  pub effects-refuse : {t' : List ℕ} (w : Why) (q : ℕ) → Good t' → ((x : Env) (s : State) → Shows x t s → P x s → act x s ≡ refused (refusalOf w) q) →
+  pub effects-refuse : {t' : List ℕ} (w : Why) (q : ℕ) → Good t' → ((x : Env) (s : State) → Shows x t s → P x s → act x s ≡ refused (refusal_of w) q) →
       Effects P act t t' (Turned w q)
   effects-refuse w q g h =
       record {

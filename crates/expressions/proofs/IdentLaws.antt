@@ -13,31 +13,31 @@ use Rattle.tree.specs.Grammar.{within}
 use Rattle.inputs.specs.Outcome.{done}
 use Rattle.inputs.specs.Fields.{has, inside}
 use Rattle.extraction_rules.specs.State.{Usage, State, Pass, first, second, Setting}
-use Rattle.extraction_rules.specs.First.{importedAs, onIdent, usage, required, require}
-use Rattle.extraction_rules.specs.Second.{usagesOf, asProperty, rewritten}
-use Rattle.extraction_rules.specs.Walk.{afterExpression, ruleFor, after, partsFor, walk, walkAll, walkMember}
+use Rattle.extraction_rules.specs.First.{imported_as, on_ident, usage, required, require}
+use Rattle.extraction_rules.specs.Second.{usages_of, as_property, rewritten}
+use Rattle.extraction_rules.specs.Walk.{after_expression, rule_for, after, parts_for, walk, walk_all, walk_member}
 use Rattle.extraction_rules.proofs.OutcomeLaws.{After, after-bind, after-weaken}
 use Rattle.extraction_rules.proofs.AlikeLaws.{Two, RegularAt, Regular, RegularAll}
 use Rattle.extraction_rules.proofs.StayLaws.{Same, expression-same, walk_same}
-use Rattle.expressions.specs.After.{identOf, asIdent, becomes, identAfter, memberAfter}
+use Rattle.expressions.specs.After.{ident_of, as_ident, becomes, ident_after, member_after}
 use Rattle.scope.proofs.Laws.{none-some}
 
 -- ---- Fields without parts
 
 expression-60 : (k : Pass) (e : Setting) (x : List ℕ) (object : Bool) (p : ℕ) (s : State) →
-    After (afterExpression k e (field 0x60 x none) object p s) (λ g s'. (g ≡ field 0x60 x none) × (k ≡ second → s' ≡ s))
-unfolding afterExpression onIdent usage required require rewritten
+    After (after_expression k e (field 0x60 x none) object p s) (λ g s'. (g ≡ field 0x60 x none) × (k ≡ second → s' ≡ s))
+unfolding after_expression on_ident usage required require rewritten
 expression-60 first e x true p s = (refl, λ z. absurd (let w : ◌≡◌ {A = ℕ} 0 1 = cc in omega arith))
 expression-60 first e x false p s = (refl, λ z. absurd (let w : ◌≡◌ {A = ℕ} 0 1 = cc in omega arith))
 expression-60 second e x object p s = (refl, λ z. refl)
 
 pub walk-60 : (e : Setting) (x : List ℕ) (object : Bool) (p : ℕ) (s : State) →
     After (walk (field 0x60 x none) e object p s) (λ g s'. (g ≡ field 0x60 x none) × (e.pass ≡ second → s' ≡ s))
-unfolding walk partsFor ruleFor within after
+unfolding walk parts_for rule_for within after
 walk-60 e x object p s = expression-60 e.pass e x object p s
 
 pub walk-70 : (e : Setting) (x : List ℕ) (object : Bool) (p : ℕ) (s : State) → walk (field 0x70 x none) e object p s ≡ done (field 0x70 x none, s)
-unfolding walk partsFor ruleFor within after
+unfolding walk parts_for rule_for within after
 walk-70 e x object p s = refl
 
 -- ---- The id
@@ -45,26 +45,26 @@ walk-70 e x object p s = refl
 module _ (e : Setting) where
   -- the id that f is to have is that of g; in the second pass g is then no more than this id, and the state is as it was
   abbrev pub Became : Field → State → Field → State → Type 0
-  Became f s g s' = (identAfter f e.pass s ≡ identOf g) × (e.pass ≡ second → (i : List ℕ) → identOf g ≡ some i → (g ≡ field 0x60 i none) × (s' ≡ s))
+  Became f s g s' = (ident_after f e.pass s ≡ ident_of g) × (e.pass ≡ second → (i : List ℕ) → ident_of g ≡ some i → (g ≡ field 0x60 i none) × (s' ≡ s))
 
-  other-ident : (g : Field) → (tag_of g ≡ 0x60 → ⊥) → identOf g ≡ nothing
-  unfolding identOf
+  other-ident : (g : Field) → (tag_of g ≡ 0x60 → ⊥) → ident_of g ≡ nothing
+  unfolding ident_of
   other-ident (field t x cs) h = ap (λ (b : Bool). cond b (some x) nothing) (ne_eqb t 0x60 h)
 
   -- neither 63 nor 60
   became-other : (t : ℕ) (x : List ℕ) (cs : Fields) (g : Field) (s s' : State) → (t ≡ 0x63 → ⊥) → (t ≡ 0x60 → ⊥) → tag_of g ≡ t → Became (field t x cs) s g s'
-  unfolding identAfter
+  unfolding ident_after
   became-other t x cs g s s' h k q =
       let n = other-ident g (λ z. k (sym q ∙ z)) in (
-        ap (λ (b : Bool). cond b (memberAfter cs e.pass s) (cond (eqb t 0x60) (some x) nothing)) (ne_eqb t 0x63 h)
+        ap (λ (b : Bool). cond b (member_after cs e.pass s) (cond (eqb t 0x60) (some x) nothing)) (ne_eqb t 0x63 h)
             ∙ ap (λ (b : Bool). cond b (some x) nothing) (ne_eqb t 0x60 k) ∙ sym n,
         λ _ i w. none-some (sym n ∙ w),
       )
 
   became-60 : (x : List ℕ) (g : Field) (s s' : State) → (g ≡ field 0x60 x none) × (e.pass ≡ second → s' ≡ s) → Became (field 0x60 x none) s g s'
-  unfolding identAfter identOf
+  unfolding ident_after ident_of
   became-60 x g s s' h =
-      (ap identOf (sym h.0), λ two i w. (h.0 ∙ ap (λ (y : List ℕ). field 0x60 y none) (let v : some x ≡ some i = ap identOf (sym h.0) ∙ w in cc), h.1 two))
+      (ap ident_of (sym h.0), λ two i w. (h.0 ∙ ap (λ (y : List ℕ). field 0x60 y none) (let v : some x ≡ some i = ap ident_of (sym h.0) ∙ w in cc), h.1 two))
 
   other-walk : (t : ℕ) (x : List ℕ) (cs : Fields) (object : Bool) (p : ℕ) (s : State) → eqb t 0x63 ≡ false → RegularAt t x cs →
       After (walk (field t x cs) e object p s) (Became (field t x cs) s)
@@ -103,27 +103,27 @@ module _ (e : Setting) where
 
   -- rewriting a 63 with this member
   pub as-ident : (us : List Usage) (c : Option (List ℕ)) (q f : Field) → tag_of f ≡ 0x63 →
-      (asIdent us c q ≡ identOf (asProperty us c q f)) × ((i : List ℕ) → identOf (asProperty us c q f) ≡ some i → asProperty us c q f ≡ field 0x60 i none)
-  unfolding asIdent asProperty identOf
+      (as_ident us c q ≡ ident_of (as_property us c q f)) × ((i : List ℕ) → ident_of (as_property us c q f) ≡ some i → as_property us c q f ≡ field 0x60 i none)
+  unfolding as_ident as_property ident_of
   as-ident [] c q f t = let n = other-ident f (λ z. let v : ◌≡◌ {A = ℕ} 0x63 0x60 = sym t ∙ z in omega arith) in (sym n, λ i w. none-some (sym n ∙ w))
   as-ident (u ∷ us) nothing q f t = let n = other-ident f (λ z. let v : ◌≡◌ {A = ℕ} 0x63 0x60 = sym t ∙ z in omega arith) in (sym n, λ i w. none-some (sym n ∙ w))
   as-ident (u ∷ us) (some c) q f t = go (has 0x70 q)
     where
-      rewrote : (i : List ℕ) → identOf (field 0x60 (fixed_of q ++ c) none) ≡ some i → field 0x60 (fixed_of q ++ c) none ≡ field 0x60 i none
+      rewrote : (i : List ℕ) → ident_of (field 0x60 (fixed_of q ++ c) none) ≡ some i → field 0x60 (fixed_of q ++ c) none ≡ field 0x60 i none
       rewrote i w = let v : fixed_of q ++ c ≡ i = cc in ap (λ (y : List ℕ). field 0x60 y none) v
 
-      went : some (fixed_of q ++ c) ≡ identOf (field 0x60 (fixed_of q ++ c) none)
+      went : some (fixed_of q ++ c) ≡ ident_of (field 0x60 (fixed_of q ++ c) none)
       went = refl
 
-      go : (b : Bool) → (cond b (some (fixed_of q ++ c)) nothing ≡ identOf (cond b (field 0x60 (fixed_of q ++ c) none) f)) ×
-          ((i : List ℕ) → identOf (cond b (field 0x60 (fixed_of q ++ c) none) f) ≡ some i → cond b (field 0x60 (fixed_of q ++ c) none) f ≡ field 0x60 i none)
+      go : (b : Bool) → (cond b (some (fixed_of q ++ c)) nothing ≡ ident_of (cond b (field 0x60 (fixed_of q ++ c) none) f)) ×
+          ((i : List ℕ) → ident_of (cond b (field 0x60 (fixed_of q ++ c) none) f) ≡ some i → cond b (field 0x60 (fixed_of q ++ c) none) f ≡ field 0x60 i none)
       go true = (went, rewrote)
       go false = let n = other-ident f (λ z. let v : ◌≡◌ {A = ℕ} 0x63 0x60 = sym t ∙ z in omega arith) in (sym n, λ i w. none-some (sym n ∙ w))
 
   -- a property of what has become an id, in the state in which it has: other members are no property
   as_member : (us : List Usage) (c : Option (List ℕ)) (q r f : Field) → tag_of f ≡ 0x63 → tag_of r ≡ tag_of q → (tag_of q ≡ 0x70 → ⊥) →
-      (asIdent us c q ≡ nothing) × (asProperty us c r f ≡ f)
-  unfolding asIdent asProperty
+      (as_ident us c q ≡ nothing) × (as_property us c r f ≡ f)
+  unfolding as_ident as_property
   as_member [] c q r f t h k = (refl, refl)
   as_member (u ∷ us) nothing q r f t h k = (refl, refl)
   as_member (u ∷ us) (some c) q r f t h k = (
@@ -136,10 +136,10 @@ module _ (e : Setting) where
   first-never i q s = refl
 
   abbrev Rewrote : Pass → Field → Field → State → Field → State → Type 0
-  Rewrote k o q s g s' = (becomes k (identAfter o k s) q s ≡ identOf g) × (k ≡ second → (i : List ℕ) → identOf g ≡ some i → (g ≡ field 0x60 i none) × (s' ≡ s))
+  Rewrote k o q s g s' = (becomes k (ident_after o k s) q s ≡ ident_of g) × (k ≡ second → (i : List ℕ) → ident_of g ≡ some i → (g ≡ field 0x60 i none) × (s' ≡ s))
 
   -- the walked object is no id
-  rewrote-other : (k : Pass) (o q f : Field) (s s' : State) → tag_of f ≡ 0x63 → identAfter o k s ≡ nothing → Rewrote k o q s f s'
+  rewrote-other : (k : Pass) (o q f : Field) (s s' : State) → tag_of f ≡ 0x63 → ident_after o k s ≡ nothing → Rewrote k o q s f s'
   unfolding becomes
   rewrote-other first o q f s s' t h = let n = other-ident f (λ z. let v : ◌≡◌ {A = ℕ} 0x63 0x60 = sym t ∙ z in omega arith) in (sym n, λ _ i w. none-some (sym n ∙ w))
   rewrote-other second o q f s s' t h =
@@ -147,43 +147,43 @@ module _ (e : Setting) where
       (ap (λ (i : Option (List ℕ)). becomes second i q s) h ∙ sym n, λ _ i w. none-some (sym n ∙ w))
 
   -- it is the id i
-  rewrote-ident : (o q r f : Field) (i : List ℕ) (s s1 s2 : State) → tag_of f ≡ 0x63 → identAfter o second s ≡ some i → s1 ≡ s → Membered q s1 r s2 →
-      Rewrote second o q s (asProperty (usagesOf i s2.usages) (importedAs i s2.imported) r f) s2
+  rewrote-ident : (o q r f : Field) (i : List ℕ) (s s1 s2 : State) → tag_of f ≡ 0x63 → ident_after o second s ≡ some i → s1 ≡ s → Membered q s1 r s2 →
+      Rewrote second o q s (as_property (usages_of i s2.usages) (imported_as i s2.imported) r f) s2
   unfolding becomes
   rewrote-ident o q r f i s s1 s2 t h same m = go (eqb (tag_of q) 0x70) refl
     where
-      told : becomes second (identAfter o second s) q s ≡ asIdent (usagesOf i s.usages) (importedAs i s.imported) q
+      told : becomes second (ident_after o second s) q s ≡ as_ident (usages_of i s.usages) (imported_as i s.imported) q
       told = ap (λ (j : Option (List ℕ)). becomes second j q s) h
 
-      go : (b : Bool) → eqb (tag_of q) 0x70 ≡ b → Rewrote second o q s (asProperty (usagesOf i s2.usages) (importedAs i s2.imported) r f) s2
+      go : (b : Bool) → eqb (tag_of q) 0x70 ≡ b → Rewrote second o q s (as_property (usages_of i s2.usages) (imported_as i s2.imported) r f) s2
       go true k =
           let w = m.1 (eqb-true (tag_of q) 0x70 k) in
           let u : s2 ≡ s = w.1 ∙ same in
-          let a = as-ident (usagesOf i s.usages) (importedAs i s.imported) q f t in
+          let a = as-ident (usages_of i s.usages) (imported_as i s.imported) q f t in
           rw (u, w.0) (told ∙ a.0, λ _ j v. (a.1 j v, refl))
       go false k =
           let n = other-ident f (λ z. let v : ◌≡◌ {A = ℕ} 0x63 0x60 = sym t ∙ z in omega arith) in
-          let a = (as_member (usagesOf i s2.usages) (importedAs i s2.imported) q r f t m.0 (eqb-false (tag_of q) 0x70 k)).1 in
-          let b = (as_member (usagesOf i s.usages) (importedAs i s.imported) q r f t m.0 (eqb-false (tag_of q) 0x70 k)).0 in
-          (told ∙ b ∙ sym n ∙ ap identOf (sym a), λ _ j v. none-some (sym n ∙ ap identOf (sym a) ∙ v))
+          let a = (as_member (usages_of i s2.usages) (imported_as i s2.imported) q r f t m.0 (eqb-false (tag_of q) 0x70 k)).1 in
+          let b = (as_member (usages_of i s.usages) (imported_as i s.imported) q r f t m.0 (eqb-false (tag_of q) 0x70 k)).0 in
+          (told ∙ b ∙ sym n ∙ ap ident_of (sym a), λ _ j v. none-some (sym n ∙ ap ident_of (sym a) ∙ v))
 
   expression-63 : (k : Pass) → e.pass ≡ k → (x : List ℕ) (o q : Field) (o' q' : Field) (object : Bool) (p : ℕ) (s s1 s2 : State) → Became o s o' s1 → Membered q s1 q' s2 →
-      After (afterExpression k e (field 0x63 x (more o' (more q' none))) object p s2) (Rewrote k o q s)
-  unfolding afterExpression rewritten onIdent identOf
+      After (after_expression k e (field 0x63 x (more o' (more q' none))) object p s2) (Rewrote k o q s)
+  unfolding after_expression rewritten on_ident ident_of
   expression-63 first one x o q o' q' object p s s1 s2 b m =
-      after-weaken (afterExpression first e (field 0x63 x (more o' (more q' none))) object p s2) (λ g s'. Same 0x63 x g) (Rewrote first o q s)
+      after-weaken (after_expression first e (field 0x63 x (more o' (more q' none))) object p s2) (λ g s'. Same 0x63 x g) (Rewrote first o q s)
       (λ g s' t. in-first g s' t.0) (expression-same first e 0x63 x (more o' (more q' none)) object p s2 (λ z. absurd (let v : ◌≡◌ {A = ℕ} 0 1 = cc in omega arith)))
     where
       in-first : (g : Field) (s' : State) → tag_of g ≡ 0x63 → Rewrote first o q s g s'
       in-first g s' t = let n = other-ident g (λ z. let v : ◌≡◌ {A = ℕ} 0x63 0x60 = sym t ∙ z in omega arith) in
-          (nothing-first (identAfter o first s) ∙ sym n, λ z i w. none-some (sym n ∙ w))
+          (nothing-first (ident_after o first s) ∙ sym n, λ z i w. none-some (sym n ∙ w))
         where
           nothing-first : (i : Option (List ℕ)) → becomes first i q s ≡ nothing
           nothing-first i = first-never i q s
   expression-63 second two x o q (field t y ds) q' object p s s1 s2 b m = go (eqb t 0x60) refl
     where
-      here : identAfter o second s ≡ identAfter o e.pass s
-      here = ap (λ (k : Pass). identAfter o k s) (sym two)
+      here : ident_after o second s ≡ ident_after o e.pass s
+      here = ap (λ (k : Pass). ident_after o k s) (sym two)
 
       go : (c : Bool) → eqb t 0x60 ≡ c →
           Rewrote second o q s (rewritten (cond c (some (field t y ds, q')) nothing) (field 0x63 x (more (field t y ds) (more q' none))) s2) s2
@@ -199,22 +199,22 @@ module _ (e : Setting) where
 
   -- the parts of a 63
   pub parts-63 : (o q : Field) (p : ℕ) (s : State) → ((tag_of q ≡ 0x70) ⊎ ((tag_of q ≡ 0x71) ⊎ (tag_of q ≡ 0x72))) → Regular q → After (walk o e true p s) (Became o s) →
-      After (walkMember (more o (more q none)) e p s)
+      After (walk_member (more o (more q none)) e p s)
       (λ ds s2. (o' q' : Field) × (s1 : State) × (ds ≡ more o' (more q' none)) × Became o s o' s1 × Membered q s1 q' s2)
   unfolding walk
   parts-63 o q p s t w h =
       after-bind (walk o e true p s) _ (Became o s) _ h λ o' s1 b.
-      after-bind (walkAll (more q none) e false (p + size o) s1) _ (λ qs s2. (q' : Field) × (qs ≡ more q' none) × Membered q s1 q' s2) _
+      after-bind (walk_all (more q none) e false (p + size o) s1) _ (λ qs s2. (q' : Field) × (qs ≡ more q' none) × Membered q s1 q' s2) _
       (after-bind (walk q e false (p + size o) s1) _ (Membered q s1) _ (member-walk q (p + size o) s1 t w) λ q' s2 m. (q', refl, m)) λ qs s2 m.
       (o', m.0, s1, ap (more o') m.1, b, m.2)
 
   member-63 : (x : List ℕ) (o q : Field) (object : Bool) (p : ℕ) (s : State) → ((tag_of q ≡ 0x70) ⊎ ((tag_of q ≡ 0x71) ⊎ (tag_of q ≡ 0x72))) → Regular q →
       After (walk o e true (inside p x) s) (Became o s) →
       After (walk (field 0x63 x (more o (more q none))) e object p s) (Became (field 0x63 x (more o (more q none))) s)
-  unfolding walk partsFor ruleFor within after identAfter
+  unfolding walk parts_for rule_for within after ident_after
   member-63 x o q object p s t w h =
-      after-bind (walkMember (more o (more q none)) e (inside p x) s) _ _ (Became (field 0x63 x (more o (more q none))) s) (parts-63 o q (inside p x) s t w h) λ ds s2 m.
-      subst (λ (gs : Fields). After (afterExpression e.pass e (field 0x63 x gs) object p s2) (Became (field 0x63 x (more o (more q none))) s)) (sym m.3)
+      after-bind (walk_member (more o (more q none)) e (inside p x) s) _ _ (Became (field 0x63 x (more o (more q none))) s) (parts-63 o q (inside p x) s t w h) λ ds s2 m.
+      subst (λ (gs : Fields). After (after_expression e.pass e (field 0x63 x gs) object p s2) (Became (field 0x63 x (more o (more q none))) s)) (sym m.3)
       (expression-63 e.pass refl x o q m.0 m.1 object p s m.2 s2 m.4 m.5)
 
   -- the law of the first part, walked as an object

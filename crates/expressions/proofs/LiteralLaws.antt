@@ -13,15 +13,15 @@ use Rattle.tree.specs.declared.layout.Reach.{Reach}
 use Rattle.tree.specs.declared.layout.Reach.TheVariants.{Upto, Short}
 use Rattle.tree.specs.Layout.{same}
 use Rattle.tree.specs.Tree.{Field, field, Fields, none, more, fixed_of}
-use Rattle.tree.specs.Access.{fixed_at, extentAt}
-use Rattle.tree.specs.Standing.{treeAt, row_at}
-use Rattle.tree.proofs.SliceLaws.{getD-slice}
+use Rattle.tree.specs.Access.{fixed_at, extent_at}
+use Rattle.tree.specs.Standing.{tree_at, row_at}
+use Rattle.tree.proofs.SliceLaws.{get_d-slice}
 use Rattle.tree.proofs.StandingLaws.{row_more, row-none, tree-upto, tree-short}
 use Rattle.tree.proofs.WidthLaws.{plain-ends}
 use Rattle.tree.specs.declared.grammar.Value.TheVariants.{Literal as SixBytes}
 use Rattle.inputs.specs.Fields.{has, sole}
 use Rattle.extraction_rules.specs.First.{argument}
-use Rattle.expressions.specs.Require.{Found, literalFirst}
+use Rattle.expressions.specs.Require.{Found, literal_first}
 use Rattle.expressions.specs.declared.require.Standing.{Standing}
 use Rattle.expressions.specs.declared.require.Standing.TheVariants.{At, Nowhere}
 
@@ -33,26 +33,26 @@ found_as Nowhere h f = record { is = h ∙ f.is }
 -- ---- The first of some fields
 
 module _ (s : List ℕ) (at end : ℕ) (le : at ≤ end) where
-  pub first-none : extentAt s at end ≡ Short → Found s (literalFirst (row_at s at end)) Nowhere
-  unfolding literalFirst
-  first-none e = record { is = ap literalFirst (row-none s at end le e) }
+  pub first-none : extent_at s at end ≡ Short → Found s (literal_first (row_at s at end)) Nowhere
+  unfolding literal_first
+  first-none e = record { is = ap literal_first (row-none s at end le e) }
 
-  module _ {stop : ℕ} (e : extentAt s at end ≡ Upto stop) where
-    pub first_short : fixed_at s (get_or s at 0) (at + 3) stop ≡ Short → Found s (literalFirst (row_at s at end)) Nowhere
-    unfolding literalFirst
-    first_short x = record { is = ap literalFirst (row_more s at end stop le e ∙ ap (λ (f : Field). more f (row_at s stop end)) (tree-short s at stop x)) }
+  module _ {stop : ℕ} (e : extent_at s at end ≡ Upto stop) where
+    pub first_short : fixed_at s (get_or s at 0) (at + 3) stop ≡ Short → Found s (literal_first (row_at s at end)) Nowhere
+    unfolding literal_first
+    first_short x = record { is = ap literal_first (row_more s at end stop le e ∙ ap (λ (f : Field). more f (row_at s stop end)) (tree-short s at stop x)) }
 
     first-is : (b : ℕ) → fixed_at s (get_or s at 0) (at + 3) stop ≡ Upto b →
-        literalFirst (row_at s at end) ≡ cond (eqb (get_or s at 0) 0x61) (some (slice (at + 3) b s)) nothing
-    unfolding literalFirst
-    first-is b x = ap literalFirst (row_more s at end stop le e ∙ ap (λ (f : Field). more f (row_at s stop end)) (tree-upto s at stop b x))
+        literal_first (row_at s at end) ≡ cond (eqb (get_or s at 0) 0x61) (some (slice (at + 3) b s)) nothing
+    unfolding literal_first
+    first-is b x = ap literal_first (row_more s at end stop le e ∙ ap (λ (f : Field). more f (row_at s stop end)) (tree-upto s at stop b x))
 
-    pub first-61 : {b : ℕ} → at + 9 ≤ length s → fixed_at s (get_or s at 0) (at + 3) stop ≡ Upto b → get_or s at 0 ≡ 0x61 → Found s (literalFirst (row_at s at end)) (At (at + 3))
+    pub first-61 : {b : ℕ} → at + 9 ≤ length s → fixed_at s (get_or s at 0) (at + 3) stop ≡ Upto b → get_or s at 0 ≡ 0x61 → Found s (literal_first (row_at s at end)) (At (at + 3))
     first-61 {b} fits x h =
         let w = plain-ends 0x61 SixBytes refl s (get_or s at 0) (at + 3) stop b h x in
         record { is = (first-is b x ∙ rw (eq-eqb (get_or s at 0) 0x61 h) (ap (λ (k : ℕ). some (slice (at + 3) k s)) w), omega arith) }
 
-    pub first_rest : {b : ℕ} → fixed_at s (get_or s at 0) (at + 3) stop ≡ Upto b → (get_or s at 0 ≡ 0x61 → ⊥) → Found s (literalFirst (row_at s at end)) Nowhere
+    pub first_rest : {b : ℕ} → fixed_at s (get_or s at 0) (at + 3) stop ≡ Upto b → (get_or s at 0 ≡ 0x61 → ⊥) → Found s (literal_first (row_at s at end)) Nowhere
     first_rest {b} x h = record { is = first-is b x ∙ rw (ne_eqb (get_or s at 0) 0x61 h) }
 
 -- ---- An argument
@@ -71,8 +71,8 @@ unfolding argument
 not_plain t x none h = refl
 not_plain t x (more f fs) h = ap (λ (b : Bool). cond b (some (fixed_of f)) nothing) (and-middle (eqb t 0x75) (same x (0 ∷ [])) (has 0x61 f) h)
 
-is_plain : (x : List ℕ) (cs : Fields) → same x (0 ∷ []) ≡ true → argument (some (field 0x75 x cs)) ≡ literalFirst cs
-unfolding argument literalFirst
+is_plain : (x : List ℕ) (cs : Fields) → same x (0 ∷ []) ≡ true → argument (some (field 0x75 x cs)) ≡ literal_first cs
+unfolding argument literal_first
 is_plain x none h = refl
 is_plain x (more f fs) h = ap (λ (b : Bool). cond (b && has 0x61 f) (some (fixed_of f)) nothing) h
 
@@ -90,21 +90,21 @@ same-zero (b ∷ []) a h e = and-true (eqb b 0) ∙ ap (λ (k : ℕ). eqb k 0) e
 same-zero (b ∷ (c ∷ x)) a h e = absurd (omega arith)
 
 module _ (s : List ℕ) (at stop : ℕ) where
-  pub argument-other : (get_or s at 0 ≡ 0x75 → ⊥) → Found s (argument (some (treeAt s at stop))) Nowhere
+  pub argument-other : (get_or s at 0 ≡ 0x75 → ⊥) → Found s (argument (some (tree_at s at stop))) Nowhere
   argument-other h = record { is = go (fixed_at s (get_or s at 0) (at + 3) stop) refl }
     where
-      go : (r : Reach) → fixed_at s (get_or s at 0) (at + 3) stop ≡ r → argument (some (treeAt s at stop)) ≡ nothing
+      go : (r : Reach) → fixed_at s (get_or s at 0) (at + 3) stop ≡ r → argument (some (tree_at s at stop)) ≡ nothing
       go Short e = ap (λ (f : Field). argument (some f)) (tree-short s at stop e) ∙ not-75 0 [] none (λ z. omega arith)
       go (Upto b) e = ap (λ (f : Field). argument (some f)) (tree-upto s at stop b e) ∙ not-75 (get_or s at 0) (slice (at + 3) b s) (row_at s b stop) h
 
-  pub argument-short : fixed_at s (get_or s at 0) (at + 3) stop ≡ Short → Found s (argument (some (treeAt s at stop))) Nowhere
+  pub argument-short : fixed_at s (get_or s at 0) (at + 3) stop ≡ Short → Found s (argument (some (tree_at s at stop))) Nowhere
   argument-short e = record { is = ap (λ (f : Field). argument (some f)) (tree-short s at stop e) ∙ not-75 0 [] none (λ z. omega arith) }
 
   module _ {b : ℕ} (e : fixed_at s (get_or s at 0) (at + 3) stop ≡ Upto b) (fits : (at + 3 ≤ b) × (b ≤ length s)) where
-    argument_is : argument (some (treeAt s at stop)) ≡ argument (some (field (get_or s at 0) (slice (at + 3) b s) (row_at s b stop)))
+    argument_is : argument (some (tree_at s at stop)) ≡ argument (some (field (get_or s at 0) (slice (at + 3) b s) (row_at s b stop)))
     argument_is = ap (λ (f : Field). argument (some f)) (tree-upto s at stop b e)
 
-    pub argument-wide : (b ≡ at + 4 → ⊥) → Found s (argument (some (treeAt s at stop))) Nowhere
+    pub argument-wide : (b ≡ at + 4 → ⊥) → Found s (argument (some (tree_at s at stop))) Nowhere
     argument-wide h =
         let l = length-slice (at + 3) b s fits.1 in
         record { is = argument_is ∙ not_plain (get_or s at 0) (slice (at + 3) b s) (row_at s b stop) (same_length (slice (at + 3) b s) (λ z. h (omega arith))) }
@@ -114,13 +114,13 @@ module _ (s : List ℕ) (at stop : ℕ) where
       spread =
           let l = length-slice (at + 3) b s fits.1 in
           let z : at + 3 + 0 ≡ at + 3 = omega arith in
-          same-zero (slice (at + 3) b s) (get_or s (at + 3) 0) (omega arith) (getD-slice (at + 3) b s 0 (omega arith) ∙ ap (λ (k : ℕ). get_or s k 0) z)
+          same-zero (slice (at + 3) b s) (get_or s (at + 3) 0) (omega arith) (get_d-slice (at + 3) b s 0 (omega arith) ∙ ap (λ (k : ℕ). get_or s k 0) z)
 
-      pub argument-spread : (get_or s (at + 3) 0 ≡ 0 → ⊥) → Found s (argument (some (treeAt s at stop))) Nowhere
+      pub argument-spread : (get_or s (at + 3) 0 ≡ 0 → ⊥) → Found s (argument (some (tree_at s at stop))) Nowhere
       argument-spread h =
           record { is = argument_is ∙ not_plain (get_or s at 0) (slice (at + 3) b s) (row_at s b stop) (spread ∙ ne_eqb (get_or s (at + 3) 0) 0 h) }
 
-      pub argument-plain : (r : Standing) → get_or s at 0 ≡ 0x75 → get_or s (at + 3) 0 ≡ 0 → Found s (literalFirst (row_at s b stop)) r → Found s (argument (some (treeAt s at stop))) r
+      pub argument-plain : (r : Standing) → get_or s at 0 ≡ 0x75 → get_or s (at + 3) 0 ≡ 0 → Found s (literal_first (row_at s b stop)) r → Found s (argument (some (tree_at s at stop))) r
       argument-plain r h k f =
           found_as r (argument_is ∙ ap (λ (t : ℕ). argument (some (field t (slice (at + 3) b s) (row_at s b stop)))) h
           ∙ is_plain (slice (at + 3) b s) (row_at s b stop) (spread ∙ eq-eqb (get_or s (at + 3) 0) 0 k)) f
@@ -128,17 +128,17 @@ module _ (s : List ℕ) (at stop : ℕ) where
 -- ---- The one argument
 
 module _ (s : List ℕ) (at end : ℕ) (le : at ≤ end) where
-  pub sole_none : extentAt s at end ≡ Short → Found s (argument (sole (row_at s at end))) Nowhere
+  pub sole_none : extent_at s at end ≡ Short → Found s (argument (sole (row_at s at end))) Nowhere
   unfolding sole argument
   sole_none e = record { is = ap (λ (f : Fields). argument (sole f)) (row-none s at end le e) }
 
-  module _ {stop : ℕ} (e : extentAt s at end ≡ Upto stop) (le' : stop ≤ end) where
-    pub sole-two : {next : ℕ} → extentAt s stop end ≡ Upto next → Found s (argument (sole (row_at s at end))) Nowhere
+  module _ {stop : ℕ} (e : extent_at s at end ≡ Upto stop) (le' : stop ≤ end) where
+    pub sole-two : {next : ℕ} → extent_at s stop end ≡ Upto next → Found s (argument (sole (row_at s at end))) Nowhere
     unfolding sole argument
     sole-two {next} x =
-        record { is = ap (λ (f : Fields). argument (sole f)) (row_more s at end stop le e ∙ ap (more (treeAt s at stop)) (row_more s stop end next le' x)) }
+        record { is = ap (λ (f : Fields). argument (sole f)) (row_more s at end stop le e ∙ ap (more (tree_at s at stop)) (row_more s stop end next le' x)) }
 
-    pub sole-one : (r : Standing) → extentAt s stop end ≡ Short → Found s (argument (some (treeAt s at stop))) r → Found s (argument (sole (row_at s at end))) r
+    pub sole-one : (r : Standing) → extent_at s stop end ≡ Short → Found s (argument (some (tree_at s at stop))) r → Found s (argument (sole (row_at s at end))) r
     unfolding sole
     sole-one r x f =
-        found_as r (ap (λ (f : Fields). argument (sole f)) (row_more s at end stop le e ∙ ap (more (treeAt s at stop)) (row-none s stop end le' x))) f
+        found_as r (ap (λ (f : Fields). argument (sole f)) (row_more s at end stop le e ∙ ap (more (tree_at s at stop)) (row-none s stop end le' x))) f

@@ -11,21 +11,21 @@ use borrow.Author.Tests.{eq-eqb, ne_eqb}
 use Rattle.scope.specs.declared.id.SyntaxContext.{SyntaxContext}
 use Rattle.scope.specs.declared.id.Id.{Id}
 use Rattle.scope.specs.declared.id.ModuleId.{ModuleId}
-use Rattle.scope.specs.Id.{export, exportCtxt}
+use Rattle.scope.specs.Id.{export, export_ctxt}
 use Rattle.tree.specs.declared.layout.Reach.TheVariants.{Upto, Short}
-use Rattle.tree.specs.Layout.{Bytes, two, four, twoAt, value_of}
+use Rattle.tree.specs.Layout.{Bytes, two, four, two_at, value_of}
 use Rattle.tree.specs.Tree.{Field, tag_of, fixed_of}
 use Rattle.tree.specs.Access.{fixed_at}
-use Rattle.tree.specs.Standing.{treeAt}
-use Rattle.tree.proofs.LayoutLaws.{two_at}
+use Rattle.tree.specs.Standing.{tree_at}
+use Rattle.tree.proofs.LayoutLaws.{two_at-is}
 use Rattle.tree.proofs.StandingLaws.{tree-upto, tree-short}
 use Rattle.tree.proofs.WidthLaws.{plain-ends}
 use Rattle.tree.specs.declared.grammar.Value.TheVariants.{Atom as TwoBytes}
 use Rattle.inputs.specs.Outcome.{Outcome, done, refused, onto}
 use Rattle.extraction_rules.specs.State.{Record, State, Setting}
-use Rattle.extraction_rules.specs.First.{moduleFor, usedRecord, addUsage, useFrom, useProperty}
-use Rattle.state.specs.Cells.{Env, Good, idBy, Shows}
-use Rattle.state.specs.Does.{Tells, Says, Acts, Anyhow, Resolves, source_of, sourceBy}
+use Rattle.extraction_rules.specs.First.{module_for, used_record, add_usage, use_from, use_property}
+use Rattle.state.specs.Cells.{Env, Good, id_by, Shows}
+use Rattle.state.specs.Does.{Tells, Says, Acts, Anyhow, Resolves, source_of, source_by}
 use Rattle.state.specs.declared.Room.{Room}
 use Rattle.state.specs.declared.Room.TheVariants.{Made, Full}
 use Rattle.state.specs.declared.Source.{Source}
@@ -42,94 +42,94 @@ use Rattle.expressions.proofs.EffectLaws.{effects-skip, effects-refuse, effects-
 
 -- ---- The property
 
-private-is : (n : ℕ) (i : List ℕ) (q : Field) (at p : ℕ) (u : State) → tag_of q ≡ 0x72 → useProperty (some n) i q at p u ≡ refused 7 at
-unfolding useProperty
+private-is : (n : ℕ) (i : List ℕ) (q : Field) (at p : ℕ) (u : State) → tag_of q ≡ 0x72 → use_property (some n) i q at p u ≡ refused 7 at
+unfolding use_property
 private-is n i q at p u h = rw (eq-eqb (tag_of q) 0x72 h)
 
 property-is : (n : ℕ) (i : List ℕ) (q : Field) (at p : ℕ) (u : State) (j : List ℕ) → tag_of q ≡ 0x70 → j ≡ fixed_of q ++ four (export n) →
-    useProperty (some n) i q at p u ≡ addUsage (record { id = i; property = j }) p u
-unfolding useProperty
+    use_property (some n) i q at p u ≡ add_usage (record { id = i; property = j }) p u
+unfolding use_property
 property-is n i q at p u j h e =
-    rw (ne_eqb (tag_of q) 0x72 (λ z. omega arith)) (ap (λ (k : List ℕ). addUsage (record { id = i; property = k }) p u) (sym e))
+    rw (ne_eqb (tag_of q) 0x72 (λ z. omega arith)) (ap (λ (k : List ℕ). add_usage (record { id = i; property = k }) p u) (sym e))
 
 module _ (s : List ℕ) (at member end : ℕ) (id : Id) (n : ModuleId) where
   abbrev Uses : List ℕ → List ℕ → Effect → Type 0
-  Uses t t' k = Effects (λ x u. Named (treeAt s member end)) (λ _. useProperty (some n.0) (idBy id) (treeAt s member end) member at) t t' k
+  Uses t t' k = Effects (λ x u. Named (tree_at s member end)) (λ _. use_property (some n.0) (id_by id) (tree_at s member end) member at) t t' k
 
   pub property-short : {t : List ℕ} → Good t → fixed_at s (get_or s member 0) (member + 3) end ≡ Short → Uses t t Fine
   property-short g e =
-      let z : tag_of (treeAt s member end) ≡ 0 = ap tag_of (tree-short s member end e) in
+      let z : tag_of (tree_at s member end) ≡ 0 = ap tag_of (tree-short s member end e) in
       effects-skip g (λ x u v w. absurd (⊎_elim (λ a. omega arith) (λ a. omega arith) w))
 
   module _ {b : ℕ} (e : fixed_at s (get_or s member 0) (member + 3) end ≡ Upto b) where
-    tag_is : tag_of (treeAt s member end) ≡ get_or s member 0
+    tag_is : tag_of (tree_at s member end) ≡ get_or s member 0
     tag_is = ap tag_of (tree-upto s member end b e)
 
     pub property-private : {t : List ℕ} → Good t → get_or s member 0 ≡ 0x72 → Uses t t (Turned PrivateName member)
     property-private g h =
-        effects-refuse PrivateName member g (λ x u v w. private-is n.0 (idBy id) (treeAt s member end) member at u (tag_is ∙ h))
+        effects-refuse PrivateName member g (λ x u v w. private-is n.0 (id_by id) (tree_at s member end) member at u (tag_is ∙ h))
 
     pub property-other : {t : List ℕ} → Good t → (get_or s member 0 ≡ 0x72 → ⊥) → (get_or s member 0 ≡ 0x70 → ⊥) → Uses t t Fine
     property-other g h k =
         effects-skip g (λ x u v w. absurd (⊎_elim (λ a. k (sym tag_is ∙ a)) (λ a. h (sym tag_is ∙ a)) w))
 
-    module _ {j : Id} {t t' : List ℕ} {r : Room} (bs : Bytes s) (fits : member + 5 ≤ length s) (tag : get_or s member 0 ≡ 0x70) (z : j.0.0 ≡ twoAt s (member + 3))
-        (m : j.1 ≡ exportCtxt n) (k : Acts Anyhow (λ _. addUsage (record { id = idBy id; property = idBy j })) t t' r) where
-      named : idBy j ≡ fixed_of (treeAt s member end) ++ four (export n.0)
+    module _ {j : Id} {t t' : List ℕ} {r : Room} (bs : Bytes s) (fits : member + 5 ≤ length s) (tag : get_or s member 0 ≡ 0x70) (z : j.0.0 ≡ two_at s (member + 3))
+        (m : j.1 ≡ export_ctxt n) (k : Acts Anyhow (λ _. add_usage (record { id = id_by id; property = id_by j })) t t' r) where
+      named : id_by j ≡ fixed_of (tree_at s member end) ++ four (export n.0)
       named =
           let w = plain-ends 0x70 TwoBytes refl s (get_or s member 0) (member + 3) end b tag e in
-          let y : two j.0.0 ≡ slice (member + 3) b s = ap two z ∙ two_at s (member + 3) bs (omega arith) ∙ ap (λ (k : ℕ). slice (member + 3) k s) (sym w) in
+          let y : two j.0.0 ≡ slice (member + 3) b s = ap two z ∙ two_at-is s (member + 3) bs (omega arith) ∙ ap (λ (k : ℕ). slice (member + 3) k s) (sym w) in
           ap₂ ◌++◌ (y ∙ sym (ap fixed_of (tree-upto s member end b e))) (ap (λ (x : SyntaxContext). four x.0) m)
 
       pub property-made : r ≡ Made → Uses t t' Fine
-      property-made q = effects-made at k q (λ x u v w. (tt, property-is n.0 (idBy id) (treeAt s member end) member at u (idBy j) (tag_is ∙ tag) named))
+      property-made q = effects-made at k q (λ x u v w. (tt, property-is n.0 (id_by id) (tree_at s member end) member at u (id_by j) (tag_is ∙ tag) named))
 
       pub property-full : r ≡ Full → Uses t t' (Turned TableFull at)
-      property-full q = effects-full at k q (λ x u v w. (tt, property-is n.0 (idBy id) (treeAt s member end) member at u (idBy j) (tag_is ∙ tag) named))
+      property-full q = effects-full at k q (λ x u v w. (tt, property-is n.0 (id_by id) (tree_at s member end) member at u (id_by j) (tag_is ∙ tag) named))
 
 -- ---- The record
 
-no_record : (o : Option Record) (e : Setting) (i : List ℕ) (q : Field) (at p : ℕ) (u : State) → nothing ≡ source_of o → useFrom o e i q at p u ≡ done (tt, u)
-unfolding useFrom
+no_record : (o : Option Record) (e : Setting) (i : List ℕ) (q : Field) (at p : ℕ) (u : State) → nothing ≡ source_of o → use_from o e i q at p u ≡ done (tt, u)
+unfolding use_from
 no_record nothing e i q at p u h = refl
 no_record (some r) e i q at p u h = absurd (let z : ◌≡◌ {A = ℕ} 0 1 = cc in omega arith)
 
 a-record : (o : Option Record) (e : Setting) (i : List ℕ) (q : Field) (at p : ℕ) (u : State) (a : List ℕ) → some a ≡ source_of o →
-    useFrom o e i q at p u ≡ onto (moduleFor e a p u) (λ r. useProperty r.0 i q at p r.1)
-unfolding useFrom
+    use_from o e i q at p u ≡ onto (module_for e a p u) (λ r. use_property r.0 i q at p r.1)
+unfolding use_from
 a-record nothing e i q at p u a h = absurd (let z : ◌≡◌ {A = ℕ} 0 1 = cc in omega arith)
 a-record (some r) e i q at p u a h =
     let z : value_of r.literal ≡ a = cc in
-    ap (λ (l : List ℕ). onto (moduleFor e l p u) (λ r. useProperty r.0 i q at p r.1)) z
+    ap (λ (l : List ℕ). onto (module_for e l p u) (λ r. use_property r.0 i q at p r.1)) z
 
-no-property : (i : List ℕ) (q : Field) (at p : ℕ) (u : State) → useProperty nothing i q at p u ≡ done (tt, u)
-unfolding useProperty
+no-property : (i : List ℕ) (q : Field) (at p : ℕ) (u : State) → use_property nothing i q at p u ≡ done (tt, u)
+unfolding use_property
 no-property i q at p u = refl
 
 -- from the array t to t', with the answer k
 abbrev UsesFrom : Field → ℕ → ℕ → Id → List ℕ → List ℕ → Effect → Type 0
 UsesFrom q at member id t t' k =
-    Effects (λ x u. Named q) (λ x u. useFrom (usedRecord x.setting.own (idBy id) u.collected) x.setting (idBy id) q member at u) t t' k
+    Effects (λ x u. Named q) (λ x u. use_from (used_record x.setting.own (id_by id) u.collected) x.setting (id_by id) q member at u) t t' k
 
 -- the record is looked for by the own module
-record_is : (id : Id) (own : ModuleId) (r : Source) {t : List ℕ} → Says (λ e. e.own) t own.0 → Tells (λ u. source_of (usedRecord own.0 (idBy id) u.collected)) t (sourceBy r) →
-    (x : Env) (u : State) → Shows x t u → sourceBy r ≡ source_of (usedRecord x.setting.own (idBy id) u.collected)
-record_is id own r o w x u v = w.is u v ∙ ap (λ (n : ℕ). source_of (usedRecord n (idBy id) u.collected)) (o.is u v)
+record_is : (id : Id) (own : ModuleId) (r : Source) {t : List ℕ} → Says (λ e. e.own) t own.0 → Tells (λ u. source_of (used_record own.0 (id_by id) u.collected)) t (source_by r) →
+    (x : Env) (u : State) → Shows x t u → source_by r ≡ source_of (used_record x.setting.own (id_by id) u.collected)
+record_is id own r o w x u v = w.is u v ∙ ap (λ (n : ℕ). source_of (used_record n (id_by id) u.collected)) (o.is u v)
 
 module _ (q : Field) (at member : ℕ) (id : Id) {t : List ℕ} {own : ModuleId} {r : Source} (o : Says (λ e. e.own) t own.0)
-    (w : Tells (λ u. source_of (usedRecord own.0 (idBy id) u.collected)) t (sourceBy r)) where
+    (w : Tells (λ u. source_of (used_record own.0 (id_by id) u.collected)) t (source_by r)) where
   pub from-none : Good t → r ≡ Nothing → UsesFrom q at member id t t Fine
   from-none g h =
-      effects-skip g (λ x u v n. no_record (usedRecord x.setting.own (idBy id) u.collected) x.setting (idBy id) q member at u (ap sourceBy (sym h) ∙ record_is id own r o w x u v))
+      effects-skip g (λ x u v n. no_record (used_record x.setting.own (id_by id) u.collected) x.setting (id_by id) q member at u (ap source_by (sym h) ∙ record_is id own r o w x u v))
 
-  module _ {a : Atom} {t1 : List ℕ} {m : Module} (h : r ≡ From a) (k : Resolves (λ e. moduleFor e (two a.0)) t t1 m) where
-    on-module : {x : Env} (u : State) → Shows x t u → (b : Outcome (Option ℕ × State)) → moduleFor x.setting (two a.0) at u ≡ b →
-        useFrom (usedRecord x.setting.own (idBy id) u.collected) x.setting (idBy id) q member at u ≡ onto b (λ r. useProperty r.0 (idBy id) q member at r.1)
+  module _ {a : Atom} {t1 : List ℕ} {m : Module} (h : r ≡ From a) (k : Resolves (λ e. module_for e (two a.0)) t t1 m) where
+    on-module : {x : Env} (u : State) → Shows x t u → (b : Outcome (Option ℕ × State)) → module_for x.setting (two a.0) at u ≡ b →
+        use_from (used_record x.setting.own (id_by id) u.collected) x.setting (id_by id) q member at u ≡ onto b (λ r. use_property r.0 (id_by id) q member at r.1)
     on-module {x} u v b z =
-        a-record (usedRecord x.setting.own (idBy id) u.collected) x.setting (idBy id) q member at u (two a.0) (ap sourceBy (sym h) ∙ record_is id own r o w x u v)
-        ∙ ap (λ (b : Outcome (Option ℕ × State)). onto b (λ r. useProperty r.0 (idBy id) q member at r.1)) z
+        a-record (used_record x.setting.own (id_by id) u.collected) x.setting (id_by id) q member at u (two a.0) (ap source_by (sym h) ∙ record_is id own r o w x u v)
+        ∙ ap (λ (b : Outcome (Option ℕ × State)). onto b (λ r. use_property r.0 (id_by id) q member at r.1)) z
 
-    pub from-number : {n : ModuleId} {t2 : List ℕ} {f : Effect} → m ≡ Numbered n → Effects (λ x u. Named q) (λ _. useProperty (some n.0) (idBy id) q member at) t1 t2 f →
+    pub from-number : {n : ModuleId} {t2 : List ℕ} {f : Effect} → m ≡ Numbered n → Effects (λ x u. Named q) (λ _. use_property (some n.0) (id_by id) q member at) t1 t2 f →
         UsesFrom q at member id t t2 f
     from-number {n} z y =
         record {
@@ -149,7 +149,7 @@ module _ (q : Field) (at member : ℕ) (id : Id) {t : List ℕ} {own : ModuleId}
           good = k.good;
           fine = λ o {x} u v c.
               let g = k.unresolved z u at v in
-              record { state = g.state; is = on-module u v (done (nothing, g.state)) g.is ∙ no-property (idBy id) q member at g.state; shows = g.shows };
+              record { state = g.state; is = on-module u v (done (nothing, g.state)) g.is ∙ no-property (id_by id) q member at g.state; shows = g.shows };
           turned = λ b p o. absurd (let z : ◌≡◌ {A = ℕ} 0 1 = cc in omega arith);
         }
 

@@ -13,23 +13,23 @@ use Rattle.tree.specs.declared.layout.Reach.{Reach}
 use Rattle.tree.specs.declared.layout.Reach.TheVariants.{Upto, Short}
 use Rattle.tree.specs.Layout.{two, id_at, value_of}
 use Rattle.tree.specs.Tree.{Field, field, Fields, none, more}
-use Rattle.tree.specs.Access.{fixed_at, extentAt}
-use Rattle.tree.specs.Standing.{treeAt, row_at}
+use Rattle.tree.specs.Access.{fixed_at, extent_at}
+use Rattle.tree.specs.Standing.{tree_at, row_at}
 use Rattle.tree.proofs.LayoutLaws.{same-two}
 use Rattle.tree.proofs.StandingLaws.{row_more, row-none, tree-upto, tree-short}
 use Rattle.tree.proofs.WidthLaws.{tree-bare}
 use Rattle.inputs.specs.Lists.{among}
 use Rattle.inputs.specs.Fields.{sole}
 use Rattle.extraction_rules.specs.State.{State, Pass, first, second, Setting}
-use Rattle.extraction_rules.specs.First.{external, argument, notExternal}
+use Rattle.extraction_rules.specs.First.{external, argument, not_external}
 use Rattle.scope.specs.declared.id.Id.{Id}
-use Rattle.state.specs.Cells.{Env, literalBy, Valued, Shows}
-use Rattle.state.specs.Does.{Tells, Says, isSecond, place_in}
+use Rattle.state.specs.Cells.{Env, literal_by, Valued, Shows}
+use Rattle.state.specs.Does.{Tells, Says, is_second, place_in}
 use Rattle.state.specs.declared.Literal.{Literal}
-use Rattle.steps.specs.Step.{identBy, Reads}
+use Rattle.steps.specs.Step.{ident_by, Reads}
 use Rattle.steps.specs.declared.Ident.{Ident}
 use Rattle.steps.specs.declared.Ident.TheVariants.{Is, Other}
-use Rattle.expressions.specs.After.{passOf, identAfter, ifRequire, requiredAfter}
+use Rattle.expressions.specs.After.{pass_of, ident_after, if_require, required_after}
 use Rattle.expressions.specs.Require.{FoundIs, Found, RequiredIs}
 use Rattle.expressions.specs.declared.require.Standing.{Standing}
 use Rattle.expressions.specs.declared.require.Standing.TheVariants.{At, Nowhere}
@@ -38,31 +38,31 @@ use Rattle.expressions.specs.declared.require.Source.TheVariants.{Is as Lit, Oth
 
 -- ---- Fields
 
-not_on : (e : Setting) (f : Field) (u : State) → e.config.require ≡ false → requiredAfter e f u ≡ nothing
-unfolding requiredAfter
+not_on : (e : Setting) (f : Field) (u : State) → e.config.require ≡ false → required_after e f u ≡ nothing
+unfolding required_after
 not_on e (field t x none) u h = refl
 not_on e (field t x (more c gs)) u h =
-    ap (λ (b : Bool). cond (b && eqb t 0x65) (ifRequire (identAfter c e.pass u) (notExternal e (argument (sole gs)))) nothing) h
+    ap (λ (b : Bool). cond (b && eqb t 0x65) (if_require (ident_after c e.pass u) (not_external e (argument (sole gs)))) nothing) h
 
-not_call : (e : Setting) (t : ℕ) (x : List ℕ) (cs : Fields) (u : State) → (t ≡ 0x65 → ⊥) → requiredAfter e (field t x cs) u ≡ nothing
-unfolding requiredAfter
+not_call : (e : Setting) (t : ℕ) (x : List ℕ) (cs : Fields) (u : State) → (t ≡ 0x65 → ⊥) → required_after e (field t x cs) u ≡ nothing
+unfolding required_after
 not_call e t x none u h = refl
 not_call e t x (more c gs) u h =
-    ap (λ (b : Bool). cond b (ifRequire (identAfter c e.pass u) (notExternal e (argument (sole gs)))) nothing)
+    ap (λ (b : Bool). cond b (if_require (ident_after c e.pass u) (not_external e (argument (sole gs)))) nothing)
     (ap (λ (b : Bool). e.config.require && b) (ne_eqb t 0x65 h) ∙ and-false e.config.require)
 
 is_call : (e : Setting) (c : Field) (gs : Fields) (u : State) → e.config.require ≡ true →
-    requiredAfter e (field 0x65 [] (more c gs)) u ≡ ifRequire (identAfter c e.pass u) (notExternal e (argument (sole gs)))
-unfolding requiredAfter
-is_call e c gs u h = ap (λ (b : Bool). cond (b && eqb 0x65 0x65) (ifRequire (identAfter c e.pass u) (notExternal e (argument (sole gs)))) nothing) h
+    required_after e (field 0x65 [] (more c gs)) u ≡ if_require (ident_after c e.pass u) (not_external e (argument (sole gs)))
+unfolding required_after
+is_call e c gs u h = ap (λ (b : Bool). cond (b && eqb 0x65 0x65) (if_require (ident_after c e.pass u) (not_external e (argument (sole gs)))) nothing) h
 
-not-external : (e : Setting) (o : Option (List ℕ)) (l : List ℕ) (b : Bool) → o ≡ some l → external e l ≡ b → notExternal e o ≡ cond b nothing (some l)
-unfolding notExternal
-not-external e o l b h k = ap (notExternal e) h ∙ ap (λ (c : Bool). cond c nothing (some l)) k
+not-external : (e : Setting) (o : Option (List ℕ)) (l : List ℕ) (b : Bool) → o ≡ some l → external e l ≡ b → not_external e o ≡ cond b nothing (some l)
+unfolding not_external
+not-external e o l b h k = ap (not_external e) h ∙ ap (λ (c : Bool). cond c nothing (some l)) k
 
-no-argument : (e : Setting) (o : Option (List ℕ)) → o ≡ nothing → notExternal e o ≡ nothing
-unfolding notExternal
-no-argument e o h = ap (notExternal e) h
+no-argument : (e : Setting) (o : Option (List ℕ)) → o ≡ nothing → not_external e o ≡ nothing
+unfolding not_external
+no-argument e o h = ap (not_external e) h
 
 outside : (e : Setting) (l v : List ℕ) → value_of l ≡ v → external e l ≡ among v e.externals
 unfolding external
@@ -81,7 +81,7 @@ pub found-fits : {s : List ℕ} {o : Option (List ℕ)} {r : Standing} {at : ℕ
 found-fits {s} {o} {at = at} f h = let w : FoundIs s o (At at) = rw h at f.is in w.1
 
 module _ {s t : List ℕ} {o : Option (List ℕ)} {r : Standing} (f : Found s o r) where
-  pub source-none : r ≡ Nowhere → RequiredIs (λ e _. notExternal e o) s t NoLit
+  pub source-none : r ≡ Nowhere → RequiredIs (λ e _. not_external e o) s t NoLit
   source-none h = record { is = λ {x} u v n. no-argument x.setting o (rw h at f.is) }
 
   module _ (l : Literal) {at p : ℕ} {b : Bool} (h : r ≡ At at) (k : Says (λ e. place_in e.pass at) t p) (z : (value_of (id_at s at) ≡ two l.value.0) × (l.place ≡ p))
@@ -90,78 +90,78 @@ module _ {s t : List ℕ} {o : Option (List ℕ)} {r : Standing} (f : Found s o 
     stands = rw h at f.is
 
     -- the bytes that its place stands for
-    bytes-are : {x : Env} (u : State) → Shows x t u → Reads x s → literalBy x l ≡ id_at s at
+    bytes-are : {x : Env} (u : State) → Shows x t u → Reads x s → literal_by x l ≡ id_at s at
     bytes-are {x} u v n = ap x.literal (z.1 ∙ k.is u v) ∙ n.literals at stands.1
 
     valued-is : {x : Env} (u : State) → Shows x t u → Reads x s → Valued x l
     valued-is u v n = ap value_of (bytes-are u v n) ∙ z.0
 
-    literal-is : {x : Env} (u : State) → Shows x t u → Reads x s → notExternal x.setting o ≡ cond b nothing (some (literalBy x l))
+    literal-is : {x : Env} (u : State) → Shows x t u → Reads x s → not_external x.setting o ≡ cond b nothing (some (literal_by x l))
     literal-is {x} u v n =
-        not-external x.setting o (literalBy x l) b (stands.0 ∙ ap some (sym (bytes-are u v n)))
-        (outside x.setting (literalBy x l) (two l.value.0) (valued-is u v n) ∙ sym (y.is u v))
+        not-external x.setting o (literal_by x l) b (stands.0 ∙ ap some (sym (bytes-are u v n)))
+        (outside x.setting (literal_by x l) (two l.value.0) (valued-is u v n) ∙ sym (y.is u v))
 
-    pub source-external : b ≡ true → RequiredIs (λ e _. notExternal e o) s t NoLit
+    pub source-external : b ≡ true → RequiredIs (λ e _. not_external e o) s t NoLit
     source-external i = record { is = λ {x} u v n. literal-is u v n ∙ rw i }
 
-    pub source_is : b ≡ false → RequiredIs (λ e _. notExternal e o) s t (Lit l)
+    pub source_is : b ≡ false → RequiredIs (λ e _. not_external e o) s t (Lit l)
     source_is i = record { is = λ {x} u v n. (literal-is u v n ∙ rw i, valued-is u v n) }
 
 -- ---- The call
 
 -- the pass, as it is asked
-pass-is : (k : Pass) → passOf (isSecond k) ≡ k
+pass-is : (k : Pass) → pass_of (is_second k) ≡ k
 pass-is first = refl
 pass-is second = refl
 
 module _ (s : List ℕ) (at stop : ℕ) where
   abbrev Answers : List ℕ → Source → Type 0
-  Answers t r = RequiredIs (λ e. requiredAfter e (treeAt s at stop)) s t r
+  Answers t r = RequiredIs (λ e. required_after e (tree_at s at stop)) s t r
 
   pub call-other : {t : List ℕ} → (get_or s at 0 ≡ 0x65 → ⊥) → Answers t NoLit
   call-other h = record { is = λ {x} u v n. go x.setting u (fixed_at s (get_or s at 0) (at + 3) stop) refl }
     where
-      go : (e : Setting) (u : State) (r : Reach) → fixed_at s (get_or s at 0) (at + 3) stop ≡ r → requiredAfter e (treeAt s at stop) u ≡ nothing
-      go e u Short x = ap (λ (f : Field). requiredAfter e f u) (tree-short s at stop x) ∙ not_call e 0 [] none u (λ z. omega arith)
-      go e u (Upto b) x = ap (λ (f : Field). requiredAfter e f u) (tree-upto s at stop b x) ∙ not_call e (get_or s at 0) (slice (at + 3) b s) (row_at s b stop) u h
+      go : (e : Setting) (u : State) (r : Reach) → fixed_at s (get_or s at 0) (at + 3) stop ≡ r → required_after e (tree_at s at stop) u ≡ nothing
+      go e u Short x = ap (λ (f : Field). required_after e f u) (tree-short s at stop x) ∙ not_call e 0 [] none u (λ z. omega arith)
+      go e u (Upto b) x = ap (λ (f : Field). required_after e f u) (tree-upto s at stop b x) ∙ not_call e (get_or s at 0) (slice (at + 3) b s) (row_at s b stop) u h
 
   module _ {t : List ℕ} {on : Bool} (o : Says (λ e. e.config.require) t on) where
     pub call-off : on ≡ false → Answers t NoLit
-    call-off h = record { is = λ {x} u v n. not_on x.setting (treeAt s at stop) u (sym (o.is u v) ∙ h) }
+    call-off h = record { is = λ {x} u v n. not_on x.setting (tree_at s at stop) u (sym (o.is u v) ∙ h) }
 
     module _ (h : on ≡ true) (le : at + 3 ≤ stop) (tag : get_or s at 0 ≡ 0x65) where
-      pub call-bare : extentAt s (at + 3) stop ≡ Short → Answers t NoLit
-      unfolding requiredAfter
+      pub call-bare : extent_at s (at + 3) stop ≡ Short → Answers t NoLit
+      unfolding required_after
       call-bare x =
           record {
             is = λ {x = y} u v n.
-                ap (λ (f : Field). requiredAfter y.setting f u) (tree-bare 0x65 refl s at stop le tag ∙ ap (field 0x65 []) (row-none s (at + 3) stop le x));
+                ap (λ (f : Field). required_after y.setting f u) (tree-bare 0x65 refl s at stop le tag ∙ ap (field 0x65 []) (row-none s (at + 3) stop le x));
           }
 
-      module _ {callee : ℕ} {pass : Bool} (r : Ident) (x : extentAt s (at + 3) stop ≡ Upto callee) (p : Says (λ e. isSecond e.pass) t pass)
-          (w : Tells (identAfter (treeAt s (at + 3) callee) (passOf pass)) t (identBy r)) where
+      module _ {callee : ℕ} {pass : Bool} (r : Ident) (x : extent_at s (at + 3) stop ≡ Upto callee) (p : Says (λ e. is_second e.pass) t pass)
+          (w : Tells (ident_after (tree_at s (at + 3) callee) (pass_of pass)) t (ident_by r)) where
         -- by the id of its callee
         call-is : {y : Env} (u : State) → Shows y t u →
-            requiredAfter y.setting (treeAt s at stop) u ≡ ifRequire (identBy r) (notExternal y.setting (argument (sole (row_at s callee stop))))
+            required_after y.setting (tree_at s at stop) u ≡ if_require (ident_by r) (not_external y.setting (argument (sole (row_at s callee stop))))
         call-is {y} u v =
-            ap (λ (f : Field). requiredAfter y.setting f u) (tree-bare 0x65 refl s at stop le tag ∙ ap (field 0x65 []) (row_more s (at + 3) stop callee le x))
-            ∙ is_call y.setting (treeAt s (at + 3) callee) (row_at s callee stop) u (sym (o.is u v) ∙ h)
-            ∙ ap (λ (i : Option (List ℕ)). ifRequire i (notExternal y.setting (argument (sole (row_at s callee stop)))))
-            (sym (w.is u v ∙ ap (λ (k : Pass). identAfter (treeAt s (at + 3) callee) k u) (ap passOf (p.is u v) ∙ pass-is y.setting.pass)))
+            ap (λ (f : Field). required_after y.setting f u) (tree-bare 0x65 refl s at stop le tag ∙ ap (field 0x65 []) (row_more s (at + 3) stop callee le x))
+            ∙ is_call y.setting (tree_at s (at + 3) callee) (row_at s callee stop) u (sym (o.is u v) ∙ h)
+            ∙ ap (λ (i : Option (List ℕ)). if_require i (not_external y.setting (argument (sole (row_at s callee stop)))))
+            (sym (w.is u v ∙ ap (λ (k : Pass). ident_after (tree_at s (at + 3) callee) k u) (ap pass_of (p.is u v) ∙ pass-is y.setting.pass)))
 
         pub call-nameless : r ≡ Other → Answers t NoLit
-        call-nameless i = record { is = λ {x = y} u v n. call-is u v ∙ ap (λ (r : Ident). ifRequire (identBy r) (notExternal y.setting (argument (sole (row_at s callee stop))))) i }
+        call-nameless i = record { is = λ {x = y} u v n. call-is u v ∙ ap (λ (r : Ident). if_require (ident_by r) (not_external y.setting (argument (sole (row_at s callee stop))))) i }
 
         module _ {id : Id} (i : r ≡ Is id) (small : id.0.0 < 65536) where
           callee-is : {y : Env} (u : State) → Shows y t u →
-              requiredAfter y.setting (treeAt s at stop) u ≡ cond (eqb id.0.0 0) (notExternal y.setting (argument (sole (row_at s callee stop)))) nothing
+              required_after y.setting (tree_at s at stop) u ≡ cond (eqb id.0.0 0) (not_external y.setting (argument (sole (row_at s callee stop)))) nothing
           callee-is {y} u v =
               call-is u v
-              ∙ ap (λ (r : Ident). ifRequire (identBy r) (notExternal y.setting (argument (sole (row_at s callee stop))))) i
-              ∙ ap (λ (b : Bool). cond b (notExternal y.setting (argument (sole (row_at s callee stop)))) nothing) (same-two id.0.0 0 small (omega arith))
+              ∙ ap (λ (r : Ident). if_require (ident_by r) (not_external y.setting (argument (sole (row_at s callee stop))))) i
+              ∙ ap (λ (b : Bool). cond b (not_external y.setting (argument (sole (row_at s callee stop)))) nothing) (same-two id.0.0 0 small (omega arith))
 
           pub call-misnamed : (id.0.0 ≡ 0 → ⊥) → Answers t NoLit
           call-misnamed m = record { is = λ {x = y} u v n. callee-is u v ∙ rw (ne_eqb id.0.0 0 m) }
 
-          pub call-named : (q : Source) → id.0.0 ≡ 0 → RequiredIs (λ e _. notExternal e (argument (sole (row_at s callee stop)))) s t q → Answers t q
+          pub call-named : (q : Source) → id.0.0 ≡ 0 → RequiredIs (λ e _. not_external e (argument (sole (row_at s callee stop)))) s t q → Answers t q
           call-named q m f = required-as q f (λ y u v. callee-is u v ∙ rw (eq-eqb id.0.0 0 m))

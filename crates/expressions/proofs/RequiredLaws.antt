@@ -13,21 +13,21 @@ use Rattle.tree.specs.Tree.{Field, field, Fields, none, more, tag_of, fixed_of, 
 use Rattle.tree.specs.Grammar.{within}
 use Rattle.inputs.specs.Fields.{has, sole, inside}
 use Rattle.extraction_rules.specs.State.{Usage, State, Pass, first, second, Setting}
-use Rattle.extraction_rules.specs.First.{importedAs, onIdent, argument, notExternal, required, withCallee}
-use Rattle.extraction_rules.specs.Second.{usagesOf, asProperty, rewritten}
-use Rattle.extraction_rules.specs.Walk.{afterExpression, ruleFor, after, partsFor, walk, walkAll}
+use Rattle.extraction_rules.specs.First.{imported_as, on_ident, argument, not_external, required, with_callee}
+use Rattle.extraction_rules.specs.Second.{usages_of, as_property, rewritten}
+use Rattle.extraction_rules.specs.Walk.{after_expression, rule_for, after, parts_for, walk, walk_all}
 use Rattle.extraction_rules.proofs.OutcomeLaws.{After, after-bind, after-weaken}
 use Rattle.extraction_rules.proofs.ValueLaws.{after_any, first-expression}
-use Rattle.extraction_rules.proofs.WalkLaws.{walkParts}
+use Rattle.extraction_rules.proofs.WalkLaws.{walk_parts}
 use Rattle.extraction_rules.proofs.AlikeLaws.{Regular, RegularAll, required-named}
 use Rattle.extraction_rules.proofs.StayLaws.{Same, no_member, expression-same, walk_same}
-use Rattle.expressions.specs.After.{identOf, identAfter, ifRequire, requiredAfter}
+use Rattle.expressions.specs.After.{ident_of, ident_after, if_require, required_after}
 use Rattle.expressions.proofs.IdentLaws.{walk-ident}
 
 -- ---- A walked field has another tag only where a 63 became a 60
 
-property-tag : (us : List Usage) (c : Option (List ℕ)) (q f : Field) (u : ℕ) → (u ≡ 0x60 → ⊥) → tag_of (asProperty us c q f) ≡ u → tag_of f ≡ u
-unfolding asProperty
+property-tag : (us : List Usage) (c : Option (List ℕ)) (q f : Field) (u : ℕ) → (u ≡ 0x60 → ⊥) → tag_of (as_property us c q f) ≡ u → tag_of f ≡ u
+unfolding as_property
 property-tag [] c q f u h w = w
 property-tag (v ∷ us) nothing q f u h w = w
 property-tag (v ∷ us) (some c) q f u h w = go (has 0x70 q) w
@@ -39,24 +39,24 @@ property-tag (v ∷ us) (some c) q f u h w = go (has 0x70 q) w
 rewritten-tag : (o : Option (Field × Field)) (f : Field) (s : State) (u : ℕ) → (u ≡ 0x60 → ⊥) → tag_of (rewritten o f s) ≡ u → tag_of f ≡ u
 unfolding rewritten
 rewritten-tag nothing f s u h w = w
-rewritten-tag (some m) f s u h w = property-tag (usagesOf (fixed_of m.0) s.usages) (importedAs (fixed_of m.0) s.imported) m.1 f u h w
+rewritten-tag (some m) f s u h w = property-tag (usages_of (fixed_of m.0) s.usages) (imported_as (fixed_of m.0) s.imported) m.1 f u h w
 
 expression-tag : (k : Pass) (e : Setting) (t : ℕ) (x : List ℕ) (ds : Fields) (object : Bool) (p : ℕ) (s : State) (u : ℕ) → (u ≡ 0x60 → ⊥) →
-    After (afterExpression k e (field t x ds) object p s) (λ g s'. tag_of g ≡ u → t ≡ u)
-unfolding afterExpression
+    After (after_expression k e (field t x ds) object p s) (λ g s'. tag_of g ≡ u → t ≡ u)
+unfolding after_expression
 expression-tag first e t x ds object p s u h =
-    after-weaken (afterExpression first e (field t x ds) object p s) (λ g s'. Same t x g) _ (λ g s' q w. sym q.0 ∙ w)
+    after-weaken (after_expression first e (field t x ds) object p s) (λ g s'. Same t x g) _ (λ g s' q w. sym q.0 ∙ w)
     (expression-same first e t x ds object p s (λ z. absurd (let v : ◌≡◌ {A = ℕ} 0 1 = cc in omega arith)))
-expression-tag second e t x ds object p s u h = rewritten-tag (onIdent (field t x ds)) (field t x ds) s u h
+expression-tag second e t x ds object p s u h = rewritten-tag (on_ident (field t x ds)) (field t x ds) s u h
 
 -- a tag u that no 63 becomes
 member-other : (e : Setting) (x : List ℕ) (cs : Fields) (object : Bool) (p : ℕ) (s : State) (u : ℕ) → (u ≡ 0x60 → ⊥) → (0x63 ≡ u → ⊥) →
     After (walk (field 0x63 x cs) e object p s) (λ g s'. tag_of g ≡ u → ⊥)
-unfolding walk partsFor ruleFor within after
+unfolding walk parts_for rule_for within after
 member-other e x cs object p s u h k =
-    after-bind (walkParts (partsFor 0x63) cs e object (inside p x) s) _ (λ _ _. Unit {0}) (λ g s'. tag_of g ≡ u → ⊥)
-    (after_any (walkParts (partsFor 0x63) cs e object (inside p x) s)) λ ds s' _.
-    after-weaken (afterExpression e.pass e (field 0x63 x ds) object p s') (λ g s''. tag_of g ≡ u → 0x63 ≡ u) _ (λ g s'' q z. k (q z))
+    after-bind (walk_parts (parts_for 0x63) cs e object (inside p x) s) _ (λ _ _. Unit {0}) (λ g s'. tag_of g ≡ u → ⊥)
+    (after_any (walk_parts (parts_for 0x63) cs e object (inside p x) s)) λ ds s' _.
+    after-weaken (after_expression e.pass e (field 0x63 x ds) object p s') (λ g s''. tag_of g ≡ u → 0x63 ≡ u) _ (λ g s'' q z. k (q z))
     (expression-tag e.pass e 0x63 x ds object p s' u h)
 
 walk-other : (e : Setting) (f : Field) (object : Bool) (p : ℕ) (s : State) (u : ℕ) → Regular f → (u ≡ 0x60 → ⊥) → (tag_of f ≡ u → ⊥) →
@@ -108,19 +108,19 @@ argument-75 x f fs y q = go (same x (0 ∷ []))
     go false = refl
 
 parts-75 : (e : Setting) (x : List ℕ) (cs : Fields) (object : Bool) (p : ℕ) (s : State) → RegularAll cs →
-    After (walkAll cs e object p s) (λ ds s'. argument (some (field 0x75 x ds)) ≡ argument (some (field 0x75 x cs)))
+    After (walk_all cs e object p s) (λ ds s'. argument (some (field 0x75 x ds)) ≡ argument (some (field 0x75 x cs)))
 unfolding walk
 parts-75 e x none object p s w = refl
 parts-75 e x (more f fs) object p s w =
     after-bind (walk f e object p s) _ _ _ (walk-61 e f object p s w.0) λ g s' q.
-    after-bind (walkAll fs e object (p + size f) s') _ (λ _ _. Unit {0}) _ (after_any (walkAll fs e object (p + size f) s')) λ gs s'' _.
+    after-bind (walk_all fs e object (p + size f) s') _ (λ _ _. Unit {0}) _ (after_any (walk_all fs e object (p + size f) s')) λ gs s'' _.
     argument-75 x g gs (cond (has 0x61 f) (some (fixed_of f)) nothing) q ∙ sym (argument-75 x f fs (cond (has 0x61 f) (some (fixed_of f)) nothing) refl)
 
 walk-75 : (e : Setting) (x : List ℕ) (cs : Fields) (object : Bool) (p : ℕ) (s : State) → RegularAll cs →
     After (walk (field 0x75 x cs) e object p s) (λ g s'. argument (some g) ≡ argument (some (field 0x75 x cs)))
-unfolding walk partsFor ruleFor within after
+unfolding walk parts_for rule_for within after
 walk-75 e x cs object p s w =
-    after-bind (walkAll cs e object (inside p x) s) _ _ (λ g s'. argument (some g) ≡ argument (some (field 0x75 x cs))) (parts-75 e x cs object (inside p x) s w) λ ds s' q. q
+    after-bind (walk_all cs e object (inside p x) s) _ _ (λ g s'. argument (some g) ≡ argument (some (field 0x75 x cs))) (parts-75 e x cs object (inside p x) s w) λ ds s' q. q
 
 argument-walk : (e : Setting) (f : Field) (object : Bool) (p : ℕ) (s : State) → Regular f → After (walk f e object p s) (λ g s'. argument (some g) ≡ argument (some f))
 argument-walk e (field t x cs) object p s w = go (eqb t 0x75) refl
@@ -136,15 +136,15 @@ argument-walk e (field t x cs) object p s w = go (eqb t 0x75) refl
 
 -- 'just one argument'
 arguments-walk : (e : Setting) (gs : Fields) (object : Bool) (p : ℕ) (s : State) → RegularAll gs →
-    After (walkAll gs e object p s) (λ hs s'. argument (sole hs) ≡ argument (sole gs))
+    After (walk_all gs e object p s) (λ hs s'. argument (sole hs) ≡ argument (sole gs))
 unfolding walk sole
 arguments-walk e none object p s w = refl
 arguments-walk e (more f none) object p s w = after-bind (walk f e object p s) _ _ _ (argument-walk e f object p s w.0) λ g s' q. q
 arguments-walk e (more f (more g gs)) object p s w =
     after-bind (walk f e object p s) _ (λ _ _. Unit {0}) _ (after_any (walk f e object p s)) λ f' s' _.
-    after-bind (walkAll (more g gs) e object (p + size f) s') _ (λ hs s''. (h : Field) × (ks : Fields) × (hs ≡ more h ks)) _
+    after-bind (walk_all (more g gs) e object (p + size f) s') _ (λ hs s''. (h : Field) × (ks : Fields) × (hs ≡ more h ks)) _
     (after-bind (walk g e object (p + size f) s') _ (λ _ _. Unit {0}) _ (after_any (walk g e object (p + size f) s')) λ g' s'' _.
-    after-bind (walkAll gs e object (p + size f + size g) s'') _ (λ _ _. Unit {0}) _ (after_any (walkAll gs e object (p + size f + size g) s'')) λ ks s''' _. (g', ks, refl))
+    after-bind (walk_all gs e object (p + size f + size g) s'') _ (λ _ _. Unit {0}) _ (after_any (walk_all gs e object (p + size f + size g) s'')) λ ks s''' _. (g', ks, refl))
     λ hs s'' m. ap (λ (l : Fields). argument (sole (more f' l))) m.2
 
 -- ---- The require conditions
@@ -154,47 +154,47 @@ unfolding required
 no-required e (field t x none) h = refl
 no-required e (field t x (more c gs)) h = go e.config.require (eqb t 0x65) (ne_eqb t 0x65 h)
   where
-    go : (a b : Bool) → b ≡ false → cond (a && b && has 0x60 c && same (name_of (fixed_of c)) (two require-atom)) (notExternal e (argument (sole gs))) nothing ≡ nothing
+    go : (a b : Bool) → b ≡ false → cond (a && b && has 0x60 c && same (name_of (fixed_of c)) (two require-atom)) (not_external e (argument (sole gs))) nothing ≡ nothing
     go true true q = absurd (let z : ◌≡◌ {A = ℕ} 0 1 = cc in omega arith)
     go true false q = refl
     go false b q = refl
 
-pub none_after : (e : Setting) (f : Field) (s : State) → (tag_of f ≡ 0x65 → ⊥) → requiredAfter e f s ≡ nothing
-unfolding requiredAfter
+pub none_after : (e : Setting) (f : Field) (s : State) → (tag_of f ≡ 0x65 → ⊥) → required_after e f s ≡ nothing
+unfolding required_after
 none_after e (field t x none) s h = refl
 none_after e (field t x (more c gs)) s h = go e.config.require (eqb t 0x65) (ne_eqb t 0x65 h)
   where
-    go : (a b : Bool) → b ≡ false → cond (a && b) (ifRequire (identAfter c e.pass s) (notExternal e (argument (sole gs)))) nothing ≡ nothing
+    go : (a b : Bool) → b ≡ false → cond (a && b) (if_require (ident_after c e.pass s) (not_external e (argument (sole gs)))) nothing ≡ nothing
     go true true q = absurd (let z : ◌≡◌ {A = ℕ} 0 1 = cc in omega arith)
     go true false q = refl
     go false b q = refl
 
 -- from the walked callee and arguments
-required-by : (e : Setting) (x : List ℕ) (c c' : Field) (gs gs' : Fields) (s : State) → identAfter c e.pass s ≡ identOf c' → argument (sole gs') ≡ argument (sole gs) →
-    required e (field 0x65 x (more c' gs')) ≡ requiredAfter e (field 0x65 x (more c gs)) s
-unfolding required requiredAfter identOf
+required-by : (e : Setting) (x : List ℕ) (c c' : Field) (gs gs' : Fields) (s : State) → ident_after c e.pass s ≡ ident_of c' → argument (sole gs') ≡ argument (sole gs) →
+    required e (field 0x65 x (more c' gs')) ≡ required_after e (field 0x65 x (more c gs)) s
+unfolding required required_after ident_of
 required-by e x c (field t y ds) gs gs' s h k = rw (k, h) (go e.config.require (eqb t 0x60))
   where
     go : (a b : Bool) →
-        cond (a && true && b && same (name_of y) (two require-atom)) (notExternal e (argument (sole gs))) nothing ≡
-        cond (a && true) (ifRequire (cond b (some y) nothing) (notExternal e (argument (sole gs)))) nothing
+        cond (a && true && b && same (name_of y) (two require-atom)) (not_external e (argument (sole gs))) nothing ≡
+        cond (a && true) (if_require (cond b (some y) nothing) (not_external e (argument (sole gs)))) nothing
     go true true = refl
     go true false = refl
     go false b = refl
 
 -- another callee of the same name
 callee-required : (e : Setting) (n : ℕ) (t : ℕ) (x : List ℕ) (ds : Fields) (l : List ℕ) → required e (field t x ds) ≡ some l →
-    required e (withCallee n (field t x ds)) ≡ required e (field t x ds)
-unfolding required withCallee
+    required e (with_callee n (field t x ds)) ≡ required e (field t x ds)
+unfolding required with_callee
 callee-required e n t x none l q = refl
 callee-required e n t x (more c gs) l q =
     let m = required-named e t x c gs l q in
-    ap (λ (y : List ℕ). cond (e.config.require && eqb t 0x65 && has 0x60 c && same (name_of (y ++ four (export n))) (two require-atom)) (notExternal e (argument (sole gs))) nothing) m
-    ∙ sym (ap (λ (y : List ℕ). cond (e.config.require && eqb t 0x65 && has 0x60 c && same y (two require-atom)) (notExternal e (argument (sole gs))) nothing) m)
+    ap (λ (y : List ℕ). cond (e.config.require && eqb t 0x65 && has 0x60 c && same (name_of (y ++ four (export n))) (two require-atom)) (not_external e (argument (sole gs))) nothing) m
+    ∙ sym (ap (λ (y : List ℕ). cond (e.config.require && eqb t 0x65 && has 0x60 c && same y (two require-atom)) (not_external e (argument (sole gs))) nothing) m)
 
 expression-required : (k : Pass) (e : Setting) (x : List ℕ) (ds : Fields) (object : Bool) (p : ℕ) (s : State) →
-    After (afterExpression k e (field 0x65 x ds) object p s) (λ g s'. required e g ≡ required e (field 0x65 x ds))
-unfolding afterExpression rewritten
+    After (after_expression k e (field 0x65 x ds) object p s) (λ g s'. required e g ≡ required e (field 0x65 x ds))
+unfolding after_expression rewritten
 expression-required first e x ds object p s =
     first-expression e (λ g. required e g ≡ required e (field 0x65 x ds)) first refl (field 0x65 x ds) object p s (refl, λ n l w. callee-required e n 0x65 x ds l w)
 expression-required second e x ds object p s =
@@ -202,27 +202,27 @@ expression-required second e x ds object p s =
 
 -- the parts of a call
 pub parts-required : (e : Setting) (x : List ℕ) (cs : Fields) (object : Bool) (p : ℕ) (s : State) → RegularAll cs →
-    After (walkAll cs e object p s) (λ ds s'. required e (field 0x65 x ds) ≡ requiredAfter e (field 0x65 x cs) s)
-unfolding walk required requiredAfter
+    After (walk_all cs e object p s) (λ ds s'. required e (field 0x65 x ds) ≡ required_after e (field 0x65 x cs) s)
+unfolding walk required required_after
 parts-required e x none object p s w = refl
 parts-required e x (more c gs) object p s w =
     after-bind (walk c e object p s) _ _ _ (walk-ident e c object p s w.0) λ c' s' b.
-    after-bind (walkAll gs e object (p + size c) s') _ _ _ (arguments-walk e gs object (p + size c) s' w.1) λ gs' s'' a. required-by e x c c' gs gs' s b.0 a
+    after-bind (walk_all gs e object (p + size c) s') _ _ _ (arguments-walk e gs object (p + size c) s' w.1) λ gs' s'' a. required-by e x c c' gs gs' s b.0 a
 
 call-required : (e : Setting) (x : List ℕ) (cs : Fields) (object : Bool) (p : ℕ) (s : State) → RegularAll cs →
-    After (walk (field 0x65 x cs) e object p s) (λ g s'. required e g ≡ requiredAfter e (field 0x65 x cs) s)
-unfolding walk partsFor ruleFor within after
+    After (walk (field 0x65 x cs) e object p s) (λ g s'. required e g ≡ required_after e (field 0x65 x cs) s)
+unfolding walk parts_for rule_for within after
 call-required e x cs object p s w =
-    after-bind (walkAll cs e object (inside p x) s) _ _ (λ g s'. required e g ≡ requiredAfter e (field 0x65 x cs) s) (parts-required e x cs object (inside p x) s w) λ ds s' q.
-    after-weaken (afterExpression e.pass e (field 0x65 x ds) object p s') _ (λ g s''. required e g ≡ requiredAfter e (field 0x65 x cs) s) (λ g s'' h. h ∙ q)
+    after-bind (walk_all cs e object (inside p x) s) _ _ (λ g s'. required e g ≡ required_after e (field 0x65 x cs) s) (parts-required e x cs object (inside p x) s w) λ ds s' q.
+    after-weaken (after_expression e.pass e (field 0x65 x ds) object p s') _ (λ g s''. required e g ≡ required_after e (field 0x65 x cs) s) (λ g s'' h. h ∙ q)
     (expression-required e.pass e x ds object p s')
 
-pub walk-required : (e : Setting) (f : Field) (object : Bool) (p : ℕ) (s : State) → Regular f → After (walk f e object p s) (λ g s'. required e g ≡ requiredAfter e f s)
+pub walk-required : (e : Setting) (f : Field) (object : Bool) (p : ℕ) (s : State) → Regular f → After (walk f e object p s) (λ g s'. required e g ≡ required_after e f s)
 walk-required e (field t x cs) object p s w = go (eqb t 0x65) refl
   where
-    go : (b : Bool) → eqb t 0x65 ≡ b → After (walk (field t x cs) e object p s) (λ g s'. required e g ≡ requiredAfter e (field t x cs) s)
+    go : (b : Bool) → eqb t 0x65 ≡ b → After (walk (field t x cs) e object p s) (λ g s'. required e g ≡ required_after e (field t x cs) s)
     go true q =
-        subst (λ (u : ℕ). After (walk (field u x cs) e object p s) (λ g s'. required e g ≡ requiredAfter e (field u x cs) s)) (sym (eqb-true t 0x65 q))
+        subst (λ (u : ℕ). After (walk (field u x cs) e object p s) (λ g s'. required e g ≡ required_after e (field u x cs) s)) (sym (eqb-true t 0x65 q))
         (call-required e x cs object p s w.1)
     go false q =
         after-weaken (walk (field t x cs) e object p s) (λ g s'. tag_of g ≡ 0x65 → ⊥) _

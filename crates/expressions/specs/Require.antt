@@ -7,9 +7,9 @@ use Rattle.tree.specs.Tree.{Field, field, Fields, none, more, fixed_of, encode}
 use Rattle.inputs.specs.Fields.{has}
 use Rattle.inputs.specs.Outcome.{refused}
 use Rattle.extraction_rules.specs.State.{State, Setting}
-use Rattle.extraction_rules.specs.First.{withCallee, markRequired}
+use Rattle.extraction_rules.specs.First.{with_callee, mark_required}
 use Rattle.tree.specs.Layout.{id_at}
-use Rattle.state.specs.Cells.{Env, Good, literalBy, Valued, Shows}
+use Rattle.state.specs.Cells.{Env, Good, literal_by, Valued, Shows}
 use Rattle.state.specs.Does.{Gave}
 use Rattle.state.specs.declared.Literal.{Literal}
 use Rattle.steps.specs.Step.{Reads}
@@ -30,29 +30,29 @@ pub record Found (s : List ℕ) (l : Option (List ℕ)) (r : Standing) : Type 0 
 
 -- the literal that f gives, by its value and its place
 abbrev pub SourceIs : Env → Option (List ℕ) → Source → Type 0
-SourceIs x l (Is n) = (l ≡ some (literalBy x n)) × Valued x n
+SourceIs x l (Is n) = (l ≡ some (literal_by x n)) × Valued x n
 SourceIs x l Other = l ≡ nothing
 
 pub record RequiredIs (f : Setting → State → Option (List ℕ)) (s t : List ℕ) (r : Source) : Type 0 where
   pub is : {x : Env} (u : State) → Shows x t u → Reads x s → SourceIs x (f x.setting u) r
 
 -- what stands first, if it is a 61
-unfoldable pub literalFirst : Fields → Option (List ℕ)
-literalFirst none = nothing
-literalFirst (more f fs) = cond (has 0x61 f) (some (fixed_of f)) nothing
+unfoldable pub literal_first : Fields → Option (List ℕ)
+literal_first none = nothing
+literal_first (more f fs) = cond (has 0x61 f) (some (fixed_of f)) nothing
 
 -- the module of a required source is marked and the callee set; it has none; or a 257th file is refused
 pub record Requires (l : Literal) (t t' : List ℕ) (r : Required) : Type 0 where
   pub good : Good t'
   pub marked : (n : ModuleId) → r ≡ Marked n → {x : Env} (f : Field) (p : ℕ) (s : State) → Shows x t s → Valued x l →
-      Gave x (markRequired x.setting (literalBy x l) f p s) (withCallee n.0 f) t'
+      Gave x (mark_required x.setting (literal_by x l) f p s) (with_callee n.0 f) t'
   pub unresolved : r ≡ Unresolved → {x : Env} (f : Field) (p : ℕ) (s : State) → Shows x t s → Valued x l →
-      Gave x (markRequired x.setting (literalBy x l) f p s) f t'
-  pub full : r ≡ TooMany → {x : Env} (f : Field) (p : ℕ) (s : State) → Shows x t s → Valued x l → markRequired x.setting (literalBy x l) f p s ≡ refused 5 p
+      Gave x (mark_required x.setting (literal_by x l) f p s) f t'
+  pub full : r ≡ TooMany → {x : Env} (f : Field) (p : ℕ) (s : State) → Shows x t s → Valued x l → mark_required x.setting (literal_by x l) f p s ≡ refused 5 p
 
 -- the callee of a call that stands written at o gets the export context of module n
 pub record CalleeSet (n o : ℕ) (out out' : List ℕ) : Type 0 where
   pub size : length out' ≡ length out
   -- bs: what was written behind the call
   pub writes : (l : List ℕ) (p : ℕ) (y bs : List ℕ) (ds gs : Fields) → length y ≡ 6 → Wrote l o (encode (field 0x65 [] (more (field 0x60 y ds) gs)) ++ bs) out p →
-      Wrote l o (encode (withCallee n (field 0x65 [] (more (field 0x60 y ds) gs))) ++ bs) out' p
+      Wrote l o (encode (with_callee n (field 0x65 [] (more (field 0x60 y ds) gs))) ++ bs) out' p

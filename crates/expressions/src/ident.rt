@@ -1,12 +1,12 @@
 // Which id an expression is once it is walked. Walking a chain of members changes nothing that is kept, so this can be asked before.
 ghost use Rattle.std.specs.Prelude.{◌+◌, ◌≤◌, ◌≡◌, length};
 ghost use Rattle.tree.specs.Layout.{four};
-ghost use Rattle.tree.specs.Standing.{treeAt, row_at};
+ghost use Rattle.tree.specs.Standing.{tree_at, row_at};
 ghost use Rattle.extraction_rules.specs.State.{second as second-pass};
 ghost use Rattle.state.specs.Cells.{Good};
 ghost use Rattle.state.specs.Does.{Tells};
-ghost use Rattle.steps.specs.Step.{identBy};
-ghost use Rattle.expressions.specs.After.{passOf, identAfter, memberAfter, namedFirst};
+ghost use Rattle.steps.specs.Step.{ident_by};
+ghost use Rattle.expressions.specs.After.{pass_of, ident_after, member_after, named_first};
 
 use scope::id::{Atom, Id, SyntaxContext};
 use state::Context;
@@ -20,7 +20,7 @@ use tree::layout::{Reach, atom_at};
 #[cycle(ident_after_property_after)]
 pub fn ident_after(s: &[u8], at: usize, stop: usize, second: bool, t: &[u64]) -> Ident
     requires { (at + 3 ≤ stop) × (stop ≤ length s.now) × Good t.now }
-    ensures { Tells (identAfter (treeAt s.now at stop) (passOf second)) t.now (identBy result) }
+    ensures { Tells (ident_after (tree_at s.now at stop) (pass_of second)) t.now (ident_by result) }
 {
     let tag = s[at];
     let Reach::Upto(from) = fixed(s, tag, at + 3, stop) else {
@@ -41,7 +41,7 @@ pub fn ident_after(s: &[u8], at: usize, stop: usize, second: bool, t: &[u64]) ->
 #[cycle(ident_after_property_after)]
 fn property_after(s: &[u8], from: usize, end: usize, t: &[u64]) -> Ident
     requires { (from ≤ end) × (end ≤ length s.now) × Good t.now }
-    ensures { Tells (memberAfter (row_at s.now from end) second-pass) t.now (identBy result) }
+    ensures { Tells (member_after (row_at s.now from end) second-pass) t.now (ident_by result) }
 {
     let Reach::Upto(stop) = extent(s, from, end) else {
         return Ident::Other;
@@ -61,7 +61,7 @@ fn property_after(s: &[u8], from: usize, end: usize, t: &[u64]) -> Ident
 // The name of the first of the fields from `at` up to end, if it is a 70, in a context.
 fn named_at(s: &[u8], at: usize, end: usize, c: SyntaxContext) -> Ident
     requires { (at ≤ end) × (end ≤ length s.now) }
-    ensures { identBy result ≡ namedFirst (row_at s.now at end) (four c.0) }
+    ensures { ident_by result ≡ named_first (row_at s.now at end) (four c.0) }
 {
     let Reach::Upto(stop) = extent(s, at, end) else {
         return Ident::Other;

@@ -1,12 +1,12 @@
 // Calls of require: 'callee 60 named require in any context, just one argument, no spread, a 61, not external'.
 ghost use Rattle.std.specs.Prelude.{◌+◌, ◌≤◌, length};
 ghost use Rattle.std.proofs.Math.Option.{some};
-ghost use Rattle.tree.specs.Standing.{treeAt, row_at};
+ghost use Rattle.tree.specs.Standing.{tree_at, row_at};
 ghost use Rattle.inputs.specs.Fields.{sole};
-ghost use Rattle.extraction_rules.specs.First.{argument, notExternal};
+ghost use Rattle.extraction_rules.specs.First.{argument, not_external};
 ghost use Rattle.state.specs.Cells.{Good};
-ghost use Rattle.expressions.specs.After.{requiredAfter};
-ghost use Rattle.expressions.specs.Require.{literalFirst, Found, RequiredIs, Requires, CalleeSet};
+ghost use Rattle.expressions.specs.After.{required_after};
+ghost use Rattle.expressions.specs.Require.{literal_first, Found, RequiredIs, Requires, CalleeSet};
 
 use crate::ident::ident_after;
 use scope::id::{Atom, ModuleId};
@@ -43,7 +43,7 @@ pub enum Required {
 // The literal of the call at `at` up to stop, if it meets the require conditions once it is walked. Asked before it is walked.
 pub fn required_at(s: &[u8], at: usize, stop: usize, t: &[u64]) -> Source
     requires { (at + 3 ≤ stop) × (stop ≤ length s.now) × Good t.now }
-    ensures { RequiredIs (λ e. requiredAfter e (treeAt s.now at stop)) s.now t.now result }
+    ensures { RequiredIs (λ e. required_after e (tree_at s.now at stop)) s.now t.now result }
 {
     if !counts_require(t) {
         return Source::Other;
@@ -67,7 +67,7 @@ pub fn required_at(s: &[u8], at: usize, stop: usize, t: &[u64]) -> Source
 // The literal of the one argument that stands from `from` up to end, if it is not external.
 fn source_at(s: &[u8], from: usize, end: usize, t: &[u64]) -> Source
     requires { (from ≤ end) × (end ≤ length s.now) × Good t.now }
-    ensures { RequiredIs (λ e _. notExternal e (argument (sole (row_at s.now from end)))) s.now t.now result }
+    ensures { RequiredIs (λ e _. not_external e (argument (sole (row_at s.now from end)))) s.now t.now result }
 {
     let Standing::At(at) = sole_literal(s, from, end) else {
         return Source::Other;
@@ -97,7 +97,7 @@ fn sole_literal(s: &[u8], from: usize, end: usize) -> Standing
 // Where the literal of a 75 without spread stands, that holds a 61.
 fn argument_at(s: &[u8], at: usize, stop: usize) -> Standing
     requires { (at + 3 ≤ stop) × (stop ≤ length s.now) }
-    ensures { Found s.now (argument (some (treeAt s.now at stop))) result }
+    ensures { Found s.now (argument (some (tree_at s.now at stop))) result }
 {
     let tag = s[at];
     if tag != 0x75 {
@@ -118,7 +118,7 @@ fn argument_at(s: &[u8], at: usize, stop: usize) -> Standing
 // Where the literal of the first of the fields from `at` up to end stands, if it is a 61.
 fn first_literal(s: &[u8], at: usize, end: usize) -> Standing
     requires { (at ≤ end) × (end ≤ length s.now) }
-    ensures { Found s.now (literalFirst (row_at s.now at end)) result }
+    ensures { Found s.now (literal_first (row_at s.now at end)) result }
 {
     let Reach::Upto(stop) = extent(s, at, end) else {
         return Standing::Nowhere;

@@ -1,9 +1,9 @@
 // The rule 'usage' of the first pass: 63 on a 60 whose id is imported.
 ghost use Rattle.std.specs.Prelude.{◌+◌, ◌≤◌, ◌≡◌, length, get_or};
 ghost use Rattle.std.proofs.Math.Option.{some};
-ghost use Rattle.tree.specs.Standing.{treeAt};
-ghost use Rattle.extraction_rules.specs.First.{onIdent, usage as usage-rule, usedRecord, useFrom, useProperty};
-ghost use Rattle.state.specs.Cells.{Good, idBy};
+ghost use Rattle.tree.specs.Standing.{tree_at};
+ghost use Rattle.extraction_rules.specs.First.{on_ident, usage as usage-rule, used_record, use_from, use_property};
+ghost use Rattle.state.specs.Cells.{Good, id_by};
 ghost use Rattle.steps.specs.Step.{Sound, Effects};
 ghost use Rattle.expressions.specs.Usage.{Named};
 
@@ -22,7 +22,7 @@ use tree::layout::{Reach, atom_at};
 // The usage of the 63 at `at` up to stop, whose parts are walked.
 pub fn usage(s: &[u8], at: usize, stop: usize, t: &mut [u64]) -> Effect
     requires { (at + 3 ≤ stop) × (stop ≤ length s.now) × (get_or s.now at 0 ≡ 0x63) × Good t.old }
-    ensures { Effects (λ x u. Sound s.now at stop) (λ x. usage-rule (onIdent (treeAt s.now at stop)) x.setting at)
+    ensures { Effects (λ x u. Sound s.now at stop) (λ x. usage-rule (on_ident (tree_at s.now at stop)) x.setting at)
         t.old t.new result }
 {
     let Reach::Upto(member) = extent(s, at + 3, stop) else {
@@ -47,9 +47,9 @@ pub fn usage(s: &[u8], at: usize, stop: usize, t: &mut [u64]) -> Effect
 // An imported id is used by the member at `member` up to end: the record that it belongs to is looked for.
 fn use_from(s: &[u8], at: usize, member: usize, end: usize, id: Id, t: &mut [u64]) -> Effect
     requires { (member + 3 ≤ end) × (end ≤ length s.now) × Good t.old }
-    ensures { Effects (λ x u. Named (treeAt s.now member end))
-        (λ x u. useFrom (usedRecord x.setting.own (idBy id) u.collected) x.setting (idBy id)
-        (treeAt s.now member end) member at u) t.old t.new result }
+    ensures { Effects (λ x u. Named (tree_at s.now member end))
+        (λ x u. use_from (used_record x.setting.own (id_by id) u.collected) x.setting (id_by id)
+        (tree_at s.now member end) member at u) t.old t.new result }
 {
     let Source::From(source) = used_record(t, own_module(t), id) else {
         return Effect::Fine;
@@ -72,8 +72,8 @@ fn use_property(
     t: &mut [u64],
 ) -> Effect
     requires { (member + 3 ≤ end) × (end ≤ length s.now) × Good t.old }
-    ensures { Effects (λ x u. Named (treeAt s.now member end))
-        (λ _. useProperty (some n.0) (idBy id) (treeAt s.now member end) member at) t.old t.new result }
+    ensures { Effects (λ x u. Named (tree_at s.now member end))
+        (λ _. use_property (some n.0) (id_by id) (tree_at s.now member end) member at) t.old t.new result }
 {
     let tag = s[member];
     let Reach::Upto(_) = fixed(s, tag, member + 3, end) else {

@@ -12,29 +12,29 @@ use Rattle.metadata.specs.Metadata.{append}
 use Rattle.writer.specs.Finished.{Finished}
 use Rattle.tree.proofs.WidthLaws.{read_module}
 use Rattle.inputs.specs.Outcome.{Outcome, done, refused, onto}
-use Rattle.extraction_rules.specs.State.{Record, State, second, Setting, setCollected}
-use Rattle.extraction_rules.specs.Second.{wrapAll, loseNamespaces, finish}
-use Rattle.extraction_rules.specs.Walk.{walkModule, walkAgain}
-use Rattle.extraction_rules.specs.Records.{recordsOf, recordFields, forcedFields}
-use Rattle.extraction_rules.specs.Call.{moduleWith}
+use Rattle.extraction_rules.specs.State.{Record, State, second, Setting, set_collected}
+use Rattle.extraction_rules.specs.Second.{wrap_all, lose_namespaces, finish}
+use Rattle.extraction_rules.specs.Walk.{walk_module, walk_again}
+use Rattle.extraction_rules.specs.Records.{records_of, record_fields, forced_fields}
+use Rattle.extraction_rules.specs.Call.{module_with}
 use Rattle.extraction_rules.proofs.FirstLaws.{lose-literal}
 use Rattle.extraction_rules.proofs.WalkLaws.{ImportsAll}
 use Rattle.extraction_rules.proofs.SanityLaws.{Known}
-use Rattle.state.specs.Cells.{Env, Shows, sourcesIn}
-use Rattle.state.specs.Does.{Resets, withSecond}
+use Rattle.state.specs.Cells.{Env, Shows, sources_in}
+use Rattle.state.specs.Does.{Resets, with_second}
 use Rattle.steps.specs.declared.Why.{Why}
 use Rattle.steps.specs.declared.Step.{Step}
 use Rattle.steps.specs.declared.Step.TheVariants.{Done, Refused}
 use Rattle.steps.specs.declared.Effect.{Effect}
 use Rattle.steps.specs.declared.Effect.TheVariants.{Fine, Refused as Unmarked}
 use Rattle.steps.specs.Step.{Steps, Effects}
-use Rattle.steps.specs.Refusal.{refusalOf}
-use Rattle.records.specs.Model.{specifiersOf, rebuilt}
-use Rattle.records.specs.Writes.{Placing, items_in, recordsIn}
+use Rattle.steps.specs.Refusal.{refusal_of}
+use Rattle.records.specs.Model.{specifiers_of, rebuilt}
+use Rattle.records.specs.Writes.{Placing, items_in, records_in}
 use Rattle.records.proofs.ToldLaws.{items-read, records-are}
 use Rattle.extraction.specs.declared.Passed.TheVariants.{Fits, Refused as Turned, NoRoom}
-use Rattle.extraction.specs.Passes.{ItemsRead, passAct}
-use Rattle.extraction.specs.Stages.{Anywhere, wrapFrom, marking, Seconds}
+use Rattle.extraction.specs.Passes.{ItemsRead, pass_act}
+use Rattle.extraction.specs.Stages.{Anywhere, wrap_from, marking, Seconds}
 use Rattle.extraction.proofs.HeldLaws.{Walked, walked, walked-refused, pass-inside, pass-held, pass-long}
 use Rattle.extraction.proofs.ReadLaws.{reads-work}
 
@@ -42,7 +42,7 @@ use Rattle.extraction.proofs.ReadLaws.{reads-work}
 
 -- 'other records lose namespaces'
 abbrev pub lost : State → State
-lost s = setCollected (map (loseNamespaces s.forced) s.collected) s
+lost s = set_collected (map (lose_namespaces s.forced) s.collected) s
 
 abbrev lose : Unit {0} × State → Outcome (Unit {0} × State)
 lose u = done (tt, lost u.1)
@@ -54,47 +54,47 @@ abbrev losing : Fields × State → Outcome (Fields × State)
 losing r = done (r.0, lost r.1)
 
 module _ (e : Setting) (works : Fields) (s : State) where
-  again-marking : walkAgain e works s ≡ onto (marking e works s) losing
-  unfolding walkAgain finish
-  again-marking = go (walkModule e works s)
+  again-marking : walk_again e works s ≡ onto (marking e works s) losing
+  unfolding walk_again finish
+  again-marking = go (walk_module e works s)
     where
       two : (gs : Fields) (o : Outcome (Unit {0} × State)) → onto (onto o lose) (giving gs) ≡ onto (onto o (giving gs)) losing
       two gs (done u) = refl
       two gs (refused n p) = refl
 
-      go : (m : Outcome (Fields × State)) → onto m (λ r. onto (onto (wrapAll e r.1.forced r.1) lose) (giving r.0))
-          ≡ onto (onto m (λ r. onto (wrapFrom 0 e r.1) (giving r.0))) losing
-      go (done r) = two r.0 (wrapAll e r.1.forced r.1)
+      go : (m : Outcome (Fields × State)) → onto m (λ r. onto (onto (wrap_all e r.1.forced r.1) lose) (giving r.0))
+          ≡ onto (onto m (λ r. onto (wrap_from 0 e r.1) (giving r.0))) losing
+      go (done r) = two r.0 (wrap_all e r.1.forced r.1)
       go (refused n p) = refl
 
-  pub again_by : (m : Outcome (Fields × State)) → marking e works s ≡ m → walkAgain e works s ≡ onto m losing
+  pub again_by : (m : Outcome (Fields × State)) → marking e works s ≡ m → walk_again e works s ≡ onto m losing
   again_by m q = again-marking ∙ ap (λ (z : Outcome (Fields × State)). onto z losing) q
 
   abbrev marks : Fields × State → Outcome (Fields × State)
-  marks r = onto (wrapFrom 0 e r.1) (giving r.0)
+  marks r = onto (wrap_from 0 e r.1) (giving r.0)
 
-  marking-by : (m : Outcome (Fields × State)) → walkModule e works s ≡ m → marking e works s ≡ onto m marks
+  marking-by : (m : Outcome (Fields × State)) → walk_module e works s ≡ m → marking e works s ≡ onto m marks
   marking-by m q = ap (λ (z : Outcome (Fields × State)). onto z marks) q
 
 -- ---- The second pass
 
 -- what the environment of a pass is in the second
 abbrev again : Env → Setting
-again x = (withSecond x).setting
+again x = (with_second x).setting
 
-ready : {x : Env} (s : State) (tree work : List ℕ) (works : Fields) → Placing tree work x → read Module work ≡ fine (more (moduleWith works) none) →
-    length work ≤ 65538 → ImportsAll works (Known x.setting.externals (sourcesIn s.collected)) → ItemsRead work 3 (length work) (withSecond x) s
+ready : {x : Env} (s : State) (tree work : List ℕ) (works : Fields) → Placing tree work x → read Module work ≡ fine (more (module_with works) none) →
+    length work ≤ 65538 → ImportsAll works (Known x.setting.externals (sources_in s.collected)) → ItemsRead work 3 (length work) (with_second x) s
 ready {x} s tree work works p r n b =
     record {
-      inside = (read_module work (more (moduleWith works) none) r).room;
-      row = (read_module work (more (moduleWith works) none) r).row;
+      inside = (read_module work (more (module_with works) none) r).room;
+      row = (read_module work (more (module_with works) none) r).row;
       fits = omega arith;
-      reads = reads-work tree work (withSecond x) (record { bindings-placed = p.bindings-placed; literals-placed = p.literals-placed }) refl n;
-      ready = subst (λ (fs : Fields). ImportsAll fs (Known x.setting.externals (sourcesIn s.collected))) (sym (items-read work works r).0) b;
+      reads = reads-work tree work (with_second x) (record { bindings-placed = p.bindings-placed; literals-placed = p.literals-placed }) refl n;
+      ready = subst (λ (fs : Fields). ImportsAll fs (Known x.setting.externals (sources_in s.collected))) (sym (items-read work works r).0) b;
     }
 
-module _ {t t0 t1 work out out1 : List ℕ} {k : Step} (z : Resets withSecond t t0)
-    (m : Steps encode (ItemsRead work 3 (length work)) (λ x. passAct x.setting work) t0 out 0 t1 out1 k) where
+module _ {t t0 t1 work out out1 : List ℕ} {k : Step} (z : Resets with_second t t0)
+    (m : Steps encode (ItemsRead work 3 (length work)) (λ x. pass_act x.setting work) t0 out 0 t1 out1 k) where
   pub again-refused : {v : Why} {q : ℕ} → k ≡ Refused v q → Seconds t work out t1 out1 (Turned v q)
   again-refused {v} {q} h =
       record {
@@ -102,20 +102,20 @@ module _ {t t0 t1 work out out1 : List ℕ} {k : Step} (z : Resets withSecond t 
         inside = tt;
         is = λ {x = x} s w tree p works r n b.
             let e = again x in
-            let y = walked-refused e work s (refusalOf v) q (m.turned v q h s (z.shows s w) (ready s tree work works p r n b)) in
-            marking-by e works s (refused (refusalOf v) q) (ap (λ (fs : Fields). walkModule e fs s) (sym (items-read work works r).0) ∙ y);
+            let y = walked-refused e work s (refusal_of v) q (m.turned v q h s (z.shows s w) (ready s tree work works p r n b)) in
+            marking-by e works s (refused (refusal_of v) q) (ap (λ (fs : Fields). walk_module e fs s) (sym (items-read work works r).0) ∙ y);
       }
 
   module _ {n : ℕ} (h : k ≡ Done n) where
     -- the walk was done
-    went : {x : Env} (s : State) → Shows x t s → (tree : List ℕ) → Placing tree work x → (works : Fields) → read Module work ≡ fine (more (moduleWith works) none) →
-        length work ≤ 65538 → ImportsAll works (Known x.setting.externals (sourcesIn s.collected)) →
-        Walked (withSecond x) (walkModule (again x) works s) out t1 out1 n
+    went : {x : Env} (s : State) → Shows x t s → (tree : List ℕ) → Placing tree work x → (works : Fields) → read Module work ≡ fine (more (module_with works) none) →
+        length work ≤ 65538 → ImportsAll works (Known x.setting.externals (sources_in s.collected)) →
+        Walked (with_second x) (walk_module (again x) works s) out t1 out1 n
     went {x} s w tree p works r l b =
         let y = walked (again x) work s (m.made n h s (z.shows s w) (ready s tree work works p r l b)) in
-        subst (λ (fs : Fields). Walked (withSecond x) (walkModule (again x) fs s) out t1 out1 n) (items-read work works r).0 y
+        subst (λ (fs : Fields). Walked (with_second x) (walk_module (again x) fs s) out t1 out1 n) (items-read work works r).0 y
 
-    module _ {t2 : List ℕ} {j : Effect} (u : Effects Anywhere (λ x. wrapFrom 0 x.setting) t1 t2 j) where
+    module _ {t2 : List ℕ} {j : Effect} (u : Effects Anywhere (λ x. wrap_from 0 x.setting) t1 t2 j) where
       pub again-unmarked : {q : ℕ} {v : Why} → j ≡ Unmarked v q → Seconds t work out t2 out1 (Turned v q)
       again-unmarked {q} {v} e =
           record {
@@ -128,8 +128,8 @@ module _ {t t0 t1 work out out1 : List ℕ} {k : Step} (z : Resets withSecond t 
           }
 
       -- and the marks were set
-      marked : j ≡ Fine → (x : Env) (s : State) (works : Fields) → Walked (withSecond x) (walkModule (again x) works s) out t1 out1 n →
-          Walked (withSecond x) (marking (again x) works s) out t2 out1 n
+      marked : j ≡ Fine → (x : Env) (s : State) (works : Fields) → Walked (with_second x) (walk_module (again x) works s) out t1 out1 n →
+          Walked (with_second x) (marking (again x) works s) out t2 out1 n
       marked e x s works d =
           let v = u.fine e d.state d.shows tt in
           record {
@@ -161,22 +161,22 @@ module _ {t t0 t1 work out out1 : List ℕ} {k : Step} (z : Resets withSecond t 
 
 -- what the trees tell of records does not look at their specifiers
 lost-retold : (works outs : Fields) (forced : List (List ℕ)) (l : List Record) →
-    map (rebuilt works outs forced) (map (loseNamespaces forced) l) ≡ map (rebuilt works outs forced) l
+    map (rebuilt works outs forced) (map (lose_namespaces forced) l) ≡ map (rebuilt works outs forced) l
 unfolding rebuilt
 lost-retold works outs forced [] = refl
 lost-retold works outs forced (r ∷ l) =
     ap₂ (λ (q : Record) (k : List Record). q ∷ k)
-    (ap (λ (x : List ℕ). loseNamespaces forced (record { literal = x; specifiers = specifiersOf works outs x })) (lose-literal forced r))
+    (ap (λ (x : List ℕ). lose_namespaces forced (record { literal = x; specifiers = specifiers_of works outs x })) (lose-literal forced r))
     (lost-retold works outs forced l)
 
-lost-records : (work out : List ℕ) (s : State) → recordsIn work out s ≡ recordsIn work out (lost s)
-unfolding recordsIn
+lost-records : (work out : List ℕ) (s : State) → records_in work out s ≡ records_in work out (lost s)
+unfolding records_in
 lost-records work out s =
-    ap (λ (l : List Record). field 0x02 [] (append (recordFields 0x80 l) (append (recordFields 0x81 s.lazy) (forcedFields s.forced))))
+    ap (λ (l : List Record). field 0x02 [] (append (record_fields 0x80 l) (append (record_fields 0x81 s.lazy) (forced_fields s.forced))))
     (sym (lost-retold (items_in work) (items_in out) s.forced s.collected))
 
 pub told : (work out : List ℕ) (works outs : Fields) (s : State) → items_in work ≡ works → items_in out ≡ outs →
-    (lost s).collected ≡ map (rebuilt works outs s.forced) (lost s).collected → recordsIn work out s ≡ recordsOf (lost s)
+    (lost s).collected ≡ map (rebuilt works outs s.forced) (lost s).collected → records_in work out s ≡ records_of (lost s)
 told work out works outs s p q h =
     lost-records work out s
     ∙ records-are work out (lost s) (h ∙ ap₂ (λ (ws gs : Fields). map (rebuilt ws gs s.forced) (lost s).collected) (sym p) (sym q))

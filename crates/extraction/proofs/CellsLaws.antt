@@ -9,8 +9,8 @@ use Rattle.tree.specs.Layout.{same, value_of}
 use Rattle.tree.specs.Tree.{Field, Fields, none, more}
 use Rattle.metadata.specs.Metadata.{append}
 use Rattle.inputs.specs.Lists.{find, among}
-use Rattle.extraction_rules.specs.State.{Record, State, first, second, Setting, setForced}
-use Rattle.extraction_rules.specs.First.{holdsNamespace, forceSource, forceHolder, forget, forceId, collectIn}
+use Rattle.extraction_rules.specs.State.{Record, State, first, second, Setting, set_forced}
+use Rattle.extraction_rules.specs.First.{holds_namespace, force_source, force_holder, forget, force_id, collect_in}
 use Rattle.extraction_rules.specs.Walk.{walk}
 use Rattle.extraction_rules.proofs.StepLaws.{Keeps}
 use Rattle.extraction_rules.proofs.AlikeLaws.{Regular}
@@ -18,48 +18,48 @@ use Rattle.extraction_rules.proofs.ItemsLaws.{ItemSteps, item-keeps}
 use Rattle.extraction_rules.proofs.WalkLaws.{Steps, walk-keeps, imports-any}
 use Rattle.extraction_rules.proofs.SanityLaws.{first-second}
 use Rattle.inputs.specs.Fields.{has}
-use Rattle.state.specs.Cells.{flag, countNamespaces, namespacesIn, sourcesIn}
+use Rattle.state.specs.Cells.{flag, count_namespaces, namespaces_in, sources_in}
 use Rattle.state.proofs.SourcedLaws.{extend-sources}
 
 -- ---- Forcing changes no record
 
-source-kept : (a : List ℕ) (s : State) → (forceSource a s).collected ≡ s.collected
-unfolding forceSource
+source-kept : (a : List ℕ) (s : State) → (force_source a s).collected ≡ s.collected
+unfolding force_source
 source-kept a s = go (among a s.forced)
   where
-    go : (b : Bool) → (cond b s (setForced (s.forced ++ (a ∷ [])) s)).collected ≡ s.collected
+    go : (b : Bool) → (cond b s (set_forced (s.forced ++ (a ∷ [])) s)).collected ≡ s.collected
     go true = refl
     go false = refl
 
-force-kept : (i : List ℕ) (s : State) → (forceId i s).collected ≡ s.collected
-unfolding forceId forget
-force-kept i s = go (find (holdsNamespace i) s.collected)
+force-kept : (i : List ℕ) (s : State) → (force_id i s).collected ≡ s.collected
+unfolding force_id forget
+force-kept i s = go (find (holds_namespace i) s.collected)
   where
-    go : (o : Option Record) → (forceHolder o (forget i s)).collected ≡ s.collected
+    go : (o : Option Record) → (force_holder o (forget i s)).collected ≡ s.collected
     go nothing = refl
     go (some r) = source-kept (value_of r.literal) (forget i s)
 
 -- ---- The first pass
 
-count_none : (fs : Fields) → countNamespaces (append fs none) ≡ countNamespaces fs
-unfolding countNamespaces append
+count_none : (fs : Fields) → count_namespaces (append fs none) ≡ count_namespaces fs
+unfolding count_namespaces append
 count_none none = refl
 count_none (more f fs) = ap (λ (n : ℕ). flag (has 0x22 f) + n) (count_none fs)
 
-empty-brings : (l : List ℕ) (c : List Record) → namespacesIn (collectIn (record { literal = l; specifiers = none }) c) ≡ namespacesIn c
-unfolding namespacesIn collectIn countNamespaces
+empty-brings : (l : List ℕ) (c : List Record) → namespaces_in (collect_in (record { literal = l; specifiers = none }) c) ≡ namespaces_in c
+unfolding namespaces_in collect_in count_namespaces
 empty-brings l [] = refl
 empty-brings l (q ∷ c) = go (same (value_of q.literal) (value_of l)) (empty-brings l c)
   where
-    go : (b : Bool) → namespacesIn (collectIn (record { literal = l; specifiers = none }) c) ≡ namespacesIn c →
-        namespacesIn
+    go : (b : Bool) → namespaces_in (collect_in (record { literal = l; specifiers = none }) c) ≡ namespaces_in c →
+        namespaces_in
         (cond b (record { literal = q.literal; specifiers = append q.specifiers none } ∷ c)
-        (q ∷ collectIn (record { literal = l; specifiers = none }) c)) ≡ countNamespaces q.specifiers + namespacesIn c
-    go true h = ap (λ (n : ℕ). n + namespacesIn c) (count_none q.specifiers)
-    go false h = ap (λ (n : ℕ). countNamespaces q.specifiers + n) h
+        (q ∷ collect_in (record { literal = l; specifiers = none }) c)) ≡ count_namespaces q.specifiers + namespaces_in c
+    go true h = ap (λ (n : ℕ). n + namespaces_in c) (count_none q.specifiers)
+    go false h = ap (λ (n : ℕ). count_namespaces q.specifiers + n) h
 
 abbrev Namespaces : ℕ → State → Type 0
-Namespaces n s = namespacesIn s.collected ≡ n
+Namespaces n s = namespaces_in s.collected ≡ n
 
 few-steps : (e : Setting) (n : ℕ) → ItemSteps e (Namespaces n)
 few-steps e n =
@@ -67,7 +67,7 @@ few-steps e n =
       common =
           record {
             requires = record { on-request = λ s f k ms q h. h; on-cjs = λ s k h. h; on-lazy = λ s r b h. h };
-            on-force = λ s i h. ap namespacesIn (force-kept i s) ∙ h;
+            on-force = λ s i h. ap namespaces_in (force-kept i s) ∙ h;
             on-top = λ s b h. h;
           };
       on-empty = λ s l b h. empty-brings l s.collected ∙ h;
@@ -75,13 +75,13 @@ few-steps e n =
     }
 
 pub item-few : (e : Setting) → e.pass ≡ first → (f : Field) (object : Bool) (p : ℕ) (s : State) → Regular f →
-    Keeps (λ u. namespacesIn u.collected ≡ namespacesIn s.collected) (walk f e object p s)
-item-few e one f object p s w = item-keeps e (Namespaces (namespacesIn s.collected)) (few-steps e (namespacesIn s.collected)) one f object p s w refl
+    Keeps (λ u. namespaces_in u.collected ≡ namespaces_in s.collected) (walk f e object p s)
+item-few e one f object p s w = item-keeps e (Namespaces (namespaces_in s.collected)) (few-steps e (namespaces_in s.collected)) one f object p s w refl
 
 -- ---- The second pass
 
 abbrev Sources : List (List ℕ) → State → Type 0
-Sources l s = sourcesIn s.collected ≡ l
+Sources l s = sources_in s.collected ≡ l
 
 source-steps : (e : Setting) (l : List (List ℕ)) → e.pass ≡ second → Steps e (λ _. Unit {0}) (Sources l)
 source-steps e l two =
@@ -89,18 +89,18 @@ source-steps e l two =
       common =
           record {
             requires = record { on-request = λ s f k ms q h. h; on-cjs = λ s k h. h; on-lazy = λ s r b h. h };
-            on-force = λ s i h. ap sourcesIn (force-kept i s) ∙ h;
+            on-force = λ s i h. ap sources_in (force-kept i s) ∙ h;
             on-top = λ s b h. h;
           };
       one = λ k. first-second k two;
       two = λ k.
           record {
             on-extend = λ s x us p h. extend-sources x _ s.collected ∙ h;
-            on-source = λ s x b p h. ap sourcesIn (source-kept (value_of x) s) ∙ h;
+            on-source = λ s x b p h. ap sources_in (source-kept (value_of x) s) ∙ h;
           };
     }
 
 pub item-sources : (e : Setting) → e.pass ≡ second → (f : Field) (object : Bool) (p : ℕ) (s : State) →
-    Keeps (λ u. sourcesIn u.collected ≡ sourcesIn s.collected) (walk f e object p s)
+    Keeps (λ u. sources_in u.collected ≡ sources_in s.collected) (walk f e object p s)
 item-sources e two f object p s =
-    walk-keeps e (λ _. Unit {0}) (Sources (sourcesIn s.collected)) (source-steps e (sourcesIn s.collected) two) f object p s (imports-any f (λ _. Unit {0}) (λ x. tt)) refl
+    walk-keeps e (λ _. Unit {0}) (Sources (sources_in s.collected)) (source-steps e (sources_in s.collected) two) f object p s (imports-any f (λ _. Unit {0}) (λ x. tt)) refl

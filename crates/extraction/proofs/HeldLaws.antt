@@ -9,33 +9,33 @@ use lib.Seq.{take-append_seam}
 use Rattle.tree.specs.Tree.{Field, Fields, encode, size}
 use Rattle.tree.proofs.TreeLaws.{size-encode}
 use Rattle.writer.specs.Wrote.{Wrote}
-use Rattle.writer.specs.Finished.{hasRoom, Finished, Delivered}
+use Rattle.writer.specs.Finished.{has_room, Finished, Delivered}
 use Rattle.writer.proofs.Wrote.{wrote_as, wrote-end}
 use Rattle.writer.proofs.Finished.{room-true, delivered-field, delivers}
-use Rattle.inputs.specs.Outcome.{Outcome, done, refused, onto, refuseIf}
+use Rattle.inputs.specs.Outcome.{Outcome, done, refused, onto, refuse_if}
 use Rattle.inputs.specs.Buffer.{fits}
 use Rattle.inputs.proofs.AcceptedLaws.{done_inj, onto-done, done_refused}
 use Rattle.extraction_rules.specs.State.{State, Setting}
-use Rattle.extraction_rules.specs.Walk.{walkModule}
-use Rattle.extraction_rules.specs.Call.{moduleWith}
+use Rattle.extraction_rules.specs.Walk.{walk_module}
+use Rattle.extraction_rules.specs.Call.{module_with}
 use Rattle.state.specs.Cells.{Env, Shows}
 use Rattle.steps.specs.Step.{Made}
-use Rattle.records.specs.Writes.{WroteFor, Placing, BothRead, items_in, recordsIn}
-use Rattle.extraction.specs.Passes.{passAct}
+use Rattle.records.specs.Writes.{WroteFor, Placing, BothRead, items_in, records_in}
+use Rattle.extraction.specs.Passes.{pass_act}
 use Rattle.extraction.specs.Stages.{Held, TooLong, DeliversFor}
 
 -- ---- Room
 
-pub fits_not : (f : Field) (room : ℕ) → hasRoom (size f) room ≡ false → fits f room ≡ refused 9 0
+pub fits_not : (f : Field) (room : ℕ) → has_room (size f) room ≡ false → fits f room ≡ refused 9 0
 unfolding fits
-fits_not f room e = ap (λ (b : Bool). refuseIf (not b) 9) e
+fits_not f room e = ap (λ (b : Bool). refuse_if (not b) 9) e
 
-pub fits-so : (f : Field) (room : ℕ) → hasRoom (size f) room ≡ true → fits f room ≡ done tt
+pub fits-so : (f : Field) (room : ℕ) → has_room (size f) room ≡ true → fits f room ≡ done tt
 unfolding fits
-fits-so f room e = ap (λ (b : Bool). refuseIf (not b) 9) e
+fits-so f room e = ap (λ (b : Bool). refuse_if (not b) 9) e
 
-pub room-size : (f : Field) {l l' : List ℕ} {r : Bool} → Delivered (encode f) l r l' → hasRoom (size f) (length l) ≡ r
-room-size f {l} d = ap (λ (n : ℕ). hasRoom n (length l)) (size-encode f) ∙ sym d.room
+pub room-size : (f : Field) {l l' : List ℕ} {r : Bool} → Delivered (encode f) l r l' → has_room (size f) (length l) ≡ r
+room-size f {l} d = ap (λ (n : ℕ). has_room n (length l)) (size-encode f) ∙ sym d.room
 
 -- a field that was finished stands in the first bytes of its buffer
 finished-part : (f : Field) {l m k : List ℕ} {n : ℕ} → Wrote l 0 (encode f) m n → Finished n m true k → take (n - 0) (drop 0 k) ≡ encode f
@@ -53,14 +53,14 @@ pub record Walked (x : Env) (m : Outcome (Fields × State)) (out t' out' : List 
   pub items : Fields
   pub state : State
   pub is : m ≡ done (items, state)
-  pub wrote : Wrote out 0 (encode (moduleWith items)) out' n
+  pub wrote : Wrote out 0 (encode (module_with items)) out' n
   pub shows : Shows x t' state
 
-pub walked : (e : Setting) (s : List ℕ) (u : State) {x : Env} {out t' out' : List ℕ} {p : ℕ} → Made encode x (passAct e s u) out 0 t' out' p →
-    Walked x (walkModule e (items_in s) u) out t' out' p
+pub walked : (e : Setting) (s : List ℕ) (u : State) {x : Env} {out t' out' : List ℕ} {p : ℕ} → Made encode x (pass_act e s u) out 0 t' out' p →
+    Walked x (walk_module e (items_in s) u) out t' out' p
 walked e s u {x} {t' = t'} d =
-    let a = onto-done (walkModule e (items_in s) u) _ (d.value, d.state) d.is in
-    let q : ◌≡◌ {A = Field × State} (moduleWith a.0.0, a.0.1) (d.value, d.state) = done_inj a.2 in
+    let a = onto-done (walk_module e (items_in s) u) _ (d.value, d.state) d.is in
+    let q : ◌≡◌ {A = Field × State} (module_with a.0.0, a.0.1) (d.value, d.state) = done_inj a.2 in
     record {
       items = a.0.0;
       state = a.0.1;
@@ -80,8 +80,8 @@ onto-refused : {A B : Type 0} (m : Outcome A) (f : A → B) (n p : ℕ) → onto
 onto-refused (done a) f n p e = done_refused (sym e)
 onto-refused (refused k q) f n p e = ap₂ refused (refused-number e) (refused-place e)
 
-pub walked-refused : (e : Setting) (s : List ℕ) (u : State) (n p : ℕ) → passAct e s u ≡ refused n p → walkModule e (items_in s) u ≡ refused n p
-walked-refused e s u n p q = onto-refused (walkModule e (items_in s) u) (λ r. (moduleWith r.0, r.1)) n p q
+pub walked-refused : (e : Setting) (s : List ℕ) (u : State) (n p : ℕ) → pass_act e s u ≡ refused n p → walk_module e (items_in s) u ≡ refused n p
+walked-refused e s u n p q = onto-refused (walk_module e (items_in s) u) (λ r. (module_with r.0, r.1)) n p q
 
 module _ {l1 l2 : List ℕ} {n : ℕ} {b : Bool} (f : Finished n l1 b l2) where
   pub pass-inside : (l : List ℕ) → length l1 ≡ length l → b ≡ true → n ≤ length l
@@ -89,7 +89,7 @@ module _ {l1 l2 : List ℕ} {n : ℕ} {b : Bool} (f : Finished n l1 b l2) where
 
   module _ {x : Env} {m : Outcome (Fields × State)} {l t' : List ℕ} (w : Walked x m l t' l1 n) where
     abbrev made : Field
-    made = moduleWith w.items
+    made = module_with w.items
 
     pub pass-held : b ≡ true → Held x m l t' l2 n
     pass-held e =
@@ -109,6 +109,6 @@ module _ {l1 l2 : List ℕ} {n : ℕ} {b : Bool} (f : Finished n l1 b l2) where
 -- ---- The records
 
 pub records-delivered : (tree work out : List ℕ) {t records records1 records2 : List ℕ} {n : ℕ} {b : Bool} →
-    WroteFor (λ x. Placing tree work x × BothRead work out) (λ s. encode (recordsIn work out s)) t records 0 records1 n → Finished n records1 b records2 →
+    WroteFor (λ x. Placing tree work x × BothRead work out) (λ s. encode (records_in work out s)) t records 0 records1 n → Finished n records1 b records2 →
     DeliversFor tree work out t records records2 b
 records-delivered tree work out w f = record { is = λ s v p u. delivers (w.is s v (p, u)) f }

@@ -10,10 +10,10 @@ use borrow.Author.Tests.{eqb-true, eqb-false}
 use Rattle.tree.specs.declared.layout.Reach.TheVariants.{Upto, Short}
 use Rattle.tree.specs.declared.grammar.Step.TheVariants.{Go}
 use Rattle.tree.specs.Layout.{Bytes}
-use Rattle.tree.specs.Grammar.{ruleOf}
+use Rattle.tree.specs.Grammar.{rule_of}
 use Rattle.tree.specs.Tree.{Field, field, Fields, none, more, tag_of, fixed_of, parts_of, encode, encodes, size, sizes}
-use Rattle.tree.specs.Access.{extentAt}
-use Rattle.tree.specs.Standing.{treeAt, row_at, Row}
+use Rattle.tree.specs.Access.{extent_at}
+use Rattle.tree.specs.Standing.{tree_at, row_at, Row}
 use Rattle.tree.proofs.AccessLaws.{extent-upto}
 use Rattle.tree.proofs.StandingLaws.{row_more, row-none}
 use Rattle.tree.proofs.TreeLaws.{content-size}
@@ -24,15 +24,15 @@ use Rattle.metadata.proofs.EncodeLaws.{encodes-append}
 use Rattle.inputs.specs.Outcome.{Outcome, done, refused, onto}
 use Rattle.inputs.specs.Fields.{keep, inside}
 use Rattle.inputs.proofs.AcceptedLaws.{done_inj, onto-done}
-use Rattle.extraction_rules.specs.State.{State, Pass, first, second, Setting, Act, setTop}
-use Rattle.extraction_rules.specs.First.{stays, importFirst}
-use Rattle.extraction_rules.specs.Walk.{afterImport, after, walk, walkAll, walkModule}
+use Rattle.extraction_rules.specs.State.{State, Pass, first, second, Setting, Act, set_top}
+use Rattle.extraction_rules.specs.First.{stays, import_first}
+use Rattle.extraction_rules.specs.Walk.{after_import, after, walk, walk_all, walk_module}
 use Rattle.extraction_rules.proofs.OutcomeLaws.{After, after-done, after-weaken}
 use Rattle.extraction_rules.proofs.ShapeLaws.{Shaped, ShapedAll}
 use Rattle.extraction_rules.proofs.ReadableLaws.{item-step}
 use Rattle.extraction_rules.proofs.WalkLaws.{ImportsAll}
 use Rattle.extraction_rules.proofs.SanityLaws.{Known}
-use Rattle.state.specs.Cells.{Env, Good, namespacesIn, sourcesIn}
+use Rattle.state.specs.Cells.{Env, Good, namespaces_in, sources_in}
 use Rattle.state.specs.Does.{Turns}
 use Rattle.imports.proofs.CountLaws.{import-brings}
 use Rattle.steps.specs.declared.Why.{Why}
@@ -42,7 +42,7 @@ use Rattle.steps.specs.Step.{Steps, Ended}
 use Rattle.steps.proofs.SoundLaws.{read-size, row_read, read-tag}
 use Rattle.steps.proofs.StepsLaws.{steps-is, steps-give, steps-as, steps-never, steps-changed, steps-field, begun, pair_of, steps-pair, steps-turned}
 use Rattle.walking.proofs.RowLaws.{all_more, all_none}
-use Rattle.extraction.specs.Passes.{Ready, ItemRead, ItemsRead, itemAct, itemsAct, passAct}
+use Rattle.extraction.specs.Passes.{Ready, ItemRead, ItemsRead, item_act, items_act, pass_act}
 use Rattle.extraction.proofs.CellsLaws.{item-few, item-sources}
 use Rattle.extraction.proofs.ItemLaws.{one-item, import-first, ready-first, ready-second, item-shaped, item-regular, import-walk}
 
@@ -55,8 +55,8 @@ ready-part second at end stop u K L h f r = f r
 field-size : (f : Field) → size f ≡ 3 + (length (fixed_of f) + sizes (parts_of f))
 field-size (field t x cs) = content-size t x cs
 
-import-shaped : (f : Field) → tag_of f ≡ 0x10 → Shaped f → ShapedAll (parts_of f) (ruleOf 0x10)
-import-shaped (field t x cs) q h = subst (λ (n : ℕ). ShapedAll cs (ruleOf n)) q h.1
+import-shaped : (f : Field) → tag_of f ≡ 0x10 → Shaped f → ShapedAll (parts_of f) (rule_of 0x10)
+import-shaped (field t x cs) q h = subst (λ (n : ℕ). ShapedAll cs (rule_of n)) q h.1
 
 same-state : {b a : Fields} {u v : State} → ◌≡◌ {A = Outcome (Fields × State)} (done (b, u)) (done (a, v)) → u ≡ v
 same-state z = ap (λ (p : Fields × State). p.1) (done_inj z)
@@ -70,21 +70,21 @@ keep-more g gs = go (stays g)
     go false = refl
 
 module _ (s : List ℕ) (bytes : Bytes s) (at end : ℕ) (le : at ≤ end) where
-  pub items-over : {t out : List ℕ} {o : ℕ} → extentAt s at end ≡ Short → Good t → Steps encodes (ItemsRead s at end) (λ x. itemsAct x.setting s at end) t out o t out (Done o)
+  pub items-over : {t out : List ℕ} {o : ℕ} → extent_at s at end ≡ Short → Good t → Steps encodes (ItemsRead s at end) (λ x. items_act x.setting s at end) t out o t out (Done o)
   unfolding encode keep
   items-over x g =
-      steps-give encodes (ItemsRead s at end) (λ x. itemsAct x.setting s at end) none g refl
-      (λ y u w. ap (λ (fs : Fields). onto (walkAll fs y.setting false at u) (λ r. done (keep stays r.0, r.1))) (row-none s at end le x)
+      steps-give encodes (ItemsRead s at end) (λ x. items_act x.setting s at end) none g refl
+      (λ y u w. ap (λ (fs : Fields). onto (walk_all fs y.setting false at u) (λ r. done (keep stays r.0, r.1))) (row-none s at end le x)
       ∙ ap (λ (m : Outcome (Fields × State)). onto m (λ r. done (keep stays r.0, r.1))) (all_none false y.setting at u))
 
-  module _ (stop : ℕ) (x : extentAt s at end ≡ Upto stop) where
+  module _ (stop : ℕ) (x : extent_at s at end ≡ Upto stop) where
     inside-here : (at + 3 ≤ stop) × (stop ≤ end)
     inside-here = extent-upto s at end le x
 
     -- the first item
     item-here : {y : Env} {u : State} → ItemsRead s at end y u → ItemRead s at stop y u
     item-here {y} {u} w =
-        let r = row_read (ruleOf 0x01) le w.fits w.row x in
+        let r = row_read (rule_of 0x01) le w.fits w.row x in
         let q = (item-step (get_or s at 0) r.1.0 r.1.1).1 in
         record {
           read = r.0;
@@ -92,69 +92,69 @@ module _ (s : List ℕ) (bytes : Bytes s) (at end : ℕ) (le : at ≤ end) where
           reads = w.reads;
           ready =
               ready-part y.setting.pass at end stop u _ _ inside-here.1
-              (λ k. (subst (λ (fs : Fields). ImportsAll fs (Known y.setting.externals (sourcesIn u.collected))) (row_more s at end stop le x) k).0) w.ready;
+              (λ k. (subst (λ (fs : Fields). ImportsAll fs (Known y.setting.externals (sources_in u.collected))) (row_more s at end stop le x) k).0) w.ready;
         }
 
     -- what the first pass brings
-    brought : (e : Setting) (u : State) → e.pass ≡ first → {y : Env} → ItemRead s at stop y u → 9 * namespacesIn u.collected ≤ at →
-        After (walk (treeAt s at stop) e false at u) (λ g v. 9 * namespacesIn v.collected ≤ stop)
+    brought : (e : Setting) (u : State) → e.pass ≡ first → {y : Env} → ItemRead s at stop y u → 9 * namespaces_in u.collected ≤ at →
+        After (walk (tree_at s at stop) e false at u) (λ g v. 9 * namespaces_in v.collected ≤ stop)
     brought e u one w k = go (eqb (get_or s at 0) 0x10) refl
       where
-        by-import : get_or s at 0 ≡ 0x10 → After (importFirst e (fixed_of (treeAt s at stop)) (parts_of (treeAt s at stop)) at u) (λ g v. 9 * namespacesIn v.collected ≤ stop)
+        by-import : get_or s at 0 ≡ 0x10 → After (import_first e (fixed_of (tree_at s at stop)) (parts_of (tree_at s at stop)) at u) (λ g v. 9 * namespaces_in v.collected ≤ stop)
         by-import q =
             let n = read-size w.read bytes in
             let i = inside-here.0 in
-            let f = treeAt s at stop in
+            let f = tree_at s at stop in
             let m = field-size f in
-            after-weaken (importFirst e (fixed_of f) (parts_of f) at u) _ (λ g v. 9 * namespacesIn v.collected ≤ stop)
-            (λ g v b. let z : 9 * namespacesIn v.collected ≤ stop = omega arith in z)
+            after-weaken (import_first e (fixed_of f) (parts_of f) at u) _ (λ g v. 9 * namespaces_in v.collected ≤ stop)
+            (λ g v b. let z : 9 * namespaces_in v.collected ≤ stop = omega arith in z)
             (import-brings e (fixed_of f) (parts_of f) at u (import-shaped f (read-tag w.read ∙ q) (item-shaped s bytes at stop w.read)))
 
-        go : (b : Bool) → eqb (get_or s at 0) 0x10 ≡ b → After (walk (treeAt s at stop) e false at u) (λ g v. 9 * namespacesIn v.collected ≤ stop)
+        go : (b : Bool) → eqb (get_or s at 0) 0x10 ≡ b → After (walk (tree_at s at stop) e false at u) (λ g v. 9 * namespaces_in v.collected ≤ stop)
         go true q =
             let t = eqb-true (get_or s at 0) 0x10 q in
-            subst (λ (m : Outcome (Field × State)). After m (λ g v. 9 * namespacesIn v.collected ≤ stop))
+            subst (λ (m : Outcome (Field × State)). After m (λ g v. 9 * namespaces_in v.collected ≤ stop))
             (sym (import-walk s bytes at stop e w.read t u
-            ∙ ap (λ (b : Pass). afterImport b e (fixed_of (treeAt s at stop)) (parts_of (treeAt s at stop)) at u) one ∙ import-first e _ _ at u))
+            ∙ ap (λ (b : Pass). after_import b e (fixed_of (tree_at s at stop)) (parts_of (tree_at s at stop)) at u) one ∙ import-first e _ _ at u))
             (by-import t)
         go false q =
             let i = inside-here.0 in
-            after-weaken (walk (treeAt s at stop) e false at u) _ (λ g v. 9 * namespacesIn v.collected ≤ stop) (λ g v b. let z : 9 * namespacesIn v.collected ≤ stop = omega arith in z)
-            (item-few e one (treeAt s at stop) false at u (item-regular s bytes at stop w (eqb-false (get_or s at 0) 0x10 q)))
+            after-weaken (walk (tree_at s at stop) e false at u) _ (λ g v. 9 * namespaces_in v.collected ≤ stop) (λ g v b. let z : 9 * namespaces_in v.collected ≤ stop = omega arith in z)
+            (item-few e one (tree_at s at stop) false at u (item-regular s bytes at stop w (eqb-false (get_or s at 0) 0x10 q)))
 
     -- the others, in the state that the first one leaves
     items-rest : {y : Env} {u v : State} {g : Field} → ItemsRead s at end y u →
-        walk (treeAt s at stop) y.setting false at u ≡ done (g, v) → ItemsRead s stop end y v
+        walk (tree_at s at stop) y.setting false at u ≡ done (g, v) → ItemsRead s stop end y v
     items-rest {y} {u} {v} {g} w z =
-        let r = row_read (ruleOf 0x01) le w.fits w.row x in
+        let r = row_read (rule_of 0x01) le w.fits w.row x in
         let q = (item-step (get_or s at 0) r.1.0 r.1.1).1 in
         record { inside = inside-here.1; row = subst (Row s stop end) q r.1.2; fits = w.fits; reads = w.reads; ready = here y.setting.pass refl }
       where
-        here : (p : Pass) → y.setting.pass ≡ p → Ready y.setting.pass stop end v (ImportsAll (row_at s stop end) (Known y.setting.externals (sourcesIn v.collected)))
+        here : (p : Pass) → y.setting.pass ≡ p → Ready y.setting.pass stop end v (ImportsAll (row_at s stop end) (Known y.setting.externals (sources_in v.collected)))
         here first d =
-            let k = ready-first at end u (ImportsAll (row_at s at end) (Known y.setting.externals (sourcesIn u.collected))) d w.ready in
-            subst (λ (p : Pass). Ready p stop end v (ImportsAll (row_at s stop end) (Known y.setting.externals (sourcesIn v.collected)))) (sym d)
-            (after-done (walk (treeAt s at stop) y.setting false at u) _ (g, v) z (brought y.setting u d (item-here w) k.0), k.1)
+            let k = ready-first at end u (ImportsAll (row_at s at end) (Known y.setting.externals (sources_in u.collected))) d w.ready in
+            subst (λ (p : Pass). Ready p stop end v (ImportsAll (row_at s stop end) (Known y.setting.externals (sources_in v.collected)))) (sym d)
+            (after-done (walk (tree_at s at stop) y.setting false at u) _ (g, v) z (brought y.setting u d (item-here w) k.0), k.1)
         here second d =
-            let k = ready-second at end u (ImportsAll (row_at s at end) (Known y.setting.externals (sourcesIn u.collected))) d w.ready in
-            let n = after-done (walk (treeAt s at stop) y.setting false at u) _ (g, v) z (item-sources y.setting d (treeAt s at stop) false at u) in
-            subst (λ (p : Pass). Ready p stop end v (ImportsAll (row_at s stop end) (Known y.setting.externals (sourcesIn v.collected)))) (sym d)
+            let k = ready-second at end u (ImportsAll (row_at s at end) (Known y.setting.externals (sources_in u.collected))) d w.ready in
+            let n = after-done (walk (tree_at s at stop) y.setting false at u) _ (g, v) z (item-sources y.setting d (tree_at s at stop) false at u) in
+            subst (λ (p : Pass). Ready p stop end v (ImportsAll (row_at s stop end) (Known y.setting.externals (sources_in v.collected)))) (sym d)
             (subst (λ (l : List (List ℕ)). ImportsAll (row_at s stop end) (Known y.setting.externals l)) (sym n)
-            (subst (λ (fs : Fields). ImportsAll fs (Known y.setting.externals (sourcesIn u.collected))) (row_more s at end stop le x) k).1)
+            (subst (λ (fs : Fields). ImportsAll fs (Known y.setting.externals (sources_in u.collected))) (row_more s at end stop le x) k).1)
 
     -- the row is the first item and the others
     split-items : {y : Env} {u : State} → ItemsRead s at end y u →
-        itemsAct y.setting s at end u ≡ pair_of append (λ x. itemAct x.setting s at stop) (λ _ x. itemsAct x.setting s stop end) y u
+        items_act y.setting s at end u ≡ pair_of append (λ x. item_act x.setting s at stop) (λ _ x. items_act x.setting s stop end) y u
     split-items {y} {u} w =
         let r = (item-here w).read in
         let n = read-size r bytes in
         let i = inside-here.0 in
-        let z : at + size (treeAt s at stop) ≡ stop = omega arith in
-        ap (λ (fs : Fields). onto (walkAll fs y.setting false at u) (λ r. done (keep stays r.0, r.1))) (row_more s at end stop le x)
-        ∙ ap (λ (m : Outcome (Fields × State)). onto m (λ r. done (keep stays r.0, r.1))) (all_more false y (treeAt s at stop) (row_at s stop end) at u)
-        ∙ ap (λ (p : ℕ). onto (pair_of more (λ x. walk (treeAt s at stop) x.setting false at) (λ _ x. walkAll (row_at s stop end) x.setting false p) y u)
+        let z : at + size (tree_at s at stop) ≡ stop = omega arith in
+        ap (λ (fs : Fields). onto (walk_all fs y.setting false at u) (λ r. done (keep stays r.0, r.1))) (row_more s at end stop le x)
+        ∙ ap (λ (m : Outcome (Fields × State)). onto m (λ r. done (keep stays r.0, r.1))) (all_more false y (tree_at s at stop) (row_at s stop end) at u)
+        ∙ ap (λ (p : ℕ). onto (pair_of more (λ x. walk (tree_at s at stop) x.setting false at) (λ _ x. walk_all (row_at s stop end) x.setting false p) y u)
         (λ r. done (keep stays r.0, r.1))) z
-        ∙ go (walk (treeAt s at stop) y.setting false at u)
+        ∙ go (walk (tree_at s at stop) y.setting false at u)
       where
         two : (g : Field) (m : Outcome (Fields × State)) → onto {B = Fields × State} (onto {B = Fields × State} m (λ b. done (more g b.0, b.1))) (λ r. done (keep stays r.0, r.1)) ≡
             onto (onto {B = Fields × State} m (λ r. done (keep stays r.0, r.1))) (λ b. done (append (one-item g) b.0, b.1))
@@ -163,27 +163,27 @@ module _ (s : List ℕ) (bytes : Bytes s) (at end : ℕ) (le : at ≤ end) where
 
         go : (m : Outcome (Field × State)) →
             onto {B = Fields × State}
-            (onto {B = Fields × State} m (λ a. onto (walkAll (row_at s stop end) y.setting false stop a.1) (λ b. done (more a.0 b.0, b.1))))
+            (onto {B = Fields × State} m (λ a. onto (walk_all (row_at s stop end) y.setting false stop a.1) (λ b. done (more a.0 b.0, b.1))))
             (λ r. done (keep stays r.0, r.1)) ≡
-            onto (onto {B = Fields × State} m (λ r. done (one-item r.0, r.1))) (λ a. onto (itemsAct y.setting s stop end a.1) (λ b. done (append a.0 b.0, b.1)))
-        go (done a) = two a.0 (walkAll (row_at s stop end) y.setting false stop a.1)
+            onto (onto {B = Fields × State} m (λ r. done (one-item r.0, r.1))) (λ a. onto (items_act y.setting s stop end a.1) (λ b. done (append a.0 b.0, b.1)))
+        go (done a) = two a.0 (walk_all (row_at s stop end) y.setting false stop a.1)
         go (refused n k) = refl
 
     pub items-then : {t out t1 out1 t2 out2 : List ℕ} {o p : ℕ} {k : Step} →
-        Steps encodes (ItemRead s at stop) (λ x. itemAct x.setting s at stop) t out o t1 out1 (Done p) →
-        Steps encodes (ItemsRead s stop end) (λ x. itemsAct x.setting s stop end) t1 out1 p t2 out2 k →
-        Steps encodes (ItemsRead s at end) (λ x. itemsAct x.setting s at end) t out o t2 out2 k
+        Steps encodes (ItemRead s at stop) (λ x. item_act x.setting s at stop) t out o t1 out1 (Done p) →
+        Steps encodes (ItemsRead s stop end) (λ x. items_act x.setting s stop end) t1 out1 p t2 out2 k →
+        Steps encodes (ItemsRead s at end) (λ x. items_act x.setting s at end) t out o t2 out2 k
     items-then one rest =
-        steps-as (λ x. itemsAct x.setting s at end)
-        (steps-pair encodes encodes encodes append encodes-append (ItemsRead s at end) (λ _ x. itemsAct x.setting s stop end) one (λ _. rest) none (λ y u w. item-here w)
-        (λ y u w a v z. let d = onto-done (walk (treeAt s at stop) y.setting false at u) _ (a, v) z in items-rest w (d.1 ∙ ap (λ (b : State). done (d.0.0, b)) (same-state d.2))))
+        steps-as (λ x. items_act x.setting s at end)
+        (steps-pair encodes encodes encodes append encodes-append (ItemsRead s at end) (λ _ x. items_act x.setting s stop end) one (λ _. rest) none (λ y u w. item-here w)
+        (λ y u w a v z. let d = onto-done (walk (tree_at s at stop) y.setting false at u) _ (a, v) z in items-rest w (d.1 ∙ ap (λ (b : State). done (d.0.0, b)) (same-state d.2))))
         (λ y u w. (w, split-items w))
 
-    pub items-turned : {t out t1 out1 : List ℕ} {o q : ℕ} {v : Why} → Steps encodes (ItemRead s at stop) (λ x. itemAct x.setting s at stop) t out o t1 out1 (Refused v q) →
-        Steps encodes (ItemsRead s at end) (λ x. itemsAct x.setting s at end) t out o t1 out1 (Refused v q)
+    pub items-turned : {t out t1 out1 : List ℕ} {o q : ℕ} {v : Why} → Steps encodes (ItemRead s at stop) (λ x. item_act x.setting s at stop) t out o t1 out1 (Refused v q) →
+        Steps encodes (ItemsRead s at end) (λ x. items_act x.setting s at end) t out o t1 out1 (Refused v q)
     items-turned one =
-        steps-as (λ x. itemsAct x.setting s at end)
-        (steps-turned encodes encodes encodes append encodes-append (ItemsRead s at end) (λ _ x. itemsAct x.setting s stop end) one (λ y u w. item-here w))
+        steps-as (λ x. items_act x.setting s at end)
+        (steps-turned encodes encodes encodes append encodes-append (ItemsRead s at end) (λ _ x. items_act x.setting s stop end) one (λ y u w. item-here w))
         (λ y u w. (w, split-items w))
 
 -- ---- In a loop, and the whole pass
@@ -195,17 +195,17 @@ pub record Passing (s : List ℕ) (from end : ℕ) (t₀ out₀ : List ℕ) (o :
   pub size : length out ≡ length out₀
   pub after : from ≤ at
   pub inside : at ≤ end
-  pub rest : (t' out' : List ℕ) (k : Step) → Steps encodes (ItemsRead s at end) (λ x. itemsAct x.setting s at end) t out to t' out' k →
-      Steps encodes (ItemsRead s from end) (λ x. itemsAct x.setting s from end) t₀ out₀ o t' out' k
+  pub rest : (t' out' : List ℕ) (k : Step) → Steps encodes (ItemsRead s at end) (λ x. items_act x.setting s at end) t out to t' out' k →
+      Steps encodes (ItemsRead s from end) (λ x. items_act x.setting s from end) t₀ out₀ o t' out' k
 
 pub passing-start : {s : List ℕ} {from end : ℕ} {t out : List ℕ} {o : ℕ} → Good t → from ≤ end → Passing s from end t out o t out from o
 passing-start g le = record { good = g; kept = refl; size = refl; after = omega arith; inside = le; rest = λ t' out' k m. m }
 
 module _ {s : List ℕ} {from end : ℕ} {t₀ out₀ t out : List ℕ} {o at to : ℕ} (bytes : Bytes s) (g : Passing s from end t₀ out₀ o t out at to) where
-  pub passing-over : extentAt s at end ≡ Short → Steps encodes (ItemsRead s from end) (λ x. itemsAct x.setting s from end) t₀ out₀ o t out (Done to)
+  pub passing-over : extent_at s at end ≡ Short → Steps encodes (ItemsRead s from end) (λ x. items_act x.setting s from end) t₀ out₀ o t out (Done to)
   passing-over x = g.rest t out (Done to) (items-over s bytes at end g.inside x g.good)
 
-  module _ {stop : ℕ} (x : extentAt s at end ≡ Upto stop) {t1 out1 : List ℕ} {k : Step} (m : Steps encodes (ItemRead s at stop) (λ x. itemAct x.setting s at stop) t out to t1 out1 k) where
+  module _ {stop : ℕ} (x : extent_at s at end ≡ Upto stop) {t1 out1 : List ℕ} {k : Step} (m : Steps encodes (ItemRead s at stop) (λ x. item_act x.setting s at stop) t out to t1 out1 k) where
     pub passing-more : {p : ℕ} → k ≡ Done p → length t1 ≡ length t → Passing s from end t₀ out₀ o t1 out1 stop p
     passing-more z n =
         let i = extent-upto s at end g.inside x in
@@ -219,7 +219,7 @@ module _ {s : List ℕ} {from end : ℕ} {t₀ out₀ t out : List ℕ} {o at to
           rest = λ t' out' j r. g.rest t' out' j (items-then s bytes at end g.inside stop x (steps-is m z) r);
         }
 
-    pub passing-turned : {v : Why} {q : ℕ} → k ≡ Refused v q → Steps encodes (ItemsRead s from end) (λ x. itemsAct x.setting s from end) t₀ out₀ o t1 out1 (Refused v q)
+    pub passing-turned : {v : Why} {q : ℕ} → k ≡ Refused v q → Steps encodes (ItemsRead s from end) (λ x. items_act x.setting s from end) t₀ out₀ o t1 out1 (Refused v q)
     passing-turned z = g.rest t1 out1 _ (items-turned s bytes at end g.inside stop x (steps-is m z))
 
 -- bytes that are no module cannot have been read
@@ -227,19 +227,19 @@ pub pass-short : (act : Env → Act Field) {s : List ℕ} {t out : List ℕ} {o 
     Steps encode (ItemsRead s 3 (length s)) act t out o t out k
 pass-short act {s} k g h = steps-never encode (ItemsRead s 3 (length s)) act k g (λ x u w. let i = w.inside in omega arith)
 
-ready-top : (p : Pass) (at end : ℕ) (u : State) (K : Type 0) → Ready p at end u K → Ready p at end (setTop true u) K
+ready-top : (p : Pass) (at end : ℕ) (u : State) (K : Type 0) → Ready p at end u K → Ready p at end (set_top true u) K
 ready-top first at end u K r = r
 ready-top second at end u K r = r
 
 -- the items, written into a module
 pub pass-made : {s : List ℕ} {t t1 t2 out out1 out2 out3 : List ℕ} {p : ℕ} (r : Step) {k : Step} →
-    Turns (setTop true) t t1 → Opened out 0 0x01 out1 p →
-    Steps encodes (ItemsRead s 3 (length s)) (λ x. itemsAct x.setting s 3 (length s)) t1 out1 p t2 out2 r → Ended 0 r out2 out3 k →
-    Steps encode (ItemsRead s 3 (length s)) (λ x. passAct x.setting s) t out 0 t2 out3 k
-unfolding walkModule
+    Turns (set_top true) t t1 → Opened out 0 0x01 out1 p →
+    Steps encodes (ItemsRead s 3 (length s)) (λ x. items_act x.setting s 3 (length s)) t1 out1 p t2 out2 r → Ended 0 r out2 out3 k →
+    Steps encode (ItemsRead s 3 (length s)) (λ x. pass_act x.setting s) t out 0 t2 out3 k
+unfolding walk_module
 pass-made {s} r g b m n =
-    steps-as (λ x. passAct x.setting s)
-    (steps-changed (setTop true) g (steps-field r (begun b wrote_none) m n)
+    steps-as (λ x. pass_act x.setting s)
+    (steps-changed (set_top true) g (steps-field r (begun b wrote_none) m n)
     (λ x u w. record
     { inside = w.inside; row = w.row; fits = w.fits; reads = w.reads; ready = ready-top x.setting.pass 3 (length s) u _ w.ready }))
     (λ x u w. (w, refl))

@@ -8,11 +8,11 @@ use mathlib.Core.List.{List, [], ◌∷◌, map}
 use mathlib.Core.Option.{Option, none as nothing}
 use lib.ListN.{length, get_or, take, drop, replicate, length-replicate}
 use Rattle.modes.specs.declared.Modes.{Modes}
-use Rattle.modes.specs.Bits.{modesOf}
+use Rattle.modes.specs.Bits.{modes_of}
 use Rattle.report.specs.declared.Report.{Report}
-use Rattle.report.specs.Counts.{noCounts}
+use Rattle.report.specs.Counts.{no_counts}
 use Rattle.scope.specs.Modules.{Modules, request}
-use Rattle.scope.specs.ScopeValue.{modulesOf}
+use Rattle.scope.specs.ScopeValue.{modules_of}
 use Rattle.scope.specs.declared.Scope.{Scope}
 use Rattle.tree.specs.declared.grammar.Set.TheVariants.{Module}
 use Rattle.tree.specs.declared.read.Why.{Why as ReadWhy}
@@ -20,29 +20,29 @@ use Rattle.tree.specs.Layout.{Bytes}
 use Rattle.tree.specs.Tree.{Field, Fields, none, more, encode, size}
 use Rattle.tree.specs.Read.{fine, read}
 use Rattle.tree.proofs.TreeLaws.{size-encode}
-use Rattle.writer.specs.Finished.{hasRoom, zeroed, delivered}
-use Rattle.inputs.specs.Outcome.{Outcome, done, refused, onto, placeless, refusalIn}
-use Rattle.inputs.specs.Buffer.{fits, bufferOf}
-use Rattle.inputs.specs.Table.{atomsIn, rowsIn}
-use Rattle.extraction_rules.specs.State.{Record, State, first, second, Setting, start, setTop}
-use Rattle.extraction_rules.specs.Walk.{walkModule, walkAgain}
-use Rattle.extraction_rules.specs.Records.{recordsOf}
-use Rattle.extraction_rules.specs.Call.{Lent, Lengths, Extracted, Left, ownModule, setting, moduleWith, extractedFrom, passes, modulesAfter, extracted, extraction}
+use Rattle.writer.specs.Finished.{has_room, zeroed, delivered}
+use Rattle.inputs.specs.Outcome.{Outcome, done, refused, onto, placeless, refusal_in}
+use Rattle.inputs.specs.Buffer.{fits, buffer_of}
+use Rattle.inputs.specs.Table.{atoms_in, rows_in}
+use Rattle.extraction_rules.specs.State.{Record, State, first, second, Setting, start, set_top}
+use Rattle.extraction_rules.specs.Walk.{walk_module, walk_again}
+use Rattle.extraction_rules.specs.Records.{records_of}
+use Rattle.extraction_rules.specs.Call.{Lent, Lengths, Extracted, Left, own_module, setting, module_with, extracted_from, passes, modules_after, extracted, extraction}
 use Rattle.extraction_rules.proofs.OutcomeLaws.{After, after_both, after-done}
-use Rattle.extraction_rules.proofs.FirstLaws.{sourcesOf}
+use Rattle.extraction_rules.proofs.FirstLaws.{sources_of}
 use Rattle.extraction_rules.proofs.WalkLaws.{ImportsAll}
 use Rattle.extraction_rules.proofs.SanityLaws.{Known}
-use Rattle.extraction_rules.proofs.ImportsLaws.{walkModule-known}
+use Rattle.extraction_rules.proofs.ImportsLaws.{walk_module-known}
 use Rattle.extraction_rules.proofs.ReadableLaws.{Items, items-readable, run-within, room-size as room_most}
 use Rattle.tables.specs.Rows.{rows}
-use Rattle.state.specs.Cells.{Env, externals as externals-kind, table as table-kind, table_of, atomOf, lent_of, cells, Good, Shows, sourcesIn}
-use Rattle.state.specs.Does.{Tells, Resets, withOwn, withModes, withExternals, withTable}
+use Rattle.state.specs.Cells.{Env, externals as externals-kind, table as table-kind, table_of, atom_of, lent_of, cells, Good, Shows, sources_in}
+use Rattle.state.specs.Does.{Tells, Resets, with_own, with_modes, with_externals, with_table}
 use Rattle.state.proofs.RestLaws.{unset, zero-good, zero-shows}
 use Rattle.steps.specs.declared.Why.{Why}
 use Rattle.steps.specs.declared.Why.TheVariants.{TooManyFiles as NoNumber}
-use Rattle.steps.specs.Refusal.{refusalOf}
+use Rattle.steps.specs.Refusal.{refusal_of}
 use Rattle.records.specs.Model.{rebuilt}
-use Rattle.records.specs.Writes.{placed, literalIn, Placing, BothRead, items_in, recordsIn}
+use Rattle.records.specs.Writes.{placed, literal_in, Placing, BothRead, items_in, records_in}
 use Rattle.records.proofs.RebuiltLaws.{run-rebuilt}
 use Rattle.records.proofs.ToldLaws.{items-read}
 use Rattle.extraction.specs.declared.ExtractAnswer.{ExtractAnswer}
@@ -51,8 +51,8 @@ use Rattle.extraction.specs.declared.Tested.{Tested}
 use Rattle.extraction.specs.declared.Tested.TheVariants.{Good as Passable, Bad, NamedTwice as Twice, Unread as NotRead, TooManyFiles}
 use Rattle.extraction.specs.declared.Passed.{Passed}
 use Rattle.extraction.specs.declared.Passed.TheVariants.{Fits, Refused as Turned, NoRoom as Short}
-use Rattle.extraction.specs.Answer.{answerRefusal, outcomeOf, UnreadAs, lent_as, roomIn, left}
-use Rattle.extraction.specs.Stages.{lists_of, ModuleRead, settingIn, LentTo, OwnIs, Owns, Begun, PreparedIs, Prepares, PassIs, Inside, Firsts, marking, Seconds, DeliversFor}
+use Rattle.extraction.specs.Answer.{answer_refusal, outcome_of, UnreadAs, lent_as, room_in, left}
+use Rattle.extraction.specs.Stages.{lists_of, ModuleRead, setting_in, LentTo, OwnIs, Owns, Begun, PreparedIs, Prepares, PassIs, Inside, Firsts, marking, Seconds, DeliversFor}
 use Rattle.extraction.specs.Stages.{Whole, AcceptedAs, TurnedAs, Ends}
 use Rattle.extraction.proofs.HeldLaws.{fits_not, fits-so, room-size}
 use Rattle.extraction.proofs.ReadLaws.{module-read}
@@ -75,33 +75,33 @@ zeros-good e = subst Good (sym e) (zero-good (replicate cells 0) (length-replica
 as-set : (x : Env) (e : Setting) → x.setting ≡ e → record { setting = e; literal = x.literal; bound = x.bound } ≡ x
 as-set x e q = ap (λ (e : Setting). record { setting = e; literal = x.literal; bound = x.bound }) (sym q)
 
-zeros-show : {t : List ℕ} → t ≡ replicate cells 0 → (literal : ℕ → List ℕ) (bound : ℕ → Fields) → Shows (unset literal bound) t (setTop false (start []))
+zeros-show : {t : List ℕ} → t ≡ replicate cells 0 → (literal : ℕ → List ℕ) (bound : ℕ → Fields) → Shows (unset literal bound) t (set_top false (start []))
 zeros-show z literal bound =
-    subst (λ (t : List ℕ). Shows (unset literal bound) t (setTop false (start []))) (sym z)
+    subst (λ (t : List ℕ). Shows (unset literal bound) t (set_top false (start []))) (sym z)
     (zero-shows (replicate cells 0) (length-replicate {A = ℕ} cells 0) (zero-at cells) literal bound)
 
 map-none : {A B : Type 0} (f : A → B) (l : List A) → map f l ≡ [] → l ≡ []
 map-none f [] e = refl
 map-none f (a ∷ l) e = absurd (let z : ◌≡◌ {A = ℕ} (suc (length (map f l))) 0 = ap length e in omega arith)
 
-module _ (modes : Modes) {t t1 : List ℕ} (z : t ≡ replicate cells 0) (a : Resets (withModes modes) t t1) where
+module _ (modes : Modes) {t t1 : List ℕ} (z : t ≡ replicate cells 0) (a : Resets (with_modes modes) t t1) where
   pub externals-empty : rows (table_of externals-kind) t1 ≡ []
-  externals-empty = map-none atomOf _ (a.shows (setTop false (start [])) (zeros-show z (λ _. []) (λ _. none))).sets.externals
+  externals-empty = map-none atom_of _ (a.shows (set_top false (start [])) (zeros-show z (λ _. []) (λ _. none))).sets.externals
 
-  pub table_empty : (l : List (List ℕ)) {t2 : List ℕ} → Resets (withExternals l) t1 t2 → rows (table_of table-kind) t2 ≡ []
+  pub table_empty : (l : List (List ℕ)) {t2 : List ℕ} → Resets (with_externals l) t1 t2 → rows (table_of table-kind) t2 ≡ []
   table_empty l b =
-      let s = setTop false (start []) in
+      let s = set_top false (start []) in
       map-none lent_of _ (b.shows s (a.shows s (zeros-show z (λ _. []) (λ _. none)))).sets.table
 
-pub lent-to : (modes : Modes) (externals table : List ℕ) {t t1 t2 t3 : List ℕ} → t ≡ replicate cells 0 → Resets (withModes modes) t t1 →
-    Resets (withExternals (atomsIn externals)) t1 t2 → Resets (withTable (rowsIn table)) t2 t3 → LentTo modes externals table t3
+pub lent-to : (modes : Modes) (externals table : List ℕ) {t t1 t2 t3 : List ℕ} → t ≡ replicate cells 0 → Resets (with_modes modes) t t1 →
+    Resets (with_externals (atoms_in externals)) t1 t2 → Resets (with_table (rows_in table)) t2 t3 → LentTo modes externals table t3
 lent-to modes externals table {t} {t3 = t3} z a b c =
     record {
       good = c.good;
       shows = λ x q.
-          let s = setTop false (start []) in
+          let s = set_top false (start []) in
           let w = zeros-show z x.literal x.bound in
-          subst (λ (y : Env). Shows y t3 s) (as-set x (settingIn first 0 modes externals table) q) (c.shows s (b.shows s (a.shows s w)));
+          subst (λ (y : Env). Shows y t3 s) (as-set x (setting_in first 0 modes externals table) q) (c.shows s (b.shows s (a.shows s w)));
     }
 
 -- ---- The passes as the rules have them
@@ -109,84 +109,84 @@ lent-to modes externals table {t} {t3 = t3} z a b c =
 -- from the tree after the second pass on
 abbrev lastly : Fields → ℕ → ℕ → Fields × State → Outcome Extracted
 lastly works out records two =
-    onto (fits (moduleWith two.0) out) (λ _. onto (fits (recordsOf two.1) records) (λ _. done (extractedFrom works two.0 two.1)))
+    onto (fits (module_with two.0) out) (λ _. onto (fits (records_of two.1) records) (λ _. done (extracted_from works two.0 two.1)))
 
 -- from the second pass on
 abbrev secondly : Setting → ℕ → ℕ → Fields → State → Outcome Extracted
-secondly e out records works s = onto (placeless (walkAgain e works s)) (lastly works out records)
+secondly e out records works s = onto (placeless (walk_again e works s)) (lastly works out records)
 
 module _ (l : Lent) (room : Lengths) (own : ℕ) (ms : Modules) where
   abbrev one : Setting
-  one = setting first own l (rowsIn l.table)
+  one = setting first own l (rows_in l.table)
 
   abbrev two : Setting
-  two = setting second own l (rowsIn l.table)
+  two = setting second own l (rows_in l.table)
 
-  abbrev walkedFirst : Outcome (Fields × State)
-  walkedFirst = walkModule one (items_in l.tree) (setTop false (start ms))
+  abbrev walked_first : Outcome (Fields × State)
+  walked_first = walk_module one (items_in l.tree) (set_top false (start ms))
 
   -- the pass sets *top* itself
-  top_set : walkModule one (items_in l.tree) (start ms) ≡ walkedFirst
-  unfolding walkModule
+  top_set : walk_module one (items_in l.tree) (start ms) ≡ walked_first
+  unfolding walk_module
   top_set = refl
 
   abbrev further : Fields × State → Outcome Extracted
-  further r = onto (fits (moduleWith r.0) room.work) (λ _. secondly two room.out room.records r.0 r.1)
+  further r = onto (fits (module_with r.0) room.work) (λ _. secondly two room.out room.records r.0 r.1)
 
-  abbrev passesBy : Outcome Extracted
-  passesBy = passes l room (rowsIn l.table) (items_in l.tree) (own, ms)
+  abbrev passes_by : Outcome Extracted
+  passes_by = passes l room (rows_in l.table) (items_in l.tree) (own, ms)
 
-  passes-onto : passesBy ≡ onto (walkModule one (items_in l.tree) (start ms)) further
+  passes-onto : passes_by ≡ onto (walk_module one (items_in l.tree) (start ms)) further
   unfolding passes
   passes-onto = refl
 
-  passes-by : (m : Outcome (Fields × State)) → walkedFirst ≡ m → passesBy ≡ onto m further
+  passes-by : (m : Outcome (Fields × State)) → walked_first ≡ m → passes_by ≡ onto m further
   passes-by m q = passes-onto ∙ ap (λ (z : Outcome (Fields × State)). onto z further) (top_set ∙ q)
 
-  passes-fit : (works : Fields) (s : State) (m : Outcome (Unit {0})) → walkedFirst ≡ done (works, s) → fits (moduleWith works) room.work ≡ m →
-      passesBy ≡ onto m (λ _. secondly two room.out room.records works s)
+  passes-fit : (works : Fields) (s : State) (m : Outcome (Unit {0})) → walked_first ≡ done (works, s) → fits (module_with works) room.work ≡ m →
+      passes_by ≡ onto m (λ _. secondly two room.out room.records works s)
   passes-fit works s m p q =
       passes-by (done (works, s)) p ∙ ap (λ (z : Outcome (Unit {0})). onto z (λ _. secondly two room.out room.records works s)) q
 
 -- what the first pass leaves, and what the second makes of it
 pub record Between (e : Setting) (works : Fields) (s : State) : Type 0 where
   pub items : Items works
-  pub known : ImportsAll works (Known e.externals (sourcesIn s.collected))
-  pub outs : After (walkAgain e works s) (λ outs s'. Items outs × (s'.collected ≡ map (rebuilt works outs s'.forced) s'.collected))
+  pub known : ImportsAll works (Known e.externals (sources_in s.collected))
+  pub outs : After (walk_again e works s) (λ outs s'. Items outs × (s'.collected ≡ map (rebuilt works outs s'.forced) s'.collected))
 
 abbrev mapped : Fields → Fields → State → List Record
 mapped works outs s = map (rebuilt works outs s.forced) s.collected
 
 between : (l : Lent) (own : ℕ) (ms : Modules) (works : Fields) (s : State) → Items (items_in l.tree) →
-    walkModule (setting first own l (rowsIn l.table)) (items_in l.tree) (start ms) ≡ done (works, s) → Between (setting second own l (rowsIn l.table)) works s
+    walk_module (setting first own l (rows_in l.table)) (items_in l.tree) (start ms) ≡ done (works, s) → Between (setting second own l (rows_in l.table)) works s
 between l own ms works s h e =
-    let rows = rowsIn l.table in
+    let rows = rows_in l.table in
     let a = setting first own l rows in
     let b = setting second own l rows in
     let items = items_in l.tree in
-    let m = walkModule a items (start ms) in
+    let m = walk_module a items (start ms) in
     let within =
-    after-done m (λ ws z. Items ws × After (walkAgain b ws z) (λ outs z'. Items outs)) (works, s) e (run-within l rows own ms items h) in
+    after-done m (λ ws z. Items ws × After (walk_again b ws z) (λ outs z'. Items outs)) (works, s) e (run-within l rows own ms items h) in
     let retold =
-    after-done m (λ ws z. After (walkAgain b ws z) (λ outs z'. z'.collected ≡ mapped ws outs z')) (works, s) e (run-rebuilt l rows own ms items h) in
+    after-done m (λ ws z. After (walk_again b ws z) (λ outs z'. z'.collected ≡ mapped ws outs z')) (works, s) e (run-rebuilt l rows own ms items h) in
     record {
       items = within.0;
-      known = after-done m (λ ws z. ImportsAll ws (Known a.externals (sourcesOf z.collected))) (works, s) e (walkModule-known a refl items (start ms));
-      outs = after_both (walkAgain b works s) (λ outs z'. Items outs) (λ outs z'. z'.collected ≡ mapped works outs z') within.1 retold;
+      known = after-done m (λ ws z. ImportsAll ws (Known a.externals (sources_of z.collected))) (works, s) e (walk_module-known a refl items (start ms));
+      outs = after_both (walk_again b works s) (λ outs z'. Items outs) (λ outs z'. z'.collected ≡ mapped works outs z') within.1 retold;
     }
 
 module _ (e : Setting) (out records : ℕ) (works : Fields) (s : State) where
-  secondly-by : (m : Outcome (Fields × State)) → walkAgain e works s ≡ m → secondly e out records works s ≡ onto (placeless m) (lastly works out records)
+  secondly-by : (m : Outcome (Fields × State)) → walk_again e works s ≡ m → secondly e out records works s ≡ onto (placeless m) (lastly works out records)
   secondly-by m q = ap (λ (m : Outcome (Fields × State)). onto (placeless m) (lastly works out records)) q
 
   secondly-refused : (n p : ℕ) → marking e works s ≡ refused n p → secondly e out records works s ≡ refused n 0
   secondly-refused n p q = secondly-by (refused n p) (again_by e works s (refused n p) q)
 
-  secondly-fit : (outs : Fields) (s2 : State) (m : Outcome (Unit {0})) → marking e works s ≡ done (outs, s2) → fits (moduleWith outs) out ≡ m →
-      secondly e out records works s ≡ onto m (λ _. onto (fits (recordsOf (lost s2)) records) (λ _. done (extractedFrom works outs (lost s2))))
+  secondly-fit : (outs : Fields) (s2 : State) (m : Outcome (Unit {0})) → marking e works s ≡ done (outs, s2) → fits (module_with outs) out ≡ m →
+      secondly e out records works s ≡ onto m (λ _. onto (fits (records_of (lost s2)) records) (λ _. done (extracted_from works outs (lost s2))))
   secondly-fit outs s2 m p q =
       secondly-by (done (outs, lost s2)) (again_by e works s (done (outs, s2)) p)
-      ∙ ap (λ (z : Outcome (Unit {0})). onto z (λ _. onto (fits (recordsOf (lost s2)) records) (λ _. done (extractedFrom works outs (lost s2))))) q
+      ∙ ap (λ (z : Outcome (Unit {0})). onto z (λ _. onto (fits (records_of (lost s2)) records) (λ _. done (extracted_from works outs (lost s2))))) q
 
 -- a tree that fits is no longer than its buffer
 pub inside-fits : {r : Passed} {n room : ℕ} → r ≡ Fits n → Inside r room → n ≤ room
@@ -197,7 +197,7 @@ inside-fits {room = room} e h = subst (λ (r : Passed). Inside r room) e h
 no_room : Lengths
 no_room = record { work = 0; out = 0; records = 0 }
 
-module _ (file : ℕ) (modes : Modes) (externals table tree : List ℕ) (ms : Modules) {r : Tested} (d : r ≡ lists_of (lent_as 0 (modesOf 0) externals table tree)) where
+module _ (file : ℕ) (modes : Modes) (externals table tree : List ℕ) (ms : Modules) {r : Tested} (d : r ≡ lists_of (lent_as 0 (modes_of 0) externals table tree)) where
   abbrev lent : Lent
   lent = lent_as file modes externals table tree
 
@@ -228,11 +228,11 @@ module _ (file : ℕ) (modes : Modes) (externals table tree : List ℕ) (ms : Mo
     pub lists-short : (length externals ≤ 1024) × (length table ≤ 4096)
     lists-short = let s = says file modes externals table tree no_room ms Passable d e in (s.2, s.3)
 
-    owned_by : (room : Lengths) (o : Outcome (ℕ × Modules)) → ownModule (request file ms) ≡ o →
-        extracted lent room ms ≡ onto o (passes lent room (rowsIn table) (items_in tree))
+    owned_by : (room : Lengths) (o : Outcome (ℕ × Modules)) → own_module (request file ms) ≡ o →
+        extracted lent room ms ≡ onto o (passes lent room (rows_in table) (items_in tree))
     owned_by room o q =
         (says file modes externals table tree room ms Passable d e).0
-        ∙ ap (λ (z : Outcome (ℕ × Modules)). onto z (passes lent room (rowsIn table) (items_in tree))) q
+        ∙ ap (λ (z : Outcome (ℕ × Modules)). onto z (passes lent room (rows_in table) (items_in tree))) q
 
     pub prepared-own : Bytes tree → {t1 t2 : List ℕ} → LentTo modes externals table t1 → {a : Tested} → Owns file ms t1 t2 a → Prepares lent ms t2 a
     prepared-own bs {t1} {t2} k {a} g = record { good = g.good; is = go a g.is }
@@ -243,26 +243,26 @@ module _ (file : ℕ) (modes : Modes) (externals table tree : List ℕ) (ms : Mo
             record {
               own = w.own;
               modules = w.modules;
-              rest = λ room. owned_by room (done (w.own, w.modules)) (ap ownModule w.is);
+              rest = λ room. owned_by room (done (w.own, w.modules)) (ap own_module w.is);
               shows = λ x q.
-                  let y = withOwn 0 x in
-                  let v = k.shows y (ap (λ (z : Setting). (withOwn 0 (record { setting = z; literal = x.literal; bound = x.bound })).setting) q) in
-                  subst (λ (y : Env). Shows y t2 (setTop false (start w.modules))) (as-set x (setting first w.own lent (rowsIn table)) q)
-                  (subst (λ (e : Setting). Shows (record { setting = e; literal = x.literal; bound = x.bound }) t2 (setTop false (start w.modules)))
-                  (ap (λ (z : Setting). (withOwn w.own (record { setting = z; literal = x.literal; bound = x.bound })).setting) q)
-                  (w.shows (setTop false (start [])) v));
+                  let y = with_own 0 x in
+                  let v = k.shows y (ap (λ (z : Setting). (with_own 0 (record { setting = z; literal = x.literal; bound = x.bound })).setting) q) in
+                  subst (λ (y : Env). Shows y t2 (set_top false (start w.modules))) (as-set x (setting first w.own lent (rows_in table)) q)
+                  (subst (λ (e : Setting). Shows (record { setting = e; literal = x.literal; bound = x.bound }) t2 (set_top false (start w.modules)))
+                  (ap (λ (z : Setting). (with_own w.own (record { setting = z; literal = x.literal; bound = x.bound })).setting) q)
+                  (w.shows (set_top false (start [])) v));
               read = module-read tree s.4.0 bs s.1 s.4.1;
             }
         go Bad w = absurd w
         go Twice w = absurd w
         go (NotRead v p) w = absurd w
-        go TooManyFiles w = record { is = λ room _. owned_by room (refused 5 0) (ap ownModule w); why = tt }
+        go TooManyFiles w = record { is = λ room _. owned_by room (refused 5 0) (ap own_module w); why = tt }
 
 -- ---- The first pass
 
 -- what stands at the places of these trees, in a pass
 abbrev standing : Setting → List ℕ → List ℕ → Env
-standing e tree part = record { setting = e; literal = literalIn tree part; bound = placed tree part }
+standing e tree part = record { setting = e; literal = literal_in tree part; bound = placed tree part }
 
 stands : (e : Setting) (tree part : List ℕ) → Placing tree part (standing e tree part)
 stands e tree part = record { bindings-placed = λ q. refl; literals-placed = λ q. refl }
@@ -272,42 +272,42 @@ pub record Halfway (l : Lent) (m : Outcome Extracted) (room : Lengths) (t part w
   pub own : ℕ
   pub works : Fields
   pub state : State
-  pub rest : m ≡ secondly (setting second own l (rowsIn l.table)) room.out room.records works state
-  pub shows : Shows (standing (setting first own l (rowsIn l.table)) l.tree part) t state
-  pub reads : read Module part ≡ fine (more (moduleWith works) none)
+  pub rest : m ≡ secondly (setting second own l (rows_in l.table)) room.out room.records works state
+  pub shows : Shows (standing (setting first own l (rows_in l.table)) l.tree part) t state
+  pub reads : read Module part ≡ fine (more (module_with works) none)
   pub most : length part ≤ 65538
-  pub mid : Between (setting second own l (rowsIn l.table)) works state
-  pub buffer : work' ≡ delivered (encode (moduleWith works)) (length work)
+  pub mid : Between (setting second own l (rows_in l.table)) works state
+  pub buffer : work' ≡ delivered (encode (module_with works)) (length work)
 
 module _ (l : Lent) (ms : Modules) (work out records : List ℕ) {t t1 work1 : List ℕ} {p : Passed} (b : Begun l ms t) (g : Firsts l.tree t work t1 work1 p) where
   abbrev lengths : Lengths
-  lengths = roomIn work out records
+  lengths = room_in work out records
 
   abbrev firstly : Setting
-  firstly = setting first b.own l (rowsIn l.table)
+  firstly = setting first b.own l (rows_in l.table)
 
   passed : (part : List ℕ) (a : Passed) → p ≡ a →
-      PassIs (standing firstly l.tree part) (walkedFirst l lengths b.own b.modules) work t1 work1 a
+      PassIs (standing firstly l.tree part) (walked_first l lengths b.own b.modules) work t1 work1 a
   passed part a e =
       let x = standing firstly l.tree part in
-      subst (PassIs x (walkedFirst l lengths b.own b.modules) work t1 work1) e
+      subst (PassIs x (walked_first l lengths b.own b.modules) work t1 work1) e
       (g.is b.modules refl (b.shows x refl) b.read part (stands firstly l.tree part))
 
   pub once-turned : {B : Extracted → Type 0} {u : List ℕ} {w : Why} {q : ℕ} → p ≡ Turned w q → Ends B (extracted l lengths ms) l.tree u (Refused w q)
   once-turned {w = w} {q} e =
-      record { is = record { is = λ _. b.rest lengths ∙ passes-by l lengths b.own b.modules (refused (refusalOf w) q) (passed [] (Turned w q) e); why = tt } }
+      record { is = record { is = λ _. b.rest lengths ∙ passes-by l lengths b.own b.modules (refused (refusal_of w) q) (passed [] (Turned w q) e); why = tt } }
 
   pub once-short : {B : Extracted → Type 0} {u : List ℕ} → p ≡ Short → Ends B (extracted l lengths ms) l.tree u NoRoom
   once-short e =
       let z = passed [] Short e in
-      let f = fits_not (moduleWith z.items) (length work) z.short in
+      let f = fits_not (module_with z.items) (length work) z.short in
       record { is = record { is = λ _. b.rest lengths ∙ passes-fit l lengths b.own b.modules z.items z.state (refused 9 0) z.is f; why = tt } }
 
   pub halfway : (n : ℕ) → p ≡ Fits n → Halfway l (extracted l lengths ms) lengths t1 (take (n - 0) (drop 0 work1)) work work1
   halfway n e =
       let part = take (n - 0) (drop 0 work1) in
       let z = passed part (Fits n) e in
-      let h = moduleWith z.items in
+      let h = module_with z.items in
       let mid = between l b.own b.modules z.items z.state b.read.items (top_set l lengths b.own b.modules ∙ z.is) in
       record {
         own = b.own;
@@ -328,35 +328,35 @@ pub record Settled (m : Outcome Extracted) (tree t part last work out records wo
   pub works : Fields
   pub outs : Fields
   pub state : State
-  pub rest : m ≡ onto (fits (recordsOf (lost state)) (length records)) (λ _. done (extractedFrom works outs (lost state)))
+  pub rest : m ≡ onto (fits (records_of (lost state)) (length records)) (λ _. done (extracted_from works outs (lost state)))
   pub good : Good t
   pub around : Env
   pub placing : Placing tree part around
   pub shows : Shows around t state
   pub both : BothRead part last
-  pub told : recordsIn part last state ≡ recordsOf (lost state)
-  pub work-held : work' ≡ delivered (encode (moduleWith works)) (length work)
-  pub out-held : out' ≡ delivered (encode (moduleWith outs)) (length out)
+  pub told : records_in part last state ≡ records_of (lost state)
+  pub work-held : work' ≡ delivered (encode (module_with works)) (length work)
+  pub out-held : out' ≡ delivered (encode (module_with outs)) (length out)
 
 module _ (records : List ℕ) {l : Lent} {m : Outcome Extracted} {work out : List ℕ} {t t1 part work1 out1 : List ℕ} {p : Passed}
-    (h : Halfway l m (roomIn work out records) t part work work1) (g : Seconds t part out t1 out1 p) where
+    (h : Halfway l m (room_in work out records) t part work work1) (g : Seconds t part out t1 out1 p) where
   abbrev again : Setting
-  again = setting second h.own l (rowsIn l.table)
+  again = setting second h.own l (rows_in l.table)
 
   repassed : (a : Passed) → p ≡ a → PassIs (standing again l.tree part) (marking again h.works h.state) out t1 out1 a
   repassed a e =
       subst (PassIs (standing again l.tree part) (marking again h.works h.state) out t1 out1) e
-      (g.is h.state h.shows l.tree (stands (setting first h.own l (rowsIn l.table)) l.tree part) h.works h.reads h.most h.mid.known)
+      (g.is h.state h.shows l.tree (stands (setting first h.own l (rows_in l.table)) l.tree part) h.works h.reads h.most h.mid.known)
 
   pub again-turned : {B : Extracted → Type 0} {u : List ℕ} {w : Why} {q : ℕ} → p ≡ Turned w q → Ends B m l.tree u (Refused w 0)
   again-turned {w = w} {q} e =
-      let z = secondly-refused again (length out) (length records) h.works h.state (refusalOf w) q (repassed (Turned w q) e) in
+      let z = secondly-refused again (length out) (length records) h.works h.state (refusal_of w) q (repassed (Turned w q) e) in
       record { is = record { is = λ _. h.rest ∙ z; why = tt } }
 
   pub again-short : {B : Extracted → Type 0} {u : List ℕ} → p ≡ Short → Ends B m l.tree u NoRoom
   again-short e =
       let z = repassed Short e in
-      let f = fits_not (moduleWith z.items) (length out) z.short in
+      let f = fits_not (module_with z.items) (length out) z.short in
       let k = secondly-fit again (length out) (length records) h.works h.state z.items z.state (refused 9 0) z.is f in
       record { is = record { is = λ _. h.rest ∙ k; why = tt } }
 
@@ -366,15 +366,15 @@ module _ (records : List ℕ) {l : Lent} {m : Outcome Extracted} {work out : Lis
       let works = h.works in
       let outs = z.items in
       let last = take (n - 0) (drop 0 out1) in
-      let after = after-done (walkAgain again works h.state) _ (outs, lost z.state) (again_by again works h.state (done (outs, z.state)) z.is) h.mid.outs in
-      let reads : read Module last ≡ fine (more (moduleWith outs) none) = ap (read Module) z.part ∙ items-readable outs (length out) after.0 z.room in
+      let after = after-done (walk_again again works h.state) _ (outs, lost z.state) (again_by again works h.state (done (outs, z.state)) z.is) h.mid.outs in
+      let reads : read Module last ≡ fine (more (module_with outs) none) = ap (read Module) z.part ∙ items-readable outs (length out) after.0 z.room in
       record {
         works = works;
         outs = outs;
         state = z.state;
         rest =
             h.rest
-            ∙ secondly-fit again (length out) (length records) works h.state outs z.state (done tt) z.is (fits-so (moduleWith outs) (length out) z.room);
+            ∙ secondly-fit again (length out) (length records) works h.state outs z.state (done tt) z.is (fits-so (module_with outs) (length out) z.room);
         good = g.good;
         around = standing again l.tree part;
         placing = stands again l.tree part;
@@ -389,13 +389,13 @@ module _ (records : List ℕ) {l : Lent} {m : Outcome Extracted} {work out : Lis
 
 module _ {m : Outcome Extracted} {tree t part last work out records work1 out1 records1 : List ℕ} {b : Bool} (h : Settled m tree t part last work out records work1 out1)
     (d : DeliversFor tree part last t records records1 b) where
-  fits_told : (c : Bool) → b ≡ c → hasRoom (size (recordsOf (lost h.state))) (length records) ≡ c
+  fits_told : (c : Bool) → b ≡ c → has_room (size (records_of (lost h.state))) (length records) ≡ c
   fits_told c e =
-      ap (λ (f : Field). hasRoom (size f) (length records)) (sym h.told)
-      ∙ room-size (recordsIn part last h.state) (d.is h.state h.shows h.placing h.both) ∙ e
+      ap (λ (f : Field). has_room (size f) (length records)) (sym h.told)
+      ∙ room-size (records_in part last h.state) (d.is h.state h.shows h.placing h.both) ∙ e
 
-  ending : (o : Outcome (Unit {0})) → fits (recordsOf (lost h.state)) (length records) ≡ o → m ≡ onto o (λ _. done (extractedFrom h.works h.outs (lost h.state)))
-  ending o q = h.rest ∙ ap (λ (z : Outcome (Unit {0})). onto z (λ _. done (extractedFrom h.works h.outs (lost h.state)))) q
+  ending : (o : Outcome (Unit {0})) → fits (records_of (lost h.state)) (length records) ≡ o → m ≡ onto o (λ _. done (extracted_from h.works h.outs (lost h.state)))
+  ending o q = h.rest ∙ ap (λ (z : Outcome (Unit {0})). onto z (λ _. done (extracted_from h.works h.outs (lost h.state)))) q
 
   pub ends-accepted : b ≡ true → Ends (Whole work out records work1 out1 records1) m tree t Accepted
   ends-accepted e =
@@ -403,8 +403,8 @@ module _ {m : Outcome Extracted} {tree t part last work out records work1 out1 r
       record {
         is =
             record {
-              result = extractedFrom h.works h.outs (lost h.state);
-              is = ending (done tt) (fits-so (recordsOf (lost h.state)) (length records) (fits_told true e));
+              result = extracted_from h.works h.outs (lost h.state);
+              is = ending (done tt) (fits-so (records_of (lost h.state)) (length records) (fits_told true e));
               good = h.good;
               modules = record { at = h.around; state = h.state; shows = h.shows; modules = refl };
               buffers =
@@ -418,7 +418,7 @@ module _ {m : Outcome Extracted} {tree t part last work out records work1 out1 r
 
   pub ends-short : {B : Extracted → Type 0} {u : List ℕ} → b ≡ false → Ends B m tree u NoRoom
   ends-short e =
-      record { is = record { is = λ _. ending (refused 9 0) (fits_not (recordsOf (lost h.state)) (length records) (fits_told false e)); why = tt } }
+      record { is = record { is = λ _. ending (refused 9 0) (fits_not (records_of (lost h.state)) (length records) (fits_told false e)); why = tt } }
 
 -- ---- The steps together, over the lent tree
 
@@ -443,7 +443,7 @@ module _ (l : Lent) (ms : Modules) {tree : List ℕ} (q : l.tree ≡ tree) {t : 
 
   module _ (work out records : List ℕ) (e : r ≡ Passable) {t1 work1 : List ℕ} {a : Passed} (g : Firsts tree t work t1 work1 a) where
     abbrev called : Outcome Extracted
-    called = extracted l (roomIn work out records) ms
+    called = extracted l (room_in work out records) ms
 
     firsts : Firsts l.tree t work t1 work1 a
     firsts = subst (λ (z : List ℕ). Firsts z t work t1 work1 a) (sym q) g
@@ -455,7 +455,7 @@ module _ (l : Lent) (ms : Modules) {tree : List ℕ} (q : l.tree ≡ tree) {t : 
     run_short {B} {u} h = record { is = record { is = (once-short l ms work out records (prepared Passable e) firsts {B = B} {u = u} h).is.is; why = tt } }
 
     module _ (n : ℕ) (h : a ≡ Fits n) {t2 out1 : List ℕ} {b : Passed} (s : Seconds t1 (take (n - 0) (drop 0 work1)) out t2 out1 b) where
-      half : Halfway l called (roomIn work out records) t1 (take (n - 0) (drop 0 work1)) work work1
+      half : Halfway l called (room_in work out records) t1 (take (n - 0) (drop 0 work1)) work work1
       half = halfway l ms work out records (prepared Passable e) firsts n h
 
       pub run-turned-again : {B : Extracted → Type 0} {u : List ℕ} {w : Why} {k : ℕ} → b ≡ Turned w k → Ends B called tree u (Refused w 0)
@@ -477,20 +477,20 @@ module _ (l : Lent) (ms : Modules) {tree : List ℕ} (q : l.tree ≡ tree) {t : 
 
 -- ---- What is left
 
-abbrev leftBy : Outcome Extracted → Lengths → Modules → Left
-leftBy o room ms =
+abbrev left_by : Outcome Extracted → Lengths → Modules → Left
+left_by o room ms =
     record {
-      refusal = refusalIn o;
-      modules = modulesAfter o ms;
-      report = noCounts;
-      work = bufferOf (λ r. r.work) o room.work;
-      out = bufferOf (λ r. r.out) o room.out;
-      records = bufferOf (λ r. r.records) o room.records;
+      refusal = refusal_in o;
+      modules = modules_after o ms;
+      report = no_counts;
+      work = buffer_of (λ r. r.work) o room.work;
+      out = buffer_of (λ r. r.out) o room.out;
+      records = buffer_of (λ r. r.records) o room.records;
     }
 
-left_is : (l : Lent) (room : Lengths) (ms : Modules) (o : Outcome Extracted) → extracted l room ms ≡ o → leftBy o room ms ≡ extraction l room ms
+left_is : (l : Lent) (room : Lengths) (ms : Modules) (o : Outcome Extracted) → extracted l room ms ≡ o → left_by o room ms ≡ extraction l room ms
 unfolding extraction
-left_is l room ms o e = ap (λ (z : Outcome Extracted). leftBy z room ms) (sym e)
+left_is l room ms o e = ap (λ (z : Outcome Extracted). left_by z room ms) (sym e)
 
 abbrev leaving : Option (ℕ × ℕ) → Modules → Report → List ℕ → List ℕ → List ℕ → Left
 leaving r ms n w o k = record { refusal = r; modules = ms; report = n; work = w; out = o; records = k }
@@ -503,7 +503,7 @@ left-same r {ms} {ns} {m} {n} {w} {o} {k} {w'} {o'} {k'} a e b c d =
 
 -- any other answer is a refusal
 turned_left : (a : ExtractAnswer) (ms : Modules) (w o k : List ℕ) (r : Extracted) → (a ≡ Accepted → ⊥) →
-    leaving (answerRefusal a) ms noCounts (replicate (length w) 0) (replicate (length o) 0) (replicate (length k) 0) ≡ leftBy (outcomeOf a r) (roomIn w o k) ms
+    leaving (answer_refusal a) ms no_counts (replicate (length w) 0) (replicate (length o) 0) (replicate (length k) 0) ≡ left_by (outcome_of a r) (room_in w o k) ms
 turned_left Accepted ms w o k r e = absurd (e refl)
 turned_left BadLists ms w o k r e = refl
 turned_left NamedTwice ms w o k r e = refl
@@ -524,31 +524,31 @@ unfolding zeroed
 zeroed-is l k e h = e ∙ ap (λ (n : ℕ). replicate n 0) h
 
 module _ (l : Lent) (scope : Scope) {t work out records work2 out2 records2 : List ℕ} (a : ExtractAnswer)
-    (c : Ends (Whole work out records work2 out2 records2) (extracted l (roomIn work out records) (modulesOf scope)) l.tree t a) where
-  accepted : a ≡ Accepted → AcceptedAs (Whole work out records work2 out2 records2) (extracted l (roomIn work out records) (modulesOf scope)) t
-  accepted e = (subst (Ends (Whole work out records work2 out2 records2) (extracted l (roomIn work out records) (modulesOf scope)) l.tree t) e c).is
+    (c : Ends (Whole work out records work2 out2 records2) (extracted l (room_in work out records) (modules_of scope)) l.tree t a) where
+  accepted : a ≡ Accepted → AcceptedAs (Whole work out records work2 out2 records2) (extracted l (room_in work out records) (modules_of scope)) t
+  accepted e = (subst (Ends (Whole work out records work2 out2 records2) (extracted l (room_in work out records) (modules_of scope)) l.tree t) e c).is
 
   pub accepted-good : a ≡ Accepted → Good t
   accepted-good e = (accepted e).good
 
-  pub left-accepted : (r : Scope) {n : Report} → a ≡ Accepted → Tells (λ s. s.modules) t (modulesOf r) → n ≡ noCounts →
-      (left (record { scope = r; report = n; answer = Accepted }) work2 out2 records2 ≡ extraction l (roomIn work out records) (modulesOf scope)) × UnreadAs Accepted (read Module l.tree)
+  pub left-accepted : (r : Scope) {n : Report} → a ≡ Accepted → Tells (λ s. s.modules) t (modules_of r) → n ≡ no_counts →
+      (left (record { scope = r; report = n; answer = Accepted }) work2 out2 records2 ≡ extraction l (room_in work out records) (modules_of scope)) × UnreadAs Accepted (read Module l.tree)
   left-accepted r e g h =
       let z = accepted e in
       let b = z.buffers in (
         left-same nothing (g.is z.modules.state z.modules.shows ∙ z.modules.modules) h b.work b.out b.records
-            ∙ left_is l (roomIn work out records) (modulesOf scope) (done z.result) z.is,
+            ∙ left_is l (room_in work out records) (modules_of scope) (done z.result) z.is,
         tt,
       )
 
-  pub left-refused : {work3 out3 records3 : List ℕ} {n : Report} → (a ≡ Accepted → ⊥) → n ≡ noCounts → work3 ≡ zeroed work2 → out3 ≡ zeroed out2 → records3 ≡ zeroed records2 →
+  pub left-refused : {work3 out3 records3 : List ℕ} {n : Report} → (a ≡ Accepted → ⊥) → n ≡ no_counts → work3 ≡ zeroed work2 → out3 ≡ zeroed out2 → records3 ≡ zeroed records2 →
       length work2 ≡ length work → length out2 ≡ length out → length records2 ≡ length records →
-      (left (record { scope = scope; report = n; answer = a }) work3 out3 records3 ≡ extraction l (roomIn work out records) (modulesOf scope)) × UnreadAs a (read Module l.tree)
+      (left (record { scope = scope; report = n; answer = a }) work3 out3 records3 ≡ extraction l (room_in work out records) (modules_of scope)) × UnreadAs a (read Module l.tree)
   left-refused e h p q r i j k =
       let z = turned a c e in
-      let none-given = extractedFrom none none (start []) in (
-        left-same (answerRefusal a) refl h (zeroed-is work2 work p i) (zeroed-is out2 out q j) (zeroed-is records2 records r k)
-            ∙ turned_left a (modulesOf scope) work out records none-given e
-            ∙ left_is l (roomIn work out records) (modulesOf scope) (outcomeOf a none-given) (z.is none-given),
+      let none-given = extracted_from none none (start []) in (
+        left-same (answer_refusal a) refl h (zeroed-is work2 work p i) (zeroed-is out2 out q j) (zeroed-is records2 records r k)
+            ∙ turned_left a (modules_of scope) work out records none-given e
+            ∙ left_is l (room_in work out records) (modules_of scope) (outcome_of a none-given) (z.is none-given),
         z.why,
       )

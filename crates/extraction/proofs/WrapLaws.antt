@@ -5,16 +5,16 @@ use mathlib.Core.Path.{◌≡◌, refl, sym, ap, subst, ◌∙◌}
 use mathlib.Core.List.{List, ◌∷◌}
 use mathlib.Core.Option.{Option, none as nothing, some}
 use lib.ListN.{length, drop, drop_of_length-le}
-use Rattle.scope.specs.Modules.{setMark}
+use Rattle.scope.specs.Modules.{set_mark}
 use Rattle.scope.specs.declared.Mark.TheVariants.{Wrapping as WrappingMark}
 use Rattle.scope.specs.declared.id.ModuleId.{ModuleId}
 use Rattle.tree.specs.Layout.{two}
 use Rattle.inputs.specs.Outcome.{Outcome, done, refused, onto}
-use Rattle.extraction_rules.specs.State.{State, Setting, Act, setModules}
-use Rattle.extraction_rules.specs.First.{moduleFor}
-use Rattle.extraction_rules.specs.Second.{wrapModule, wrapAll}
+use Rattle.extraction_rules.specs.State.{State, Setting, Act, set_modules}
+use Rattle.extraction_rules.specs.First.{module_for}
+use Rattle.extraction_rules.specs.Second.{wrap_module, wrap_all}
 use Rattle.extraction_rules.proofs.OutcomeLaws.{After, after-bind, after-weaken, after-done}
-use Rattle.extraction_rules.proofs.StepLaws.{moduleFor-stays}
+use Rattle.extraction_rules.proofs.StepLaws.{module_for-stays}
 use Rattle.state.specs.Cells.{Env, Good, forces, table_of, held}
 use Rattle.tables.proofs.RowLaws.{rows-length}
 use Rattle.state.specs.Does.{Tells, Holds, Turns, Resolves}
@@ -25,40 +25,40 @@ use Rattle.steps.specs.declared.Why.TheVariants.{TooManyFiles}
 use Rattle.steps.specs.declared.Effect.{Effect}
 use Rattle.steps.specs.declared.Effect.TheVariants.{Fine, Refused as Turned}
 use Rattle.steps.specs.Step.{Effects}
-use Rattle.steps.specs.Refusal.{refusalOf}
+use Rattle.steps.specs.Refusal.{refusal_of}
 use Rattle.steps.proofs.StepsLaws.{fine-turned, turned_as}
-use Rattle.extraction.specs.Stages.{Anywhere, wrapOne, wrapFrom, Wrapping}
+use Rattle.extraction.specs.Stages.{Anywhere, wrap_one, wrap_from, Wrapping}
 
 -- ---- One source
 
 abbrev wraps : ℕ → Env → Act (Unit {0})
-wraps a x = wrapOne x.setting (two a)
+wraps a x = wrap_one x.setting (two a)
 
-abbrev wrapsFrom : ℕ → Env → Act (Unit {0})
-wrapsFrom i x = wrapFrom i x.setting
+abbrev wraps_from : ℕ → Env → Act (Unit {0})
+wraps_from i x = wrap_from i x.setting
 
 module _ (a : ℕ) where
-  wrapped : (e : Setting) (s : State) (m : Outcome (Option ℕ × State)) → moduleFor e (two a) 0 s ≡ m → wrapOne e (two a) s ≡ onto m (λ r. wrapModule r.0 r.1)
-  wrapped e s m q = ap (λ (m : Outcome (Option ℕ × State)). onto m (λ r. wrapModule r.0 r.1)) q
+  wrapped : (e : Setting) (s : State) (m : Outcome (Option ℕ × State)) → module_for e (two a) 0 s ≡ m → wrap_one e (two a) s ≡ onto m (λ r. wrap_module r.0 r.1)
+  wrapped e s m q = ap (λ (m : Outcome (Option ℕ × State)). onto m (λ r. wrap_module r.0 r.1)) q
 
-  pub source-marked : {t t1 t2 : List ℕ} {r : Module} (n : ModuleId) → Resolves (λ e. moduleFor e (two a)) t t1 r → r ≡ Numbered n →
-      Turns (λ s. setModules (setMark WrappingMark n.0 s.modules) s) t1 t2 → Effects Anywhere (wraps a) t t2 Fine
-  unfolding wrapModule
+  pub source-marked : {t t1 t2 : List ℕ} {r : Module} (n : ModuleId) → Resolves (λ e. module_for e (two a)) t t1 r → r ≡ Numbered n →
+      Turns (λ s. set_modules (set_mark WrappingMark n.0 s.modules) s) t1 t2 → Effects Anywhere (wraps a) t t2 Fine
+  unfolding wrap_module
   source-marked n g q u =
       record {
         good = u.good;
         fine = λ f {x = x} s w c.
             let d = g.number n q s 0 w in
             record {
-              state = setModules (setMark WrappingMark n.0 d.state.modules) d.state;
+              state = set_modules (set_mark WrappingMark n.0 d.state.modules) d.state;
               is = wrapped x.setting s (done (some n.0, d.state)) d.is;
               shows = u.shows d.state d.shows;
             };
         turned = λ v p f s w c. fine-turned f;
       }
 
-  pub source-unresolved : {t t1 : List ℕ} {r : Module} → Resolves (λ e. moduleFor e (two a)) t t1 r → r ≡ Unresolved → Effects Anywhere (wraps a) t t1 Fine
-  unfolding wrapModule
+  pub source-unresolved : {t t1 : List ℕ} {r : Module} → Resolves (λ e. module_for e (two a)) t t1 r → r ≡ Unresolved → Effects Anywhere (wraps a) t t1 Fine
+  unfolding wrap_module
   source-unresolved g q =
       record {
         good = g.good;
@@ -68,7 +68,7 @@ module _ (a : ℕ) where
         turned = λ v p f s w c. fine-turned f;
       }
 
-  pub source-full : {t t1 : List ℕ} {r : Module} → Resolves (λ e. moduleFor e (two a)) t t1 r → r ≡ TooMany → Effects Anywhere (wraps a) t t1 (Turned TooManyFiles 0)
+  pub source-full : {t t1 : List ℕ} {r : Module} → Resolves (λ e. module_for e (two a)) t t1 r → r ≡ TooMany → Effects Anywhere (wraps a) t t1 (Turned TooManyFiles 0)
   source-full g q =
       record {
         good = g.good;
@@ -82,41 +82,41 @@ onto-onto : {A B C : Type 0} (m : Outcome A) (f : A → Outcome B) (g : B → Ou
 onto-onto (done a) f g = refl
 onto-onto (refused n p) f g = refl
 
-module-forced : (o : Option ℕ) (s : State) → After (wrapModule o s) (λ _ t. t.forced ≡ s.forced)
-unfolding wrapModule
+module-forced : (o : Option ℕ) (s : State) → After (wrap_module o s) (λ _ t. t.forced ≡ s.forced)
+unfolding wrap_module
 module-forced nothing s = refl
 module-forced (some n) s = refl
 
 -- forced sources stay
-forced-same : (e : Setting) (a : List ℕ) (s : State) → After (wrapOne e a s) (λ _ t. t.forced ≡ s.forced)
+forced-same : (e : Setting) (a : List ℕ) (s : State) → After (wrap_one e a s) (λ _ t. t.forced ≡ s.forced)
 forced-same e a s =
-    after-bind (moduleFor e a 0 s) _ (λ n t. t ≡ setModules t.modules s) (λ _ t. t.forced ≡ s.forced) (moduleFor-stays e a 0 s) λ n s1 q.
-    after-weaken (wrapModule n s1) (λ _ t. t.forced ≡ s1.forced) (λ _ t. t.forced ≡ s.forced) (λ _ t h. h ∙ ap (λ (z : State). z.forced) q) (module-forced n s1)
+    after-bind (module_for e a 0 s) _ (λ n t. t ≡ set_modules t.modules s) (λ _ t. t.forced ≡ s.forced) (module_for-stays e a 0 s) λ n s1 q.
+    after-weaken (wrap_module n s1) (λ _ t. t.forced ≡ s1.forced) (λ _ t. t.forced ≡ s.forced) (λ _ t h. h ∙ ap (λ (z : State). z.forced) q) (module-forced n s1)
 
-first-wrapped : (e : Setting) (a : List ℕ) (l : List (List ℕ)) (s : State) → wrapAll e (a ∷ l) s ≡ onto (wrapOne e a s) (λ q. wrapAll e l q.1)
-unfolding wrapAll
-first-wrapped e a l s = onto-onto (moduleFor e a 0 s) (λ r. wrapModule r.0 r.1) (λ q. wrapAll e l q.1)
+first-wrapped : (e : Setting) (a : List ℕ) (l : List (List ℕ)) (s : State) → wrap_all e (a ∷ l) s ≡ onto (wrap_one e a s) (λ q. wrap_all e l q.1)
+unfolding wrap_all
+first-wrapped e a l s = onto-onto (module_for e a 0 s) (λ r. wrap_module r.0 r.1) (λ q. wrap_all e l q.1)
 
 module _ (e : Setting) (i : ℕ) (s : State) where
-  wrap-step : (a b : List ℕ) → a ≡ b → drop i s.forced ≡ a ∷ drop (i + 1) s.forced → (m : Outcome (Unit {0} × State)) → wrapOne e b s ≡ m →
-      wrapFrom i e s ≡ onto m (λ q. wrapAll e (drop (i + 1) s.forced) q.1)
+  wrap-step : (a b : List ℕ) → a ≡ b → drop i s.forced ≡ a ∷ drop (i + 1) s.forced → (m : Outcome (Unit {0} × State)) → wrap_one e b s ≡ m →
+      wrap_from i e s ≡ onto m (λ q. wrap_all e (drop (i + 1) s.forced) q.1)
   wrap-step a b p q m h =
-      ap (λ (l : List (List ℕ)). wrapAll e l s) (q ∙ ap (λ (c : List ℕ). c ∷ drop (i + 1) s.forced) p)
-      ∙ first-wrapped e b (drop (i + 1) s.forced) s ∙ ap (λ (m : Outcome (Unit {0} × State)). onto m (λ q. wrapAll e (drop (i + 1) s.forced) q.1)) h
+      ap (λ (l : List (List ℕ)). wrap_all e l s) (q ∙ ap (λ (c : List ℕ). c ∷ drop (i + 1) s.forced) p)
+      ∙ first-wrapped e b (drop (i + 1) s.forced) s ∙ ap (λ (m : Outcome (Unit {0} × State)). onto m (λ q. wrap_all e (drop (i + 1) s.forced) q.1)) h
 
-  wrap-next : (a b : List ℕ) → a ≡ b → drop i s.forced ≡ a ∷ drop (i + 1) s.forced → (s1 : State) → wrapOne e b s ≡ done (tt, s1) →
-      wrapFrom i e s ≡ wrapFrom (i + 1) e s1
+  wrap-next : (a b : List ℕ) → a ≡ b → drop i s.forced ≡ a ∷ drop (i + 1) s.forced → (s1 : State) → wrap_one e b s ≡ done (tt, s1) →
+      wrap_from i e s ≡ wrap_from (i + 1) e s1
   wrap-next a b p q s1 h =
-      let k : s1.forced ≡ s.forced = after-done (wrapOne e b s) (λ _ t. t.forced ≡ s.forced) (tt, s1) h (forced-same e b s) in
-      wrap-step a b p q (done (tt, s1)) h ∙ ap (λ (l : List (List ℕ)). wrapAll e (drop (i + 1) l) s1) (sym k)
+      let k : s1.forced ≡ s.forced = after-done (wrap_one e b s) (λ _ t. t.forced ≡ s.forced) (tt, s1) h (forced-same e b s) in
+      wrap-step a b p q (done (tt, s1)) h ∙ ap (λ (l : List (List ℕ)). wrap_all e (drop (i + 1) l) s1) (sym k)
 
-nothing-wrapped : (i : ℕ) (e : Setting) (s : State) → length s.forced ≤ i → wrapFrom i e s ≡ done (tt, s)
-unfolding wrapAll
-nothing-wrapped i e s h = ap (λ (l : List (List ℕ)). wrapAll e l s) (drop_of_length-le s.forced h)
+nothing-wrapped : (i : ℕ) (e : Setting) (s : State) → length s.forced ≤ i → wrap_from i e s ≡ done (tt, s)
+unfolding wrap_all
+nothing-wrapped i e s h = ap (λ (l : List (List ℕ)). wrap_all e l s) (drop_of_length-le s.forced h)
 
 module _ {t : List ℕ} {i : ℕ} where
   pub wrap-more : {t1 t' : List ℕ} {k : Effect} (a : ℕ) → Holds (λ s. s.forced) (λ a. a) i t (λ _. two a) → Effects Anywhere (wraps a) t t1 Fine →
-      Effects Anywhere (wrapsFrom (i + 1)) t1 t' k → Effects Anywhere (wrapsFrom i) t t' k
+      Effects Anywhere (wraps_from (i + 1)) t1 t' k → Effects Anywhere (wraps_from i) t t' k
   wrap-more a h f r =
       record {
         good = r.good;
@@ -132,17 +132,17 @@ module _ {t : List ℕ} {i : ℕ} where
       }
 
   pub wrap-turned : {t1 : List ℕ} {v : Why} {p : ℕ} (a : ℕ) → Holds (λ s. s.forced) (λ a. a) i t (λ _. two a) → Effects Anywhere (wraps a) t t1 (Turned v p) →
-      Effects Anywhere (wrapsFrom i) t t1 (Turned v p)
+      Effects Anywhere (wraps_from i) t t1 (Turned v p)
   wrap-turned {v = v} {p} a h f =
       record {
         good = f.good;
         fine = λ g s w c. fine-turned (sym g);
         turned = λ u j g {x = x} s w c.
             let b = h.is s w in
-            turned_as (wrap-step x.setting i s b.0 (two a) b.1 b.2 (refused (refusalOf v) p) (f.turned v p refl s w tt)) g;
+            turned_as (wrap-step x.setting i s b.0 (two a) b.1 b.2 (refused (refusal_of v) p) (f.turned v p refl s w tt)) g;
       }
 
-  pub wrap-over : {n : ℕ} → Good t → Tells (λ s. length s.forced) t n → n ≤ i → Effects Anywhere (wrapsFrom i) t t Fine
+  pub wrap-over : {n : ℕ} → Good t → Tells (λ s. length s.forced) t n → n ≤ i → Effects Anywhere (wraps_from i) t t Fine
   wrap-over g h le =
       record {
         good = g;
@@ -161,11 +161,11 @@ wrapping-next {t = t} {t1} a w h f q =
     record { good = f.good; rest = λ t' k r. w.rest t' k (wrap-more a h (subst (Effects Anywhere (wraps a) t t1) q f) r) }
 
 pub wrapping-turned : {t₀ t t1 : List ℕ} {i p : ℕ} {k : Effect} {v : Why} (a : ℕ) → Wrapping t₀ i t → Holds (λ s. s.forced) (λ a. a) i t (λ _. two a) →
-    Effects Anywhere (wraps a) t t1 k → k ≡ Turned v p → Effects Anywhere (wrapsFrom 0) t₀ t1 (Turned v p)
+    Effects Anywhere (wraps a) t t1 k → k ≡ Turned v p → Effects Anywhere (wraps_from 0) t₀ t1 (Turned v p)
 wrapping-turned {t = t} {t1} {p = p} {v = v} a w h f q =
     w.rest t1 (Turned v p) (wrap-turned a h (subst (Effects Anywhere (wraps a) t t1) q f))
 
-pub wrapping-over : {t₀ t : List ℕ} {i n : ℕ} → Wrapping t₀ i t → Tells (λ s. length s.forced) t n → n ≤ i → Effects Anywhere (wrapsFrom 0) t₀ t Fine
+pub wrapping-over : {t₀ t : List ℕ} {i n : ℕ} → Wrapping t₀ i t → Tells (λ s. length s.forced) t n → n ≤ i → Effects Anywhere (wraps_from 0) t₀ t Fine
 wrapping-over {t = t} w h le = w.rest t Fine (wrap-over w.good h le)
 
 -- at most 256 sources are forced

@@ -2,12 +2,12 @@
 use Rattle.std.specs.Prelude.{ℕ, ◌≡◌, List, length}
 use Rattle.std.proofs.Math.Option.{Option}
 use Rattle.modes.specs.declared.Modes.{Modes}
-use Rattle.scope.specs.ScopeValue.{modulesOf}
+use Rattle.scope.specs.ScopeValue.{modules_of}
 use Rattle.tree.specs.Tree.{Fields}
-use Rattle.tree.specs.Read.{Reading, refused as unread, refusalOf as readRefusal}
-use Rattle.inputs.specs.Outcome.{Outcome, done, refused, refusalIn}
+use Rattle.tree.specs.Read.{Reading, refused as unread, refusal_of as read_refusal}
+use Rattle.inputs.specs.Outcome.{Outcome, done, refused, refusal_in}
 use Rattle.extraction_rules.specs.Call.{Lent, Lengths, Left}
-use Rattle.steps.specs.Refusal.{refusalOf}
+use Rattle.steps.specs.Refusal.{refusal_of}
 use Rattle.extraction.specs.declared.ExtractAnswer.{ExtractAnswer}
 use Rattle.extraction.specs.declared.ExtractAnswer.TheVariants.{Extracted as Accepted, BadLists, NamedTwice, Unread, Refused, NoRoom}
 use Rattle.extraction.specs.declared.Extraction.{Extraction}
@@ -15,17 +15,17 @@ use Rattle.extraction.specs.declared.Extraction.{Extraction}
 -- ---- What answers stand for
 
 -- the value, or document 01's number of the refusal and its place
-abbrev pub outcomeOf : {A : Type 0} → ExtractAnswer → A → Outcome A
-outcomeOf Accepted a = done a
-outcomeOf BadLists a = refused 1 0
-outcomeOf NamedTwice a = refused 2 0
-outcomeOf (Unread w p) a = refused (readRefusal w) p
-outcomeOf (Refused w p) a = refused (refusalOf w) p
-outcomeOf NoRoom a = refused 9 0
+abbrev pub outcome_of : {A : Type 0} → ExtractAnswer → A → Outcome A
+outcome_of Accepted a = done a
+outcome_of BadLists a = refused 1 0
+outcome_of NamedTwice a = refused 2 0
+outcome_of (Unread w p) a = refused (read_refusal w) p
+outcome_of (Refused w p) a = refused (refusal_of w) p
+outcome_of NoRoom a = refused 9 0
 
 -- the number and the place, none where the call is accepted
-abbrev pub answerRefusal : ExtractAnswer → Option (ℕ × ℕ)
-answerRefusal a = refusalIn (outcomeOf a (tt {0}))
+abbrev pub answer_refusal : ExtractAnswer → Option (ℕ × ℕ)
+answer_refusal a = refusal_in (outcome_of a (tt {0}))
 
 -- an unread tree: why and where are those of its reading
 abbrev pub UnreadAs : ExtractAnswer → Reading Fields → Type 0
@@ -41,14 +41,14 @@ abbrev pub lent_as : ℕ → Modes → List ℕ → List ℕ → List ℕ → Le
 lent_as file modes externals table tree =
     record { file = file; modes = modes; externals = externals; table = table; tree = tree }
 
-abbrev pub roomIn : List ℕ → List ℕ → List ℕ → Lengths
-roomIn work out records = record { work = length work; out = length out; records = length records }
+abbrev pub room_in : List ℕ → List ℕ → List ℕ → Lengths
+room_in work out records = record { work = length work; out = length out; records = length records }
 
 abbrev pub left : Extraction → List ℕ → List ℕ → List ℕ → Left
 left r work out records =
     record {
-      refusal = answerRefusal r.answer;
-      modules = modulesOf r.scope;
+      refusal = answer_refusal r.answer;
+      modules = modules_of r.scope;
       report = r.report;
       work = work;
       out = out;

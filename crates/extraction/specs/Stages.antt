@@ -6,27 +6,27 @@ use Rattle.scope.specs.Modules.{Modules, request}
 use Rattle.tree.specs.declared.grammar.Set.TheVariants.{Module}
 use Rattle.tree.specs.declared.read.Verdict.{Verdict}
 use Rattle.tree.specs.declared.read.Verdict.TheVariants.{Good as Well, Refused as Broken}
-use Rattle.tree.specs.Grammar.{ruleOf}
+use Rattle.tree.specs.Grammar.{rule_of}
 use Rattle.tree.specs.Tree.{Fields, none, more, encode, size}
 use Rattle.tree.specs.Read.{fine, read, verdict}
 use Rattle.tree.specs.Standing.{Row}
-use Rattle.writer.specs.Finished.{hasRoom, delivered, Delivered}
+use Rattle.writer.specs.Finished.{has_room, delivered, Delivered}
 use Rattle.inputs.specs.Outcome.{Outcome, done, refused, onto}
-use Rattle.inputs.specs.Table.{rowsIn, repeats}
-use Rattle.extraction_rules.specs.State.{State, Pass, first, Setting, Act, start, setTop, setModules}
-use Rattle.extraction_rules.specs.First.{moduleFor}
-use Rattle.extraction_rules.specs.Second.{wrapModule, wrapAll}
-use Rattle.extraction_rules.specs.Walk.{walkModule}
-use Rattle.extraction_rules.specs.Call.{Lent, Lengths, Extracted, badLists, setting, moduleWith, passes, extracted}
+use Rattle.inputs.specs.Table.{rows_in, repeats}
+use Rattle.extraction_rules.specs.State.{State, Pass, first, Setting, Act, start, set_top, set_modules}
+use Rattle.extraction_rules.specs.First.{module_for}
+use Rattle.extraction_rules.specs.Second.{wrap_module, wrap_all}
+use Rattle.extraction_rules.specs.Walk.{walk_module}
+use Rattle.extraction_rules.specs.Call.{Lent, Lengths, Extracted, bad_lists, setting, module_with, passes, extracted}
 use Rattle.extraction_rules.proofs.WalkLaws.{ImportsAll}
 use Rattle.extraction_rules.proofs.SanityLaws.{Known}
 use Rattle.extraction_rules.proofs.ReadableLaws.{Items}
-use Rattle.state.specs.Cells.{Env, Good, Shows, sourcesIn}
-use Rattle.state.specs.Does.{withOwn, withSecond}
+use Rattle.state.specs.Cells.{Env, Good, Shows, sources_in}
+use Rattle.state.specs.Does.{with_own, with_second}
 use Rattle.steps.specs.declared.Effect.{Effect}
 use Rattle.steps.specs.Step.{Effects}
-use Rattle.steps.specs.Refusal.{refusalOf}
-use Rattle.records.specs.Writes.{Placing, BothRead, items_in, recordsIn}
+use Rattle.steps.specs.Refusal.{refusal_of}
+use Rattle.records.specs.Writes.{Placing, BothRead, items_in, records_in}
 use Rattle.extraction.specs.declared.ExtractAnswer.{ExtractAnswer}
 use Rattle.extraction.specs.declared.ExtractAnswer.TheVariants.{Extracted as Accepted, BadLists, NamedTwice, Unread, Refused as Turned, NoRoom as Short}
 use Rattle.extraction.specs.declared.Tested.{Tested}
@@ -34,35 +34,35 @@ use Rattle.extraction.specs.declared.Tested.TheVariants.{Good as Passable, Bad, 
 use Rattle.steps.specs.declared.Why.TheVariants.{TooManyFiles as NoNumber}
 use Rattle.extraction.specs.declared.Passed.{Passed}
 use Rattle.extraction.specs.declared.Passed.TheVariants.{Fits, Refused, NoRoom}
-use Rattle.extraction.specs.Answer.{lent_as, outcomeOf, UnreadAs}
+use Rattle.extraction.specs.Answer.{lent_as, outcome_of, UnreadAs}
 
 -- ---- The tests of what is lent
 
-abbrev pub readAs : Verdict → Tested
-readAs Well = Passable
-readAs (Broken w p) = NotRead w p
+abbrev pub read_as : Verdict → Tested
+read_as Well = Passable
+read_as (Broken w p) = NotRead w p
 
 -- 1, then 2, then 3 or 4
 unfoldable pub lists_of : Lent → Tested
-lists_of l = cond (badLists l) Bad (cond (repeats (rowsIn l.table)) Twice (readAs (verdict (read Module l.tree))))
+lists_of l = cond (bad_lists l) Bad (cond (repeats (rows_in l.table)) Twice (read_as (verdict (read Module l.tree))))
 
 -- a module that was read
 pub record ModuleRead (tree : List ℕ) : Type 0 where
   pub room : 3 ≤ length tree
-  pub row : Row tree 3 (length tree) (ruleOf 0x01)
+  pub row : Row tree 3 (length tree) (rule_of 0x01)
   pub items : Items (items_in tree)
   pub most : length tree ≤ 32768
 
 -- ---- What a call is set to and lent
 
 -- what a pass looks at, but for the tree
-abbrev pub settingIn : Pass → ℕ → Modes → List ℕ → List ℕ → Setting
-settingIn p own modes externals table = setting p own (lent_as 0 modes externals table []) (rowsIn table)
+abbrev pub setting_in : Pass → ℕ → Modes → List ℕ → List ℕ → Setting
+setting_in p own modes externals table = setting p own (lent_as 0 modes externals table []) (rows_in table)
 
 -- the array shows it, and an empty state
 pub record LentTo (modes : Modes) (externals table t : List ℕ) : Type 0 where
   pub good : Good t
-  pub shows : (x : Env) → x.setting ≡ settingIn first 0 modes externals table → Shows x t (setTop false (start []))
+  pub shows : (x : Env) → x.setting ≡ setting_in first 0 modes externals table → Shows x t (set_top false (start []))
 
 -- ---- 'Own file's number first'
 
@@ -71,7 +71,7 @@ pub record Owned (file : ℕ) (ms : Modules) (t t' : List ℕ) : Type 0 where
   pub own : ℕ
   pub modules : Modules
   pub is : request file ms ≡ some (own, modules)
-  pub shows : {x : Env} (s : State) → Shows x t s → Shows (withOwn own x) t' (setModules modules s)
+  pub shows : {x : Env} (s : State) → Shows x t s → Shows (with_own own x) t' (set_modules modules s)
 
 abbrev pub OwnIs : ℕ → Modules → List ℕ → List ℕ → Tested → Type 0
 OwnIs file ms t t' Passable = Owned file ms t t'
@@ -90,13 +90,13 @@ pub record Owns (file : ℕ) (ms : Modules) (t t' : List ℕ) (r : Tested) : Typ
 pub record Begun (l : Lent) (ms : Modules) (t : List ℕ) : Type 0 where
   pub own : ℕ
   pub modules : Modules
-  pub rest : (room : Lengths) → extracted l room ms ≡ passes l room (rowsIn l.table) (items_in l.tree) (own, modules)
-  pub shows : (x : Env) → x.setting ≡ setting first own l (rowsIn l.table) → Shows x t (setTop false (start modules))
+  pub rest : (room : Lengths) → extracted l room ms ≡ passes l room (rows_in l.table) (items_in l.tree) (own, modules)
+  pub shows : (x : Env) → x.setting ≡ setting first own l (rows_in l.table) → Shows x t (set_top false (start modules))
   pub read : ModuleRead l.tree
 
 -- the rules refuse as the answer says
 pub record Refuses (l : Lent) (ms : Modules) (a : ExtractAnswer) : Type 0 where
-  pub is : (room : Lengths) (r : Extracted) → extracted l room ms ≡ outcomeOf a r
+  pub is : (room : Lengths) (r : Extracted) → extracted l room ms ≡ outcome_of a r
   pub why : UnreadAs a (read Module l.tree)
 
 abbrev pub PreparedIs : Lent → Modules → List ℕ → Tested → Type 0
@@ -117,9 +117,9 @@ pub record Held (x : Env) (m : Outcome (Fields × State)) (l t' l' : List ℕ) (
   pub items : Fields
   pub state : State
   pub is : m ≡ done (items, state)
-  pub room : hasRoom (size (moduleWith items)) (length l) ≡ true
-  pub buffer : l' ≡ delivered (encode (moduleWith items)) (length l)
-  pub part : take (n - 0) (drop 0 l') ≡ encode (moduleWith items)
+  pub room : has_room (size (module_with items)) (length l) ≡ true
+  pub buffer : l' ≡ delivered (encode (module_with items)) (length l)
+  pub part : take (n - 0) (drop 0 l') ≡ encode (module_with items)
   pub shows : Shows x t' state
 
 -- it is too long
@@ -127,11 +127,11 @@ pub record TooLong (m : Outcome (Fields × State)) (room : ℕ) : Type 0 where
   pub items : Fields
   pub state : State
   pub is : m ≡ done (items, state)
-  pub short : hasRoom (size (moduleWith items)) room ≡ false
+  pub short : has_room (size (module_with items)) room ≡ false
 
 abbrev pub PassIs : Env → Outcome (Fields × State) → List ℕ → List ℕ → List ℕ → Passed → Type 0
 PassIs x m l t' l' (Fits n) = Held x m l t' l' n
-PassIs x m l t' l' (Refused w p) = m ≡ refused (refusalOf w) p
+PassIs x m l t' l' (Refused w p) = m ≡ refused (refusal_of w) p
 PassIs x m l t' l' NoRoom = TooLong m (length l)
 
 abbrev pub Inside : Passed → ℕ → Type 0
@@ -143,8 +143,8 @@ Inside NoRoom room = Unit {0}
 pub record Firsts (tree t work t' work' : List ℕ) (r : Passed) : Type 0 where
   pub good : Good t'
   pub inside : Inside r (length work)
-  pub is : {x : Env} (ms : Modules) → x.setting.pass ≡ first → Shows x t (setTop false (start ms)) → ModuleRead tree → (w : List ℕ) → Placing tree w x →
-      PassIs x (walkModule x.setting (items_in tree) (setTop false (start ms))) work t' work' r
+  pub is : {x : Env} (ms : Modules) → x.setting.pass ≡ first → Shows x t (set_top false (start ms)) → ModuleRead tree → (w : List ℕ) → Placing tree w x →
+      PassIs x (walk_module x.setting (items_in tree) (set_top false (start ms))) work t' work' r
 
 -- ---- 'At the end forced sources get the wrapping mark if they resolve'
 
@@ -152,36 +152,36 @@ abbrev pub Anywhere : Env → State → Type 0
 Anywhere x s = Unit {0}
 
 -- a source
-abbrev pub wrapOne : Setting → List ℕ → Act (Unit {0})
-wrapOne e a = λ s. onto (moduleFor e a 0 s) (λ r. wrapModule r.0 r.1)
+abbrev pub wrap_one : Setting → List ℕ → Act (Unit {0})
+wrap_one e a = λ s. onto (module_for e a 0 s) (λ r. wrap_module r.0 r.1)
 
 -- the forced sources from i on
-abbrev pub wrapFrom : ℕ → Setting → Act (Unit {0})
-wrapFrom i e = λ s. wrapAll e (drop i s.forced) s
+abbrev pub wrap_from : ℕ → Setting → Act (Unit {0})
+wrap_from i e = λ s. wrap_all e (drop i s.forced) s
 
 -- what is left from i on makes the whole
 pub record Wrapping (t₀ : List ℕ) (i : ℕ) (t : List ℕ) : Type 0 where
   pub good : Good t
-  pub rest : (t' : List ℕ) (k : Effect) → Effects Anywhere (λ x. wrapFrom i x.setting) t t' k → Effects Anywhere (λ x. wrapFrom 0 x.setting) t₀ t' k
+  pub rest : (t' : List ℕ) (k : Effect) → Effects Anywhere (λ x. wrap_from i x.setting) t t' k → Effects Anywhere (λ x. wrap_from 0 x.setting) t₀ t' k
 
 -- ---- The second pass
 
 -- the walk, then the marks
 abbrev pub marking : Setting → Fields → Act Fields
-marking e works = λ s. onto (walkModule e works s) (λ r. onto (wrapFrom 0 e r.1) (λ u. done (r.0, u.1)))
+marking e works = λ s. onto (walk_module e works s) (λ r. onto (wrap_from 0 e r.1) (λ u. done (r.0, u.1)))
 
 -- *work* holds what the first pass left: items, whose sources are collected unless they are external
 pub record Seconds (t work out t' out' : List ℕ) (r : Passed) : Type 0 where
   pub good : Good t'
   pub inside : Inside r (length out)
   pub is : {x : Env} (s : State) → Shows x t s → (tree : List ℕ) → Placing tree work x → (works : Fields) →
-      read Module work ≡ fine (more (moduleWith works) none) → length work ≤ 65538 →
-      ImportsAll works (Known x.setting.externals (sourcesIn s.collected)) → PassIs (withSecond x) (marking (withSecond x).setting works s) out t' out' r
+      read Module work ≡ fine (more (module_with works) none) → length work ≤ 65538 →
+      ImportsAll works (Known x.setting.externals (sources_in s.collected)) → PassIs (with_second x) (marking (with_second x).setting works s) out t' out' r
 
 -- ---- The records, held to their buffer
 
 pub record DeliversFor (tree work out t records records' : List ℕ) (b : Bool) : Type 0 where
-  pub is : {x : Env} (s : State) → Shows x t s → Placing tree work x → BothRead work out → Delivered (encode (recordsIn work out s)) records b records'
+  pub is : {x : Env} (s : State) → Shows x t s → Placing tree work x → BothRead work out → Delivered (encode (records_in work out s)) records b records'
 
 -- ---- The steps together
 
@@ -208,7 +208,7 @@ pub record AcceptedAs (B : Extracted → Type 0) (m : Outcome Extracted) (t : Li
 
 -- the rules refuse as the answer says
 pub record TurnedAs (m : Outcome Extracted) (tree : List ℕ) (a : ExtractAnswer) : Type 0 where
-  pub is : (r : Extracted) → m ≡ outcomeOf a r
+  pub is : (r : Extracted) → m ≡ outcome_of a r
   pub why : UnreadAs a (read Module tree)
 
 abbrev pub EndIs : (Extracted → Type 0) → Outcome Extracted → List ℕ → List ℕ → ExtractAnswer → Type 0

@@ -1,16 +1,18 @@
 // Extraction of what a module imports. Port of swc_bundler's `import/mod.rs`.
+#![tactic(auto)]
+
 ghost use Rattle.std.specs.Prelude.{◌≡◌, false, true, ◌≤◌, length, replicate};
-ghost use Rattle.modes.specs.Bits.{modesOf};
+ghost use Rattle.modes.specs.Bits.{modes_of};
 ghost use Rattle.tree.specs.declared.grammar.Set.TheVariants.{Module as module-set};
-ghost use Rattle.tree.specs.Layout.{two as twoOf};
+ghost use Rattle.tree.specs.Layout.{two as two_of};
 ghost use Rattle.tree.specs.Read.{read};
-ghost use Rattle.scope.specs.ScopeValue.{modulesOf};
-ghost use Rattle.extraction_rules.specs.Call.{Lent, badLists, extracted, extraction};
+ghost use Rattle.scope.specs.ScopeValue.{modules_of};
+ghost use Rattle.extraction_rules.specs.Call.{Lent, bad_lists, extracted, extraction};
 ghost use Rattle.scope.specs.Modules.{Modules};
 ghost use Rattle.steps.specs.Step.{Effects};
 ghost use Rattle.state.specs.Cells.{cells, Good};
-ghost use Rattle.extraction.specs.Answer.{left, lent_as, roomIn, UnreadAs};
-ghost use Rattle.extraction.specs.Stages.{lists_of, LentTo, Owns, Prepares, Firsts, Anywhere, wrapOne, wrapFrom, Seconds, DeliversFor, Whole, Ends};
+ghost use Rattle.extraction.specs.Answer.{left, lent_as, room_in, UnreadAs};
+ghost use Rattle.extraction.specs.Stages.{lists_of, LentTo, Owns, Prepares, Firsts, Anywhere, wrap_one, wrap_from, Seconds, DeliversFor, Whole, Ends};
 
 mod passes; // a pass over a module's items
 
@@ -91,7 +93,7 @@ pub fn extract_import_info(
 ) -> Extraction
     ensures { (left result work.new out.new records.new ≡ extraction
         (lent_as file.0 modes externals.now table.now tree.now)
-        (roomIn work.old out.old records.old) (modulesOf scope)) × UnreadAs result.answer (read module-set tree.now) }
+        (room_in work.old out.old records.old) (modules_of scope)) × UnreadAs result.answer (read module-set tree.now) }
 {
     let mut t = [0u64; CELLS];
     let tested = prepare(scope, file, modes, externals, table, tree, &mut t);
@@ -126,7 +128,7 @@ fn prepare(
     t: &mut [u64],
 ) -> Tested
     requires { t.old ≡ replicate cells 0 }
-    ensures { Prepares (lent_as file.0 modes externals.now table.now tree.now) (modulesOf scope) t.new result }
+    ensures { Prepares (lent_as file.0 modes externals.now table.now tree.now) (modules_of scope) t.new result }
 {
     match lists(externals, table, tree) {
         Tested::Good => {
@@ -152,7 +154,7 @@ fn run(
     requires { Good t.old }
     ensures { (l : Lent) (ms : Modules) → l.tree ≡ tree.now → Prepares l ms t.old tested →
         Ends (Whole work.old out.old records.old work.new out.new records.new)
-        (extracted l (roomIn work.old out.old records.old) ms) tree.now t.new result }
+        (extracted l (room_in work.old out.old records.old) ms) tree.now t.new result }
 {
     match tested {
         Tested::Good => {}
@@ -180,7 +182,7 @@ fn run(
 
 // Whether a lent list is too long, or none.
 fn bad_lists(externals: &[u8], table: &[u8], tree: &[u8]) -> bool
-    ensures { result ≡ badLists (lent_as 0 (modesOf 0) externals.now table.now tree.now) }
+    ensures { result ≡ bad_lists (lent_as 0 (modes_of 0) externals.now table.now tree.now) }
 {
     if MOST < tree.len() {
         return true;
@@ -193,7 +195,7 @@ fn bad_lists(externals: &[u8], table: &[u8], tree: &[u8]) -> bool
 
 // The lent lists are tested, and the tree is read.
 fn lists(externals: &[u8], table: &[u8], tree: &[u8]) -> Tested
-    ensures { result ≡ lists_of (lent_as 0 (modesOf 0) externals.now table.now tree.now) }
+    ensures { result ≡ lists_of (lent_as 0 (modes_of 0) externals.now table.now tree.now) }
 {
     if bad_lists(externals, table, tree) {
         return Tested::Bad;
@@ -220,7 +222,7 @@ fn lend(modes: Modes, externals: &[u8], table: &[u8], t: &mut [u64])
 // 'Own file's number first': the array then shows the scope with it.
 fn own_file(scope: Scope, file: FileName, t: &mut [u64]) -> Tested
     requires { Good t.old }
-    ensures { Owns file.0 (modulesOf scope) t.old t.new result }
+    ensures { Owns file.0 (modules_of scope) t.old t.new result }
 {
     let g = scope.gen_id(file);
     let answer = g.answer;
@@ -273,7 +275,7 @@ fn second_pass(work: &[u8], t: &mut [u64], out: &mut [u8]) -> Passed
 // 'At the end forced sources get the wrapping mark if they resolve.'
 fn wrap(t: &mut [u64]) -> Effect
     requires { Good t.old }
-    ensures { Effects Anywhere (λ x. wrapFrom 0 x.setting) t.old t.new result }
+    ensures { Effects Anywhere (λ x. wrap_from 0 x.setting) t.old t.new result }
 {
     let mut i = 0;
     while i < count_forced(t) {
@@ -288,7 +290,7 @@ fn wrap(t: &mut [u64]) -> Effect
 // The module of a forced source gets the wrapping mark.
 fn wrap_source(source: Atom, t: &mut [u64]) -> Effect
     requires { Good t.old }
-    ensures { Effects Anywhere (λ x. wrapOne x.setting (twoOf source.0)) t.old t.new result }
+    ensures { Effects Anywhere (λ x. wrap_one x.setting (two_of source.0)) t.old t.new result }
 {
     match module_for(t, source) {
         Module::Is(id) => {

@@ -3,7 +3,7 @@ ghost use Rattle.std.specs.Prelude.{◌≡◌, ◌+◌, ◌≤◌, length, get_o
 ghost use Rattle.tree.specs.Tree.{encode, encodes};
 ghost use Rattle.state.specs.Cells.{Good};
 ghost use Rattle.steps.specs.Step.{Steps};
-ghost use Rattle.extraction.specs.Passes.{ItemRead, ItemsRead, itemAct, itemsAct, passAct};
+ghost use Rattle.extraction.specs.Passes.{ItemRead, ItemsRead, item_act, items_act, pass_act};
 
 use imports::first::import_first;
 use imports::second::import_second;
@@ -21,7 +21,7 @@ const START: usize = 3;
 pub fn pass(s: &[u8], t: &mut [u64], out: &mut [u8]) -> Step
     requires { Good t.old }
     ensures { Steps encode (ItemsRead s.now 3 (length s.now))
-        (λ x. passAct x.setting s.now) t.old out.old 0 t.new
+        (λ x. pass_act x.setting s.now) t.old out.old 0 t.new
         out.new result }
 {
     if s.len() < START {
@@ -37,7 +37,7 @@ pub fn pass(s: &[u8], t: &mut [u64], out: &mut [u8]) -> Step
 fn items(s: &[u8], from: usize, end: usize, t: &mut [u64], out: &mut [u8], o: usize) -> Step
     requires { (from ≤ end) × (end ≤ length s.now) × Good t.old }
     ensures { Steps encodes (ItemsRead s.now from end)
-        (λ x. itemsAct x.setting s.now from end) t.old out.old o
+        (λ x. items_act x.setting s.now from end) t.old out.old o
         t.new out.new result }
 {
     let mut at = from;
@@ -60,7 +60,7 @@ fn items(s: &[u8], from: usize, end: usize, t: &mut [u64], out: &mut [u8], o: us
 fn item(s: &[u8], at: usize, stop: usize, t: &mut [u64], out: &mut [u8], o: usize) -> Step
     requires { (at + 3 ≤ stop) × (stop ≤ length s.now) × Good t.old }
     ensures { Steps encodes (ItemRead s.now at stop)
-        (λ x. itemAct x.setting s.now at stop) t.old out.old o t.new
+        (λ x. item_act x.setting s.now at stop) t.old out.old o t.new
         out.new result }
 {
     match s[at] {
@@ -78,7 +78,7 @@ fn item(s: &[u8], at: usize, stop: usize, t: &mut [u64], out: &mut [u8], o: usiz
 fn import(s: &[u8], at: usize, stop: usize, t: &mut [u64], out: &mut [u8], o: usize) -> Step
     requires { (get_or s.now at 0 ≡ 0x10) × (at + 3 ≤ stop) × (stop ≤ length s.now) × Good t.old }
     ensures { Steps encodes (ItemRead s.now at stop)
-        (λ x. itemAct x.setting s.now at stop) t.old out.old o t.new
+        (λ x. item_act x.setting s.now at stop) t.old out.old o t.new
         out.new result }
 {
     if is_second(t) {

@@ -17,14 +17,14 @@ use Rattle.tree.proofs.LayoutLaws.{same-equal}
 use Rattle.inputs.specs.Outcome.{Outcome, done, onto}
 use Rattle.inputs.specs.Fields.{has, sole, inside}
 use Rattle.extraction_rules.specs.State.{State, first, Setting, refuse}
-use Rattle.extraction_rules.specs.First.{idFrom, argument, notExternal, required, withCallee, exportSpecifier, declarator}
-use Rattle.extraction_rules.specs.Walk.{Rule, import, export as exporting, declare, express, nothing as plain, ruleFor, after, Parts, unwalked}
-use Rattle.extraction_rules.specs.Walk.{member, super, assignment, children, partsFor, enter, walk, walkAll, walkMember, walkAssignment}
-use Rattle.extraction_rules.specs.Walk.{walkTarget}
+use Rattle.extraction_rules.specs.First.{id_from, argument, not_external, required, with_callee, export_specifier, declarator}
+use Rattle.extraction_rules.specs.Walk.{Rule, import, export as exporting, declare, express, nothing as plain, rule_for, after, Parts, unwalked}
+use Rattle.extraction_rules.specs.Walk.{member, super, assignment, children, parts_for, enter, walk, walk_all, walk_member, walk_assignment}
+use Rattle.extraction_rules.specs.Walk.{walk_target}
 use Rattle.extraction_rules.proofs.OutcomeLaws.{After, after-bind, after-if}
 use Rattle.extraction_rules.proofs.ValueLaws.{required-call, first-expression, declarator-value}
 use Rattle.extraction_rules.proofs.TagLaws.{rule-import, rule-export}
-use Rattle.extraction_rules.proofs.WalkLaws.{walkParts}
+use Rattle.extraction_rules.proofs.WalkLaws.{walk_parts}
 
 -- ---- Trees behind the imports
 
@@ -79,11 +79,11 @@ abbrev mutual
 
 mutual
   pub alike_refl : (f : Field) → Alike f f
-  alike_refl (field t x cs) = (refl, equal refl, alikeAll-refl cs)
+  alike_refl (field t x cs) = (refl, equal refl, alike_all-refl cs)
 
-  pub alikeAll-refl : (fs : Fields) → AlikeAll fs fs
-  alikeAll-refl none = refl
-  alikeAll-refl (more f fs) = (f, fs, refl, alike_refl f, alikeAll-refl fs)
+  pub alike_all-refl : (fs : Fields) → AlikeAll fs fs
+  alike_all-refl none = refl
+  alike_all-refl (more f fs) = (f, fs, refl, alike_refl f, alike_all-refl fs)
 
 -- the parts of alike fields
 pub alike-more : (f : Field) (fs : Fields) (g : Field) (gs : Fields) → AlikeAll (more f fs) (more g gs) → Alike f g × AlikeAll fs gs
@@ -113,18 +113,18 @@ pub required-named : (e : Setting) (t : ℕ) (x : List ℕ) (c : Field) (gs : Fi
 unfolding required
 required-named e t x c gs l q = go (e.config.require && eqb t 0x65 && has 0x60 c) (same (name_of (fixed_of c)) (two require-atom)) refl q
   where
-    go : (a b : Bool) → same (name_of (fixed_of c)) (two require-atom) ≡ b → cond (a && b) (notExternal e (argument (sole gs))) nothing ≡ some l → name_of (fixed_of c) ≡ two require-atom
+    go : (a b : Bool) → same (name_of (fixed_of c)) (two require-atom) ≡ b → cond (a && b) (not_external e (argument (sole gs))) nothing ≡ some l → name_of (fixed_of c) ≡ two require-atom
     go true true w q = same-equal (name_of (fixed_of c)) (two require-atom) w
     go true false w q = absurd (let z : ◌≡◌ {A = ℕ} 0 1 = cc in omega arith)
     go false b w q = absurd (let z : ◌≡◌ {A = ℕ} 0 1 = cc in omega arith)
 
-pub callee-bytes : (t : ℕ) (x y : List ℕ) (n : ℕ) → SameBytes t x y → t ≡ 0x60 → name_of y ≡ two require-atom → SameBytes t x (idFrom (name_of y) (export n))
+pub callee-bytes : (t : ℕ) (x y : List ℕ) (n : ℕ) → SameBytes t x y → t ≡ 0x60 → name_of y ≡ two require-atom → SameBytes t x (id_from (name_of y) (export n))
 callee-bytes t x y n (equal q) k h = callee k (ap name_of (sym q) ∙ h) n (ap (λ (v : List ℕ). v ++ four (export n)) h)
 callee-bytes t x y n (behind q r) k h = absurd (let w : 0x23 ≡ 0x60 = sym q ∙ k in omega arith)
 callee-bytes t x y n (callee a b m c) k h = callee a b n (ap (λ (v : List ℕ). v ++ four (export n)) h)
 
-pub alike-callee : (e : Setting) (n : ℕ) (f g : Field) (l : List ℕ) → required e g ≡ some l → Alike f g → Alike f (withCallee n g)
-unfolding withCallee
+pub alike-callee : (e : Setting) (n : ℕ) (f g : Field) (l : List ℕ) → required e g ≡ some l → Alike f g → Alike f (with_callee n g)
+unfolding with_callee
 alike-callee e n f (field t x none) l q h = h
 alike-callee e n (field k y none) (field t x (more c gs)) l q h = alike-none c gs h.2
 alike-callee e n (field k y (more (field m z ds) fs)) (field t x (more c gs)) l q h =
@@ -140,8 +140,8 @@ pub export-front : (x y : List ℕ) → 7 ≤ length x → take 7 (take 7 x ++ y
 export-front x y h = take_at (take 7 x) y 7 (length-take-le 7 x h)
 
 module _ (e : Setting) (one : e.pass ≡ first) where
-  export-alike : (x : List ℕ) (p : ℕ) (s : State) → ((get_or x 0 0 ≡ 1) × (7 ≤ length x)) ⊎ (get_or x 0 0 ≡ 2) → After (exportSpecifier e x p s) (λ g s. Alike (field 0x23 x none) g)
-  unfolding exportSpecifier
+  export-alike : (x : List ℕ) (p : ℕ) (s : State) → ((get_or x 0 0 ≡ 1) × (7 ≤ length x)) ⊎ (get_or x 0 0 ≡ 2) → After (export_specifier e x p s) (λ g s. Alike (field 0x23 x none) g)
+  unfolding export_specifier
   export-alike x p s (inl k) =
       after-if (eqb (get_or x 0 0) 2 || eqb (get_or x 7 0) 2) (refuse 6 p) _ s (λ g s. Alike (field 0x23 x none) g) (λ _. tt)
       (λ _. (refl, behind refl (export-front x _ k.1), refl))
@@ -150,22 +150,22 @@ module _ (e : Setting) (one : e.pass ≡ first) where
   declarator-alike : (cs ds : Fields) (p : ℕ) (s : State) → AlikeAll cs ds → After (declarator e ds p s) (λ gs s. AlikeAll cs gs)
   declarator-alike cs ds p s h = declarator-value e (AlikeAll cs) ds p s h (λ q i rest n l w r. go cs q i rest n l r (subst (AlikeAll cs) w h))
     where
-      go : (cs : Fields) (q i : Field) (rest : Fields) (n : ℕ) (l : List ℕ) → required e i ≡ some l → AlikeAll cs (more q (more i rest)) → AlikeAll cs (more q (more (withCallee n i) rest))
+      go : (cs : Fields) (q i : Field) (rest : Fields) (n : ℕ) (l : List ℕ) → required e i ≡ some l → AlikeAll cs (more q (more i rest)) → AlikeAll cs (more q (more (with_callee n i) rest))
       go none q i rest n l r h = alike-none q (more i rest) h
       go (more c none) q i rest n l r h = alike-none i rest (alike-more c none q (more i rest) h).1
       go (more c (more d fs)) q i rest n l r h =
           let a = alike-more c (more d fs) q (more i rest) h in
           let b = alike-more d fs i rest a.1 in
-          (q, more (withCallee n i) rest, refl, a.0, (withCallee n i, rest, refl, alike-callee e n d i l r b.0, b.1))
+          (q, more (with_callee n i) rest, refl, a.0, (with_callee n i, rest, refl, alike-callee e n d i l r b.0, b.1))
 
-  rule-alike : (r : Rule) (t : ℕ) (x : List ℕ) (cs ds : Fields) (object : Bool) (p : ℕ) (s : State) → ruleFor t ≡ r → RegularAt t x cs → AlikeAll cs ds →
+  rule-alike : (r : Rule) (t : ℕ) (x : List ℕ) (cs ds : Fields) (object : Bool) (p : ℕ) (s : State) → rule_for t ≡ r → RegularAt t x cs → AlikeAll cs ds →
       After (after r e t x ds object p s) (λ g s. Alike (field t x cs) g)
   unfolding after
   rule-alike import t x cs ds object p s q w h = absurd (w.no-import (rule-import t q))
   rule-alike exporting t x cs ds object p s q w h = go t cs (rule-export t q) (w.export-bare (rule-export t q)) (w.export-kind (rule-export t q))
     where
       go : (t : ℕ) (cs : Fields) → t ≡ 0x23 → cs ≡ none → ((get_or x 0 0 ≡ 1) × (7 ≤ length x)) ⊎ (get_or x 0 0 ≡ 2) →
-          After (exportSpecifier e x p s) (λ g s. Alike (field t x cs) g)
+          After (export_specifier e x p s) (λ g s. Alike (field t x cs) g)
       go t cs q b k = rw (q, b) (export-alike x p s k)
   rule-alike declare t x cs ds object p s q w h =
       after-bind (declarator e ds p s) _ (λ gs s. AlikeAll cs gs) (λ g s. Alike (field t x cs) g) (declarator-alike cs ds p s h) λ gs s k. (refl, equal refl, k)
@@ -178,10 +178,10 @@ module _ (e : Setting) (one : e.pass ≡ first) where
   abbrev PartsAlike : Fields → (ℕ → State → Outcome (Fields × State)) → Type 0
   PartsAlike cs m = (p : ℕ) (s : State) → After (m p s) (λ ds s. AlikeAll cs ds)
 
-  pub parts-alike : (v : Parts) (cs : Fields) (object : Bool) (p : ℕ) (s : State) → ((b : Bool) → PartsAlike cs (walkAll cs e b)) →
-      PartsAlike cs (walkMember cs e) → PartsAlike cs (walkAssignment cs e object) →
-      After (walkParts v cs e object p s) (λ ds s. AlikeAll cs ds)
-  parts-alike unwalked cs object p s all mem asg = alikeAll-refl cs
+  pub parts-alike : (v : Parts) (cs : Fields) (object : Bool) (p : ℕ) (s : State) → ((b : Bool) → PartsAlike cs (walk_all cs e b)) →
+      PartsAlike cs (walk_member cs e) → PartsAlike cs (walk_assignment cs e object) →
+      After (walk_parts v cs e object p s) (λ ds s. AlikeAll cs ds)
+  parts-alike unwalked cs object p s all mem asg = alike_all-refl cs
   parts-alike member cs object p s all mem asg = mem p s
   parts-alike super cs object p s all mem asg = all false p s
   parts-alike assignment cs object p s all mem asg = asg p s
@@ -199,36 +199,36 @@ module _ (e : Setting) (one : e.pass ≡ first) where
 
     pub walk-alike : (f : Field) (object : Bool) (p : ℕ) (s : State) → Regular f → After (walk f e object p s) (λ g s. Alike f g)
     walk-alike (field t x cs) object p s w =
-        after-bind (walkParts (partsFor t) cs e object (inside p x) (enter t s)) _ (λ ds s. AlikeAll cs ds) (λ g s. Alike (field t x cs) g)
-        (parts-alike (partsFor t) cs object (inside p x) (enter t s) (λ b p s. walkAll-alike cs b p s w.1) (λ p s. walkMember-alike cs p s w.1)
-        (λ p s. walkAssignment-alike cs object p s w.1)) λ ds s h.
-        rule-alike (ruleFor t) t x cs ds object p s refl w.0 h
+        after-bind (walk_parts (parts_for t) cs e object (inside p x) (enter t s)) _ (λ ds s. AlikeAll cs ds) (λ g s. Alike (field t x cs) g)
+        (parts-alike (parts_for t) cs object (inside p x) (enter t s) (λ b p s. walk_all-alike cs b p s w.1) (λ p s. walk_member-alike cs p s w.1)
+        (λ p s. walk_assignment-alike cs object p s w.1)) λ ds s h.
+        rule-alike (rule_for t) t x cs ds object p s refl w.0 h
 
-    pub walkAll-alike : (fs : Fields) (object : Bool) (p : ℕ) (s : State) → RegularAll fs → After (walkAll fs e object p s) (λ gs s. AlikeAll fs gs)
-    walkAll-alike none object p s w = refl
-    walkAll-alike (more f fs) object p s w =
-        both-alike f fs (walk f e object p s) (walkAll fs e object (p + size f)) (walk-alike f object p s w.0)
-        (λ s. walkAll-alike fs object (p + size f) s w.1)
+    pub walk_all-alike : (fs : Fields) (object : Bool) (p : ℕ) (s : State) → RegularAll fs → After (walk_all fs e object p s) (λ gs s. AlikeAll fs gs)
+    walk_all-alike none object p s w = refl
+    walk_all-alike (more f fs) object p s w =
+        both-alike f fs (walk f e object p s) (walk_all fs e object (p + size f)) (walk-alike f object p s w.0)
+        (λ s. walk_all-alike fs object (p + size f) s w.1)
 
-    pub walkMember-alike : (fs : Fields) (p : ℕ) (s : State) → RegularAll fs → After (walkMember fs e p s) (λ gs s. AlikeAll fs gs)
-    walkMember-alike none p s w = refl
-    walkMember-alike (more f fs) p s w = both-alike f fs (walk f e true p s) (walkAll fs e false (p + size f)) (walk-alike f true p s w.0) (λ s. walkAll-alike fs false (p + size f) s w.1)
+    pub walk_member-alike : (fs : Fields) (p : ℕ) (s : State) → RegularAll fs → After (walk_member fs e p s) (λ gs s. AlikeAll fs gs)
+    walk_member-alike none p s w = refl
+    walk_member-alike (more f fs) p s w = both-alike f fs (walk f e true p s) (walk_all fs e false (p + size f)) (walk-alike f true p s w.0) (λ s. walk_all-alike fs false (p + size f) s w.1)
 
-    pub walkAssignment-alike : (fs : Fields) (object : Bool) (p : ℕ) (s : State) → RegularAll fs → After (walkAssignment fs e object p s) (λ gs s. AlikeAll fs gs)
-    walkAssignment-alike none object p s w = refl
-    walkAssignment-alike (more f fs) object p s w =
-        both-alike f fs (walkTarget f e p s) (walkAll fs e object (p + size f)) (walkTarget-alike f p s w.0)
-        (λ s. walkAll-alike fs object (p + size f) s w.1)
+    pub walk_assignment-alike : (fs : Fields) (object : Bool) (p : ℕ) (s : State) → RegularAll fs → After (walk_assignment fs e object p s) (λ gs s. AlikeAll fs gs)
+    walk_assignment-alike none object p s w = refl
+    walk_assignment-alike (more f fs) object p s w =
+        both-alike f fs (walk_target f e p s) (walk_all fs e object (p + size f)) (walk_target-alike f p s w.0)
+        (λ s. walk_all-alike fs object (p + size f) s w.1)
 
-    pub walkTarget-alike : (f : Field) (p : ℕ) (s : State) → Regular f → After (walkTarget f e p s) (λ g s. Alike f g)
-    walkTarget-alike (field t x cs) p s w =
-        after-bind (walkMember cs e (inside p x) s) _ (λ ds s. AlikeAll cs ds) (λ g s. Alike (field t x cs) g) (walkMember-alike cs (inside p x) s w.1) λ ds s h. (refl, equal refl, h)
+    pub walk_target-alike : (f : Field) (p : ℕ) (s : State) → Regular f → After (walk_target f e p s) (λ g s. Alike f g)
+    walk_target-alike (field t x cs) p s w =
+        after-bind (walk_member cs e (inside p x) s) _ (λ ds s. AlikeAll cs ds) (λ g s. Alike (field t x cs) g) (walk_member-alike cs (inside p x) s w.1) λ ds s h. (refl, equal refl, h)
 
 -- ---- Alike trees are shaped alike
 
-pub alikeAll-none : (cs ds : Fields) → AlikeAll cs ds → cs ≡ none → ds ≡ none
-alikeAll-none none ds h q = h
-alikeAll-none (more f fs) ds h q = absurd (let z : ◌≡◌ {A = ℕ} 0 1 = cc in omega arith)
+pub alike_all-none : (cs ds : Fields) → AlikeAll cs ds → cs ≡ none → ds ≡ none
+alike_all-none none ds h q = h
+alike_all-none (more f fs) ds h q = absurd (let z : ◌≡◌ {A = ℕ} 0 1 = cc in omega arith)
 
 pub alike-tag : (f g : Field) → Alike f g → tag_of g ≡ tag_of f
 alike-tag (field t x cs) g h = h.0
@@ -288,28 +288,28 @@ whole-alike t x y (equal q) e k = rw q k
 whole-alike t x y (behind a q) e k = absurd (let w : 0x23 ≡ 0x60 = sym a ∙ e in omega arith)
 whole-alike t x y (callee a b n c) e k = rw c refl
 
-regularAt-alike : (t : ℕ) (x y : List ℕ) (cs ds : Fields) → SameBytes t x y → AlikeAll cs ds → RegularAt t x cs → RegularAt t y ds
-regularAt-alike t x y cs ds b h w =
+regular_at-alike : (t : ℕ) (x y : List ℕ) (cs ds : Fields) → SameBytes t x y → AlikeAll cs ds → RegularAt t x cs → RegularAt t y ds
+regular_at-alike t x y cs ds b h w =
     record {
       no-import = w.no-import;
       no_local = w.no_local;
-      export-bare = λ q. alikeAll-none cs ds h (w.export-bare q);
+      export-bare = λ q. alike_all-none cs ds h (w.export-bare q);
       export-kind = λ q. kind-alike t x y b q (w.export-kind q);
-      empty-bare = λ q. alikeAll-none cs ds h (w.empty-bare q);
-      ident-bare = λ q. alikeAll-none cs ds h (w.ident-bare q);
+      empty-bare = λ q. alike_all-none cs ds h (w.empty-bare q);
+      ident-bare = λ q. alike_all-none cs ds h (w.ident-bare q);
       ident-whole = λ q. whole-alike t x y b q (w.ident-whole q);
       member-two = λ q. alike-two cs ds h (w.member-two q);
-      name-bare = λ q. alikeAll-none cs ds h (w.name-bare q);
+      name-bare = λ q. alike_all-none cs ds h (w.name-bare q);
       name-two = λ q. ap length (same-other t x y b (λ z. let v : 0x70 ≡ 0x23 = sym q ∙ z in omega arith) (λ z. let v : 0x70 ≡ 0x60 = sym q ∙ z in omega arith)) ∙ w.name-two q;
       target = λ q. alike-target cs ds h (w.target q);
     }
 
 mutual
   pub regular-alike : (f g : Field) → Alike f g → Regular f → Regular g
-  regular-alike (field t x cs) (field k y ds) h w = (subst (λ (m : ℕ). RegularAt m y ds) (sym h.0) (regularAt-alike t x y cs ds h.1 h.2 w.0), regularAll-alike cs ds h.2 w.1)
+  regular-alike (field t x cs) (field k y ds) h w = (subst (λ (m : ℕ). RegularAt m y ds) (sym h.0) (regular_at-alike t x y cs ds h.1 h.2 w.0), regular_all-alike cs ds h.2 w.1)
 
-  pub regularAll-alike : (fs gs : Fields) → AlikeAll fs gs → RegularAll fs → RegularAll gs
-  regularAll-alike none none h w = tt
-  regularAll-alike none (more g gs) h w = alike-none g gs h
-  regularAll-alike (more f fs) none h w = absurd (let e = h.2 in let z : ◌≡◌ {A = ℕ} 0 1 = cc in omega arith)
-  regularAll-alike (more f fs) (more g gs) h w = let a = alike-more f fs g gs h in (regular-alike f g a.0 w.0, regularAll-alike fs gs a.1 w.1)
+  pub regular_all-alike : (fs gs : Fields) → AlikeAll fs gs → RegularAll fs → RegularAll gs
+  regular_all-alike none none h w = tt
+  regular_all-alike none (more g gs) h w = alike-none g gs h
+  regular_all-alike (more f fs) none h w = absurd (let e = h.2 in let z : ◌≡◌ {A = ℕ} 0 1 = cc in omega arith)
+  regular_all-alike (more f fs) (more g gs) h w = let a = alike-more f fs g gs h in (regular-alike f g a.0 w.0, regular_all-alike fs gs a.1 w.1)

@@ -8,19 +8,19 @@ use Rattle.scope.specs.Modules.{Modules, number_of, request}
 use Rattle.tree.specs.declared.grammar.Set.TheVariants.{Module}
 use Rattle.tree.specs.Tree.{Fields, size}
 use Rattle.tree.specs.Read.{read}
-use Rattle.writer.specs.Finished.{hasRoom}
-use Rattle.inputs.specs.Outcome.{Outcome, done, refused, placeless, refuseIf}
-use Rattle.inputs.specs.Table.{Row, rowsIn, table_of}
+use Rattle.writer.specs.Finished.{has_room}
+use Rattle.inputs.specs.Outcome.{Outcome, done, refused, placeless, refuse_if}
+use Rattle.inputs.specs.Table.{Row, rows_in, table_of}
 use Rattle.inputs.specs.Buffer.{fits}
 use Rattle.inputs.proofs.AcceptedLaws.{done_inj, onto-done, placeless-done, table-rows, done_refused, fits-room}
-use Rattle.extraction_rules.specs.State.{State, first, second, Setting, start, setModules}
-use Rattle.extraction_rules.specs.First.{moduleFor}
-use Rattle.extraction_rules.specs.Second.{wrapModule, wrapAll, loseNamespaces, finish}
-use Rattle.extraction_rules.specs.Walk.{walkModule, walkAgain}
-use Rattle.extraction_rules.specs.Records.{recordsOf}
-use Rattle.extraction_rules.specs.Call.{Lent, Lengths, Extracted, badLists, itemsRead, ownModule, setting, moduleWith, extractedFrom, passes, extracted}
+use Rattle.extraction_rules.specs.State.{State, first, second, Setting, start, set_modules}
+use Rattle.extraction_rules.specs.First.{module_for}
+use Rattle.extraction_rules.specs.Second.{wrap_module, wrap_all, lose_namespaces, finish}
+use Rattle.extraction_rules.specs.Walk.{walk_module, walk_again}
+use Rattle.extraction_rules.specs.Records.{records_of}
+use Rattle.extraction_rules.specs.Call.{Lent, Lengths, Extracted, bad_lists, items_read, own_module, setting, module_with, extracted_from, passes, extracted}
 use Rattle.extraction_rules.proofs.OutcomeLaws.{After, after-bind, after_both, after-weaken, after-done}
-use Rattle.extraction_rules.proofs.StepLaws.{finish-keeps, moduleFor-stays}
+use Rattle.extraction_rules.proofs.StepLaws.{finish-keeps, module_for-stays}
 use Rattle.extraction_rules.proofs.SanityLaws.{Numbered, numbered-steps, numbered-end}
 
 -- ---- Both passes of an accepted call
@@ -29,57 +29,57 @@ pub record Run (l : Lent) (room : Lengths) (rows : List Row) (own : ℕ) (items 
   -- the first pass
   pub works : Fields
   pub middle : State
-  pub once : walkModule (setting first own l rows) items (start ms) ≡ done (works, middle)
-  pub work-room : hasRoom (size (moduleWith works)) room.work ≡ true
+  pub once : walk_module (setting first own l rows) items (start ms) ≡ done (works, middle)
+  pub work-room : has_room (size (module_with works)) room.work ≡ true
   -- the second pass, with its end
   pub outs : Fields
   pub end : State
-  pub twice : walkAgain (setting second own l rows) works middle ≡ done (outs, end)
-  pub out-room : hasRoom (size (moduleWith outs)) room.out ≡ true
-  pub records-room : hasRoom (size (recordsOf end)) room.records ≡ true
-  pub given : extractedFrom works outs end ≡ r
+  pub twice : walk_again (setting second own l rows) works middle ≡ done (outs, end)
+  pub out-room : has_room (size (module_with outs)) room.out ≡ true
+  pub records-room : has_room (size (records_of end)) room.records ≡ true
+  pub given : extracted_from works outs end ≡ r
 
 passes-done : (l : Lent) (room : Lengths) (rows : List Row) (items : Fields) (own : ℕ × Modules) (r : Extracted) →
     passes l room rows items own ≡ done r → Run l room rows own.0 items own.1 r
 unfolding passes
 passes-done l room rows items own r e =
-    let a = onto-done (walkModule (setting first own.0 l rows) items (start own.1)) _ r e in
-    let b = onto-done (fits (moduleWith a.0.0) room.work) _ r a.2 in
-    let c = onto-done (placeless (walkAgain (setting second own.0 l rows) a.0.0 a.0.1)) _ r b.2 in
-    let d = onto-done (fits (moduleWith c.0.0) room.out) _ r c.2 in
-    let f = onto-done (fits (recordsOf c.0.1) room.records) _ r d.2 in
+    let a = onto-done (walk_module (setting first own.0 l rows) items (start own.1)) _ r e in
+    let b = onto-done (fits (module_with a.0.0) room.work) _ r a.2 in
+    let c = onto-done (placeless (walk_again (setting second own.0 l rows) a.0.0 a.0.1)) _ r b.2 in
+    let d = onto-done (fits (module_with c.0.0) room.out) _ r c.2 in
+    let f = onto-done (fits (records_of c.0.1) room.records) _ r d.2 in
     record {
       works = a.0.0;
       middle = a.0.1;
       once = a.1;
-      work-room = fits-room (moduleWith a.0.0) room.work b.0 b.1;
+      work-room = fits-room (module_with a.0.0) room.work b.0 b.1;
       outs = c.0.0;
       end = c.0.1;
-      twice = placeless-done (walkAgain (setting second own.0 l rows) a.0.0 a.0.1) c.0 c.1;
-      out-room = fits-room (moduleWith c.0.0) room.out d.0 d.1;
-      records-room = fits-room (recordsOf c.0.1) room.records f.0 f.1;
+      twice = placeless-done (walk_again (setting second own.0 l rows) a.0.0 a.0.1) c.0 c.1;
+      out-room = fits-room (module_with c.0.0) room.out d.0 d.1;
+      records-room = fits-room (records_of c.0.1) room.records f.0 f.1;
       given = done_inj f.2;
     }
 
-own-done : (o : Option (ℕ × Modules)) (r : ℕ × Modules) → ownModule o ≡ done r → o ≡ some r
+own-done : (o : Option (ℕ × Modules)) (r : ℕ × Modules) → own_module o ≡ done r → o ≡ some r
 own-done nothing r e = done_refused e
 own-done (some q) r e = ap some (done_inj e)
 
 -- the items that the call read, its own module, and its passes
 pub record Made (l : Lent) (room : Lengths) (ms : Modules) (r : Extracted) : Type 0 where
   pub items : Fields
-  pub reads : itemsRead (read Module l.tree) ≡ done items
+  pub reads : items_read (read Module l.tree) ≡ done items
   pub own : ℕ × Modules
   pub requests : request l.file ms ≡ some own
-  pub run : Run l room (rowsIn l.table) own.0 items own.1 r
+  pub run : Run l room (rows_in l.table) own.0 items own.1 r
 
 pub call-made : (l : Lent) (room : Lengths) (ms : Modules) (r : Extracted) → extracted l room ms ≡ done r → Made l room ms r
 unfolding extracted
 call-made l room ms r e =
-    let a = onto-done (refuseIf (badLists l) 1) _ r e in
+    let a = onto-done (refuse_if (bad_lists l) 1) _ r e in
     let b = onto-done (table_of l.table) _ r a.2 in
-    let c = onto-done (itemsRead (read Module l.tree)) _ r b.2 in
-    let d = onto-done (ownModule (request l.file ms)) _ r c.2 in
+    let c = onto-done (items_read (read Module l.tree)) _ r b.2 in
+    let d = onto-done (own_module (request l.file ms)) _ r c.2 in
     record {
       items = c.0;
       reads = c.1;
@@ -90,28 +90,28 @@ call-made l room ms r e =
 
 -- the same for items and a module that are known
 pub call-run : (l : Lent) (room : Lengths) (ms : Modules) (r : Extracted) (items : Fields) (own : ℕ × Modules) → extracted l room ms ≡ done r →
-    itemsRead (read Module l.tree) ≡ done items → request l.file ms ≡ some own → Run l room (rowsIn l.table) own.0 items own.1 r
+    items_read (read Module l.tree) ≡ done items → request l.file ms ≡ some own → Run l room (rows_in l.table) own.0 items own.1 r
 call-run l room ms r items own e p q =
     let m = call-made l room ms r e in
     let i : m.items ≡ items = done_inj (sym m.reads ∙ p) in
-    let o : m.own ≡ own = done_inj (ap ownModule (sym m.requests ∙ q)) in
-    subst (λ (o : ℕ × Modules). Run l room (rowsIn l.table) o.0 items o.1 r) o (subst (λ (fs : Fields). Run l room (rowsIn l.table) m.own.0 fs m.own.1 r) i m.run)
+    let o : m.own ≡ own = done_inj (ap own_module (sym m.requests ∙ q)) in
+    subst (λ (o : ℕ × Modules). Run l room (rows_in l.table) o.0 items o.1 r) o (subst (λ (fs : Fields). Run l room (rows_in l.table) m.own.0 fs m.own.1 r) i m.run)
 
 -- each buffer of an accepted call has room for what it is to hold
 pub call-room : (l : Lent) (room : Lengths) (ms : Modules) (r : Extracted) → extracted l room ms ≡ done r →
-    (hasRoom (size r.work) room.work ≡ true) × (hasRoom (size r.out) room.out ≡ true) × (hasRoom (size r.records) room.records ≡ true)
+    (has_room (size r.work) room.work ≡ true) × (has_room (size r.out) room.out ≡ true) × (has_room (size r.records) room.records ≡ true)
 call-room l room ms r e =
     let u = (call-made l room ms r e).run in
-    subst (λ (z : Extracted). (hasRoom (size z.work) room.work ≡ true) × (hasRoom (size z.out) room.out ≡ true) × (hasRoom (size z.records) room.records ≡ true))
+    subst (λ (z : Extracted). (has_room (size z.work) room.work ≡ true) × (has_room (size z.out) room.out ≡ true) × (has_room (size z.records) room.records ≡ true))
     u.given (u.work-room, u.out-room, u.records-room)
 
 -- what both passes say of a run
 pub run-both : (l : Lent) {room : Lengths} (rows : List Row) (own : ℕ) (items : Fields) (ms : Modules) (r : Extracted) (u : Run l room rows own items ms r) (P Q : Fields → State → Type 0) →
-    After (walkModule (setting first own l rows) items (start ms)) (λ works s. P works s × After (walkAgain (setting second own l rows) works s) Q) →
+    After (walk_module (setting first own l rows) items (start ms)) (λ works s. P works s × After (walk_again (setting second own l rows) works s) Q) →
     P u.works u.middle × Q u.outs u.end
 run-both l rows own items ms r u P Q h =
-    let a = after-done (walkModule (setting first own l rows) items (start ms)) (λ works s. P works s × After (walkAgain (setting second own l rows) works s) Q) (u.works, u.middle) u.once h in
-    (a.0, after-done (walkAgain (setting second own l rows) u.works u.middle) Q (u.outs, u.end) u.twice a.1)
+    let a = after-done (walk_module (setting first own l rows) items (start ms)) (λ works s. P works s × After (walk_again (setting second own l rows) works s) Q) (u.works, u.middle) u.once h in
+    (a.0, after-done (walk_again (setting second own l rows) u.works u.middle) Q (u.outs, u.end) u.twice a.1)
 
 -- ---- The second pass's end: 'other records lose namespaces'
 
@@ -122,7 +122,7 @@ Untouched s t = (t.collected ≡ s.collected) × (t.forced ≡ s.forced) × (t.l
 -- what the end leaves of these
 abbrev pub Finished : State → State → Type 0
 Finished s t =
-    (t.collected ≡ map (loseNamespaces s.forced) s.collected)
+    (t.collected ≡ map (lose_namespaces s.forced) s.collected)
     × (t.forced ≡ s.forced)
     × (t.lazy ≡ s.lazy)
     × ((f n : ℕ) → number_of f s.modules ≡ some n → number_of f t.modules ≡ some n)
@@ -133,32 +133,32 @@ after-each (done r) P h = h
 after-each (refused n p) P h = tt
 
 module _ (e : Setting) where
-  moduleFor-untouched : (a : List ℕ) (p : ℕ) (s : State) → After (moduleFor e a p s) (λ n t. Untouched s t)
-  moduleFor-untouched a p s =
-      after-weaken (moduleFor e a p s) (λ n t. t ≡ setModules t.modules s) (λ n t. Untouched s t)
-      (λ n t k. (ap (λ (t : State). t.collected) k, ap (λ (t : State). t.forced) k, ap (λ (t : State). t.lazy) k)) (moduleFor-stays e a p s)
+  module_for-untouched : (a : List ℕ) (p : ℕ) (s : State) → After (module_for e a p s) (λ n t. Untouched s t)
+  module_for-untouched a p s =
+      after-weaken (module_for e a p s) (λ n t. t ≡ set_modules t.modules s) (λ n t. Untouched s t)
+      (λ n t k. (ap (λ (t : State). t.collected) k, ap (λ (t : State). t.forced) k, ap (λ (t : State). t.lazy) k)) (module_for-stays e a p s)
 
-  wrapModule-untouched : (o : Option ℕ) (s : State) → After (wrapModule o s) (λ n t. Untouched s t)
-  unfolding wrapModule
-  wrapModule-untouched nothing s = (refl, refl, refl)
-  wrapModule-untouched (some n) s = (refl, refl, refl)
+  wrap_module-untouched : (o : Option ℕ) (s : State) → After (wrap_module o s) (λ n t. Untouched s t)
+  unfolding wrap_module
+  wrap_module-untouched nothing s = (refl, refl, refl)
+  wrap_module-untouched (some n) s = (refl, refl, refl)
 
   untouched-next : (s t u : State) → Untouched s t → Untouched t u → Untouched s u
   untouched-next s t u h k = (k.0 ∙ h.0, k.1 ∙ h.1, k.2 ∙ h.2)
 
-  wrapAll-untouched : (l : List (List ℕ)) (s t : State) → Untouched s t → After (wrapAll e l t) (λ n u. Untouched s u)
-  unfolding wrapAll
-  wrapAll-untouched [] s t h = h
-  wrapAll-untouched (a ∷ l) s t h =
-      after-bind (moduleFor e a 0 t) _ (λ n u. Untouched t u) (λ n u. Untouched s u) (moduleFor-untouched a 0 t) λ n u k.
-      after-bind (wrapModule n u) _ (λ n v. Untouched u v) (λ n u. Untouched s u) (wrapModule-untouched n u) λ _ v m.
-      wrapAll-untouched l s v (untouched-next s u v (untouched-next s t u h k) m)
+  wrap_all-untouched : (l : List (List ℕ)) (s t : State) → Untouched s t → After (wrap_all e l t) (λ n u. Untouched s u)
+  unfolding wrap_all
+  wrap_all-untouched [] s t h = h
+  wrap_all-untouched (a ∷ l) s t h =
+      after-bind (module_for e a 0 t) _ (λ n u. Untouched t u) (λ n u. Untouched s u) (module_for-untouched a 0 t) λ n u k.
+      after-bind (wrap_module n u) _ (λ n v. Untouched u v) (λ n u. Untouched s u) (wrap_module-untouched n u) λ _ v m.
+      wrap_all-untouched l s v (untouched-next s u v (untouched-next s t u h k) m)
 
-  finish-records : (s : State) → After (finish e s) (λ _ t. (t.collected ≡ map (loseNamespaces s.forced) s.collected) × (t.forced ≡ s.forced) × (t.lazy ≡ s.lazy))
+  finish-records : (s : State) → After (finish e s) (λ _ t. (t.collected ≡ map (lose_namespaces s.forced) s.collected) × (t.forced ≡ s.forced) × (t.lazy ≡ s.lazy))
   unfolding finish
   finish-records s =
-      after-bind (wrapAll e s.forced s) _ (λ n t. Untouched s t) (λ _ t. (t.collected ≡ map (loseNamespaces s.forced) s.collected) × (t.forced ≡ s.forced) × (t.lazy ≡ s.lazy))
-      (wrapAll-untouched s.forced s s (refl, refl, refl)) λ _ t h. (rw (h.0, h.1), h.1, h.2)
+      after-bind (wrap_all e s.forced s) _ (λ n t. Untouched s t) (λ _ t. (t.collected ≡ map (lose_namespaces s.forced) s.collected) × (t.forced ≡ s.forced) × (t.lazy ≡ s.lazy))
+      (wrap_all-untouched s.forced s s (refl, refl, refl)) λ _ t h. (rw (h.0, h.1), h.1, h.2)
 
   -- numbers that were given stay
   finish-numbers : (s : State) → After (finish e s) (λ _ t. (k : (f : ℕ) × (n : ℕ) × (number_of f s.modules ≡ some n)) → number_of k.0 t.modules ≡ some k.1)
@@ -169,18 +169,18 @@ module _ (e : Setting) where
   pub finish-leaves : (s : State) → After (finish e s) (λ _ t. Finished s t)
   finish-leaves s =
       after-weaken (finish e s)
-      (λ _ t. ((t.collected ≡ map (loseNamespaces s.forced) s.collected) × (t.forced ≡ s.forced) × (t.lazy ≡ s.lazy))
+      (λ _ t. ((t.collected ≡ map (lose_namespaces s.forced) s.collected) × (t.forced ≡ s.forced) × (t.lazy ≡ s.lazy))
       × ((k : (f : ℕ) × (n : ℕ) × (number_of f s.modules ≡ some n)) → number_of k.0 t.modules ≡ some k.1)) (λ _ t. Finished s t)
       (λ _ t h. (h.0.0, h.0.1, h.0.2, λ f n w. h.1 (f, n, w)))
-      (after_both (finish e s) (λ _ t. (t.collected ≡ map (loseNamespaces s.forced) s.collected) × (t.forced ≡ s.forced) × (t.lazy ≡ s.lazy))
+      (after_both (finish e s) (λ _ t. (t.collected ≡ map (lose_namespaces s.forced) s.collected) × (t.forced ≡ s.forced) × (t.lazy ≡ s.lazy))
       (λ _ t. (k : (f : ℕ) × (n : ℕ) × (number_of f s.modules ≡ some n)) → number_of k.0 t.modules ≡ some k.1) (finish-records s) (finish-numbers s))
 
   -- the second pass is a walk, then its end
-  pub again-done : (items : Fields) (s : State) (r : Fields × State) → walkAgain e items s ≡ done r →
-      (t : State) × (walkModule e items s ≡ done (r.0, t)) × Finished t r.1
-  unfolding walkAgain
+  pub again-done : (items : Fields) (s : State) (r : Fields × State) → walk_again e items s ≡ done r →
+      (t : State) × (walk_module e items s ≡ done (r.0, t)) × Finished t r.1
+  unfolding walk_again
   again-done items s r q =
-      let a = onto-done (walkModule e items s) _ r q in
+      let a = onto-done (walk_module e items s) _ r q in
       let b = onto-done (finish e a.0.1) _ r a.2 in
       let m = done_inj b.2 in
       let f = after-done (finish e a.0.1) (λ _ t. Finished a.0.1 t) b.0 b.1 (finish-leaves a.0.1) in

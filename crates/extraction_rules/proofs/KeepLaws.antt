@@ -4,10 +4,10 @@ use mathlib.Core.Path.{◌≡◌, refl, ap, ap₂, ◌∙◌, sym}
 use mathlib.Core.Bool.{Bool, true, false, not, cond}
 use mathlib.Core.Option.{Option, none as nothing, some}
 use Rattle.tree.specs.Tree.{Field, Fields, none, more, tag_of}
-use Rattle.metadata.specs.Metadata.{append, withMetadata}
+use Rattle.metadata.specs.Metadata.{append, with_metadata}
 use Rattle.metadata.proofs.EncodeLaws.{append-none}
 use Rattle.inputs.specs.Fields.{has, keep}
-use Rattle.extraction_rules.specs.First.{specifiersIn, attributesIn, withContext}
+use Rattle.extraction_rules.specs.First.{specifiers_in, attributes_in, with_context}
 use borrow.Author.Tests.{eqb-true}
 use native.Mathlib.Omega.{arith}
 
@@ -73,34 +73,34 @@ keep_meets p (more f fs) = go (p f) refl (keep_meets p fs)
 -- ---- Specifiers in front of attributes
 
 -- no part is a 2F
-abbrev pub notAttributes : Field → Bool
-notAttributes f = not (has 0x2F f)
+abbrev pub not_attributes : Field → Bool
+not_attributes f = not (has 0x2F f)
 
-pub specifiers-front : (fs gs : Fields) → Meets notAttributes fs → specifiersIn gs ≡ none → specifiersIn (append fs gs) ≡ fs
-specifiers-front fs gs h k = keep_append notAttributes fs gs ∙ ap₂ {C = Fields} append (keep_all notAttributes fs h) k ∙ append-none fs
+pub specifiers-front : (fs gs : Fields) → Meets not_attributes fs → specifiers_in gs ≡ none → specifiers_in (append fs gs) ≡ fs
+specifiers-front fs gs h k = keep_append not_attributes fs gs ∙ ap₂ {C = Fields} append (keep_all not_attributes fs h) k ∙ append-none fs
 
-pub no-specifiers : (ds : Fields) → specifiersIn (attributesIn ds) ≡ none
+pub no-specifiers : (ds : Fields) → specifiers_in (attributes_in ds) ≡ none
 unfolding keep
 no-specifiers none = refl
 no-specifiers (more f fs) = go (has 0x2F f) refl (no-specifiers fs)
   where
-    go : (b : Bool) → has 0x2F f ≡ b → specifiersIn (attributesIn fs) ≡ none → specifiersIn (cond b (more f (attributesIn fs)) (attributesIn fs)) ≡ none
+    go : (b : Bool) → has 0x2F f ≡ b → specifiers_in (attributes_in fs) ≡ none → specifiers_in (cond b (more f (attributes_in fs)) (attributes_in fs)) ≡ none
     go true q h = rw q h
     go false q h = h
 
-pub no-context : (m : Option ℕ) (ds : Fields) → specifiersIn (withContext m ds) ≡ none
-unfolding keep withContext withMetadata
+pub no-context : (m : Option ℕ) (ds : Fields) → specifiers_in (with_context m ds) ≡ none
+unfolding keep with_context with_metadata
 no-context nothing ds = no-specifiers ds
 no-context (some n) ds = refl
 
 -- the attributes are no namespace
-pub keep-specifiers : (fs : Fields) → keep (has 0x22) (specifiersIn fs) ≡ keep (has 0x22) fs
+pub keep-specifiers : (fs : Fields) → keep (has 0x22) (specifiers_in fs) ≡ keep (has 0x22) fs
 unfolding keep
 keep-specifiers none = refl
 keep-specifiers (more f fs) = go (has 0x2F f) (has 0x22 f) refl refl (keep-specifiers fs)
   where
-    go : (a b : Bool) → has 0x2F f ≡ a → has 0x22 f ≡ b → keep (has 0x22) (specifiersIn fs) ≡ keep (has 0x22) fs →
-        keep (has 0x22) (cond (not a) (more f (specifiersIn fs)) (specifiersIn fs)) ≡ cond b (more f (keep (has 0x22) fs)) (keep (has 0x22) fs)
+    go : (a b : Bool) → has 0x2F f ≡ a → has 0x22 f ≡ b → keep (has 0x22) (specifiers_in fs) ≡ keep (has 0x22) fs →
+        keep (has 0x22) (cond (not a) (more f (specifiers_in fs)) (specifiers_in fs)) ≡ cond b (more f (keep (has 0x22) fs)) (keep (has 0x22) fs)
     go true true p q h = absurd (let v : ◌≡◌ {A = ℕ} 0x2F 0x22 = sym (eqb-true (tag_of f) 0x2F p) ∙ eqb-true (tag_of f) 0x22 q in omega arith)
     go true false p q h = h
     go false true p q h = rw q (ap (more f) h)

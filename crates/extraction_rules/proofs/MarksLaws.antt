@@ -9,7 +9,7 @@ use mathlib.Core.Option.{Option, none as nothing, some, bind, Option-elim}
 use lib.Dec.{eqb}
 use lib.ListN.{length}
 use borrow.Author.Tests.{eqb-true, eqb-false}
-use Rattle.scope.specs.Modules.{Modules, number_of, request, isMarked, setMark}
+use Rattle.scope.specs.Modules.{Modules, number_of, request, is_marked, set_mark}
 use Rattle.scope.specs.declared.Mark.{Mark}
 use Rattle.scope.specs.declared.Mark.TheVariants.{Cjs, Wrapping}
 use Rattle.scope.proofs.Laws.{number-below, request-keeps-marks, request-keeps-numbers, request-numbers, mark-keeps-numbers, mark-marks, mark-keeps-modules, mark-keeps-kinds}
@@ -18,33 +18,33 @@ use Rattle.tree.specs.Tree.{Fields, field}
 use Rattle.metadata.specs.Metadata.{append}
 use Rattle.inputs.specs.Outcome.{onto}
 use Rattle.inputs.specs.Lists.{find, is_some}
-use Rattle.inputs.specs.Table.{Row, rowsIn, fileOf}
-use Rattle.extraction_rules.specs.State.{Record, State, first, second, Setting, start, setModules}
-use Rattle.extraction_rules.specs.First.{requested, module_of, moduleFor, forget}
-use Rattle.extraction_rules.specs.Second.{wrapModule, wrapAll, finish}
-use Rattle.extraction_rules.specs.Walk.{walkModule, walkAgain}
-use Rattle.extraction_rules.specs.Records.{recordFields, forcedFields, recordsOf}
+use Rattle.inputs.specs.Table.{Row, rows_in, file_of}
+use Rattle.extraction_rules.specs.State.{Record, State, first, second, Setting, start, set_modules}
+use Rattle.extraction_rules.specs.First.{requested, module_of, module_for, forget}
+use Rattle.extraction_rules.specs.Second.{wrap_module, wrap_all, finish}
+use Rattle.extraction_rules.specs.Walk.{walk_module, walk_again}
+use Rattle.extraction_rules.specs.Records.{record_fields, forced_fields, records_of}
 use Rattle.extraction_rules.specs.Call.{Lent, Lengths, Extracted, setting, extracted}
-use Rattle.extraction_rules.specs.Reach.{isModuleOf, reaches}
+use Rattle.extraction_rules.specs.Reach.{is_module_of, reaches}
 use Rattle.extraction_rules.proofs.OutcomeLaws.{After, after-bind, after-weaken, Of, of-each, after-done}
 use Rattle.extraction_rules.proofs.FirstLaws.{source-cases, force-cases}
-use Rattle.extraction_rules.proofs.WalkLaws.{Steps, imports-any-all, walkModule-keeps}
+use Rattle.extraction_rules.proofs.WalkLaws.{Steps, imports-any-all, walk_module-keeps}
 use Rattle.extraction_rules.proofs.ExtractedLaws.{call-made}
 
 -- ---- One mark
 
 -- a mark that is set is added to those of its kind
-pub mark-adds : (k : Mark) (n m : ℕ) (ms : Modules) → m < length ms → isMarked k n (setMark k m ms) ≡ isMarked k n ms || eqb n m
+pub mark-adds : (k : Mark) (n m : ℕ) (ms : Modules) → m < length ms → is_marked k n (set_mark k m ms) ≡ is_marked k n ms || eqb n m
 mark-adds k n m ms h = go (eqb n m) refl
   where
-    go : (b : Bool) → eqb n m ≡ b → isMarked k n (setMark k m ms) ≡ isMarked k n ms || b
-    go true e = ap (λ (i : ℕ). isMarked k i (setMark k m ms)) (eqb-true n m e) ∙ mark-marks k m ms h ∙ sym (or-true (isMarked k n ms))
-    go false e = mark-keeps-modules k k m n ms (eqb-false n m e) ∙ sym (or-false (isMarked k n ms))
+    go : (b : Bool) → eqb n m ≡ b → is_marked k n (set_mark k m ms) ≡ is_marked k n ms || b
+    go true e = ap (λ (i : ℕ). is_marked k i (set_mark k m ms)) (eqb-true n m e) ∙ mark-marks k m ms h ∙ sym (or-true (is_marked k n ms))
+    go false e = mark-keeps-modules k k m n ms (eqb-false n m e) ∙ sym (or-false (is_marked k n ms))
 
 -- ---- A walk keeps the wrapping marks
 
 abbrev pub SameMarks : Modules → Modules → Type 0
-SameMarks ms ms' = (n : ℕ) → isMarked Wrapping n ms' ≡ isMarked Wrapping n ms
+SameMarks ms ms' = (n : ℕ) → is_marked Wrapping n ms' ≡ is_marked Wrapping n ms
 
 wrapping-not-cjs : Wrapping ≡ Cjs → ⊥
 wrapping-not-cjs e = let z : ◌≡◌ {A = ℕ} 0 1 = cc in omega arith
@@ -76,15 +76,15 @@ unwrapped-steps e ms =
     }
 
 walk-unwrapped : (e : Setting) (items : Fields) (ms : Modules) (s : State) → Unwrapped ms s →
-    After (walkModule e items s) (λ gs s'. Unwrapped ms s')
+    After (walk_module e items s) (λ gs s'. Unwrapped ms s')
 walk-unwrapped e items ms s h =
-    walkModule-keeps e AnyLiteral (Unwrapped ms) (unwrapped-steps e ms) items s (imports-any-all items AnyLiteral (λ x. tt)) h
+    walk_module-keeps e AnyLiteral (Unwrapped ms) (unwrapped-steps e ms) items s (imports-any-all items AnyLiteral (λ x. tt)) h
 
 -- ---- The end of the second pass
 
 -- from ms to ms' the modules of these sources get the wrapping mark, and numbers stay
 record Wrapped (rows : List Row) (l : List (List ℕ)) (ms ms' : Modules) : Type 0 where
-  marks : (n : ℕ) → isMarked Wrapping n ms' ≡ isMarked Wrapping n ms || reaches n rows ms' l
+  marks : (n : ℕ) → is_marked Wrapping n ms' ≡ is_marked Wrapping n ms || reaches n rows ms' l
   stays : (f k : ℕ) → number_of f ms ≡ some k → number_of f ms' ≡ some k
 
 found-or : (b : Bool) (a : List ℕ) (o : Option (List ℕ)) → is_some (cond b (some a) o) ≡ b || is_some o
@@ -93,29 +93,29 @@ found-or false a o = refl
 
 -- a first source a, then the rest l
 module _ (rows : List Row) (a : List ℕ) (l : List (List ℕ)) where
-  reaches-first : (n : ℕ) (ms : Modules) (b : Bool) → isModuleOf n rows ms a ≡ b → reaches n rows ms (a ∷ l) ≡ b || reaches n rows ms l
+  reaches-first : (n : ℕ) (ms : Modules) (b : Bool) → is_module_of n rows ms a ≡ b → reaches n rows ms (a ∷ l) ≡ b || reaches n rows ms l
   unfolding find
-  reaches-first n ms b e = found-or (isModuleOf n rows ms a) a (find (isModuleOf n rows ms) l) ∙ ap (λ (c : Bool). c || reaches n rows ms l) e
+  reaches-first n ms b e = found-or (is_module_of n rows ms a) a (find (is_module_of n rows ms) l) ∙ ap (λ (c : Bool). c || reaches n rows ms l) e
 
-  unresolved : (n : ℕ) (ms : Modules) → fileOf a rows ≡ nothing → isModuleOf n rows ms a ≡ false
+  unresolved : (n : ℕ) (ms : Modules) → file_of a rows ≡ nothing → is_module_of n rows ms a ≡ false
   unfolding Option-elim bind
   unresolved n ms q = rw q
 
-  resolved-to : (n : ℕ) (ms : Modules) (f k : ℕ) → fileOf a rows ≡ some f → number_of f ms ≡ some k → isModuleOf n rows ms a ≡ eqb n k
+  resolved-to : (n : ℕ) (ms : Modules) (f k : ℕ) → file_of a rows ≡ some f → number_of f ms ≡ some k → is_module_of n rows ms a ≡ eqb n k
   unfolding Option-elim bind
   resolved-to n ms f k q r = rw (q, r)
 
   -- the first does not resolve
-  wrap-none : (ms ms' : Modules) → fileOf a rows ≡ nothing → Wrapped rows l ms ms' → Wrapped rows (a ∷ l) ms ms'
+  wrap-none : (ms ms' : Modules) → file_of a rows ≡ nothing → Wrapped rows l ms ms' → Wrapped rows (a ∷ l) ms ms'
   wrap-none ms ms' q w =
       record {
-        marks = λ n. w.marks n ∙ ap (λ (b : Bool). isMarked Wrapping n ms || b) (sym (reaches-first n ms' false (unresolved n ms' q)));
+        marks = λ n. w.marks n ∙ ap (λ (b : Bool). is_marked Wrapping n ms || b) (sym (reaches-first n ms' false (unresolved n ms' q)));
         stays = w.stays;
       }
 
   -- the first is of the file f, which a request finds as module k
-  wrap-more : (f k : ℕ) (ms new ms' : Modules) → fileOf a rows ≡ some f → request f ms ≡ some (k, new) →
-      Wrapped rows l (setMark Wrapping k new) ms' → Wrapped rows (a ∷ l) ms ms'
+  wrap-more : (f k : ℕ) (ms new ms' : Modules) → file_of a rows ≡ some f → request f ms ≡ some (k, new) →
+      Wrapped rows l (set_mark Wrapping k new) ms' → Wrapped rows (a ∷ l) ms ms'
   wrap-more f k ms new ms' q r w =
       let here : number_of f new ≡ some k = request-numbers f ms r in
       let there : number_of f ms' ≡ some k = w.stays f k (mark-keeps-numbers Wrapping k new f ∙ here) in
@@ -125,8 +125,8 @@ module _ (rows : List Row) (a : List ℕ) (l : List (List ℕ)) where
             w.marks n
             ∙ ap (λ (b : Bool). b || rest) (mark-adds Wrapping n k new (number-below f new here))
             ∙ ap (λ (b : Bool). b || eqb n k || rest) (request-keeps-marks f ms r Wrapping n)
-            ∙ or_assoc (isMarked Wrapping n ms) (eqb n k) rest
-            ∙ ap (λ (b : Bool). isMarked Wrapping n ms || b) (sym (reaches-first n ms' (eqb n k) (resolved-to n ms' f k q there)));
+            ∙ or_assoc (is_marked Wrapping n ms) (eqb n k) rest
+            ∙ ap (λ (b : Bool). is_marked Wrapping n ms || b) (sym (reaches-first n ms' (eqb n k) (resolved-to n ms' f k q there)));
         stays = λ g j h. w.stays g j (mark-keeps-numbers Wrapping k new g ∙ request-keeps-numbers f ms r g j h);
       }
 
@@ -135,25 +135,25 @@ WrappedAfter e l s s' = (s'.forced ≡ s.forced) × Wrapped e.table l s.modules 
 
 -- what marking these sources does from any state on
 abbrev WrapsAll : Setting → List (List ℕ) → Type 0
-WrapsAll e l = (s : State) → After (wrapAll e l s) (λ _ s'. WrappedAfter e l s s')
+WrapsAll e l = (s : State) → After (wrap_all e l s) (λ _ s'. WrappedAfter e l s s')
 
-wrapAll-after : (e : Setting) (l : List (List ℕ)) → WrapsAll e l
-unfolding wrapAll moduleFor wrapModule find
-wrapAll-after e [] s = (refl, record { marks = λ n. sym (or-false (isMarked Wrapping n s.modules)); stays = λ f k h. h })
-wrapAll-after e (a ∷ l) s = named (fileOf a e.table) refl (wrapAll-after e l)
+wrap_all-after : (e : Setting) (l : List (List ℕ)) → WrapsAll e l
+unfolding wrap_all module_for wrap_module find
+wrap_all-after e [] s = (refl, record { marks = λ n. sym (or-false (is_marked Wrapping n s.modules)); stays = λ f k h. h })
+wrap_all-after e (a ∷ l) s = named (file_of a e.table) refl (wrap_all-after e l)
   where
-    asked : (f : ℕ) (o : Option (ℕ × Modules)) → fileOf a e.table ≡ some f → request f s.modules ≡ o → WrapsAll e l →
-        After (onto (requested o 0 s) (λ q. onto (wrapModule q.0 q.1) (λ q. wrapAll e l q.1))) (λ _ s'. WrappedAfter e (a ∷ l) s s')
+    asked : (f : ℕ) (o : Option (ℕ × Modules)) → file_of a e.table ≡ some f → request f s.modules ≡ o → WrapsAll e l →
+        After (onto (requested o 0 s) (λ q. onto (wrap_module q.0 q.1) (λ q. wrap_all e l q.1))) (λ _ s'. WrappedAfter e (a ∷ l) s s')
     asked f nothing q r rest = tt
     asked f (some k) q r rest =
-        let t : State = setModules (setMark Wrapping k.0 k.1) s in
-        after-weaken (wrapAll e l t) (λ _ s'. WrappedAfter e l t s') (λ _ s'. WrappedAfter e (a ∷ l) s s')
+        let t : State = set_modules (set_mark Wrapping k.0 k.1) s in
+        after-weaken (wrap_all e l t) (λ _ s'. WrappedAfter e l t s') (λ _ s'. WrappedAfter e (a ∷ l) s s')
         (λ _ s' w. (w.0, wrap-more e.table a l f k.0 s.modules k.1 s'.modules q r w.1)) (rest t)
 
-    named : (o : Option ℕ) → fileOf a e.table ≡ o → WrapsAll e l →
-        After (onto (module_of o 0 s) (λ q. onto (wrapModule q.0 q.1) (λ q. wrapAll e l q.1))) (λ _ s'. WrappedAfter e (a ∷ l) s s')
+    named : (o : Option ℕ) → file_of a e.table ≡ o → WrapsAll e l →
+        After (onto (module_of o 0 s) (λ q. onto (wrap_module q.0 q.1) (λ q. wrap_all e l q.1))) (λ _ s'. WrappedAfter e (a ∷ l) s s')
     named nothing q rest =
-        after-weaken (wrapAll e l s) (λ _ s'. WrappedAfter e l s s') (λ _ s'. WrappedAfter e (a ∷ l) s s')
+        after-weaken (wrap_all e l s) (λ _ s'. WrappedAfter e l s s') (λ _ s'. WrappedAfter e (a ∷ l) s s')
         (λ _ s' w. (w.0, wrap-none e.table a l s.modules s'.modules q w.1)) (rest s)
     named (some f) q rest = asked f (request f s.modules) q refl rest
 
@@ -161,32 +161,32 @@ wrapAll-after e (a ∷ l) s = named (fileOf a e.table) refl (wrapAll-after e l)
 
 -- the wrapping marks after are those before and those of the modules of the forced sources
 abbrev pub MarksForced : List Row → Modules → List (List ℕ) → Modules → Type 0
-MarksForced rows ms forced ms' = (n : ℕ) → isMarked Wrapping n ms' ≡ isMarked Wrapping n ms || reaches n rows ms' forced
+MarksForced rows ms forced ms' = (n : ℕ) → is_marked Wrapping n ms' ≡ is_marked Wrapping n ms || reaches n rows ms' forced
 
 again-marks : (e : Setting) (items : Fields) (ms : Modules) (s : State) → Unwrapped ms s →
-    After (walkAgain e items s) (λ gs s'. MarksForced e.table ms s'.forced s'.modules)
-unfolding walkAgain finish
+    After (walk_again e items s) (λ gs s'. MarksForced e.table ms s'.forced s'.modules)
+unfolding walk_again finish
 again-marks e items ms s h =
     let Q : State → Type 0 = λ s'. MarksForced e.table ms s'.forced s'.modules in
-    after-bind (walkModule e items s) _ (λ gs s'. Unwrapped ms s') (λ gs s'. Q s') (walk-unwrapped e items ms s h) λ gs s k.
-    after-bind (onto (wrapAll e s.forced s) _) _ (λ _ s'. Q s') (λ gs s'. Q s')
-    (after-bind (wrapAll e s.forced s) _ (λ _ s'. WrappedAfter e s.forced s s') (λ _ s'. Q s') (wrapAll-after e s.forced s)
+    after-bind (walk_module e items s) _ (λ gs s'. Unwrapped ms s') (λ gs s'. Q s') (walk-unwrapped e items ms s h) λ gs s k.
+    after-bind (onto (wrap_all e s.forced s) _) _ (λ _ s'. Q s') (λ gs s'. Q s')
+    (after-bind (wrap_all e s.forced s) _ (λ _ s'. WrappedAfter e s.forced s s') (λ _ s'. Q s') (wrap_all-after e s.forced s)
     (λ _ s' w n. w.1.marks n ∙ ap (λ (b : Bool). b || reaches n e.table s'.modules s.forced) (k n) ∙ rw w.0))
     (λ _ s' q. q)
 
 -- an accepted extraction adds exactly the wrapping marks of the modules that its table names for its forced sources
 pub extraction-marks : (l : Lent) (room : Lengths) (ms : Modules) →
-    Of (extracted l room ms) (λ r. MarksForced (rowsIn l.table) ms r.forced r.modules)
+    Of (extracted l room ms) (λ r. MarksForced (rows_in l.table) ms r.forced r.modules)
 extraction-marks l room ms =
     of-each (extracted l room ms) _ λ r e.
     let m = call-made l room ms r e in
     let u = m.run in
-    let one = setting first m.own.0 l (rowsIn l.table) in
-    let two = setting second m.own.0 l (rowsIn l.table) in
-    let a = after-done (walkModule one m.items (start m.own.1)) (λ works s. Unwrapped ms s) (u.works, u.middle) u.once
+    let one = setting first m.own.0 l (rows_in l.table) in
+    let two = setting second m.own.0 l (rows_in l.table) in
+    let a = after-done (walk_module one m.items (start m.own.1)) (λ works s. Unwrapped ms s) (u.works, u.middle) u.once
     (walk-unwrapped one m.items ms (start m.own.1) (request-keeps-marks l.file ms m.requests Wrapping)) in
-    subst (λ (z : Extracted). MarksForced (rowsIn l.table) ms z.forced z.modules) u.given
-    (after-done (walkAgain two u.works u.middle) (λ outs s. MarksForced (rowsIn l.table) ms s.forced s.modules) (u.outs, u.end)
+    subst (λ (z : Extracted). MarksForced (rows_in l.table) ms z.forced z.modules) u.given
+    (after-done (walk_again two u.works u.middle) (λ outs s. MarksForced (rows_in l.table) ms s.forced s.modules) (u.outs, u.end)
     u.twice (again-marks two u.works ms u.middle a))
 
 -- ---- What a call forces is what its 83s hold
@@ -194,9 +194,9 @@ extraction-marks l room ms =
 abbrev pub Recorded : Extracted → Type 0
 Recorded r =
     (c : List Record) × (z : List Record)
-    × (r.records ≡ field 0x02 [] (append (recordFields 0x80 c) (append (recordFields 0x81 z) (forcedFields r.forced))))
+    × (r.records ≡ field 0x02 [] (append (record_fields 0x80 c) (append (record_fields 0x81 z) (forced_fields r.forced))))
 
 pub forced-recorded : (l : Lent) (room : Lengths) (ms : Modules) → Of (extracted l room ms) Recorded
-unfolding recordsOf
+unfolding records_of
 forced-recorded l room ms =
     of-each (extracted l room ms) Recorded λ r e. let u = (call-made l room ms r e).run in subst Recorded u.given (u.end.collected, u.end.lazy, refl)

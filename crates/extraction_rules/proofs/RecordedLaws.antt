@@ -12,19 +12,19 @@ use lib.Seq.{length-slice, length-take-le}
 use borrow.Author.Tests.{eqb-true}
 use Rattle.scope.specs.Id.{require-atom}
 use Rattle.tree.specs.declared.grammar.Rule.{Rule}
-use Rattle.tree.specs.Layout.{same, two, id_at, name_of, value_of, sameLiteral}
+use Rattle.tree.specs.Layout.{same, two, id_at, name_of, value_of, same_literal}
 use Rattle.tree.specs.Tree.{Field, field, Fields, none, more, tag_of, fixed_of}
-use Rattle.tree.specs.Grammar.{ruleOf}
+use Rattle.tree.specs.Grammar.{rule_of}
 use Rattle.tree.specs.Within.{Exact}
 use Rattle.tree.proofs.WidthLaws.{plain-width}
 use Rattle.tree.specs.declared.grammar.Value.TheVariants.{Id, Literal}
 use Rattle.metadata.specs.Metadata.{append}
 use Rattle.inputs.specs.Lists.{among}
 use Rattle.inputs.specs.Fields.{has, keep, sole}
-use Rattle.extraction_rules.specs.State.{Record, State, Setting, setForced}
-use Rattle.extraction_rules.specs.First.{external, holdsNamespace, forget, forceId, argument, notExternal, required, collectIn, require}
-use Rattle.extraction_rules.specs.First.{Binding, bound, left, below, bindingOf, bindings, bindingsAll, bindingsFirst}
-use Rattle.extraction_rules.specs.Second.{extend, loseNamespaces}
+use Rattle.extraction_rules.specs.State.{Record, State, Setting, set_forced}
+use Rattle.extraction_rules.specs.First.{external, holds_namespace, forget, force_id, argument, not_external, required, collect_in, require}
+use Rattle.extraction_rules.specs.First.{Binding, bound, left, below, binding_of, bindings, bindings_all, bindings_first}
+use Rattle.extraction_rules.specs.Second.{extend, lose_namespaces}
 use Rattle.extraction_rules.proofs.ListLaws.{All, all-last, all-find}
 use Rattle.extraction_rules.proofs.FirstLaws.{force-cases}
 use Rattle.extraction_rules.proofs.ExactLaws.{property-exact}
@@ -57,8 +57,8 @@ value-width l e = length-take-le 2 l (omega arith)
 
 -- ---- What the tree gives: literals and the ids of patterns
 
-bound-width : (t : ℕ) (x : List ℕ) → bindingOf t ≡ bound → Exact t x → length x ≡ 6
-unfolding bindingOf
+bound-width : (t : ℕ) (x : List ℕ) → binding_of t ≡ bound → Exact t x → length x ≡ 6
+unfolding binding_of
 bound-width t x e h = go (eqb t 0x50) (eqb t 0x54) (eqb t 0x55) refl refl e
   where
     code : Binding → ℕ
@@ -73,15 +73,15 @@ bound-width t x e h = go (eqb t 0x50) (eqb t 0x54) (eqb t 0x55) refl refl e
     go false false false v w e = absurd (let z = ap code e in omega arith)
 
 -- 'naming the pattern's binding ids', by what kind of pattern it is
-abbrev pub bindingsBy : Binding → List ℕ → Fields → Fields
-bindingsBy b x cs = elim b [
+abbrev pub bindings_by : Binding → List ℕ → Fields → Fields
+bindings_by b x cs = elim b [
   | bound ↦ more (field 0x20 (id_at x 0 ++ 0 ∷ []) none) none
-  | left ↦ bindingsFirst cs
-  | below ↦ bindingsAll cs
+  | left ↦ bindings_first cs
+  | below ↦ bindings_all cs
 ]
 
-bindings-by : (b : Binding) (t : ℕ) (x : List ℕ) (cs : Fields) → bindingOf t ≡ b → Exact t x → Specifiers (bindingsFirst cs) →
-    Specifiers (bindingsAll cs) → Specifiers (bindingsBy b x cs)
+bindings-by : (b : Binding) (t : ℕ) (x : List ℕ) (cs : Fields) → binding_of t ≡ b → Exact t x → Specifiers (bindings_first cs) →
+    Specifiers (bindings_all cs) → Specifiers (bindings_by b x cs)
 bindings-by bound t x cs e h k m =
     let w = bound-width t x e h in
     (named-specifier (id_at x 0 ++ 0 ∷ []) (property-exact (id_at x 0) (length-slice 0 6 x (omega arith))), tt)
@@ -93,16 +93,16 @@ mutual
 
   pub bindings-whole : (f : Field) → Shaped f → Specifiers (bindings f)
   bindings-whole (field t x cs) h =
-      bindings-by (bindingOf t) t x cs refl h.0 (bindingsFirst-whole cs (ruleOf t) h.1) (bindingsAll-whole cs (ruleOf t) h.1)
+      bindings-by (binding_of t) t x cs refl h.0 (bindings_first-whole cs (rule_of t) h.1) (bindings_all-whole cs (rule_of t) h.1)
 
-  bindingsAll-whole : (fs : Fields) (q : Rule) → ShapedAll fs q → Specifiers (bindingsAll fs)
-  bindingsAll-whole none q h = tt
-  bindingsAll-whole (more f fs) q h =
-      specifiers-append (bindings f) (bindingsAll fs) (bindings-whole f h.2) (bindingsAll-whole fs h.0 h.3)
+  bindings_all-whole : (fs : Fields) (q : Rule) → ShapedAll fs q → Specifiers (bindings_all fs)
+  bindings_all-whole none q h = tt
+  bindings_all-whole (more f fs) q h =
+      specifiers-append (bindings f) (bindings_all fs) (bindings-whole f h.2) (bindings_all-whole fs h.0 h.3)
 
-  bindingsFirst-whole : (fs : Fields) (q : Rule) → ShapedAll fs q → Specifiers (bindingsFirst fs)
-  bindingsFirst-whole none q h = tt
-  bindingsFirst-whole (more f fs) q h = bindings-whole f h.2
+  bindings_first-whole : (fs : Fields) (q : Rule) → ShapedAll fs q → Specifiers (bindings_first fs)
+  bindings_first-whole none q h = tt
+  bindings_first-whole (more f fs) q h = bindings-whole f h.2
 
 -- the literal of a call that meets the require conditions
 sole-shaped : (gs : Fields) (q : Rule) (f : Field) → ShapedAll gs q → sole gs ≡ some f → Shaped f
@@ -127,10 +127,10 @@ argument-whole (some (field t x (more f fs))) l h e = go (eqb t 0x75 && same x (
     go true false w e = absurd (let z : ◌≡◌ {A = ℕ} 0 1 = cc in omega arith)
     go false b w e = absurd (let z : ◌≡◌ {A = ℕ} 0 1 = cc in omega arith)
 
-notExternal-same : (e : Setting) (o : Option (List ℕ)) (l : List ℕ) → notExternal e o ≡ some l → o ≡ some l
-unfolding notExternal
-notExternal-same e nothing l q = q
-notExternal-same e (some k) l q = go (external e k) q
+not_external-same : (e : Setting) (o : Option (List ℕ)) (l : List ℕ) → not_external e o ≡ some l → o ≡ some l
+unfolding not_external
+not_external-same e nothing l q = q
+not_external-same e (some k) l q = go (external e k) q
   where
     go : (b : Bool) → cond b nothing (some k) ≡ some l → some k ≡ some l
     go true q = absurd (let z : ◌≡◌ {A = ℕ} 0 1 = cc in omega arith)
@@ -142,42 +142,42 @@ required-width e (field t x none) l h q = absurd (let z : ◌≡◌ {A = ℕ} 0 
 required-width e (field t x (more c gs)) l h q =
     go (e.config.require && eqb t 0x65 && has 0x60 c && same (name_of (fixed_of c)) (two require-atom)) q
   where
-    go : (b : Bool) → cond b (notExternal e (argument (sole gs))) nothing ≡ some l → length l ≡ 6
-    go true q = argument-whole (sole gs) l (λ f w. sole-shaped gs h.1.0 f h.1.3 w) (notExternal-same e (argument (sole gs)) l q)
+    go : (b : Bool) → cond b (not_external e (argument (sole gs))) nothing ≡ some l → length l ≡ 6
+    go true q = argument-whole (sole gs) l (λ f w. sole-shaped gs h.1.0 f h.1.3 w) (not_external-same e (argument (sole gs)) l q)
     go false q = absurd (let z : ◌≡◌ {A = ℕ} 0 1 = cc in omega arith)
 
 -- ---- Collecting, extending, losing namespaces
 
-pub collectIn-whole : (r : Record) (l : List Record) → WholeRecord r → All WholeRecord l → All WholeRecord (collectIn r l)
-unfolding collectIn
-collectIn-whole r [] k h = (k, tt)
-collectIn-whole r (q ∷ l) k h = go (same (value_of q.literal) (value_of r.literal)) (collectIn-whole r l k h.1)
+pub collect_in-whole : (r : Record) (l : List Record) → WholeRecord r → All WholeRecord l → All WholeRecord (collect_in r l)
+unfolding collect_in
+collect_in-whole r [] k h = (k, tt)
+collect_in-whole r (q ∷ l) k h = go (same (value_of q.literal) (value_of r.literal)) (collect_in-whole r l k h.1)
   where
-    go : (b : Bool) → All WholeRecord (collectIn r l) →
-        All WholeRecord (cond b (record { literal = q.literal; specifiers = append q.specifiers r.specifiers } ∷ l) (q ∷ collectIn r l))
+    go : (b : Bool) → All WholeRecord (collect_in r l) →
+        All WholeRecord (cond b (record { literal = q.literal; specifiers = append q.specifiers r.specifiers } ∷ l) (q ∷ collect_in r l))
     go true w = ((h.0.0, specifiers-append q.specifiers r.specifiers h.0.1 k.1), h.1)
     go false w = (h.0, w)
 
 pub extend-whole : (x : List ℕ) (fs : Fields) (r : Record) → Specifiers fs → WholeRecord r → WholeRecord (extend x fs r)
 unfolding extend
-extend-whole x fs r k h = go (sameLiteral r.literal x)
+extend-whole x fs r k h = go (same_literal r.literal x)
   where
     go : (b : Bool) → WholeRecord (cond b (record { literal = r.literal; specifiers = append r.specifiers fs }) r)
     go true = (h.0, specifiers-append r.specifiers fs h.1 k)
     go false = h
 
-pub lose-whole : (forced : List (List ℕ)) (r : Record) → WholeRecord r → WholeRecord (loseNamespaces forced r)
-unfolding loseNamespaces
+pub lose-whole : (forced : List (List ℕ)) (r : Record) → WholeRecord r → WholeRecord (lose_namespaces forced r)
+unfolding lose_namespaces
 lose-whole forced r h = go (among (value_of r.literal) forced)
   where
     go : (b : Bool) → WholeRecord (cond b r (record { literal = r.literal; specifiers = keep (λ f. not (has 0x22 f)) r.specifiers }))
     go true = h
     go false = (h.0, specifiers-keep (λ f. not (has 0x22 f)) r.specifiers h.1)
 
-pub source-whole : (a : List ℕ) (s : State) → length a ≡ 2 → Whole s → Whole (setForced (s.forced ++ (a ∷ [])) s)
+pub source-whole : (a : List ℕ) (s : State) → length a ≡ 2 → Whole s → Whole (set_forced (s.forced ++ (a ∷ [])) s)
 source-whole a s e h = (h.0, h.1, all-last (λ a. length a ≡ 2) s.forced a h.2 e)
 
-pub force-whole : (i : List ℕ) (s : State) → Whole s → Whole (forceId i s)
+pub force-whole : (i : List ℕ) (s : State) → Whole s → Whole (force_id i s)
 unfolding forget
 force-whole i s h =
     force-cases i s Whole h
@@ -185,5 +185,5 @@ force-whole i s h =
       h.0,
       h.1,
       all-last (λ a. length a ≡ 2) s.forced (value_of r.literal) h.2
-          (value-width r.literal (all-find WholeRecord (holdsNamespace i) s.collected r h.0 w).0),
+          (value-width r.literal (all-find WholeRecord (holds_namespace i) s.collected r h.0 w).0),
     ))

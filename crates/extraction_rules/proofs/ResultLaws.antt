@@ -12,17 +12,17 @@ use Rattle.tree.specs.declared.grammar.Rule.{Rule}
 use Rattle.tree.specs.declared.grammar.Step.TheVariants.{Go}
 use Rattle.tree.specs.Layout.{same, name_of}
 use Rattle.tree.specs.Tree.{Field, field, Fields, none, more, tag_of, fixed_of, parts_of, depth, depths}
-use Rattle.tree.specs.Grammar.{within, ruleOf, stepAt, doneAt}
+use Rattle.tree.specs.Grammar.{within, rule_of, step_at, done_at}
 use Rattle.tree.specs.Within.{Exact}
 use Rattle.tree.proofs.TreeLaws.{depth-parts, depth-first, depth-rest, depth-most}
 use Rattle.inputs.specs.Lists.{find, mapped}
 use Rattle.extraction_rules.specs.State.{Imported, State, Setting}
-use Rattle.extraction_rules.specs.First.{idFrom, forget, importedAs, required, withCallee, noteIn}
+use Rattle.extraction_rules.specs.First.{id_from, forget, imported_as, required, with_callee, note_in}
 use Rattle.extraction_rules.proofs.ListLaws.{All, all_filter, all-find}
 use Rattle.extraction_rules.proofs.FirstLaws.{force-cases}
 use Rattle.extraction_rules.proofs.StepLaws.{CommonSteps}
 use Rattle.extraction_rules.proofs.ValueLaws.{required-call}
-use Rattle.extraction_rules.proofs.RuleLaws.{inRule, step-without, takesTarget, takesImport, no-import, rule-imports}
+use Rattle.extraction_rules.proofs.RuleLaws.{in_rule, step-without, takes_target, takes_import, no-import, rule-imports}
 use Rattle.extraction_rules.proofs.ExactLaws.{callee-exact}
 use Rattle.extraction_rules.proofs.ShapeLaws.{Shaped, ShapedAll, import-depth}
 use Rattle.extraction_rules.proofs.TestLaws.{is_true}
@@ -32,47 +32,47 @@ use Rattle.extraction_rules.proofs.TestLaws.{is_true}
 pub record Result (f g : Field) : Type 0 where
   pub shaped : Shaped g
   -- it may stand wherever the field stood, but as a target
-  pub steps : (q : Rule) → inRule takesTarget q ≡ false → stepAt q (tag_of g) ≡ stepAt q (tag_of f)
+  pub steps : (q : Rule) → in_rule takes_target q ≡ false → step_at q (tag_of g) ≡ step_at q (tag_of f)
   -- it is as deep at most, but for an import, which is at most 3 deep
   pub deep : (k : ℕ) → (tag_of f ≡ 0x10 → 3 ≤ k) → depth f ≤ k → depth g ≤ k
 
 pub record Results (fs gs : Fields) (q : Rule) : Type 0 where
   pub shaped : ShapedAll gs q
-  pub deep : (k : ℕ) → (inRule takesImport q ≡ true → 3 ≤ k) → depths fs ≤ k → depths gs ≤ k
+  pub deep : (k : ℕ) → (in_rule takes_import q ≡ true → 3 ≤ k) → depths fs ≤ k → depths gs ≤ k
 
 pub same-results : (fs : Fields) (q : Rule) → ShapedAll fs q → Results fs fs q
 same-results fs q h = record { shaped = h; deep = λ k i d. d }
 
-pub none-results : (q : Rule) → doneAt q ≡ true → Results none none q
+pub none-results : (q : Rule) → done_at q ≡ true → Results none none q
 none-results q h = record { shaped = h; deep = λ k i d. d }
 
 -- where a 10 stands, and where one may stand further on, one may stand
-takes-import : (q q' : Rule) → stepAt q 0x10 ≡ Go q' → inRule takesImport q ≡ true
-takes-import q q' e = is_true (inRule takesImport q) (λ w. no-import q q' w e)
+takes-import : (q q' : Rule) → step_at q 0x10 ≡ Go q' → in_rule takes_import q ≡ true
+takes-import q q' e = is_true (in_rule takes_import q) (λ w. no-import q q' w e)
 
-takes-later : (q q' : Rule) (t : ℕ) → stepAt q t ≡ Go q' → inRule takesImport q' ≡ true → inRule takesImport q ≡ true
-takes-later q q' t e h = is_true (inRule takesImport q) (λ w. true≢false (sym h ∙ step-without takesImport q q' t w e))
+takes-later : (q q' : Rule) (t : ℕ) → step_at q t ≡ Go q' → in_rule takes_import q' ≡ true → in_rule takes_import q ≡ true
+takes-later q q' t e h = is_true (in_rule takes_import q) (λ w. true≢false (sym h ∙ step-without takes_import q q' t w e))
 
-row-deep : (f g : Field) (fs gs : Fields) (q q' : Rule) → stepAt q (tag_of f) ≡ Go q' → Result f g → Results fs gs q' → (k : ℕ) →
-    (inRule takesImport q ≡ true → 3 ≤ k) →
+row-deep : (f g : Field) (fs gs : Fields) (q q' : Rule) → step_at q (tag_of f) ≡ Go q' → Result f g → Results fs gs q' → (k : ℕ) →
+    (in_rule takes_import q ≡ true → 3 ≤ k) →
     depths (more f fs) ≤ k → depths (more g gs) ≤ k
 row-deep f g fs gs q q' e r rs k i d =
     let a = depth-first f fs in
     let b = depth-rest f fs in
     depth-most g gs k
-    (r.deep k (λ w. i (takes-import q q' (subst (λ (t : ℕ). stepAt q t ≡ Go q') w e))) (omega arith))
+    (r.deep k (λ w. i (takes-import q q' (subst (λ (t : ℕ). step_at q t ≡ Go q') w e))) (omega arith))
     (rs.deep k (λ w. i (takes-later q q' (tag_of f) e w)) (omega arith))
 
-pub more-results : (f g : Field) (fs gs : Fields) (q q' : Rule) → stepAt q (tag_of f) ≡ Go q' → inRule takesTarget q ≡ false → Result f g →
+pub more-results : (f g : Field) (fs gs : Fields) (q q' : Rule) → step_at q (tag_of f) ≡ Go q' → in_rule takes_target q ≡ false → Result f g →
     Results fs gs q' → Results (more f fs) (more g gs) q
 more-results f g fs gs q q' e w r rs = record { shaped = (q', r.steps q w ∙ e, r.shaped, rs.shaped); deep = row-deep f g fs gs q q' e r rs }
 
-pub target-results : (f g : Field) (fs gs : Fields) (q q' : Rule) → stepAt q (tag_of f) ≡ Go q' → tag_of g ≡ tag_of f → Result f g →
+pub target-results : (f g : Field) (fs gs : Fields) (q q' : Rule) → step_at q (tag_of f) ≡ Go q' → tag_of g ≡ tag_of f → Result f g →
     Results fs gs q' → Results (more f fs) (more g gs) q
-target-results f g fs gs q q' e w r rs = record { shaped = (q', ap (stepAt q) w ∙ e, r.shaped, rs.shaped); deep = row-deep f g fs gs q q' e r rs }
+target-results f g fs gs q q' e w r rs = record { shaped = (q', ap (step_at q) w ∙ e, r.shaped, rs.shaped); deep = row-deep f g fs gs q q' e r rs }
 
 -- a field with other parts
-pub field-result : (t : ℕ) (x : List ℕ) (cs ds : Fields) → Exact t x → (t ≡ 0x01 → ⊥) → Results cs ds (ruleOf t) → Result (field t x cs) (field t x ds)
+pub field-result : (t : ℕ) (x : List ℕ) (cs ds : Fields) → Exact t x → (t ≡ 0x01 → ⊥) → Results cs ds (rule_of t) → Result (field t x cs) (field t x ds)
 field-result t x cs ds h n r = record { shaped = (h, r.shaped); steps = λ q w. refl; deep = deeper }
   where
     deeper : (k : ℕ) → (t ≡ 0x10 → 3 ≤ k) → depth (field t x cs) ≤ k → depth (field t x ds) ≤ k
@@ -83,7 +83,7 @@ field-result t x cs ds h n r = record { shaped = (h, r.shaped); steps = λ q w. 
         omega arith
 
 -- an import with other parts
-pub import-result : (x : List ℕ) (cs ds : Fields) → Exact 0x10 x → ShapedAll ds (ruleOf 0x10) → Result (field 0x10 x cs) (field 0x10 x ds)
+pub import-result : (x : List ℕ) (cs ds : Fields) → Exact 0x10 x → ShapedAll ds (rule_of 0x10) → Result (field 0x10 x cs) (field 0x10 x ds)
 import-result x cs ds h w = record {
   shaped = (h, w);
   steps = λ q v. refl;
@@ -112,17 +112,17 @@ widths-common e =
       on-top = λ s b h. h;
     }
 
-pub all-note : (P : Imported → Type 0) (m : Imported) (l : List Imported) → P m → All P l → All P (noteIn m l)
-unfolding noteIn
+pub all-note : (P : Imported → Type 0) (m : Imported) (l : List Imported) → P m → All P l → All P (note_in m l)
+unfolding note_in
 all-note P m [] k h = (k, tt)
 all-note P m (n ∷ l) k h = go (same n.id m.id) (all-note P m l k h.1)
   where
-    go : (b : Bool) → All P (noteIn m l) → All P (cond b (m ∷ l) (n ∷ noteIn m l))
+    go : (b : Bool) → All P (note_in m l) → All P (cond b (m ∷ l) (n ∷ note_in m l))
     go true w = (k, h.1)
     go false w = (h.0, w)
 
-pub imported-width : (i c : List ℕ) (l : List Imported) → All (λ m. length m.context ≡ 4) l → importedAs i l ≡ some c → length c ≡ 4
-unfolding importedAs
+pub imported-width : (i c : List ℕ) (l : List Imported) → All (λ m. length m.context ≡ 4) l → imported_as i l ≡ some c → length c ≡ 4
+unfolding imported_as
 imported-width i c l h e = go (find (λ m. same m.id i) l) refl e
   where
     go : (o : Option Imported) → find (λ m. same m.id i) l ≡ o → mapped (λ m. m.context) o ≡ some c → length c ≡ 4
@@ -134,9 +134,9 @@ imported-width i c l h e = go (find (λ m. same m.id i) l) refl e
 callee-depth : (c : Field) (y : List ℕ) → depth (field (tag_of c) y (parts_of c)) ≡ depth c
 callee-depth (field t x cs) y = depth-parts t y cs ∙ sym (depth-parts t x cs)
 
-callee-shaped : (c : Field) (n : ℕ) → tag_of c ≡ 0x60 → Shaped c → Shaped (field (tag_of c) (idFrom (name_of (fixed_of c)) (export n)) (parts_of c))
+callee-shaped : (c : Field) (n : ℕ) → tag_of c ≡ 0x60 → Shaped c → Shaped (field (tag_of c) (id_from (name_of (fixed_of c)) (export n)) (parts_of c))
 callee-shaped (field t x cs) n e h =
-    (subst (λ (k : ℕ). Exact k (idFrom (name_of x) (export n))) (sym e) (callee-exact x n (subst (λ (k : ℕ). Exact k x) e h.0)), h.1)
+    (subst (λ (k : ℕ). Exact k (id_from (name_of x) (export n))) (sym e) (callee-exact x n (subst (λ (k : ℕ). Exact k x) e h.0)), h.1)
 
 depths-first : (f g : Field) (fs : Fields) → depth f ≡ depth g → depths (more f fs) ≡ depths (more g fs)
 unfolding depth
@@ -152,12 +152,12 @@ pub record Same (f g : Field) : Type 0 where
   pub shaped : Shaped g
   pub deep : depth g ≡ depth f
 
-pub withCallee-same : (e : Setting) (f : Field) (n : ℕ) (l : List ℕ) → required e f ≡ some l → Shaped f → Same f (withCallee n f)
-unfolding withCallee required
-withCallee-same e (field t x none) n l w h = absurd (let z : ◌≡◌ {A = ℕ} 0 1 = cc in omega arith)
-withCallee-same e (field t x (more c gs)) n l w h =
+pub with_callee-same : (e : Setting) (f : Field) (n : ℕ) (l : List ℕ) → required e f ≡ some l → Shaped f → Same f (with_callee n f)
+unfolding with_callee required
+with_callee-same e (field t x none) n l w h = absurd (let z : ◌≡◌ {A = ℕ} 0 1 = cc in omega arith)
+with_callee-same e (field t x (more c gs)) n l w h =
     let q = required-call e t x c gs l w in
-    let y = idFrom (name_of (fixed_of c)) (export n) in
+    let y = id_from (name_of (fixed_of c)) (export n) in
     let m = h.1 in
     record {
       tag = refl;
@@ -171,7 +171,7 @@ pub same-result : (f g h : Field) → Result f g → Same g h → Result f h
 same-result f g h r s =
     record {
       shaped = s.shaped;
-      steps = λ q w. ap (stepAt q) s.tag ∙ r.steps q w;
+      steps = λ q w. ap (step_at q) s.tag ∙ r.steps q w;
       deep = λ k i d. let a = r.deep k i d in let b = s.deep in omega arith;
     }
 
@@ -181,14 +181,14 @@ second-results cs a g h rest q r s =
     let m = r.shaped.3 in
     let t = s m.2 in
     record {
-      shaped = (r.shaped.0, r.shaped.1, r.shaped.2, (m.0, ap (stepAt r.shaped.0) t.tag ∙ m.1, t.shaped, m.3));
+      shaped = (r.shaped.0, r.shaped.1, r.shaped.2, (m.0, ap (step_at r.shaped.0) t.tag ∙ m.1, t.shaped, m.3));
       deep = λ k i d. let b = r.deep k i d in let c = depths-second a h g rest t.deep in omega arith;
     }
 
-pub exported-done : doneAt (ruleOf 0x23) ≡ true
-unfolding ruleOf within
+pub exported-done : done_at (rule_of 0x23) ≡ true
+unfolding rule_of within
 exported-done = refl
 
-pub ident-done : doneAt (ruleOf 0x60) ≡ true
-unfolding ruleOf within
+pub ident-done : done_at (rule_of 0x60) ≡ true
+unfolding rule_of within
 ident-done = refl

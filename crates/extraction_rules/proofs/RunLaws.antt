@@ -10,22 +10,22 @@ use Rattle.tree.specs.Layout.{same}
 use Rattle.tree.specs.Tree.{Field, field, Fields, none, fixed_of}
 use Rattle.tree.proofs.LayoutLaws.{same-equal}
 use Rattle.inputs.specs.Outcome.{done}
-use Rattle.inputs.specs.Table.{Row, rowsIn}
+use Rattle.inputs.specs.Table.{Row, rows_in}
 use Rattle.extraction_rules.specs.State.{Usage, State, first, second, Setting, start}
-use Rattle.extraction_rules.specs.Second.{usagesOf, asProperty, rewritten}
-use Rattle.extraction_rules.specs.First.{importedAs}
+use Rattle.extraction_rules.specs.Second.{usages_of, as_property, rewritten}
+use Rattle.extraction_rules.specs.First.{imported_as}
 use Rattle.inputs.specs.Fields.{has}
-use Rattle.extraction_rules.specs.Walk.{walkModule, walkAgain}
+use Rattle.extraction_rules.specs.Walk.{walk_module, walk_again}
 use Rattle.extraction_rules.specs.Call.{Lent, Lengths, Extracted, setting, extracted}
 use Rattle.extraction_rules.proofs.OutcomeLaws.{After, after-weaken, after_both}
 use Rattle.extraction_rules.proofs.ListLaws.{all_first}
-use Rattle.extraction_rules.proofs.FirstLaws.{sourcesOf, IsImported}
+use Rattle.extraction_rules.proofs.FirstLaws.{sources_of, IsImported}
 use Rattle.extraction_rules.proofs.StepLaws.{EndSteps}
-use Rattle.extraction_rules.proofs.WalkLaws.{Steps, both-steps, both_end, ImportsAll, imports-any-all, walkModule-keeps, walkAgain-keeps}
+use Rattle.extraction_rules.proofs.WalkLaws.{Steps, both-steps, both_end, ImportsAll, imports-any-all, walk_module-keeps, walk_again-keeps}
 use Rattle.extraction_rules.proofs.SanityLaws.{Numbered, numbered-steps, numbered-end, DistinctSources, distinct-steps, distinct-end}
 use Rattle.extraction_rules.proofs.SanityLaws.{OwnSources, own-steps, own-end, UsagesImported, imported-steps, imported-end, ForcedCollected}
 use Rattle.extraction_rules.proofs.SanityLaws.{forced-steps-first, Known, ForcedAmong, forced-steps-second, forced-end}
-use Rattle.extraction_rules.proofs.ImportsLaws.{walkModule-known}
+use Rattle.extraction_rules.proofs.ImportsLaws.{walk_module-known}
 use Rattle.extraction_rules.proofs.ExtractedLaws.{call-made, run-both}
 
 abbrev AnyLiteral : List ℕ → Type 0
@@ -68,11 +68,11 @@ module _ (e : Setting) where
 
   -- the first pass leads from a sane state to one
   pub first-sane : e.pass ≡ first → (items : Fields) (s : State) → Sane e.externals s →
-      After (walkModule e items s) (λ gs s'. Sane e.externals s')
+      After (walk_module e items s) (λ gs s'. Sane e.externals s')
   first-sane k items s h =
-      after-weaken (walkModule e items s) (λ gs s'. SaneFirst e.externals s') (λ gs s'. Sane e.externals s')
+      after-weaken (walk_module e items s) (λ gs s'. SaneFirst e.externals s') (λ gs s'. Sane e.externals s')
       (λ gs s'. sane-first e.externals s')
-      (walkModule-keeps e AnyLiteral (SaneFirst e.externals) (first-steps k) items s (imports-any-all items AnyLiteral (λ x. tt)) (first_of e.externals s h))
+      (walk_module-keeps e AnyLiteral (SaneFirst e.externals) (first-steps k) items s (imports-any-all items AnyLiteral (λ x. tt)) (first_of e.externals s h))
 
   second-steps : (sources : List (List ℕ)) → e.pass ≡ second → Steps e (Known e.externals sources) (SaneAmong e.externals sources)
   second-steps l k =
@@ -88,71 +88,71 @@ module _ (e : Setting) where
       (both_end UsagesImported (ForcedAmong l) imported-end (forced-end l))
 
   -- and the second, over a tree whose imports are known
-  pub second-sane : e.pass ≡ second → (items : Fields) (s : State) → ImportsAll items (Known e.externals (sourcesOf s.collected)) →
+  pub second-sane : e.pass ≡ second → (items : Fields) (s : State) → ImportsAll items (Known e.externals (sources_of s.collected)) →
       Sane e.externals s →
-      After (walkAgain e items s) (λ gs s'. Sane e.externals s')
+      After (walk_again e items s) (λ gs s'. Sane e.externals s')
   second-sane k items s i h =
-      let l = sourcesOf s.collected in
-      after-weaken (walkAgain e items s) (λ gs s'. SaneAmong e.externals l s') (λ gs s'. Sane e.externals s')
+      let l = sources_of s.collected in
+      after-weaken (walk_again e items s) (λ gs s'. SaneAmong e.externals l s') (λ gs s'. Sane e.externals s')
       (λ gs s'. sane-among e.externals l s')
-      (walkAgain-keeps e (Known e.externals l) (SaneAmong e.externals l) (second-steps l k) (second-end l) items s i
+      (walk_again-keeps e (Known e.externals l) (SaneAmong e.externals l) (second-steps l k) (second-end l) items s i
       ((h.distinct, h.own), (h.imported, (refl, h.forced))))
 
 -- every run of both passes from the fresh state is sane at the end of each
 pub run-sane : (l : Lent) (rows : List Row) (own : ℕ) (ms : Modules) (items : Fields) →
-    After (walkModule (setting first own l rows) items (start ms))
-    (λ works s. Sane (setting first own l rows).externals s × After (walkAgain (setting second own l rows) works s)
+    After (walk_module (setting first own l rows) items (start ms))
+    (λ works s. Sane (setting first own l rows).externals s × After (walk_again (setting second own l rows) works s)
     (λ outs s'. Sane (setting second own l rows).externals s'))
 run-sane l rows own ms items =
     let one = setting first own l rows in
     let two = setting second own l rows in
-    let m = walkModule one items (start ms) in
-    after-weaken m (λ works s. Sane one.externals s × ImportsAll works (Known one.externals (sourcesOf s.collected)))
-    (λ works s. Sane one.externals s × After (walkAgain two works s) (λ outs s'. Sane two.externals s'))
+    let m = walk_module one items (start ms) in
+    after-weaken m (λ works s. Sane one.externals s × ImportsAll works (Known one.externals (sources_of s.collected)))
+    (λ works s. Sane one.externals s × After (walk_again two works s) (λ outs s'. Sane two.externals s'))
     (λ works s w. (w.0, second-sane two refl works s w.1 w.0))
-    (after_both m (λ works s. Sane one.externals s) (λ works s. ImportsAll works (Known one.externals (sourcesOf s.collected)))
-    (first-sane one refl items (start ms) (start-sane one.externals ms)) (walkModule-known one refl items (start ms)))
+    (after_both m (λ works s. Sane one.externals s) (λ works s. ImportsAll works (Known one.externals (sources_of s.collected)))
+    (first-sane one refl items (start ms) (start-sane one.externals ms)) (walk_module-known one refl items (start ms)))
 
 -- an id with usages is imported: 'a 60 with usages becomes a 60: property, imported context' always finds that context
-pub used-imported : (i : List ℕ) (s : State) (u : Usage) (us : List Usage) → UsagesImported s → usagesOf i s.usages ≡ u ∷ us →
+pub used-imported : (i : List ℕ) (s : State) (u : Usage) (us : List Usage) → UsagesImported s → usages_of i s.usages ≡ u ∷ us →
     IsImported i s.imported
-unfolding usagesOf
+unfolding usages_of
 used-imported i s u us h e =
     let w = all_first (λ u. IsImported u.id s.imported) (λ u. same u.id i) s.usages u us h e in
     subst (λ (j : List ℕ). IsImported j s.imported) (same-equal u.id i w.1) w.0
 
 -- so an expression 63 with 70 on a 60 with usages always becomes a 60
 pub used-rewritten : (o q f : Field) (s : State) (u : Usage) (us : List Usage) → UsagesImported s →
-    usagesOf (fixed_of o) s.usages ≡ u ∷ us → has 0x70 q ≡ true →
-    (c : List ℕ) × (importedAs (fixed_of o) s.imported ≡ some c) × (rewritten (some (o, q)) f s ≡ field 0x60 (fixed_of q ++ c) none)
-unfolding rewritten asProperty
+    usages_of (fixed_of o) s.usages ≡ u ∷ us → has 0x70 q ≡ true →
+    (c : List ℕ) × (imported_as (fixed_of o) s.imported ≡ some c) × (rewritten (some (o, q)) f s ≡ field 0x60 (fixed_of q ++ c) none)
+unfolding rewritten as_property
 used-rewritten o q f s u us h e t = let i = used-imported (fixed_of o) s u us h e in (i.0, i.1, rw (e, i.1, t))
 
 -- ---- Numbers
 
 -- no run changes a number that was given
 pub run-keeps-numbers : (l : Lent) (rows : List Row) (own : ℕ) (s : State) (items : Fields) (f n : ℕ) → number_of f s.modules ≡ some n →
-    After (walkModule (setting first own l rows) items s)
-    (λ works s'. (number_of f s'.modules ≡ some n) × After (walkAgain (setting second own l rows) works s')
+    After (walk_module (setting first own l rows) items s)
+    (λ works s'. (number_of f s'.modules ≡ some n) × After (walk_again (setting second own l rows) works s')
     (λ outs s''. number_of f s''.modules ≡ some n))
 run-keeps-numbers l rows own s items f n h =
     let one = setting first own l rows in
     let two = setting second own l rows in
-    after-weaken (walkModule one items s) (λ works s'. Numbered f n s')
-    (λ works s'. Numbered f n s' × After (walkAgain two works s') (λ outs s''. Numbered f n s''))
+    after-weaken (walk_module one items s) (λ works s'. Numbered f n s')
+    (λ works s'. Numbered f n s' × After (walk_again two works s') (λ outs s''. Numbered f n s''))
     (λ works s' w. (
       w,
-      walkAgain-keeps two AnyLiteral (Numbered f n) (numbered-steps two AnyLiteral f n) (numbered-end f n) works s'
+      walk_again-keeps two AnyLiteral (Numbered f n) (numbered-steps two AnyLiteral f n) (numbered-end f n) works s'
           (imports-any-all works AnyLiteral (λ x. tt)) w,
     ))
-    (walkModule-keeps one AnyLiteral (Numbered f n) (numbered-steps one AnyLiteral f n) items s (imports-any-all items AnyLiteral (λ x. tt)) h)
+    (walk_module-keeps one AnyLiteral (Numbered f n) (numbered-steps one AnyLiteral f n) items s (imports-any-all items AnyLiteral (λ x. tt)) h)
 
 -- no accepted call changes a number that was given
 pub call-keeps-numbers : (l : Lent) (room : Lengths) (ms : Modules) (f n : ℕ) → number_of f ms ≡ some n → (r : Extracted) →
     extracted l room ms ≡ done r → number_of f r.modules ≡ some n
 call-keeps-numbers l room ms f n h r e =
     let m = call-made l room ms r e in
-    let rows = rowsIn l.table in
+    let rows = rows_in l.table in
     subst (λ (z : Extracted). number_of f z.modules ≡ some n) m.run.given
     (run-both l rows m.own.0 m.items m.own.1 r m.run (λ works s. Numbered f n s) (λ outs s. Numbered f n s)
     (run-keeps-numbers l rows m.own.0 (start m.own.1) m.items f n (request-keeps-numbers l.file ms m.requests f n h))).1

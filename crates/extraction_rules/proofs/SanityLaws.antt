@@ -13,10 +13,10 @@ use Rattle.scope.proofs.Laws.{request-keeps-numbers, mark-keeps-numbers}
 use Rattle.tree.specs.Layout.{same, value_of}
 use Rattle.inputs.specs.Lists.{among}
 use Rattle.extraction_rules.specs.State.{Record, State, Pass, first, second, Setting}
-use Rattle.extraction_rules.specs.First.{external, holdsNamespace, forget, forceId, noteIn, collectIn}
-use Rattle.extraction_rules.specs.Second.{specifiersFrom, extend, loseNamespaces}
+use Rattle.extraction_rules.specs.First.{external, holds_namespace, forget, force_id, note_in, collect_in}
+use Rattle.extraction_rules.specs.Second.{specifiers_from, extend, lose_namespaces}
 use Rattle.extraction_rules.proofs.ListLaws.{All, all-weaken, all-last, all_filter, all_map, Distinct, distinct-last}
-use Rattle.extraction_rules.proofs.FirstLaws.{source-cases, force-cases, sourcesOf, collect-cases, collect-stays, collect-all, extend-literal}
+use Rattle.extraction_rules.proofs.FirstLaws.{source-cases, force-cases, sources_of, collect-cases, collect-stays, collect-all, extend-literal}
 use Rattle.extraction_rules.proofs.FirstLaws.{lose-literal, map-sources, found_among, IsImported, note-stays, drop-stays}
 use Rattle.extraction_rules.proofs.StepLaws.{EndSteps}
 use Rattle.extraction_rules.proofs.WalkLaws.{Steps}
@@ -46,7 +46,7 @@ numbered-end f n = record { on-wrap = λ s m h. mark-keeps-numbers Wrapping m s.
 -- ---- Collected sources are pairwise different in value
 
 abbrev pub DistinctSources : State → Type 0
-DistinctSources s = Distinct (sourcesOf s.collected)
+DistinctSources s = Distinct (sources_of s.collected)
 
 pub distinct-steps : (e : Setting) (P : List ℕ → Type 0) → Steps e P DistinctSources
 unfolding forget
@@ -63,11 +63,11 @@ distinct-steps e P =
             on-note = λ s m h. h;
             on-usage = λ s u c w h. h;
             on-collect = λ s r b h. collect-cases r s.collected Distinct (λ _. h)
-                (λ w. distinct-last (sourcesOf s.collected) (value_of r.literal) h w);
+                (λ w. distinct-last (sources_of s.collected) (value_of r.literal) h w);
           };
       two =
           λ _. record {
-            on-extend = λ s x us q h. rw (map-sources (extend x (specifiersFrom us)) s.collected (extend-literal x (specifiersFrom us))) h;
+            on-extend = λ s x us q h. rw (map-sources (extend x (specifiers_from us)) s.collected (extend-literal x (specifiers_from us))) h;
             on-source = λ s x b q h. source-cases (value_of x) s DistinctSources (λ _. h) h;
           };
     }
@@ -76,7 +76,7 @@ pub distinct-end : EndSteps DistinctSources
 distinct-end = record {
   on-wrap = λ s m h. h;
   on-lose =
-      λ s h. rw (map-sources (loseNamespaces s.forced) s.collected (lose-literal s.forced)) h;
+      λ s h. rw (map-sources (lose_namespaces s.forced) s.collected (lose-literal s.forced)) h;
 }
 
 -- ---- No external source is ever recorded
@@ -119,8 +119,8 @@ own-steps e P =
       two =
           λ _. record {
             on-extend = λ s x us q h. (
-              own-map e.externals (extend x (specifiersFrom us)) s.collected
-                  (extend-literal x (specifiersFrom us)) h.0,
+              own-map e.externals (extend x (specifiers_from us)) s.collected
+                  (extend-literal x (specifiers_from us)) h.0,
               h.1,
             );
             on-source = λ s x b q h. source-cases (value_of x) s J (λ _. h) h;
@@ -132,7 +132,7 @@ own-end externals =
     record {
       on-wrap = λ s m h. h;
       on-lose =
-          λ s h. (own-map externals (loseNamespaces s.forced) s.collected (lose-literal s.forced) h.0, h.1);
+          λ s h. (own-map externals (lose_namespaces s.forced) s.collected (lose-literal s.forced) h.0, h.1);
     }
 
 -- ---- A usage's id is imported, so that the second pass finds its context
@@ -158,7 +158,7 @@ imported-steps e P =
           };
       one =
           λ _. record {
-            on-note = λ s m h. all-weaken (λ u. IsImported u.id s.imported) (λ u. IsImported u.id (noteIn m s.imported))
+            on-note = λ s m h. all-weaken (λ u. IsImported u.id s.imported) (λ u. IsImported u.id (note_in m s.imported))
                 s.usages (λ u w. note-stays u.id m s.imported w) h;
             on-usage = λ s u c w h. all-last (λ u. IsImported u.id s.imported) s.usages u h (c, w);
             on-collect = λ s r b h. h;
@@ -172,21 +172,21 @@ imported-end = record { on-wrap = λ s m h. h; on-lose = λ s h. h }
 -- ---- Forced sources are sources of collected records
 
 abbrev pub ForcedCollected : State → Type 0
-ForcedCollected s = All (λ a. among a (sourcesOf s.collected) ≡ true) s.forced
+ForcedCollected s = All (λ a. among a (sources_of s.collected) ≡ true) s.forced
 
 pub first-second : {A : Type 0} {k : Pass} → k ≡ first → k ≡ second → A
-first-second q r = absurd (let z = ap passCode (sym q ∙ r) in omega arith)
+first-second q r = absurd (let z = ap pass_code (sym q ∙ r) in omega arith)
   where
-    passCode : Pass → ℕ
-    passCode first = 0
-    passCode second = 1
+    pass_code : Pass → ℕ
+    pass_code first = 0
+    pass_code second = 1
 
-forced-force : (s : State) (i : List ℕ) → ForcedCollected s → ForcedCollected (forceId i s)
+forced-force : (s : State) (i : List ℕ) → ForcedCollected s → ForcedCollected (force_id i s)
 unfolding forget
 forced-force s i h =
     force-cases i s ForcedCollected h
-    (λ r w. all-last (λ a. among a (sourcesOf s.collected) ≡ true) s.forced (value_of r.literal) h
-    (found_among (holdsNamespace i) s.collected r w))
+    (λ r w. all-last (λ a. among a (sources_of s.collected) ≡ true) s.forced (value_of r.literal) h
+    (found_among (holds_namespace i) s.collected r w))
 
 pub forced-steps-first : (e : Setting) (P : List ℕ → Type 0) → e.pass ≡ first → Steps e P ForcedCollected
 forced-steps-first e P k =
@@ -197,7 +197,7 @@ forced-steps-first e P k =
             on-note = λ s m h. h;
             on-usage = λ s u c w h. h;
             on-collect = λ s r b h.
-                all-weaken (λ a. among a (sourcesOf s.collected) ≡ true) (λ a. among a (sourcesOf (collectIn r s.collected)) ≡ true)
+                all-weaken (λ a. among a (sources_of s.collected) ≡ true) (λ a. among a (sources_of (collect_in r s.collected)) ≡ true)
                 s.forced (λ a w. collect-stays a r s.collected w) h;
           };
       two = λ q. first-second k q;
@@ -209,7 +209,7 @@ Known externals sources x = among (value_of x) externals ≡ false → among (va
 
 -- in the second pass the collected sources stay the same
 abbrev pub ForcedAmong : List (List ℕ) → State → Type 0
-ForcedAmong sources s = (sourcesOf s.collected ≡ sources) × All (λ a. among a sources ≡ true) s.forced
+ForcedAmong sources s = (sources_of s.collected ≡ sources) × All (λ a. among a sources ≡ true) s.forced
 
 pub forced-steps-second : (e : Setting) (sources : List (List ℕ)) → e.pass ≡ second → Steps e (Known e.externals sources) (ForcedAmong sources)
 unfolding forget external
@@ -222,14 +222,14 @@ forced-steps-second e sources k =
                 (λ r w. (
                   h.0,
                   all-last (λ a. among a sources ≡ true) s.forced (value_of r.literal) h.1
-                      (ap (among (value_of r.literal)) (sym h.0) ∙ found_among (holdsNamespace i) s.collected r w),
+                      (ap (among (value_of r.literal)) (sym h.0) ∙ found_among (holds_namespace i) s.collected r w),
                 ));
             on-top = λ s b h. h;
           };
       one = λ q. first-second q k;
       two =
           λ _. record {
-            on-extend = λ s x us q h. (map-sources (extend x (specifiersFrom us)) s.collected (extend-literal x (specifiersFrom us)) ∙ h.0, h.1);
+            on-extend = λ s x us q h. (map-sources (extend x (specifiers_from us)) s.collected (extend-literal x (specifiers_from us)) ∙ h.0, h.1);
             on-source = λ s x b q h. source-cases (value_of x) s (ForcedAmong sources) (λ _. h)
                 (h.0, all-last (λ a. among a sources ≡ true) s.forced (value_of x) h.1 (q b));
           };
@@ -240,5 +240,5 @@ forced-end sources =
     record {
       on-wrap = λ s m h. h;
       on-lose =
-          λ s h. (map-sources (loseNamespaces s.forced) s.collected (lose-literal s.forced) ∙ h.0, h.1);
+          λ s h. (map-sources (lose_namespaces s.forced) s.collected (lose-literal s.forced) ∙ h.0, h.1);
     }

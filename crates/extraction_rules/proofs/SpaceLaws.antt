@@ -15,16 +15,16 @@ use Rattle.tree.specs.Tree.{Field, field, Fields, none, more, fixed_of, size}
 use Rattle.tree.proofs.LayoutLaws.{same-equal}
 use Rattle.metadata.specs.Metadata.{append}
 use Rattle.inputs.specs.Lists.{filter}
-use Rattle.inputs.specs.Fields.{has, findField, inside}
-use Rattle.extraction_rules.specs.State.{Record, Imported, Usage, State, Setting, give, change, refuse, setImported, setCollected}
-use Rattle.extraction_rules.specs.First.{external, idFrom, moduleFor, forceId, importedAs, suits, usedRecord, collectIn, collect, noteIn}
-use Rattle.extraction_rules.specs.First.{noteId, noteNamed, notedContext, noteSpecifier, noteAll, noteSpecifiers, specifiersIn, importFirst}
-use Rattle.extraction_rules.specs.Second.{usagesOf}
+use Rattle.inputs.specs.Fields.{has, find_field, inside}
+use Rattle.extraction_rules.specs.State.{Record, Imported, Usage, State, Setting, give, change, refuse, set_imported, set_collected}
+use Rattle.extraction_rules.specs.First.{external, id_from, module_for, force_id, imported_as, suits, used_record, collect_in, collect, note_in}
+use Rattle.extraction_rules.specs.First.{note_id, note_named, noted_context, note_specifier, note_all, note_specifiers, specifiers_in, import_first}
+use Rattle.extraction_rules.specs.Second.{usages_of}
 use Rattle.extraction_rules.proofs.OutcomeLaws.{After, after-bind, after-if}
 use Rattle.extraction_rules.proofs.ListLaws.{All, all-last, all_filter, all-find, all_first}
 use Rattle.extraction_rules.proofs.TableLaws.{find-meets}
 use Rattle.extraction_rules.proofs.ItemsLaws.{ItemSteps}
-use Rattle.extraction_rules.proofs.StepLaws.{RequireSteps, moduleFor-keeps}
+use Rattle.extraction_rules.proofs.StepLaws.{RequireSteps, module_for-keeps}
 use Rattle.extraction_rules.proofs.KeepLaws.{Each, each_weaken, each_append}
 use Rattle.extraction_rules.proofs.SeekLaws.{forgotten-imported, other-imported, noted-own, noted_other, force-tables}
 
@@ -43,7 +43,7 @@ Property y = (p : List ℕ) × (n : ℕ) × (length p ≡ 2) × (y ≡ p ++ four
 
 -- not imported, or as an export context
 abbrev pub AsExport : List ℕ → State → Type 0
-AsExport j s = (importedAs j s.imported ≡ nothing) ⊎ ((n : ℕ) × (importedAs j s.imported ≡ some (four (export n))))
+AsExport j s = (imported_as j s.imported ≡ nothing) ⊎ ((n : ℕ) × (imported_as j s.imported ≡ some (four (export n))))
 
 module _ (Space : List ℕ → Type 0) (own : ℕ) (locals : (j : List ℕ) → Space j → context_of j ≡ four (local own)) where
   -- a namespace among the specifiers is one of those
@@ -55,12 +55,12 @@ module _ (Space : List ℕ → Type 0) (own : ℕ) (locals : (j : List ℕ) → 
     pub imports : (j : List ℕ) → Space j → AsExport j s
     pub usages : All (λ u. Space u.id × Property u.property) s.usages
 
-  first-space : (fs : Fields) (f : Field) → Each OfSpace fs → findField (has 0x22) fs ≡ some f → Space (fixed_of f)
-  unfolding findField
+  first-space : (fs : Fields) (f : Field) → Each OfSpace fs → find_field (has 0x22) fs ≡ some f → Space (fixed_of f)
+  unfolding find_field
   first-space none f h e = absurd (let z : ◌≡◌ {A = ℕ} 0 1 = cc in omega arith)
   first-space (more g fs) f h e = go (has 0x22 g) refl e (first-space fs f h.1)
     where
-      go : (b : Bool) → has 0x22 g ≡ b → cond b (some g) (findField (has 0x22) fs) ≡ some f → (findField (has 0x22) fs ≡ some f → Space (fixed_of f)) → Space (fixed_of f)
+      go : (b : Bool) → has 0x22 g ≡ b → cond b (some g) (find_field (has 0x22) fs) ≡ some f → (find_field (has 0x22) fs ≡ some f → Space (fixed_of f)) → Space (fixed_of f)
       go true q e k = let w : g ≡ f = cc in subst (λ (y : Field). Space (fixed_of y)) w (h.0 q)
       go false q e k = k e
 
@@ -76,26 +76,26 @@ module _ (Space : List ℕ → Type 0) (own : ℕ) (locals : (j : List ℕ) → 
       go true q h = locals (fixed_of f) (k f refl) ∙ sym (same-equal (context_of i) (four (local own)) q)
       go false q h = sym (same-equal (context_of i) (context_of (fixed_of f)) h)
 
-  used-space : (j : List ℕ) (l : List Record) (r : Record) → All (λ r. Each OfSpace r.specifiers) l → usedRecord own j l ≡ some r → Space j
-  unfolding usedRecord
+  used-space : (j : List ℕ) (l : List Record) (r : Record) → All (λ r. Each OfSpace r.specifiers) l → used_record own j l ≡ some r → Space j
+  unfolding used_record
   used-space j l r h e =
-      suits-space j (findField (has 0x22) r.specifiers)
+      suits-space j (find_field (has 0x22) r.specifiers)
       (λ f q. first-space r.specifiers f
-      (all-find (λ r. Each OfSpace r.specifiers) (λ r. suits own j (findField (has 0x22) r.specifiers)) l r h e) q)
-      (find-meets (λ r. suits own j (findField (has 0x22) r.specifiers)) l r e)
+      (all-find (λ r. Each OfSpace r.specifiers) (λ r. suits own j (find_field (has 0x22) r.specifiers)) l r h e) q)
+      (find-meets (λ r. suits own j (find_field (has 0x22) r.specifiers)) l r e)
 
-  collect-space : (r : Record) (l : List Record) → Each OfSpace r.specifiers → All (λ r. Each OfSpace r.specifiers) l → All (λ r. Each OfSpace r.specifiers) (collectIn r l)
-  unfolding collectIn
+  collect-space : (r : Record) (l : List Record) → Each OfSpace r.specifiers → All (λ r. Each OfSpace r.specifiers) l → All (λ r. Each OfSpace r.specifiers) (collect_in r l)
+  unfolding collect_in
   collect-space r [] k h = (k, tt)
   collect-space r (q ∷ l) k h = go (same (value_of q.literal) (value_of r.literal)) (collect-space r l k h.1)
     where
-      go : (b : Bool) → All (λ r. Each OfSpace r.specifiers) (collectIn r l) →
+      go : (b : Bool) → All (λ r. Each OfSpace r.specifiers) (collect_in r l) →
           All (λ r. Each OfSpace r.specifiers)
-          (cond b (record { literal = q.literal; specifiers = append q.specifiers r.specifiers } ∷ l) (q ∷ collectIn r l))
+          (cond b (record { literal = q.literal; specifiers = append q.specifiers r.specifiers } ∷ l) (q ∷ collect_in r l))
       go true w = (each_append OfSpace q.specifiers r.specifiers h.0 k, h.1)
       go false w = (h.0, w)
 
-  space-force : (s : State) (i : List ℕ) → Spaces s → Spaces (forceId i s)
+  space-force : (s : State) (i : List ℕ) → Spaces s → Spaces (force_id i s)
   space-force s i h =
       let t = force-tables i s in
       record {
@@ -108,8 +108,8 @@ module _ (Space : List ℕ → Type 0) (own : ℕ) (locals : (j : List ℕ) → 
       }
     where
       go : (j : List ℕ) (b : Bool) → same i j ≡ b → AsExport j s →
-          (importedAs j (filter (λ m. not (same m.id i)) s.imported) ≡ nothing) ⊎
-          ((n : ℕ) × (importedAs j (filter (λ m. not (same m.id i)) s.imported) ≡ some (four (export n))))
+          (imported_as j (filter (λ m. not (same m.id i)) s.imported) ≡ nothing) ⊎
+          ((n : ℕ) × (imported_as j (filter (λ m. not (same m.id i)) s.imported) ≡ some (four (export n))))
       go j true q w = inl (rw (same-equal i j q) (forgotten-imported j s.imported))
       go j false q (inl w) = inl (other-imported j i s.imported q ∙ w)
       go j false q (inr w) = inr (w.0, other-imported j i s.imported q ∙ w.1)
@@ -132,8 +132,8 @@ module _ (Space : List ℕ → Type 0) (own : ℕ) (locals : (j : List ℕ) → 
               records = h.records;
               imports = h.imports;
               usages =
-                  all-last (λ u. Space u.id × Property u.property) s.usages (record { id = j; property = idFrom p (export n) }) h.usages
-                  (used-space j s.collected r h.records (subst (λ (o : ℕ). usedRecord o j s.collected ≡ some r) mine w), (p, n, len, refl));
+                  all-last (λ u. Space u.id × Property u.property) s.usages (record { id = j; property = id_from p (export n) }) h.usages
+                  (used-space j s.collected r h.records (subst (λ (o : ℕ). used_record o j s.collected ≡ some r) mine w), (p, n, len, refl));
             };
       }
 
@@ -144,63 +144,63 @@ module _ (Space : List ℕ → Type 0) (own : ℕ) (locals : (j : List ℕ) → 
   OfImport f = OfSpace f × (has 0x21 f ≡ true → Space (fixed_of f) → ⊥)
 
   -- an id is noted with an export context, or is none of those
-  note-space : (m : Imported) (p : ℕ) (s : State) → (Space m.id → (n : ℕ) × (m.context ≡ four (export n))) → Spaces s → After (noteId m p s) (λ u t. Spaces t)
-  unfolding noteId
+  note-space : (m : Imported) (p : ℕ) (s : State) → (Space m.id → (n : ℕ) × (m.context ≡ four (export n))) → Spaces s → After (note_id m p s) (λ u t. Spaces t)
+  unfolding note_id
   note-space m p s k h =
-      after-if (leb (length (noteIn m s.imported)) 512) (change (setImported (noteIn m s.imported))) (refuse 8 p) s (λ u t. Spaces t)
+      after-if (leb (length (note_in m s.imported)) 512) (change (set_imported (note_in m s.imported))) (refuse 8 p) s (λ u t. Spaces t)
       (λ _. record { records = h.records; imports = λ j w. go j (same m.id j) refl w (h.imports j w); usages = h.usages }) (λ _. tt)
     where
       go : (j : List ℕ) (b : Bool) → same m.id j ≡ b → Space j → AsExport j s →
-          (importedAs j (noteIn m s.imported) ≡ nothing) ⊎ ((n : ℕ) × (importedAs j (noteIn m s.imported) ≡ some (four (export n))))
+          (imported_as j (note_in m s.imported) ≡ nothing) ⊎ ((n : ℕ) × (imported_as j (note_in m s.imported) ≡ some (four (export n))))
       go j true q w v =
           let e : m.id ≡ j = same-equal m.id j q in
           let c = k (subst Space (sym e) w) in
-          inr (c.0, ap (λ (y : List ℕ). importedAs y (noteIn m s.imported)) (sym e) ∙ noted-own m s.imported ∙ ap some c.1)
+          inr (c.0, ap (λ (y : List ℕ). imported_as y (note_in m s.imported)) (sym e) ∙ noted-own m s.imported ∙ ap some c.1)
       go j false q w (inl v) = inl (noted_other j m s.imported q ∙ v)
       go j false q w (inr v) = inr (v.0, noted_other j m s.imported q ∙ v.1)
 
-  specifier-space : (n : ℕ) (f : Field) (p : ℕ) (s : State) → OfImport f → Spaces s → After (noteSpecifier n f p s) (λ g t. Spaces t × OfSpace g)
-  unfolding noteSpecifier noteNamed
+  specifier-space : (n : ℕ) (f : Field) (p : ℕ) (s : State) → OfImport f → Spaces s → After (note_specifier n f p s) (λ g t. Spaces t × OfSpace g)
+  unfolding note_specifier note_named
   specifier-space n f p s k h =
-      after-if (has 0x20 f) (noteNamed n (fixed_of f) p) _ s (λ g t. Spaces t × OfSpace g)
+      after-if (has 0x20 f) (note_named n (fixed_of f) p) _ s (λ g t. Spaces t × OfSpace g)
       (λ _. after-if (eqb (get_or (fixed_of f) 6 0) 2) (refuse 6 p) _ s (λ g t. Spaces t × OfSpace g) (λ _. tt)
-      (λ _. after-bind (noteId (record { id = id_at (fixed_of f) 0; context = four (export n) }) p s) _ (λ u t. Spaces t) (λ g t. Spaces t × OfSpace g)
+      (λ _. after-bind (note_id (record { id = id_at (fixed_of f) 0; context = four (export n) }) p s) _ (λ u t. Spaces t) (λ g t. Spaces t × OfSpace g)
       (note-space (record { id = id_at (fixed_of f) 0; context = four (export n) }) p s (λ _. (n, refl)) h) λ u t w.
       (w, λ q. absurd (true≢false (sym q)))))
-      (λ _. after-bind (noteId (record { id = fixed_of f; context = notedContext n f }) p s) _ (λ u t. Spaces t) (λ g t. Spaces t × OfSpace g)
-      (note-space (record { id = fixed_of f; context = notedContext n f }) p s (noted (has 0x21 f) k.1) h) λ u t w. (w, k.0))
+      (λ _. after-bind (note_id (record { id = fixed_of f; context = noted_context n f }) p s) _ (λ u t. Spaces t) (λ g t. Spaces t × OfSpace g)
+      (note-space (record { id = fixed_of f; context = noted_context n f }) p s (noted (has 0x21 f) k.1) h) λ u t w. (w, k.0))
     where
       noted : (b : Bool) → (b ≡ true → Space (fixed_of f) → ⊥) → Space (fixed_of f) → (m : ℕ) × (cond b (context_of (fixed_of f)) (four (export n)) ≡ four (export m))
       noted true d w = absurd (d refl w)
       noted false d w = (n, refl)
 
-  notes-space : (n : ℕ) (fs : Fields) (p : ℕ) (s : State) → Each OfImport fs → Spaces s → After (noteAll n fs p s) (λ gs t. Spaces t × Each OfSpace gs)
-  unfolding noteAll
+  notes-space : (n : ℕ) (fs : Fields) (p : ℕ) (s : State) → Each OfImport fs → Spaces s → After (note_all n fs p s) (λ gs t. Spaces t × Each OfSpace gs)
+  unfolding note_all
   notes-space n none p s k h = (h, tt)
   notes-space n (more f fs) p s k h =
-      after-bind (noteSpecifier n f p s) _ (λ g t. Spaces t × OfSpace g) (λ gs t. Spaces t × Each OfSpace gs) (specifier-space n f p s k.0 h) λ g t w.
-      after-bind (noteAll n fs (p + size f) t) _ (λ gs u. Spaces u × Each OfSpace gs) (λ gs t. Spaces t × Each OfSpace gs)
+      after-bind (note_specifier n f p s) _ (λ g t. Spaces t × OfSpace g) (λ gs t. Spaces t × Each OfSpace gs) (specifier-space n f p s k.0 h) λ g t w.
+      after-bind (note_all n fs (p + size f) t) _ (λ gs u. Spaces u × Each OfSpace gs) (λ gs t. Spaces t × Each OfSpace gs)
       (notes-space n fs (p + size f) t k.1 w.0) λ gs u v. (v.0, (w.1, v.1))
 
-  specifiers-space : (o : Option ℕ) (fs : Fields) (p : ℕ) (s : State) → Each OfImport fs → Spaces s → After (noteSpecifiers o fs p s) (λ gs t. Spaces t × Each OfSpace gs)
+  specifiers-space : (o : Option ℕ) (fs : Fields) (p : ℕ) (s : State) → Each OfImport fs → Spaces s → After (note_specifiers o fs p s) (λ gs t. Spaces t × Each OfSpace gs)
   specifiers-space nothing fs p s k h = (h, each_weaken OfImport OfSpace fs (λ f k. k.0) k)
   specifiers-space (some n) fs p s k h = notes-space n fs p s k h
 
-  pub import-space : (e : Setting) (y : List ℕ) (ds : Fields) (p : ℕ) (s : State) → Each OfImport (specifiersIn ds) → Spaces s → After (importFirst e y ds p s) (λ g t. Spaces t)
-  unfolding importFirst collect
+  pub import-space : (e : Setting) (y : List ℕ) (ds : Fields) (p : ℕ) (s : State) → Each OfImport (specifiers_in ds) → Spaces s → After (import_first e y ds p s) (λ g t. Spaces t)
+  unfolding import_first collect
   import-space e y ds p s k h =
       after-if (external e y) (give (field 0x10 y ds)) _ s (λ g t. Spaces t) (λ _. h)
-      (λ _. after-bind (moduleFor e (value_of y) p s) _ (λ m t. Spaces t) (λ g t. Spaces t) (moduleFor-keeps e Spaces (space-requires e) (value_of y) p s h) λ m t h.
-      after-bind (noteSpecifiers m (specifiersIn ds) (inside p y) t) _ (λ gs u. Spaces u × Each OfSpace gs) (λ g t. Spaces t) (specifiers-space m (specifiersIn ds) (inside p y) t k h) λ gs u v.
+      (λ _. after-bind (module_for e (value_of y) p s) _ (λ m t. Spaces t) (λ g t. Spaces t) (module_for-keeps e Spaces (space-requires e) (value_of y) p s h) λ m t h.
+      after-bind (note_specifiers m (specifiers_in ds) (inside p y) t) _ (λ gs u. Spaces u × Each OfSpace gs) (λ g t. Spaces t) (specifiers-space m (specifiers_in ds) (inside p y) t k h) λ gs u v.
       let r : Record = record { literal = y; specifiers = gs } in
       after-bind (collect r p u) _ (λ _ x. Spaces x) (λ g t. Spaces t)
-      (after-if (leb (length (collectIn r u.collected)) 256) (change (setCollected (collectIn r u.collected))) (refuse 8 p) u (λ _ x. Spaces x)
+      (after-if (leb (length (collect_in r u.collected)) 256) (change (set_collected (collect_in r u.collected))) (refuse 8 p) u (λ _ x. Spaces x)
       (λ _. record { records = collect-space r u.collected v.1 v.0.records; imports = v.0.imports; usages = v.0.usages }) (λ _. tt)) λ _ x z. z)
 
   -- ---- What the second pass reads
 
-  pub spaces-say : (s : State) → Spaces s → (j : List ℕ) → (usagesOf j s.usages ≡ []) ⊎ ((context_of j ≡ four (local own)) × AsExport j s)
-  unfolding usagesOf
+  pub spaces-say : (s : State) → Spaces s → (j : List ℕ) → (usages_of j s.usages ≡ []) ⊎ ((context_of j ≡ four (local own)) × AsExport j s)
+  unfolding usages_of
   spaces-say s h j = go (filter (λ (u : Usage). same u.id j) s.usages) refl
     where
       go : (l : List Usage) → filter (λ (u : Usage). same u.id j) s.usages ≡ l → (l ≡ []) ⊎ ((context_of j ≡ four (local own)) × AsExport j s)

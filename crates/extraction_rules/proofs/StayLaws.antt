@@ -10,17 +10,17 @@ use lib.ListN.{get_or}
 use borrow.Author.Tests.{eqb-true, eqb-false, ne_eqb}
 use Rattle.tree.specs.declared.grammar.Set.TheVariants.{Item}
 use Rattle.tree.specs.Tree.{Field, field, Fields, none, more, tag_of, fixed_of, parts_of, size}
-use Rattle.tree.specs.Grammar.{within, holdsAt}
+use Rattle.tree.specs.Grammar.{within, holds_at}
 use Rattle.inputs.specs.Outcome.{Outcome}
 use Rattle.inputs.specs.Fields.{has, inside}
 use Rattle.extraction_rules.specs.State.{State, Pass, first, second, Setting, refuse}
-use Rattle.extraction_rules.specs.First.{onIdent, withCallee, exportSpecifier, declarator, stays}
+use Rattle.extraction_rules.specs.First.{on_ident, with_callee, export_specifier, declarator, stays}
 use Rattle.extraction_rules.specs.Second.{rewritten}
-use Rattle.extraction_rules.specs.Walk.{Rule, import, export as exporting, declare, express, nothing as plain, afterExpression, ruleFor, after, partsFor, enter, walk, walkAll}
+use Rattle.extraction_rules.specs.Walk.{Rule, import, export as exporting, declare, express, nothing as plain, after_expression, rule_for, after, parts_for, enter, walk, walk_all}
 use Rattle.extraction_rules.proofs.OutcomeLaws.{After, after-bind, after-if, after_both, after-weaken}
 use Rattle.extraction_rules.proofs.ValueLaws.{after_any, first-expression}
 use Rattle.extraction_rules.proofs.TagLaws.{rule-import, rule-export}
-use Rattle.extraction_rules.proofs.WalkLaws.{walkParts}
+use Rattle.extraction_rules.proofs.WalkLaws.{walk_parts}
 
 -- ---- The tag and the fixed bytes
 
@@ -28,28 +28,28 @@ use Rattle.extraction_rules.proofs.WalkLaws.{walkParts}
 abbrev pub Same : ℕ → List ℕ → Field → Type 0
 Same t x g = (tag_of g ≡ t) × ((t ≡ 0x23 → ⊥) → fixed_of g ≡ x)
 
-callee_same : (n : ℕ) (t : ℕ) (x : List ℕ) (ds : Fields) → Same t x (withCallee n (field t x ds))
-unfolding withCallee
+callee_same : (n : ℕ) (t : ℕ) (x : List ℕ) (ds : Fields) → Same t x (with_callee n (field t x ds))
+unfolding with_callee
 callee_same n t x none = (refl, λ _. refl)
 callee_same n t x (more c gs) = (refl, λ _. refl)
 
-pub no_member : (t : ℕ) (x : List ℕ) (cs : Fields) → (t ≡ 0x63 → ⊥) → onIdent (field t x cs) ≡ nothing
-unfolding onIdent
+pub no_member : (t : ℕ) (x : List ℕ) (cs : Fields) → (t ≡ 0x63 → ⊥) → on_ident (field t x cs) ≡ nothing
+unfolding on_ident
 no_member t x none h = refl
 no_member t x (more o none) h = refl
 no_member t x (more o (more q qs)) h = ap (λ (b : Bool). cond (b && has 0x60 o) (some (o, q)) nothing) (ne_eqb t 0x63 h)
 
-pub expression-same : (k : Pass) (e : Setting) (t : ℕ) (x : List ℕ) (ds : Fields) (object : Bool) (p : ℕ) (s : State) → (k ≡ second → onIdent (field t x ds) ≡ nothing) →
-    After (afterExpression k e (field t x ds) object p s) (λ g s'. Same t x g)
-unfolding afterExpression rewritten
+pub expression-same : (k : Pass) (e : Setting) (t : ℕ) (x : List ℕ) (ds : Fields) (object : Bool) (p : ℕ) (s : State) → (k ≡ second → on_ident (field t x ds) ≡ nothing) →
+    After (after_expression k e (field t x ds) object p s) (λ g s'. Same t x g)
+unfolding after_expression rewritten
 expression-same first e t x ds object p s h =
     first-expression e (Same t x) first refl (field t x ds) object p s ((refl, λ _. refl), λ n l w. callee_same n t x ds)
 expression-same second e t x ds object p s h =
     subst (λ (o : Option (Field × Field)). Same t x (rewritten o (field t x ds) s)) (sym (h refl)) (refl, λ _. refl)
 
-after_same : (e : Setting) (r : Rule) (t : ℕ) (x : List ℕ) (ds : Fields) (object : Bool) (p : ℕ) (s : State) → ruleFor t ≡ r → (t ≡ 0x10 → ⊥) → (t ≡ 0x63 → ⊥) →
+after_same : (e : Setting) (r : Rule) (t : ℕ) (x : List ℕ) (ds : Fields) (object : Bool) (p : ℕ) (s : State) → rule_for t ≡ r → (t ≡ 0x10 → ⊥) → (t ≡ 0x63 → ⊥) →
     After (after r e t x ds object p s) (λ g s'. Same t x g)
-unfolding after exportSpecifier
+unfolding after export_specifier
 after_same e import t x ds object p s q h k = absurd (h (rule-import t q))
 after_same e exporting t x ds object p s q h k =
     after-if (eqb (get_or x 0 0) 2 || eqb (get_or x 7 0) 2) (refuse 6 p) _ s (λ g s'. Same t x g) (λ _. tt) (λ _. (sym (rule-export t q), λ n. absurd (n (rule-export t q))))
@@ -62,15 +62,15 @@ pub walk_same : (e : Setting) (t : ℕ) (x : List ℕ) (cs : Fields) (object : B
     After (walk (field t x cs) e object p s) (λ g s'. Same t x g)
 unfolding walk
 walk_same e t x cs object p s h k =
-    after-bind (walkParts (partsFor t) cs e object (inside p x) (enter t s)) _ (λ _ _. Unit {0}) (λ g s'. Same t x g)
-    (after_any (walkParts (partsFor t) cs e object (inside p x) (enter t s))) λ ds s _. after_same e (ruleFor t) t x ds object p s refl h k
+    after-bind (walk_parts (parts_for t) cs e object (inside p x) (enter t s)) _ (λ _ _. Unit {0}) (λ g s'. Same t x g)
+    (after_any (walk_parts (parts_for t) cs e object (inside p x) (enter t s))) λ ds s _. after_same e (rule_for t) t x ds object p s refl h k
 
 -- ---- Which items stay
 
 -- no item is a 63
-pub item-no-member : (t : ℕ) → holdsAt Item t ≡ true → t ≡ 0x63 → ⊥
-unfolding holdsAt within
-item-no-member t h q = true≢false (sym h ∙ ap (holdsAt Item) q)
+pub item-no-member : (t : ℕ) → holds_at Item t ≡ true → t ≡ 0x63 → ⊥
+unfolding holds_at within
+item-no-member t h q = true≢false (sym h ∙ ap (holds_at Item) q)
 
 pub stays-from : (g : Field) → (tag_of g ≡ 0x40 → ⊥) → (tag_of g ≡ 0x41 → (f : Field) × (fs : Fields) × (parts_of g ≡ more f fs)) → stays g ≡ true
 unfolding stays
@@ -99,12 +99,12 @@ module _ (e : Setting) where
 
   -- a 41 keeps its parts
   walk-41 : (x : List ℕ) (f : Field) (fs : Fields) (p : ℕ) (s : State) → After (walk (field 0x41 x (more f fs)) e false p s) (λ g s'. (h : Field) × (hs : Fields) × (parts_of g ≡ more h hs))
-  unfolding walk partsFor ruleFor within after
+  unfolding walk parts_for rule_for within after
   walk-41 x f fs p s =
-      after-bind (walkAll (more f fs) e false (inside p x) s) _ (λ ds s'. (h : Field) × (hs : Fields) × (ds ≡ more h hs)) (λ g s'. (h : Field) × (hs : Fields) × (parts_of g ≡ more h hs))
+      after-bind (walk_all (more f fs) e false (inside p x) s) _ (λ ds s'. (h : Field) × (hs : Fields) × (ds ≡ more h hs)) (λ g s'. (h : Field) × (hs : Fields) × (parts_of g ≡ more h hs))
       (after-bind (walk f e false (inside p x) s) _ (λ _ _. Unit {0}) (λ ds s'. (h : Field) × (hs : Fields) × (ds ≡ more h hs)) (after_any (walk f e false (inside p x) s)) λ g s1 _.
-      after-bind (walkAll fs e false (inside p x + size f) s1) _ (λ _ _. Unit {0}) (λ ds s'. (h : Field) × (hs : Fields) × (ds ≡ more h hs))
-      (after_any (walkAll fs e false (inside p x + size f) s1)) λ gs s2 _. (g, gs, refl))
+      after-bind (walk_all fs e false (inside p x + size f) s1) _ (λ _ _. Unit {0}) (λ ds s'. (h : Field) × (hs : Fields) × (ds ≡ more h hs))
+      (after_any (walk_all fs e false (inside p x + size f) s1)) λ gs s2 _. (g, gs, refl))
       λ ds s1 k. k
 
   -- one that stays, if it is no import, is walked to one that stays

@@ -14,10 +14,10 @@ use Rattle.tree.specs.Tree.{Field, field, Fields, none, more, tag_of, fixed_of, 
 use Rattle.inputs.specs.Outcome.{Outcome, done, refused}
 use Rattle.inputs.specs.Fields.{has, sole}
 use Rattle.extraction_rules.specs.State.{Record, State, Pass, first, second, Setting}
-use Rattle.extraction_rules.specs.First.{moduleFor, onIdent, usage, argument, notExternal, required, withCallee, markCjs, markRequired}
-use Rattle.extraction_rules.specs.First.{collect, addLazy, require, bindings, requireLazily, declarator, importFirst}
-use Rattle.extraction_rules.specs.Second.{importSecond}
-use Rattle.extraction_rules.specs.Walk.{afterExpression, afterImport, ruleFor, after, partsFor, walk}
+use Rattle.extraction_rules.specs.First.{module_for, on_ident, usage, argument, not_external, required, with_callee, mark_cjs, mark_required}
+use Rattle.extraction_rules.specs.First.{collect, add_lazy, require, bindings, require_lazily, declarator, import_first}
+use Rattle.extraction_rules.specs.Second.{import_second}
+use Rattle.extraction_rules.specs.Walk.{after_expression, after_import, rule_for, after, parts_for, walk}
 use Rattle.extraction_rules.proofs.OutcomeLaws.{After, after-bind, after-if}
 
 pub after_any : {A : Type 0} (m : Outcome (A × State)) → After m (λ a s. Unit {0})
@@ -25,12 +25,12 @@ after_any (done r) = tt
 after_any (refused n p) = tt
 
 -- a 10 is walked by its own rule alone
-pub walk_first : (e : Setting) → e.pass ≡ first → (f : Field) (p : ℕ) (s : State) → tag_of f ≡ 0x10 → walk f e false p s ≡ importFirst e (fixed_of f) (parts_of f) p s
-unfolding walk partsFor ruleFor after afterImport
+pub walk_first : (e : Setting) → e.pass ≡ first → (f : Field) (p : ℕ) (s : State) → tag_of f ≡ 0x10 → walk f e false p s ≡ import_first e (fixed_of f) (parts_of f) p s
+unfolding walk parts_for rule_for after after_import
 walk_first e q (field t x cs) p s h = rw (h, q)
 
-pub walk-second : (e : Setting) → e.pass ≡ second → (f : Field) (p : ℕ) (s : State) → tag_of f ≡ 0x10 → walk f e false p s ≡ importSecond e (fixed_of f) (parts_of f) s
-unfolding walk partsFor ruleFor after afterImport
+pub walk-second : (e : Setting) → e.pass ≡ second → (f : Field) (p : ℕ) (s : State) → tag_of f ≡ 0x10 → walk f e false p s ≡ import_second e (fixed_of f) (parts_of f) s
+unfolding walk parts_for rule_for after after_import
 walk-second e q (field t x cs) p s h = rw (h, q)
 
 -- the require conditions: a 65 with a callee 60
@@ -40,7 +40,7 @@ unfolding required
 required-call e t x c gs l q = go (e.config.require && eqb t 0x65 && has 0x60 c && same (name_of (fixed_of c)) (two require-atom)) refl q
   where
     go : (b : Bool) → e.config.require && eqb t 0x65 && has 0x60 c && same (name_of (fixed_of c)) (two require-atom) ≡ b →
-        cond b (notExternal e (argument (sole gs))) nothing ≡ some l → (t ≡ 0x65) × (tag_of c ≡ 0x60)
+        cond b (not_external e (argument (sole gs))) nothing ≡ some l → (t ≡ 0x65) × (tag_of c ≡ 0x60)
     go true w q =
         let a = both_true (e.config.require && eqb t 0x65 && has 0x60 c) (same (name_of (fixed_of c)) (two require-atom)) w in
         let b = both_true (e.config.require && eqb t 0x65) (has 0x60 c) a.0 in
@@ -51,57 +51,57 @@ required-call e t x c gs l q = go (e.config.require && eqb t 0x65 && has 0x60 c 
 module _ (e : Setting) (Q : Field → Type 0) where
   -- Q holds of the field, and of it with another callee where it meets the require conditions
   abbrev pub Called : Field → Type 0
-  Called f = Q f × ((n : ℕ) (l : List ℕ) → required e f ≡ some l → Q (withCallee n f))
+  Called f = Q f × ((n : ℕ) (l : List ℕ) → required e f ≡ some l → Q (with_callee n f))
 
-  markCjs-value : (o : Option ℕ) (f : Field) (s : State) → Q f → ((n : ℕ) → Q (withCallee n f)) → After (markCjs o f s) (λ g s. Q g)
-  unfolding markCjs
-  markCjs-value nothing f s h k = h
-  markCjs-value (some n) f s h k = k n
+  mark_cjs-value : (o : Option ℕ) (f : Field) (s : State) → Q f → ((n : ℕ) → Q (with_callee n f)) → After (mark_cjs o f s) (λ g s. Q g)
+  unfolding mark_cjs
+  mark_cjs-value nothing f s h k = h
+  mark_cjs-value (some n) f s h k = k n
 
-  markRequired-value : (l : List ℕ) (f : Field) (p : ℕ) (s : State) → required e f ≡ some l → Called f → After (markRequired e l f p s) (λ g s. Q g)
-  unfolding markRequired
-  markRequired-value l f p s w h =
-      after-bind (moduleFor e (value_of l) p s) _ (λ n s. Unit {0}) (λ g s. Q g) (after_any (moduleFor e (value_of l) p s)) λ n s _.
-      markCjs-value n f s h.0 (λ m. h.1 m l w)
+  mark_required-value : (l : List ℕ) (f : Field) (p : ℕ) (s : State) → required e f ≡ some l → Called f → After (mark_required e l f p s) (λ g s. Q g)
+  unfolding mark_required
+  mark_required-value l f p s w h =
+      after-bind (module_for e (value_of l) p s) _ (λ n s. Unit {0}) (λ g s. Q g) (after_any (module_for e (value_of l) p s)) λ n s _.
+      mark_cjs-value n f s h.0 (λ m. h.1 m l w)
 
   require-by : (o : Option (List ℕ)) (f : Field) (p : ℕ) (s : State) → required e f ≡ o → Called f → After (require o e f p s) (λ g s. Q g)
   unfolding require
   require-by nothing f p s w h = h.0
   require-by (some l) f p s w h =
       let r : Record = record { literal = l; specifiers = none } in
-      after-bind (markRequired e l f p s) _ (λ g s. Q g) (λ g s. Q g) (markRequired-value l f p s w h) λ g s k.
-      after-bind (cond s.top (collect r p) (addLazy r p) s) _ (λ _ s. Unit {0}) (λ g s. Q g)
-      (after_any (cond s.top (collect r p) (addLazy r p) s)) λ _ s _. k
+      after-bind (mark_required e l f p s) _ (λ g s. Q g) (λ g s. Q g) (mark_required-value l f p s w h) λ g s k.
+      after-bind (cond s.top (collect r p) (add_lazy r p) s) _ (λ _ s. Unit {0}) (λ g s. Q g)
+      (after_any (cond s.top (collect r p) (add_lazy r p) s)) λ _ s _. k
 
-  expression-value : (f : Field) (object : Bool) (p : ℕ) (s : State) → Called f → After (afterExpression first e f object p s) (λ g s. Q g)
-  unfolding afterExpression
+  expression-value : (f : Field) (object : Bool) (p : ℕ) (s : State) → Called f → After (after_expression first e f object p s) (λ g s. Q g)
+  unfolding after_expression
   expression-value f object p s h =
       after-if (has 0x60 f && not object) _ _ s (λ g s. Q g) (λ _. h.0)
-      (λ _. after-bind (usage (onIdent f) e p s) _ (λ _ s. Unit {0}) (λ g s. Q g) (after_any (usage (onIdent f) e p s)) λ _ s _. require-by
+      (λ _. after-bind (usage (on_ident f) e p s) _ (λ _ s. Unit {0}) (λ g s. Q g) (after_any (usage (on_ident f) e p s)) λ _ s _. require-by
       (required e f) f p s refl h)
 
-  requireLazily-value : (o : Option (List ℕ)) (q i : Field) (p : ℕ) (s : State) → required e i ≡ o → Called i →
-      After (requireLazily o e q i p s) (λ g s. Q g)
-  unfolding requireLazily
-  requireLazily-value nothing q i p s w h = h.0
-  requireLazily-value (some l) q i p s w h =
-      after-bind (markRequired e l i p s) _ (λ g s. Q g) (λ g s. Q g) (markRequired-value l i p s w h) λ g s k.
-      after-bind (addLazy (record { literal = l; specifiers = bindings q }) p s) _ (λ _ s. Unit {0}) (λ g s. Q g)
-      (after_any (addLazy (record { literal = l; specifiers = bindings q }) p s)) λ _ s _. k
+  require_lazily-value : (o : Option (List ℕ)) (q i : Field) (p : ℕ) (s : State) → required e i ≡ o → Called i →
+      After (require_lazily o e q i p s) (λ g s. Q g)
+  unfolding require_lazily
+  require_lazily-value nothing q i p s w h = h.0
+  require_lazily-value (some l) q i p s w h =
+      after-bind (mark_required e l i p s) _ (λ g s. Q g) (λ g s. Q g) (mark_required-value l i p s w h) λ g s k.
+      after-bind (add_lazy (record { literal = l; specifiers = bindings q }) p s) _ (λ _ s. Unit {0}) (λ g s. Q g)
+      (after_any (add_lazy (record { literal = l; specifiers = bindings q }) p s)) λ _ s _. k
 
 -- an expression, in the first pass
 pub first-expression : (e : Setting) (Q : Field → Type 0) (k : Pass) → k ≡ first → (f : Field) (object : Bool) (p : ℕ) (s : State) →
-    Called e Q f → After (afterExpression k e f object p s) (λ g s. Q g)
+    Called e Q f → After (after_expression k e f object p s) (λ g s. Q g)
 first-expression e Q first q f object p s h = expression-value e Q f object p s h
 first-expression e Q second q f object p s h = absurd (let z : ◌≡◌ {A = ℕ} 0 1 = cc in omega arith)
 
 -- a declarator keeps its pattern and what stands behind the initialiser
 pub declarator-value : (e : Setting) (R : Fields → Type 0) (cs : Fields) (p : ℕ) (s : State) → R cs →
     ((q i : Field) (rest : Fields) (n : ℕ) (l : List ℕ) → cs ≡ more q (more i rest) → required e i ≡ some l → R
-    (more q (more (withCallee n i) rest))) → After (declarator e cs p s) (λ ds s. R ds)
+    (more q (more (with_callee n i) rest))) → After (declarator e cs p s) (λ ds s. R ds)
 unfolding declarator
 declarator-value e R none p s h k = h
 declarator-value e R (more q none) p s h k = h
 declarator-value e R (more q (more i rest)) p s h k =
-    after-bind (requireLazily (required e i) e q i p s) _ (λ g s. R (more q (more g rest))) (λ ds s. R ds)
-    (requireLazily-value e (λ g. R (more q (more g rest))) (required e i) q i p s refl (h, λ n l w. k q i rest n l refl w)) λ g s w. w
+    after-bind (require_lazily (required e i) e q i p s) _ (λ g s. R (more q (more g rest))) (λ ds s. R ds)
+    (require_lazily-value e (λ g. R (more q (more g rest))) (required e i) q i p s refl (h, λ n l w. k q i rest n l refl w)) λ g s w. w

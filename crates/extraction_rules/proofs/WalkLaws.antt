@@ -6,13 +6,13 @@ use mathlib.Core.List.{List}
 use lib.Dec.{eqb}
 use borrow.Author.Tests.{eqb-true, ne_eqb}
 use Rattle.tree.specs.Tree.{Field, field, Fields, none, more, size}
-use Rattle.tree.specs.Grammar.{expressionTag}
+use Rattle.tree.specs.Grammar.{expression_tag}
 use Rattle.inputs.specs.Fields.{inside}
-use Rattle.extraction_rules.specs.State.{State, first, second, Setting, Act, give, setTop}
+use Rattle.extraction_rules.specs.State.{State, first, second, Setting, Act, give, set_top}
 use Rattle.extraction_rules.specs.Second.{finish}
-use Rattle.extraction_rules.specs.Walk.{Rule, import, export, declare, express, nothing, ruleFor, Parts, unwalked, member, super, assignment}
-use Rattle.extraction_rules.specs.Walk.{children, partsFor, enter, walk, walkAll, walkMember, walkAssignment, walkTarget, walkModule}
-use Rattle.extraction_rules.specs.Walk.{walkAgain}
+use Rattle.extraction_rules.specs.Walk.{Rule, import, export, declare, express, nothing, rule_for, Parts, unwalked, member, super, assignment}
+use Rattle.extraction_rules.specs.Walk.{children, parts_for, enter, walk, walk_all, walk_member, walk_assignment, walk_target, walk_module}
+use Rattle.extraction_rules.specs.Walk.{walk_again}
 use Rattle.extraction_rules.proofs.StepLaws.{CommonSteps, FirstSteps, SecondSteps, EndSteps, Keeps, after-keeps, finish-keeps, then_keeps, enter-keeps}
 
 -- ---- Tags
@@ -33,14 +33,14 @@ tag-by t false false true d x y z = eqb-true t 0x42 z
 tag-by t false false false true x y z = tt
 tag-by t false false false false x y z = tt
 
-pub rule-tag : (t : ℕ) (r : Rule) → ruleFor t ≡ r → RuleTag r t
-unfolding ruleFor
-rule-tag t r q = subst (λ (k : Rule). RuleTag k t) q (tag-by t (eqb t 0x10) (eqb t 0x23) (eqb t 0x42) (expressionTag t) refl refl refl)
+pub rule-tag : (t : ℕ) (r : Rule) → rule_for t ≡ r → RuleTag r t
+unfolding rule_for
+rule-tag t r q = subst (λ (k : Rule). RuleTag k t) q (tag-by t (eqb t 0x10) (eqb t 0x23) (eqb t 0x42) (expression_tag t) refl refl refl)
 
 -- the field of another rule is no 10
-pub rule-not-import : (t : ℕ) (r : Rule) → ruleFor t ≡ r → (r ≡ import → ⊥) → t ≡ 0x10 → ⊥
-unfolding ruleFor
-rule-not-import t r w h q = h (sym w ∙ ap ruleFor q)
+pub rule-not-import : (t : ℕ) (r : Rule) → rule_for t ≡ r → (r ≡ import → ⊥) → t ≡ 0x10 → ⊥
+unfolding rule_for
+rule-not-import t r w h q = h (sym w ∙ ap rule_for q)
 
 abbrev pub PartsTag : Parts → ℕ → Type 0
 PartsTag unwalked t = Unit {0}
@@ -58,17 +58,17 @@ walked_by t false false false true f x = tt
 walked_by t false false false false true x = eqb-true t 0x66 x
 walked_by t false false false false false x = tt
 
-pub parts-tag : (t : ℕ) (v : Parts) → partsFor t ≡ v → PartsTag v t
-unfolding partsFor
+pub parts-tag : (t : ℕ) (v : Parts) → parts_for t ≡ v → PartsTag v t
+unfolding parts_for
 parts-tag t v q = subst (λ (k : Parts). PartsTag k t) q (walked_by t (eqb t 0x10) (eqb t 0x23) (eqb t 0x63) (eqb t 0x64) (eqb t 0x66) refl)
 
 -- a field whose parts are walked otherwise is no 66
-pub parts-other : (t : ℕ) (v : Parts) → partsFor t ≡ v → (v ≡ assignment → ⊥) → eqb t 0x66 ≡ false
-unfolding partsFor
-parts-other t v w h = ne_eqb t 0x66 (λ q. h (sym w ∙ ap partsFor q))
+pub parts-other : (t : ℕ) (v : Parts) → parts_for t ≡ v → (v ≡ assignment → ⊥) → eqb t 0x66 ≡ false
+unfolding parts_for
+parts-other t v w h = ne_eqb t 0x66 (λ q. h (sym w ∙ ap parts_for q))
 
-pub parts-children : (t : ℕ) → (t ≡ 0x10 → ⊥) → (t ≡ 0x23 → ⊥) → (t ≡ 0x63 → ⊥) → (t ≡ 0x64 → ⊥) → (t ≡ 0x66 → ⊥) → partsFor t ≡ children
-unfolding partsFor
+pub parts-children : (t : ℕ) → (t ≡ 0x10 → ⊥) → (t ≡ 0x23 → ⊥) → (t ≡ 0x63 → ⊥) → (t ≡ 0x64 → ⊥) → (t ≡ 0x66 → ⊥) → parts_for t ≡ children
+unfolding parts_for
 parts-children t a b c d e = rw (ne_eqb t 0x10 a, ne_eqb t 0x23 b, ne_eqb t 0x63 c, ne_eqb t 0x64 d, ne_eqb t 0x66 e) refl
 
 -- ---- The imports that the walk comes to
@@ -78,7 +78,7 @@ abbrev mutual
   pub Imports : Field → (List ℕ → Type 0) → Type 0
   Imports (field t x cs) P =
       (t ≡ 0x10 → P x)
-      × elim (partsFor t) as (λ _. Type 0) [
+      × elim (parts_for t) as (λ _. Type 0) [
         | unwalked ↦ Unit {0}
         | member ↦ ImportsAll cs P
         | super ↦ ImportsAll cs P
@@ -127,7 +127,7 @@ imports-parts children cs P all asg = all
 
 mutual
   pub imports-any : (f : Field) (P : List ℕ → Type 0) → ((x : List ℕ) → P x) → Imports f P
-  imports-any (field t x cs) P h = (λ _. h x, imports-parts (partsFor t) cs P (imports-any-all cs P h) (imports-any-assignment cs P h))
+  imports-any (field t x cs) P h = (λ _. h x, imports-parts (parts_for t) cs P (imports-any-all cs P h) (imports-any-assignment cs P h))
 
   pub imports-any-all : (fs : Fields) (P : List ℕ → Type 0) → ((x : List ℕ) → P x) → ImportsAll fs P
   imports-any-all none P h = tt
@@ -143,14 +143,14 @@ mutual
 -- ---- The walk
 
 -- how the parts of a field are walked
-abbrev pub walkParts : Parts → Fields → Setting → Bool → ℕ → Act Fields
-walkParts v cs e object p =
+abbrev pub walk_parts : Parts → Fields → Setting → Bool → ℕ → Act Fields
+walk_parts v cs e object p =
     elim v as (λ _. Act Fields) [
       | unwalked ↦ give cs
-      | member ↦ walkMember cs e p
-      | super ↦ walkAll cs e false p
-      | assignment ↦ walkAssignment cs e object p
-      | children ↦ walkAll cs e object p
+      | member ↦ walk_member cs e p
+      | super ↦ walk_all cs e false p
+      | assignment ↦ walk_assignment cs e object p
+      | children ↦ walk_all cs e object p
     ]
 
 -- all that the walk does in a pass
@@ -204,9 +204,9 @@ module _ (e : Setting) (P : List ℕ → Type 0) (J : State → Type 0) (steps :
   WalkKeeps m = (p : ℕ) (s : State) → J s → Keeps J (m p s)
 
   parts-keep : (v : Parts) (cs : Fields) (object : Bool) (p : ℕ) (s : State) → ImportsParts v cs P →
-      (ImportsAll cs P → (b : Bool) → WalkKeeps (walkAll cs e b)) → (ImportsAll cs P → WalkKeeps (walkMember cs e)) →
-      (ImportsAssignment cs P → WalkKeeps (walkAssignment cs e object)) → J s →
-      Keeps J (walkParts v cs e object p s)
+      (ImportsAll cs P → (b : Bool) → WalkKeeps (walk_all cs e b)) → (ImportsAll cs P → WalkKeeps (walk_member cs e)) →
+      (ImportsAssignment cs P → WalkKeeps (walk_assignment cs e object)) → J s →
+      Keeps J (walk_parts v cs e object p s)
   parts-keep unwalked cs object p s i all mem asg h = h
   parts-keep member cs object p s i all mem asg h = mem i p s h
   parts-keep super cs object p s i all mem asg h = all i false p s h
@@ -218,41 +218,41 @@ module _ (e : Setting) (P : List ℕ → Type 0) (J : State → Type 0) (steps :
 
     pub walk-keeps : (f : Field) (object : Bool) (p : ℕ) (s : State) → Imports f P → J s → Keeps J (walk f e object p s)
     walk-keeps (field t x cs) object p s i h =
-        then_keeps J (walkParts (partsFor t) cs e object (inside p x) (enter t s)) _
-        (parts-keep (partsFor t) cs object (inside p x) (enter t s) i.1
-        (λ i b p s h. walkAll-keeps cs b p s i h) (λ i p s h. walkMember-keeps cs p s i h)
-        (λ i p s h. walkAssignment-keeps cs object p s i h) (enter-keeps J steps.common.on-top t s h)) λ ds s h.
-        after-keeps e J steps.common P steps.one steps.two (ruleFor t) t x ds object p s (λ q. i.0 (rule-tag t import q)) h
+        then_keeps J (walk_parts (parts_for t) cs e object (inside p x) (enter t s)) _
+        (parts-keep (parts_for t) cs object (inside p x) (enter t s) i.1
+        (λ i b p s h. walk_all-keeps cs b p s i h) (λ i p s h. walk_member-keeps cs p s i h)
+        (λ i p s h. walk_assignment-keeps cs object p s i h) (enter-keeps J steps.common.on-top t s h)) λ ds s h.
+        after-keeps e J steps.common P steps.one steps.two (rule_for t) t x ds object p s (λ q. i.0 (rule-tag t import q)) h
 
-    pub walkAll-keeps : (fs : Fields) (object : Bool) (p : ℕ) (s : State) → ImportsAll fs P → J s → Keeps J (walkAll fs e object p s)
-    walkAll-keeps none object p s i h = h
-    walkAll-keeps (more f fs) object p s i h =
+    pub walk_all-keeps : (fs : Fields) (object : Bool) (p : ℕ) (s : State) → ImportsAll fs P → J s → Keeps J (walk_all fs e object p s)
+    walk_all-keeps none object p s i h = h
+    walk_all-keeps (more f fs) object p s i h =
         then_keeps J (walk f e object p s) _ (walk-keeps f object p s i.0 h) λ g s h.
-        then_keeps J (walkAll fs e object (p + size f) s) _ (walkAll-keeps fs object (p + size f) s i.1 h) λ gs s h. h
+        then_keeps J (walk_all fs e object (p + size f) s) _ (walk_all-keeps fs object (p + size f) s i.1 h) λ gs s h. h
 
-    walkMember-keeps : (fs : Fields) (p : ℕ) (s : State) → ImportsAll fs P → J s → Keeps J (walkMember fs e p s)
-    walkMember-keeps none p s i h = h
-    walkMember-keeps (more f fs) p s i h =
+    walk_member-keeps : (fs : Fields) (p : ℕ) (s : State) → ImportsAll fs P → J s → Keeps J (walk_member fs e p s)
+    walk_member-keeps none p s i h = h
+    walk_member-keeps (more f fs) p s i h =
         then_keeps J (walk f e true p s) _ (walk-keeps f true p s i.0 h) λ g s h.
-        then_keeps J (walkAll fs e false (p + size f) s) _ (walkAll-keeps fs false (p + size f) s i.1 h) λ gs s h. h
+        then_keeps J (walk_all fs e false (p + size f) s) _ (walk_all-keeps fs false (p + size f) s i.1 h) λ gs s h. h
 
-    walkAssignment-keeps : (fs : Fields) (object : Bool) (p : ℕ) (s : State) → ImportsAssignment fs P → J s → Keeps J (walkAssignment fs e object p s)
-    walkAssignment-keeps none object p s i h = h
-    walkAssignment-keeps (more f fs) object p s i h =
-        then_keeps J (walkTarget f e p s) _ (walkTarget-keeps f p s i.0 h) λ g s h.
-        then_keeps J (walkAll fs e object (p + size f) s) _ (walkAll-keeps fs object (p + size f) s i.1 h) λ gs s h. h
+    walk_assignment-keeps : (fs : Fields) (object : Bool) (p : ℕ) (s : State) → ImportsAssignment fs P → J s → Keeps J (walk_assignment fs e object p s)
+    walk_assignment-keeps none object p s i h = h
+    walk_assignment-keeps (more f fs) object p s i h =
+        then_keeps J (walk_target f e p s) _ (walk_target-keeps f p s i.0 h) λ g s h.
+        then_keeps J (walk_all fs e object (p + size f) s) _ (walk_all-keeps fs object (p + size f) s i.1 h) λ gs s h. h
 
-    walkTarget-keeps : (f : Field) (p : ℕ) (s : State) → ImportsTarget f P → J s → Keeps J (walkTarget f e p s)
-    walkTarget-keeps (field t x cs) p s i h =
-        then_keeps J (walkMember cs e (inside p x) s) _ (walkMember-keeps cs (inside p x) s i h) λ ds s h. h
+    walk_target-keeps : (f : Field) (p : ℕ) (s : State) → ImportsTarget f P → J s → Keeps J (walk_target f e p s)
+    walk_target-keeps (field t x cs) p s i h =
+        then_keeps J (walk_member cs e (inside p x) s) _ (walk_member-keeps cs (inside p x) s i h) λ ds s h. h
 
-  pub walkModule-keeps : (items : Fields) (s : State) → ImportsAll items P → J s → Keeps J (walkModule e items s)
-  unfolding walkModule
-  walkModule-keeps items s i h = then_keeps J (walkAll items e false 3 (setTop true s)) _
-      (walkAll-keeps items false 3 (setTop true s) i (steps.common.on-top s true h)) λ gs s h. h
+  pub walk_module-keeps : (items : Fields) (s : State) → ImportsAll items P → J s → Keeps J (walk_module e items s)
+  unfolding walk_module
+  walk_module-keeps items s i h = then_keeps J (walk_all items e false 3 (set_top true s)) _
+      (walk_all-keeps items false 3 (set_top true s) i (steps.common.on-top s true h)) λ gs s h. h
 
-  pub walkAgain-keeps : EndSteps J → (items : Fields) (s : State) → ImportsAll items P → J s → Keeps J (walkAgain e items s)
-  unfolding walkAgain
-  walkAgain-keeps end items s i h =
-      then_keeps J (walkModule e items s) _ (walkModule-keeps items s i h) λ gs s h. then_keeps J (finish e s) _
+  pub walk_again-keeps : EndSteps J → (items : Fields) (s : State) → ImportsAll items P → J s → Keeps J (walk_again e items s)
+  unfolding walk_again
+  walk_again-keeps end items s i h =
+      then_keeps J (walk_module e items s) _ (walk_module-keeps items s i h) λ gs s h. then_keeps J (finish e s) _
       (finish-keeps e J steps.common.requires end s h) λ _ s h. h

@@ -1,7 +1,7 @@
 -- The cards of document 01 that ask for an extraction, each with what the card says it gives, and one sentence: the rules give that.
 use Rattle.std.specs.Prelude.{ℕ, zero, suc, ◌≡◌, refl, true, false, List, [], ◌∷◌, ◌++◌, map, replicate}
 use Rattle.std.proofs.Math.Option.{none as nothing}
-use Rattle.report.specs.Counts.{noCounts}
+use Rattle.report.specs.Counts.{no_counts}
 use Rattle.scope.specs.Modules.{unmarked}
 use Rattle.tree.specs.Tree.{Field, encode}
 use Rattle.extraction_rules.specs.Call.{extraction}
@@ -17,7 +17,7 @@ card1 = record {
   left = record {
     refusal = nothing;
     modules = unmarked 9 ∷ [];
-    report = noCounts;
+    report = no_counts;
     work = 0x01 ∷ 0x00 ∷ 0x00 ∷ replicate 247 0;
     out = 0x01 ∷ 0x00 ∷ 0x00 ∷ replicate 247 0;
     records = 0x02 ∷ 0x00 ∷ 0x00 ∷ replicate 247 0;
@@ -54,7 +54,7 @@ card2 = record {
   left = record {
     refusal = nothing;
     modules = files false false;
-    report = noCounts;
+    report = no_counts;
     work = holding (program (imports (namespace (own a) ∷ metadata ∷ []) ∷ ax ∷ []));
     out = holding (program (imports (named (exp x) ∷ metadata ∷ []) ∷ apart ∷ []));
     records = records2 ++ replicate 228 0;

@@ -3,12 +3,12 @@ use Rattle.std.specs.Prelude.{ℕ, Bool, false, List, eqb}
 use Rattle.std.proofs.Math.Option.{bind, Option-elim}
 use Rattle.scope.specs.Modules.{Modules, number_of}
 use Rattle.inputs.specs.Lists.{find, is_some}
-use Rattle.inputs.specs.Table.{Row, fileOf}
+use Rattle.inputs.specs.Table.{Row, file_of}
 
 -- 'A source resolves to the module of the file its table names': the module n
-abbrev pub isModuleOf : ℕ → List Row → Modules → List ℕ → Bool
-isModuleOf n rows ms a = Option-elim (bind (fileOf a rows) (λ f. number_of f ms)) false (eqb n)
+abbrev pub is_module_of : ℕ → List Row → Modules → List ℕ → Bool
+is_module_of n rows ms a = Option-elim (bind (file_of a rows) (λ f. number_of f ms)) false (eqb n)
 
 -- one of these sources does
 abbrev pub reaches : ℕ → List Row → Modules → List (List ℕ) → Bool
-reaches n rows ms l = is_some (find (isModuleOf n rows ms) l)
+reaches n rows ms l = is_some (find (is_module_of n rows ms) l)

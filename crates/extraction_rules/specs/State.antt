@@ -38,26 +38,26 @@ abbrev pub start : Modules → State
 start ms = record { modules = ms; imported = []; usages = []; collected = []; lazy = []; forced = []; top = true }
 
 -- the state with one thing changed
-abbrev pub setModules : Modules → State → State
-setModules x s = record { modules = x; imported = s.imported; usages = s.usages; collected = s.collected; lazy = s.lazy; forced = s.forced; top = s.top }
+abbrev pub set_modules : Modules → State → State
+set_modules x s = record { modules = x; imported = s.imported; usages = s.usages; collected = s.collected; lazy = s.lazy; forced = s.forced; top = s.top }
 
-abbrev pub setImported : List Imported → State → State
-setImported x s = record { modules = s.modules; imported = x; usages = s.usages; collected = s.collected; lazy = s.lazy; forced = s.forced; top = s.top }
+abbrev pub set_imported : List Imported → State → State
+set_imported x s = record { modules = s.modules; imported = x; usages = s.usages; collected = s.collected; lazy = s.lazy; forced = s.forced; top = s.top }
 
-abbrev pub setUsages : List Usage → State → State
-setUsages x s = record { modules = s.modules; imported = s.imported; usages = x; collected = s.collected; lazy = s.lazy; forced = s.forced; top = s.top }
+abbrev pub set_usages : List Usage → State → State
+set_usages x s = record { modules = s.modules; imported = s.imported; usages = x; collected = s.collected; lazy = s.lazy; forced = s.forced; top = s.top }
 
-abbrev pub setCollected : List Record → State → State
-setCollected x s = record { modules = s.modules; imported = s.imported; usages = s.usages; collected = x; lazy = s.lazy; forced = s.forced; top = s.top }
+abbrev pub set_collected : List Record → State → State
+set_collected x s = record { modules = s.modules; imported = s.imported; usages = s.usages; collected = x; lazy = s.lazy; forced = s.forced; top = s.top }
 
-abbrev pub setLazy : List Record → State → State
-setLazy x s = record { modules = s.modules; imported = s.imported; usages = s.usages; collected = s.collected; lazy = x; forced = s.forced; top = s.top }
+abbrev pub set_lazy : List Record → State → State
+set_lazy x s = record { modules = s.modules; imported = s.imported; usages = s.usages; collected = s.collected; lazy = x; forced = s.forced; top = s.top }
 
-abbrev pub setForced : List (List ℕ) → State → State
-setForced x s = record { modules = s.modules; imported = s.imported; usages = s.usages; collected = s.collected; lazy = s.lazy; forced = x; top = s.top }
+abbrev pub set_forced : List (List ℕ) → State → State
+set_forced x s = record { modules = s.modules; imported = s.imported; usages = s.usages; collected = s.collected; lazy = s.lazy; forced = x; top = s.top }
 
-abbrev pub setTop : Bool → State → State
-setTop x s = record { modules = s.modules; imported = s.imported; usages = s.usages; collected = s.collected; lazy = s.lazy; forced = s.forced; top = x }
+abbrev pub set_top : Bool → State → State
+set_top x s = record { modules = s.modules; imported = s.imported; usages = s.usages; collected = s.collected; lazy = s.lazy; forced = s.forced; top = x }
 
 -- ---- The setting
 

@@ -9,55 +9,55 @@ use lib.Seq.{slice}
 use Rattle.writer.specs.Wrote.{Wrote}
 use Rattle.tree.specs.Layout.{Bytes, two, value_of}
 use Rattle.tree.specs.Tree.{Field, field, Fields, fixed_of, parts_of, encode}
-use Rattle.tree.specs.Grammar.{ruleOf}
-use Rattle.tree.specs.Standing.{treeAt, row_at, Row}
+use Rattle.tree.specs.Grammar.{rule_of}
+use Rattle.tree.specs.Standing.{tree_at, row_at, Row}
 use Rattle.scope.specs.declared.id.Id.{Id}
 use Rattle.inputs.specs.Lists.{among}
 use Rattle.inputs.specs.Fields.{has, sole}
 use Rattle.inputs.specs.Outcome.{done}
 use Rattle.extraction_rules.specs.State.{State, Setting, give}
-use Rattle.extraction_rules.specs.First.{external, specifiersIn}
-use Rattle.extraction_rules.specs.Second.{usagesOf, takeApart, onSole, importSecond}
-use Rattle.state.specs.Cells.{Env, Good, Shows, idBy, sourcesIn}
+use Rattle.extraction_rules.specs.First.{external, specifiers_in}
+use Rattle.extraction_rules.specs.Second.{usages_of, take_apart, on_sole, import_second}
+use Rattle.state.specs.Cells.{Env, Good, Shows, id_by, sources_in}
 use Rattle.state.specs.Does.{Tells, Says}
-use Rattle.steps.specs.Step.{ReadAt, Steps, identBy}
+use Rattle.steps.specs.Step.{ReadAt, Steps, ident_by}
 use Rattle.steps.specs.declared.Step.{Step}
 use Rattle.steps.specs.declared.Step.TheVariants.{Done}
 use Rattle.steps.specs.declared.Ident.{Ident}
 use Rattle.steps.specs.declared.Ident.TheVariants.{Is, Other}
 use Rattle.steps.proofs.StepsLaws.{steps-by}
-use Rattle.imports.specs.Parts.{namespaceBy}
+use Rattle.imports.specs.Parts.{namespace_by}
 use Rattle.imports.proofs.HeadLaws.{Headed, head-external, head-parts, head-row, head-stays}
 
 module _ {s : List ℕ} {at stop from : ℕ} (bytes : Bytes s) (hd : Headed s at stop from) where
   abbrev X : List ℕ
-  X = fixed_of (treeAt s at stop)
+  X = fixed_of (tree_at s at stop)
 
   abbrev CS : Fields
-  CS = parts_of (treeAt s at stop)
+  CS = parts_of (tree_at s at stop)
 
   abbrev Ready : Env → State → Type 0
-  Ready x u = ReadAt s at stop × (external x.setting X ≡ false → among (value_of X) (sourcesIn u.collected) ≡ true)
+  Ready x u = ReadAt s at stop × (external x.setting X ≡ false → among (value_of X) (sources_in u.collected) ≡ true)
 
   abbrev Again : List ℕ → List ℕ → ℕ → List ℕ → List ℕ → Step → Type 0
-  Again t out o t' out' r = Steps encode Ready (λ x. importSecond x.setting X CS) t out o t' out' r
+  Again t out o t' out' r = Steps encode Ready (λ x. import_second x.setting X CS) t out o t' out' r
 
   -- by the two tests
   by_tests : (E : Setting) (a b : Bool) (u : State) → external E X ≡ a → among (value_of X) u.forced ≡ b →
-      importSecond E X CS u ≡ cond (a || b) (give (field 0x10 X CS)) (onSole (sole (specifiersIn CS)) X CS) u
-  unfolding importSecond
-  by_tests E a b u p q = ap₂ (λ (x y : Bool). cond (x || y) (give (field 0x10 X CS)) (onSole (sole (specifiersIn CS)) X CS) u) p q
+      import_second E X CS u ≡ cond (a || b) (give (field 0x10 X CS)) (on_sole (sole (specifiers_in CS)) X CS) u
+  unfolding import_second
+  by_tests E a b u p q = ap₂ (λ (x y : Bool). cond (x || y) (give (field 0x10 X CS)) (on_sole (sole (specifiers_in CS)) X CS) u) p q
 
-  sole-by : (o : Option Field) (i : Option (List ℕ)) (u : State) → i ≡ namespaceBy o →
-      (i ≡ nothing → onSole o X CS u ≡ done (field 0x10 X CS, u)) × ((y : List ℕ) → i ≡ some y → onSole o X CS u ≡ takeApart (usagesOf y u.usages) X CS u)
-  unfolding onSole
+  sole-by : (o : Option Field) (i : Option (List ℕ)) (u : State) → i ≡ namespace_by o →
+      (i ≡ nothing → on_sole o X CS u ≡ done (field 0x10 X CS, u)) × ((y : List ℕ) → i ≡ some y → on_sole o X CS u ≡ take_apart (usages_of y u.usages) X CS u)
+  unfolding on_sole
   sole-by nothing i u p = (λ q. refl, λ y q. absurd (let z : ◌≡◌ {A = ℕ} 0 1 = cc in omega arith))
   sole-by (some f) i u p = go (has 0x22 f) refl p
     where
       go : (b : Bool) → has 0x22 f ≡ b → i ≡ cond b (some (fixed_of f)) nothing →
-          (i ≡ nothing → cond b (λ v. takeApart (usagesOf (fixed_of f) v.usages) X CS v) (give (field 0x10 X CS)) u ≡ done (field 0x10 X CS, u)) ×
-          ((y : List ℕ) → i ≡ some y → cond b (λ v. takeApart (usagesOf (fixed_of f) v.usages) X CS v) (give (field 0x10 X CS)) u ≡ takeApart (usagesOf y u.usages) X CS u)
-      go true k p = (λ q. absurd (let z : ◌≡◌ {A = ℕ} 0 1 = cc in omega arith), λ y q. let z : fixed_of f ≡ y = cc in ap (λ (y : List ℕ). takeApart (usagesOf y u.usages) X CS u) z)
+          (i ≡ nothing → cond b (λ v. take_apart (usages_of (fixed_of f) v.usages) X CS v) (give (field 0x10 X CS)) u ≡ done (field 0x10 X CS, u)) ×
+          ((y : List ℕ) → i ≡ some y → cond b (λ v. take_apart (usages_of (fixed_of f) v.usages) X CS v) (give (field 0x10 X CS)) u ≡ take_apart (usages_of y u.usages) X CS u)
+      go true k p = (λ q. absurd (let z : ◌≡◌ {A = ℕ} 0 1 = cc in omega arith), λ y q. let z : fixed_of f ≡ y = cc in ap (λ (y : List ℕ). take_apart (usages_of y u.usages) X CS u) z)
       go false k p = (λ q. refl, λ y q. absurd (let z : ◌≡◌ {A = ℕ} 0 1 = cc in omega arith))
 
   module _ (n : ℕ) (source : two n ≡ value_of X) {a : Bool} {t : List ℕ} (ext : Says (λ y. among (two n) y.externals) t a) (g : Good t) where
@@ -75,23 +75,23 @@ module _ {s : List ℕ} {at stop from : ℕ} (bytes : Bytes s) (hd : Headed s at
       again-forced q w =
           head-stays hd bytes g w (λ x u h. h.0) (λ x u k h. by_tests x.setting false true u (outside false u k own) (forced-is true u k q))
 
-      module _ (un : b ≡ false) (r : Ident) (so : Row s from stop (ruleOf 0x10) → identBy r ≡ namespaceBy (sole (specifiersIn (row_at s from stop)))) where
-        sole_of : ReadAt s at stop → identBy r ≡ namespaceBy (sole (specifiersIn CS))
+      module _ (un : b ≡ false) (r : Ident) (so : Row s from stop (rule_of 0x10) → ident_by r ≡ namespace_by (sole (specifiers_in (row_at s from stop)))) where
+        sole_of : ReadAt s at stop → ident_by r ≡ namespace_by (sole (specifiers_in CS))
         sole_of rd =
-            so (head-row hd rd) ∙ ap (λ (fs : Fields). namespaceBy (sole (specifiersIn fs))) (sym (head-parts hd))
+            so (head-row hd rd) ∙ ap (λ (fs : Fields). namespace_by (sole (specifiers_in fs))) (sym (head-parts hd))
 
         pub again-other : {out out' : List ℕ} {o p : ℕ} → r ≡ Other → Wrote out o (slice at stop s) out' p → Again t out o t out' (Done p)
         again-other q w =
             head-stays hd bytes g w (λ x u h. h.0) (λ x u k h.
             by_tests x.setting false false u (outside false u k own) (forced-is false u k un)
-            ∙ (sole-by (sole (specifiersIn CS)) (identBy r) u (sole_of h.0)).0 (ap identBy q))
+            ∙ (sole-by (sole (specifiers_in CS)) (ident_by r) u (sole_of h.0)).0 (ap ident_by q))
 
         pub again-apart : (id : Id) {t' out out' : List ℕ} {o p : ℕ} → r ≡ Is id →
-            Steps encode (λ x u. ReadAt s at stop × (among (value_of X) (sourcesIn u.collected) ≡ true)) (λ _ u. takeApart (usagesOf (idBy id) u.usages) X CS u) t out o t' out' (Done p) →
+            Steps encode (λ x u. ReadAt s at stop × (among (value_of X) (sources_in u.collected) ≡ true)) (λ _ u. take_apart (usages_of (id_by id) u.usages) X CS u) t out o t' out' (Done p) →
             Again t out o t' out' (Done p)
         again-apart id q w =
             steps-by _ w (λ x u k h. (
               (h.0, h.1 (outside false u k own)),
               by_tests x.setting false false u (outside false u k own) (forced-is false u k un)
-                  ∙ (sole-by (sole (specifiersIn CS)) (identBy r) u (sole_of h.0)).1 (idBy id) (ap identBy q),
+                  ∙ (sole-by (sole (specifiers_in CS)) (ident_by r) u (sole_of h.0)).1 (id_by id) (ap ident_by q),
             ))

@@ -16,18 +16,18 @@ use Rattle.scope.specs.Id.{export}
 use Rattle.tree.specs.declared.layout.Reach.TheVariants.{Upto, Short}
 use Rattle.tree.specs.Layout.{Bytes}
 use Rattle.tree.specs.Tree.{Field, Fields, none, more, tag_of, parts_of, encode, encodes}
-use Rattle.tree.specs.Access.{extentAt}
-use Rattle.tree.specs.Grammar.{ruleOf}
-use Rattle.tree.specs.Standing.{treeAt, row_at}
+use Rattle.tree.specs.Access.{extent_at}
+use Rattle.tree.specs.Grammar.{rule_of}
+use Rattle.tree.specs.Standing.{tree_at, row_at}
 use Rattle.tree.proofs.StandingLaws.{row-none, whole-step}
 use Rattle.tree.proofs.SoundLaws.{row-sound}
 use Rattle.tree.proofs.WidthLaws.{plain-width}
 use Rattle.tree.proofs.TreeLaws.{encodes-none, encodes_one}
 use Rattle.tree.specs.declared.grammar.Value.TheVariants.{Empty}
-use Rattle.metadata.specs.Metadata.{append, attributesFor, withMetadata, contextAttribute}
+use Rattle.metadata.specs.Metadata.{append, attributes_for, with_metadata, context_attribute}
 use Rattle.metadata.proofs.EncodeLaws.{encodes-append, framed-field}
-use Rattle.inputs.specs.Fields.{has, keep, findField}
-use Rattle.extraction_rules.specs.First.{attributesOf}
+use Rattle.inputs.specs.Fields.{has, keep, find_field}
+use Rattle.extraction_rules.specs.First.{attributes_of}
 use Rattle.extraction_rules.proofs.ShapeLaws.{specifier-is}
 use Rattle.steps.specs.Step.{ReadAt}
 use Rattle.steps.proofs.SoundLaws.{read-inside, read-tag}
@@ -46,18 +46,18 @@ kept-meets p (more g fs) gs f e = by (p g) (kept-meets p fs gs f) refl e
     by false h q e = h e
 
 module _ {s : List ℕ} {at end : ℕ} (bytes : Bytes s) (le : at ≤ end) (fits : end ≤ length s) where
-  behind-last : {stop : ℕ} → extentAt s at end ≡ Upto stop → Behind s at end → LastPart s at end stop
+  behind-last : {stop : ℕ} → extent_at s at end ≡ Upto stop → Behind s at end → LastPart s at end stop
   behind-last {stop} e b =
       ⊎_elim (λ f.
       absurd (
-      let k : has 0x2F (treeAt s at stop) ≡ true = kept-meets (has 0x2F) (row_at s at end) (row_at s stop end) (treeAt s at stop) (b.only ∙ f.row) in
+      let k : has 0x2F (tree_at s at stop) ≡ true = kept-meets (has 0x2F) (row_at s at end) (row_at s stop end) (tree_at s at stop) (b.only ∙ f.row) in
       let i = specifier-is (get_or s at 0) f.specified.specifier in
-      let z : has 0x2F (treeAt s at stop) ≡ false = ne_eqb (tag_of (treeAt s at stop)) 0x2F (λ q. let j = f.tag in omega arith) in
+      let z : has 0x2F (tree_at s at stop) ≡ false = ne_eqb (tag_of (tree_at s at stop)) 0x2F (λ q. let j = f.tag in omega arith) in
       let y : ◌≡◌ {A = ℕ} 0 1 = cc in
       omega arith)) (λ l. l) (part-cases bytes le fits e b.row)
 
 -- the parts of a 2F are all its content
-content-is : {s : List ℕ} {at stop : ℕ} → Bytes s → ReadAt s at stop → get_or s at 0 ≡ 0x2F → encodes (parts_of (treeAt s at stop)) ≡ slice (at + 3) stop s
+content-is : {s : List ℕ} {at stop : ℕ} → Bytes s → ReadAt s at stop → get_or s at 0 ≡ 0x2F → encodes (parts_of (tree_at s at stop)) ≡ slice (at + 3) stop s
 content-is {s} {at} {stop} bytes r e =
     let v = whole-step s at stop r.whole in
     let i = read-inside r in
@@ -67,49 +67,49 @@ content-is {s} {at} {stop} bytes r e =
     let n = plain-width 0x2F Empty refl x e (framed-exact w) in
     let l = framed-length w in
     let z : v.0 ≡ at + 3 = omega arith in
-    ap (λ (f : Field). encodes (parts_of f)) (framed-tree w) ∙ (row-sound s v.0 stop (ruleOf (get_or s at 0)) bytes j.1 i.1 v.2).0
+    ap (λ (f : Field). encodes (parts_of f)) (framed-tree w) ∙ (row-sound s v.0 stop (rule_of (get_or s at 0)) bytes j.1 i.1 v.2).0
     ∙ ap (λ (k : ℕ). slice k stop s) z
 
-old-is : (f : Field) (fs : Fields) → has 0x2F f ≡ true → attributesOf (findField (has 0x2F) (more f fs)) ≡ parts_of f
-unfolding findField
+old-is : (f : Field) (fs : Fields) → has 0x2F f ≡ true → attributes_of (find_field (has 0x2F) (more f fs)) ≡ parts_of f
+unfolding find_field
 old-is f fs e = rw e refl
 
-old-none : attributesOf (findField (has 0x2F) none) ≡ none
-unfolding findField
+old-none : attributes_of (find_field (has 0x2F) none) ≡ none
+unfolding find_field
 old-none = refl
 
 module _ {s : List ℕ} {at end : ℕ} (bytes : Bytes s) (le : at ≤ end) (fits : end ≤ length s) {out : List ℕ} {o : ℕ} where
-  pub attributes-copied : {stop : ℕ} {out' : List ℕ} {p : ℕ} → extentAt s at end ≡ Upto stop → Wrote out o (slice (at + 3) stop s) out' p → Attributes s at end encodes out o out' p
+  pub attributes-copied : {stop : ℕ} {out' : List ℕ} {p : ℕ} → extent_at s at end ≡ Upto stop → Wrote out o (slice (at + 3) stop s) out' p → Attributes s at end encodes out o out' p
   attributes-copied {stop} e w =
       record {
         is = λ b.
             let l = behind-last bytes le fits e b in
-            wrote_as w (sym (ap (λ (fs : Fields). encodes (attributesOf (findField (has 0x2F) fs))) l.row
-            ∙ ap encodes (old-is (treeAt s at stop) none (eq-eqb (tag_of (treeAt s at stop)) 0x2F l.tag))
+            wrote_as w (sym (ap (λ (fs : Fields). encodes (attributes_of (find_field (has 0x2F) fs))) l.row
+            ∙ ap encodes (old-is (tree_at s at stop) none (eq-eqb (tag_of (tree_at s at stop)) 0x2F l.tag))
             ∙ content-is bytes l.read (sym (read-tag l.read) ∙ l.tag)));
       }
 
-  pub attributes-none : extentAt s at end ≡ Short → Attributes s at end encodes out o out o
+  pub attributes-none : extent_at s at end ≡ Short → Attributes s at end encodes out o out o
   attributes-none e =
       record {
         is = λ b.
-            wrote_as wrote_none (sym (ap (λ (fs : Fields). encodes (attributesOf (findField (has 0x2F) fs))) (row-none s at end le e) ∙ ap encodes old-none ∙ encodes-none));
+            wrote_as wrote_none (sym (ap (λ (fs : Fields). encodes (attributes_of (find_field (has 0x2F) fs))) (row-none s at end le e) ∙ ap encodes old-none ∙ encodes-none));
       }
 
 -- ---- With a context
 
-context-written : (old : Fields) (c : ℕ) → framed 0x2F (encodes old ++ encode (contextAttribute c)) ≡ encode (withMetadata (record { injected = false; context = some c }) old)
-unfolding withMetadata attributesFor append
+context-written : (old : Fields) (c : ℕ) → framed 0x2F (encodes old ++ encode (context_attribute c)) ≡ encode (with_metadata (record { injected = false; context = some c }) old)
+unfolding with_metadata attributes_for append
 context-written old c =
-    ap (λ (b : List ℕ). framed 0x2F (encodes old ++ b)) (sym (encodes_one (contextAttribute c)))
-    ∙ ap (framed 0x2F) (sym (encodes-append old (more (contextAttribute c) none))) ∙ framed-field 0x2F [] (append old (more (contextAttribute c) none))
+    ap (λ (b : List ℕ). framed 0x2F (encodes old ++ b)) (sym (encodes_one (context_attribute c)))
+    ∙ ap (framed 0x2F) (sym (encodes-append old (more (context_attribute c) none))) ∙ framed-field 0x2F [] (append old (more (context_attribute c) none))
 
 pub context-put : {s : List ℕ} {at end : ℕ} (n : ℕ) {c : ℕ} {l m k j out' : List ℕ} {o x q p : ℕ} → c ≡ export n → Opened l o 0x2F m x → Attributes s at end encodes m x k q →
-    Wrote k q (encode (contextAttribute c)) j p → out' ≡ closed j o p →
-    Attributes s at end (λ old. encode (withMetadata (record { injected = false; context = some (export n) }) old)) l o out' p
+    Wrote k q (encode (context_attribute c)) j p → out' ≡ closed j o p →
+    Attributes s at end (λ old. encode (with_metadata (record { injected = false; context = some (export n) }) old)) l o out' p
 context-put {s} {at} {end} n {c} e u a w v =
     record {
       is = λ b.
-          let old = attributesOf (findField (has 0x2F) (row_at s at end)) in
-          wrote_as (wrote-field u (wrote_then (a.is b) w) v) (context-written old c ∙ ap (λ (i : ℕ). encode (withMetadata (record { injected = false; context = some i }) old)) e);
+          let old = attributes_of (find_field (has 0x2F) (row_at s at end)) in
+          wrote_as (wrote-field u (wrote_then (a.is b) w) v) (context-written old c ∙ ap (λ (i : ℕ). encode (with_metadata (record { injected = false; context = some i }) old)) e);
     }

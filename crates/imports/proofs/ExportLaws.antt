@@ -10,34 +10,34 @@ use lib.Seq.{slice}
 use borrow.Author.Tests.{eqb-true, eq-eqb, ne_eqb}
 use Rattle.writer.specs.Wrote.{Wrote}
 use Rattle.writer.proofs.Wrote.{wrote_as}
-use Rattle.tree.specs.Layout.{Bytes, two, twoAt, atomAt, id_at}
+use Rattle.tree.specs.Layout.{Bytes, two, two_at, atom_at, id_at}
 use Rattle.tree.specs.Tree.{field, none, fixed_of, encode}
-use Rattle.tree.specs.Standing.{treeAt, row_at}
+use Rattle.tree.specs.Standing.{tree_at, row_at}
 use Rattle.tree.specs.Within.{Exact}
-use Rattle.tree.proofs.LayoutLaws.{two_at}
+use Rattle.tree.proofs.LayoutLaws.{two_at-is}
 use Rattle.tree.proofs.SliceLaws.{take-slice}
 use Rattle.scope.specs.Id.{local}
 use Rattle.scope.specs.declared.id.Id.{Id}
-use Rattle.extraction_rules.specs.First.{idFrom, exportedName, exportSpecifier, forceId}
+use Rattle.extraction_rules.specs.First.{id_from, exported_name, export_specifier, force_id}
 use Rattle.extraction_rules.proofs.ExactLaws.{width-23}
-use Rattle.state.specs.Cells.{Good, idBy, Shows}
+use Rattle.state.specs.Cells.{Good, id_by, Shows}
 use Rattle.state.specs.Does.{Turns, Says}
 use Rattle.steps.specs.Step.{Steps}
 use Rattle.steps.specs.declared.Step.TheVariants.{Done, Refused}
 use Rattle.steps.specs.declared.Why.TheVariants.{StringName}
 use Rattle.steps.proofs.StepsLaws.{steps-done, steps-refused}
-use Rattle.imports.specs.Parts.{Framed, exportedAt}
+use Rattle.imports.specs.Parts.{Framed, exported_at}
 use Rattle.imports.proofs.WidthLaws.{byte_of, slice_of, framed-in, framed-exact, framed-tree, framed-length}
 
 -- ---- The exported name
 
-pub exported-given : (s : List ℕ) (at : ℕ) {n : ℕ} → Bytes s → get_or s (at + 10) 0 ≡ 1 → at + 13 ≤ length s → n ≡ twoAt s (at + 11) → two n ≡ exportedAt s at
-unfolding exportedAt
-exported-given s at b e h f = rw (eq-eqb (get_or s (at + 10) 0) 1 e) (ap two f ∙ two_at s (at + 11) b (omega arith))
+pub exported-given : (s : List ℕ) (at : ℕ) {n : ℕ} → Bytes s → get_or s (at + 10) 0 ≡ 1 → at + 13 ≤ length s → n ≡ two_at s (at + 11) → two n ≡ exported_at s at
+unfolding exported_at
+exported-given s at b e h f = rw (eq-eqb (get_or s (at + 10) 0) 1 e) (ap two f ∙ two_at-is s (at + 11) b (omega arith))
 
-pub exported-filled : (s : List ℕ) (at : ℕ) {n : ℕ} → Bytes s → (get_or s (at + 10) 0 ≡ 1 → ⊥) → at + 11 ≤ length s → n ≡ twoAt s (at + 4) → two n ≡ exportedAt s at
-unfolding exportedAt
-exported-filled s at b e h f = rw (ne_eqb (get_or s (at + 10) 0) 1 e) (ap two f ∙ two_at s (at + 4) b (omega arith))
+pub exported-filled : (s : List ℕ) (at : ℕ) {n : ℕ} → Bytes s → (get_or s (at + 10) 0 ≡ 1 → ⊥) → at + 11 ≤ length s → n ≡ two_at s (at + 4) → two n ≡ exported_at s at
+unfolding exported_at
+exported-filled s at b e h f = rw (ne_eqb (get_or s (at + 10) 0) 1 e) (ap two f ∙ two_at-is s (at + 4) b (omega arith))
 
 -- ---- The fixed bytes of a 23
 
@@ -49,13 +49,13 @@ module _ {s : List ℕ} {at stop from : ℕ} (e : get_or s at 0 ≡ 0x23) (w : F
   abbrev X : List ℕ
   X = slice (at + 3) from s
 
-  tree_of : treeAt s at stop ≡ field 0x23 X (row_at s from stop)
+  tree_of : tree_at s at stop ≡ field 0x23 X (row_at s from stop)
   tree_of = framed-tree w ∙ ap (λ (k : ℕ). field k X (row_at s from stop)) e
 
   exact-of : Exact 0x23 X
   exact-of = subst (λ (k : ℕ). Exact k X) e (framed-exact w)
 
-  fixed-of : fixed_of (treeAt s at stop) ≡ X
+  fixed-of : fixed_of (tree_at s at stop) ≡ X
   fixed-of = ap fixed_of tree_of
 
   -- the kind of the original
@@ -70,8 +70,8 @@ module _ {s : List ℕ} {at stop from : ℕ} (e : get_or s at 0 ≡ 0x23) (w : F
   first_byte = let h = export-first in byte_of (at + 3) from s 0 (at + 3) (omega arith) (omega arith)
 
   pub export-string : {t out : List ℕ} {o : ℕ} → Good t → get_or s (at + 3) 0 ≡ 2 →
-      Steps encode (λ x u. Unit {0}) (λ x. exportSpecifier x.setting (fixed_of (treeAt s at stop)) at) t out o t out (Refused StringName at)
-  unfolding exportSpecifier
+      Steps encode (λ x u. Unit {0}) (λ x. export_specifier x.setting (fixed_of (tree_at s at stop)) at) t out o t out (Refused StringName at)
+  unfolding export_specifier
   export-string g q = steps-refused g refl (λ x s k u. rw (fixed-of, eq-eqb (get_or X 0 0) 2 (first_byte ∙ q)) refl)
 
   module _ (n : get_or s (at + 3) 0 ≡ 2 → ⊥) where
@@ -96,15 +96,15 @@ module _ {s : List ℕ} {at stop from : ℕ} (e : get_or s at 0 ≡ 0x23) (w : F
     export-room = let i = (framed-in w).2 in let h = export-second in (omega arith, λ q. let k = export-third q in omega arith)
 
     pub export-outside : {t out : List ℕ} {o : ℕ} → Good t → get_or s (at + 10) 0 ≡ 2 →
-        Steps encode (λ x u. Unit {0}) (λ x. exportSpecifier x.setting (fixed_of (treeAt s at stop)) at) t out o t out (Refused StringName at)
-    unfolding exportSpecifier
+        Steps encode (λ x u. Unit {0}) (λ x. export_specifier x.setting (fixed_of (tree_at s at stop)) at) t out o t out (Refused StringName at)
+    unfolding export_specifier
     export-outside g q = steps-refused g refl (λ x s k u. rw (fixed-of, no-string, eq-eqb (get_or X 7 0) 2 (second-byte ∙ q)) refl)
 
-    name-is : exportedName X ≡ exportedAt s at
-    unfolding exportedName exportedAt
-    name-is = ap (λ (b : ℕ). cond (eqb b 1) (atomAt X 8) (atomAt X 1)) second-byte ∙ by (eqb (get_or s (at + 10) 0) 1) refl
+    name-is : exported_name X ≡ exported_at s at
+    unfolding exported_name exported_at
+    name-is = ap (λ (b : ℕ). cond (eqb b 1) (atom_at X 8) (atom_at X 1)) second-byte ∙ by (eqb (get_or s (at + 10) 0) 1) refl
       where
-        by : (b : Bool) → eqb (get_or s (at + 10) 0) 1 ≡ b → cond b (atomAt X 8) (atomAt X 1) ≡ cond b (atomAt s (at + 11)) (atomAt s (at + 4))
+        by : (b : Bool) → eqb (get_or s (at + 10) 0) 1 ≡ b → cond b (atom_at X 8) (atom_at X 1) ≡ cond b (atom_at s (at + 11)) (atom_at s (at + 4))
         by true q =
             let k = export-third (eqb-true (get_or s (at + 10) 0) 1 q) in
             slice_of (at + 3) from s 8 10 (at + 11) (at + 11 + 2) (omega arith) (omega arith) (omega arith) (framed-in w).2
@@ -119,20 +119,20 @@ module _ {s : List ℕ} {at stop from : ℕ} (e : get_or s at 0 ≡ 0x23) (w : F
     original-is : id_at X 1 ≡ id_at s (at + 4)
     original-is = let h = export-second in slice_of (at + 3) from s 1 7 (at + 4) (at + 4 + 6) (omega arith) (omega arith) (omega arith) (framed-in w).2
 
-    pub export-made : {t t' out out' : List ℕ} {o p c n : ℕ} (id : Id) → (get_or s (at + 10) 0 ≡ 2 → ⊥) → idBy id ≡ id_at s (at + 4) → Turns (forceId (idBy id)) t t' →
-        Says (λ y. y.own) t' n → c ≡ local n → Wrote out o (encode (field 0x23 (slice (at + 3) (at + 10) s ++ 1 ∷ idFrom (exportedAt s at) c) none)) out' p →
-        Steps encode (λ x u. Unit {0}) (λ x. exportSpecifier x.setting (fixed_of (treeAt s at stop)) at) t out o t' out' (Done p)
-    unfolding exportSpecifier
+    pub export-made : {t t' out out' : List ℕ} {o p c n : ℕ} (id : Id) → (get_or s (at + 10) 0 ≡ 2 → ⊥) → id_by id ≡ id_at s (at + 4) → Turns (force_id (id_by id)) t t' →
+        Says (λ y. y.own) t' n → c ≡ local n → Wrote out o (encode (field 0x23 (slice (at + 3) (at + 10) s ++ 1 ∷ id_from (exported_at s at) c) none)) out' p →
+        Steps encode (λ x u. Unit {0}) (λ x. export_specifier x.setting (fixed_of (tree_at s at stop)) at) t out o t' out' (Done p)
+    unfolding export_specifier
     export-made {t' = t'} {c = c} id m i f q l v =
         steps-done f.good v.size (λ x u k b.
-        let own = q.is (forceId (idBy id) u) (f.shows u k) in
+        let own = q.is (force_id (id_by id) u) (f.shows u k) in
         record {
-          value = field 0x23 (take 7 X ++ 1 ∷ idFrom (exportedName X) (local x.setting.own)) none;
-          state = forceId (id_at X 1) u;
+          value = field 0x23 (take 7 X ++ 1 ∷ id_from (exported_name X) (local x.setting.own)) none;
+          state = force_id (id_at X 1) u;
           is = rw (fixed-of, no-string, ne_eqb (get_or X 7 0) 2 (λ z. m (sym second-byte ∙ z))) refl;
           wrote =
               wrote_as v (ap encode
-              (ap₂ (λ (a b : List ℕ). field 0x23 (a ++ 1 ∷ idFrom b c) none) (sym front-is) (sym name-is)
-              ∙ ap (λ (a : ℕ). field 0x23 (take 7 X ++ 1 ∷ idFrom (exportedName X) a) none) (l ∙ ap local own)));
-          shows = subst (λ (j : List ℕ). Shows x t' (forceId j u)) (i ∙ sym original-is) (f.shows u k);
+              (ap₂ (λ (a b : List ℕ). field 0x23 (a ++ 1 ∷ id_from b c) none) (sym front-is) (sym name-is)
+              ∙ ap (λ (a : ℕ). field 0x23 (take 7 X ++ 1 ∷ id_from (exported_name X) a) none) (l ∙ ap local own)));
+          shows = subst (λ (j : List ℕ). Shows x t' (force_id j u)) (i ∙ sym original-is) (f.shows u k);
         })

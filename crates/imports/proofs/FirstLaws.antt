@@ -14,21 +14,21 @@ use Rattle.scope.specs.Id.{export}
 use Rattle.scope.specs.declared.id.ModuleId.{ModuleId}
 use Rattle.tree.specs.Layout.{Bytes, two, value_of}
 use Rattle.tree.specs.Tree.{Field, field, Fields, none, more, fixed_of, parts_of, encode, encodes, size}
-use Rattle.tree.specs.Grammar.{ruleOf}
-use Rattle.tree.specs.Standing.{treeAt, row_at}
+use Rattle.tree.specs.Grammar.{rule_of}
+use Rattle.tree.specs.Standing.{tree_at, row_at}
 use Rattle.tree.specs.Within.{Formed}
 use Rattle.tree.proofs.TreeLaws.{content-size}
-use Rattle.metadata.specs.Metadata.{append, withMetadata}
+use Rattle.metadata.specs.Metadata.{append, with_metadata}
 use Rattle.metadata.proofs.EncodeLaws.{encodes-append, framed-field}
 use Rattle.inputs.specs.Lists.{among}
-use Rattle.inputs.specs.Fields.{has, keep, findField, inside}
+use Rattle.inputs.specs.Fields.{has, keep, find_field, inside}
 use Rattle.inputs.specs.Outcome.{Outcome, done, onto}
 use Rattle.extraction_rules.specs.State.{State, Setting}
-use Rattle.extraction_rules.specs.First.{external, moduleFor, noteAll, specifiersIn, attributesIn, attributesOf, withContext, collect, importFirst}
+use Rattle.extraction_rules.specs.First.{external, module_for, note_all, specifiers_in, attributes_in, attributes_of, with_context, collect, import_first}
 use Rattle.extraction_rules.proofs.OutcomeLaws.{after-done}
 use Rattle.extraction_rules.proofs.ShapeLaws.{ShapedAll, formed-shaped-all}
 use Rattle.extraction_rules.proofs.KeepLaws.{keep_all, keep_meets, keep-specifiers}
-use Rattle.state.specs.Cells.{Env, Good, Shows, countNamespaces, namespacesIn}
+use Rattle.state.specs.Cells.{Env, Good, Shows, count_namespaces, namespaces_in}
 use Rattle.state.specs.Does.{Says, Gave, Resolves}
 use Rattle.state.specs.declared.Module.{Module}
 use Rattle.state.specs.declared.Module.TheVariants.{Is, Unresolved, TooMany}
@@ -39,23 +39,23 @@ use Rattle.steps.specs.declared.Why.{Why}
 use Rattle.steps.specs.declared.Why.TheVariants.{TooManyFiles}
 use Rattle.steps.proofs.SoundLaws.{read-formed, read-size}
 use Rattle.steps.proofs.StepsLaws.{steps-refused}
-use Rattle.imports.specs.Parts.{Ends, Behind, Attributes, Collected, importOn}
+use Rattle.imports.specs.Parts.{Ends, Behind, Attributes, Collected, import_on}
 use Rattle.imports.proofs.HeadLaws.{Headed, head-external, head_in, head_fixed, head-parts, head-tree, head-row, head-copied, head-begun, head-stays}
 use Rattle.imports.proofs.NoteAllLaws.{NotedAll}
-use Rattle.imports.proofs.CountLaws.{namespaces-size, parts_again, SameAll, noteAll-same, moduleFor-collects}
+use Rattle.imports.proofs.CountLaws.{namespaces-size, parts_again, SameAll, note_all-same, module_for-collects}
 
 -- ---- What is kept
 
 keep-again : (p : Field → Bool) (fs : Fields) → keep p (keep p fs) ≡ keep p fs
 keep-again p fs = keep_all p (keep p fs) (keep_meets p fs)
 
-find-kept : (p : Field → Bool) (fs : Fields) → findField p (keep p fs) ≡ findField p fs
-unfolding findField keep
+find-kept : (p : Field → Bool) (fs : Fields) → find_field p (keep p fs) ≡ find_field p fs
+unfolding find_field keep
 find-kept p none = refl
 find-kept p (more f fs) = by (p f) refl (find-kept p fs)
   where
-    by : (b : Bool) → p f ≡ b → findField p (keep p fs) ≡ findField p fs → findField p (cond b (more f (keep p fs)) (keep p fs)) ≡ cond b (some f) (findField p fs)
-    by true q h = ap (λ (c : Bool). cond c (some f) (findField p (keep p fs))) q
+    by : (b : Bool) → p f ≡ b → find_field p (keep p fs) ≡ find_field p fs → find_field p (cond b (more f (keep p fs)) (keep p fs)) ≡ cond b (some f) (find_field p fs)
+    by true q h = ap (λ (c : Bool). cond c (some f) (find_field p (keep p fs))) q
     by false q h = h
 
 -- a field whose last part is one more
@@ -67,18 +67,18 @@ last_written x fs f =
 
 module _ {s : List ℕ} {at stop from : ℕ} (bytes : Bytes s) (hd : Headed s at stop from) where
   abbrev X : List ℕ
-  X = fixed_of (treeAt s at stop)
+  X = fixed_of (tree_at s at stop)
 
   abbrev CS : Fields
-  CS = parts_of (treeAt s at stop)
+  CS = parts_of (tree_at s at stop)
 
   abbrev Ready : Env → State → Type 0
-  Ready x u = ReadAt s at stop × Reads x s × (9 * namespacesIn u.collected ≤ at) × (stop ≤ 32768)
+  Ready x u = ReadAt s at stop × Reads x s × (9 * namespaces_in u.collected ≤ at) × (stop ≤ 32768)
 
   -- ---- The parts, and room for their namespaces
 
-  shaped : ReadAt s at stop → ShapedAll CS (ruleOf 0x10)
-  shaped r = formed-shaped-all CS (ruleOf 0x10) (subst Formed (head-tree hd) (read-formed r bytes)).2
+  shaped : ReadAt s at stop → ShapedAll CS (rule_of 0x10)
+  shaped r = formed-shaped-all CS (rule_of 0x10) (subst Formed (head-tree hd) (read-formed r bytes)).2
 
   literal-length : length X ≡ 6
   literal-length =
@@ -89,45 +89,45 @@ module _ {s : List ℕ} {at stop from : ℕ} (bytes : Bytes s) (hd : Headed s at
   inside_is : inside at X ≡ from
   inside_is = let l = literal-length in let k = (head_in hd).0 in omega arith
 
-  room-left : (n : ℕ) → ReadAt s at stop → 9 * n ≤ at → stop ≤ 32768 → n + countNamespaces CS ≤ 3641
+  room-left : (n : ℕ) → ReadAt s at stop → 9 * n ≤ at → stop ≤ 32768 → n + count_namespaces CS ≤ 3641
   room-left n r a b =
       let z = ap size (head-tree hd) ∙ content-size 0x10 X CS in
       let y = read-size r bytes in
       let l = literal-length in
-      let m = namespaces-size CS (ruleOf 0x10) (shaped r) in
+      let m = namespaces-size CS (rule_of 0x10) (shaped r) in
       omega arith
 
   -- ---- Unresolved
 
   abbrev onward : Option ℕ → Fields → Outcome (Unit {0} × State) → Outcome (Field × State)
-  onward n fs m = onto m (λ r. done (field 0x10 X (append fs (withContext n CS)), r.1))
+  onward n fs m = onto m (λ r. done (field 0x10 X (append fs (with_context n CS)), r.1))
 
-  unresolved-is : (u : State) → importOn nothing X CS at u ≡ onward nothing (specifiersIn CS) (collect (record { literal = X; specifiers = specifiersIn CS }) at u)
-  unfolding importOn
+  unresolved-is : (u : State) → import_on nothing X CS at u ≡ onward nothing (specifiers_in CS) (collect (record { literal = X; specifiers = specifiers_in CS }) at u)
+  unfolding import_on
   unresolved-is u = refl
 
-  unresolved-bytes : ReadAt s at stop → encode (field 0x10 X CS) ≡ encode (field 0x10 X (append (specifiersIn CS) (withContext nothing CS)))
-  unfolding withContext
+  unresolved-bytes : ReadAt s at stop → encode (field 0x10 X CS) ≡ encode (field 0x10 X (append (specifiers_in CS) (with_context nothing CS)))
+  unfolding with_context
   unresolved-bytes r = ap (λ (fs : Fields). encode (field 0x10 X fs)) (sym (parts_again CS (shaped r)))
 
   pub first-unresolved : {t t' out out' : List ℕ} {o p : ℕ} {k : Step} → Wrote out o (slice at stop s) out' p → Collected s X CS at t t' p k →
-      Steps encode Ready (λ _. importOn nothing X CS at) t out o t' out' k
+      Steps encode Ready (λ _. import_on nothing X CS at) t out o t' out' k
   first-unresolved {out = out} {out' = out'} {o = o} {p = p} w c =
       record {
         good = c.good;
         size = w.size;
         made = λ q d u b h.
-            let did = c.made q d u (specifiersIn CS) (keep-specifiers CS) (room-left (namespacesIn u.collected) h.0 h.2 h.3) b h.1 in
+            let did = c.made q d u (specifiers_in CS) (keep-specifiers CS) (room-left (namespaces_in u.collected) h.0 h.2 h.3) b h.1 in
             record {
-              value = field 0x10 X (append (specifiersIn CS) (withContext nothing CS));
+              value = field 0x10 X (append (specifiers_in CS) (with_context nothing CS));
               state = did.state;
-              is = unresolved-is u ∙ ap (onward nothing (specifiersIn CS)) did.is;
+              is = unresolved-is u ∙ ap (onward nothing (specifiers_in CS)) did.is;
               wrote =
-                  subst (λ (i : ℕ). Wrote out o (encode (field 0x10 X (append (specifiersIn CS) (withContext nothing CS)))) out' i) (sym (c.place q d))
+                  subst (λ (i : ℕ). Wrote out o (encode (field 0x10 X (append (specifiers_in CS) (with_context nothing CS)))) out' i) (sym (c.place q d))
                   (wrote_as (head-copied hd bytes h.0 w) (unresolved-bytes h.0));
               shows = did.shows;
             };
-        turned = λ y q d u b h. unresolved-is u ∙ ap (onward nothing (specifiersIn CS)) (c.turned y q d u (specifiersIn CS) b h.1);
+        turned = λ y q d u b h. unresolved-is u ∙ ap (onward nothing (specifiers_in CS)) (c.turned y q d u (specifiers_in CS) b h.1);
       }
 
   -- ---- Resolved
@@ -135,46 +135,46 @@ module _ {s : List ℕ} {at stop from : ℕ} (bytes : Bytes s) (hd : Headed s at
   abbrev rest_of : ℕ → Outcome (Fields × State) → Outcome (Field × State)
   rest_of n m = onto m (λ r. onward (some n) r.0 (collect (record { literal = X; specifiers = r.0 }) at r.1))
 
-  resolved-is : (n : ℕ) (u : State) → importOn (some n) X CS at u ≡ rest_of n (noteAll n (specifiersIn (row_at s from stop)) from u)
-  unfolding importOn
+  resolved-is : (n : ℕ) (u : State) → import_on (some n) X CS at u ≡ rest_of n (note_all n (specifiers_in (row_at s from stop)) from u)
+  unfolding import_on
   resolved-is n u =
-      ap₂ (λ (fs : Fields) (p : ℕ). rest_of n (noteAll n (specifiersIn fs) p u)) (head-parts hd) inside_is
+      ap₂ (λ (fs : Fields) (p : ℕ). rest_of n (note_all n (specifiers_in fs) p u)) (head-parts hd) inside_is
 
   abbrev contextual : ℕ → Fields → Field
-  contextual n old = withMetadata (record { injected = false; context = some (export n) }) old
+  contextual n old = with_metadata (record { injected = false; context = some (export n) }) old
 
-  context-is : (n : ℕ) → withContext (some n) CS ≡ more (contextual n (attributesOf (findField (has 0x2F) CS))) none
-  unfolding withContext
+  context-is : (n : ℕ) → with_context (some n) CS ≡ more (contextual n (attributes_of (find_field (has 0x2F) CS))) none
+  unfolding with_context
   context-is n = refl
 
   module _ {a : ℕ} (v : Ends s from stop a) (r : ReadAt s at stop) where
-    attributes-at : row_at s a stop ≡ attributesIn (row_at s from stop)
+    attributes-at : row_at s a stop ≡ attributes_in (row_at s from stop)
     attributes-at = sym (v.attributes (head-row hd r))
 
     behind-is : Behind s a stop
     behind-is =
         record {
           row = v.row (head-row hd r);
-          only = ap attributesIn attributes-at ∙ keep-again (has 0x2F) (row_at s from stop) ∙ sym attributes-at;
+          only = ap attributes_in attributes-at ∙ keep-again (has 0x2F) (row_at s from stop) ∙ sym attributes-at;
         }
 
-    old-same : attributesOf (findField (has 0x2F) (row_at s a stop)) ≡ attributesOf (findField (has 0x2F) CS)
+    old-same : attributes_of (find_field (has 0x2F) (row_at s a stop)) ≡ attributes_of (find_field (has 0x2F) CS)
     old-same =
-        ap (λ (fs : Fields). attributesOf (findField (has 0x2F) fs)) attributes-at ∙ ap attributesOf (find-kept (has 0x2F) (row_at s from stop))
-        ∙ ap (λ (fs : Fields). attributesOf (findField (has 0x2F) fs)) (sym (head-parts hd))
+        ap (λ (fs : Fields). attributes_of (find_field (has 0x2F) fs)) attributes-at ∙ ap attributes_of (find-kept (has 0x2F) (row_at s from stop))
+        ∙ ap (λ (fs : Fields). attributes_of (find_field (has 0x2F) fs)) (sym (head-parts hd))
 
   module _ (n : ℕ) {t l k t' j : List ℕ} {o d : ℕ} {y : Step} (bg : Begun l o (get_or s at 0) (slice (at + 3) from s) k d) (nt : NotedAll n s from stop t k d y t' j) where
     begun-here : Begun l o 0x10 X k d
     begun-here = head-begun hd bg
 
-    pub first-refused : {w : Why} {q : ℕ} → y ≡ Refused w q → Steps encode Ready (λ _. importOn (some n) X CS at) t l o t' j (Refused w q)
+    pub first-refused : {w : Why} {q : ℕ} → y ≡ Refused w q → Steps encode Ready (λ _. import_on (some n) X CS at) t l o t' j (Refused w q)
     first-refused {w} {q} f =
         steps-refused nt.good (nt.size ∙ begun-here.fixed.size ∙ ap length begun-here.opened.tag ∙ length-set l o 0x10) (λ x u b h.
         resolved-is n u ∙ ap (rest_of n) (nt.turned w q f u b (head-row hd h.0)))
 
     pub first-resolved : {q a p : ℕ} {h out' t'' : List ℕ} {z : Step} → y ≡ Done q → Ends s from stop a →
         Attributes s a stop (λ old. encode (contextual n old)) j q h p → out' ≡ closed h o p →
-        length out' ≡ length l → Collected s X CS at t' t'' p z → Steps encode Ready (λ _. importOn (some n) X CS at) t l o t'' out' z
+        length out' ≡ length l → Collected s X CS at t' t'' p z → Steps encode Ready (λ _. import_on (some n) X CS at) t l o t'' out' z
     first-resolved {q} {a} {p} {h} {out'} f v w cl sz g =
         record {
           good = g.good;
@@ -182,20 +182,20 @@ module _ {s : List ℕ} {at stop from : ℕ} (bytes : Bytes s) (hd : Headed s at
           made = λ i d u b r.
               let m = nt.made q f u b (head-row hd r.0) in
               let fs = m.value in
-              let same = after-done (noteAll n (specifiersIn (row_at s from stop)) from u) (SameAll u (specifiersIn (row_at s from stop))) (fs, m.state) m.is
-              (noteAll-same n (specifiersIn (row_at s from stop)) from u) in
+              let same = after-done (note_all n (specifiers_in (row_at s from stop)) from u) (SameAll u (specifiers_in (row_at s from stop))) (fs, m.state) m.is
+              (note_all-same n (specifiers_in (row_at s from stop)) from u) in
               let e₁ : keep (has 0x22) fs ≡ keep (has 0x22) CS =
               same.0 ∙ keep-specifiers (row_at s from stop) ∙ ap (keep (has 0x22)) (sym (head-parts hd)) in
-              let e₂ : namespacesIn m.state.collected ≡ namespacesIn u.collected = ap namespacesIn same.1 in
-              let most = room-left (namespacesIn u.collected) r.0 r.2 r.3 in
+              let e₂ : namespaces_in m.state.collected ≡ namespaces_in u.collected = ap namespaces_in same.1 in
+              let most = room-left (namespaces_in u.collected) r.0 r.2 r.3 in
               let did = g.made i d m.state fs e₁ (omega arith) m.shows r.1 in
-              let old = attributesOf (findField (has 0x2F) CS) in
+              let old = attributes_of (find_field (has 0x2F) CS) in
               record {
-                value = field 0x10 X (append fs (withContext (some n) CS));
+                value = field 0x10 X (append fs (with_context (some n) CS));
                 state = did.state;
                 is = resolved-is n u ∙ ap (rest_of n) m.is ∙ ap (onward (some n) fs) did.is;
                 wrote =
-                    subst (λ (x : ℕ). Wrote l o (encode (field 0x10 X (append fs (withContext (some n) CS)))) out' x) (sym (g.place i d))
+                    subst (λ (x : ℕ). Wrote l o (encode (field 0x10 X (append fs (with_context (some n) CS)))) out' x) (sym (g.place i d))
                     (wrote_as (wrote-field begun-here.opened
                     (wrote_then begun-here.fixed
                     (wrote_then m.wrote (wrote_as (w.is (behind-is v r.0)) (ap (λ (x : Fields). encode (contextual n x)) (old-same v r.0))))) cl)
@@ -210,27 +210,27 @@ module _ {s : List ℕ} {at stop from : ℕ} (bytes : Bytes s) (hd : Headed s at
   -- ---- By its module
 
   abbrev then-on : Outcome (Option ℕ × State) → Outcome (Field × State)
-  then-on m = onto m (λ r. importOn r.0 X CS at r.1)
+  then-on m = onto m (λ r. import_on r.0 X CS at r.1)
 
-  external-is : (E : Setting) (u : State) → external E X ≡ true → importFirst E X CS at u ≡ done (field 0x10 X CS, u)
-  unfolding importFirst
+  external-is : (E : Setting) (u : State) → external E X ≡ true → import_first E X CS at u ≡ done (field 0x10 X CS, u)
+  unfolding import_first
   external-is E u q = rw q refl
 
-  module-is : (E : Setting) (u : State) (n : ℕ) → two n ≡ value_of X → external E X ≡ false → importFirst E X CS at u ≡ then-on (moduleFor E (two n) at u)
-  unfolding importFirst importOn
-  module-is E u n c q = rw q (ap (λ (l : List ℕ). then-on (moduleFor E l at u)) (sym c))
+  module-is : (E : Setting) (u : State) (n : ℕ) → two n ≡ value_of X → external E X ≡ false → import_first E X CS at u ≡ then-on (module_for E (two n) at u)
+  unfolding import_first import_on
+  module-is E u n c q = rw q (ap (λ (l : List ℕ). then-on (module_for E l at u)) (sym c))
 
   module _ (n : ℕ) (source : two n ≡ value_of X) {a : Bool} {t : List ℕ} (ext : Says (λ y. among (two n) y.externals) t a) where
     outside : (b : Bool) {x : Env} (u : State) → Shows x t u → a ≡ b → external x.setting X ≡ b
     outside b {x} u k q = head-external hd x.setting n source (ext.is u k) q
 
     pub first-external : {out out' : List ℕ} {o p : ℕ} → Good t → a ≡ true → Wrote out o (slice at stop s) out' p →
-        Steps encode Ready (λ x. importFirst x.setting X CS at) t out o t out' (Done p)
+        Steps encode Ready (λ x. import_first x.setting X CS at) t out o t out' (Done p)
     first-external g q w = head-stays hd bytes g w (λ x u h. h.0) (λ x u k h. external-is x.setting u (outside true u k q))
 
     module _ (own : a ≡ false) where
-      on-given : (i : Option ℕ) {m t' out out' : List ℕ} {o : ℕ} {k : Step} → ((x : Env) (u : State) → Shows x t u → Gave x (moduleFor x.setting (two n) at u) i m) →
-          Steps encode Ready (λ _. importOn i X CS at) m out o t' out' k → Steps encode Ready (λ x. importFirst x.setting X CS at) t out o t' out' k
+      on-given : (i : Option ℕ) {m t' out out' : List ℕ} {o : ℕ} {k : Step} → ((x : Env) (u : State) → Shows x t u → Gave x (module_for x.setting (two n) at u) i m) →
+          Steps encode Ready (λ _. import_on i X CS at) m out o t' out' k → Steps encode Ready (λ x. import_first x.setting X CS at) t out o t' out' k
       on-given i {m} f w =
           record {
             good = w.good;
@@ -250,20 +250,20 @@ module _ {s : List ℕ} {at stop from : ℕ} (bytes : Bytes s) (hd : Headed s at
                 module-is x.setting u n source (outside false u b own) ∙ ap then-on g.is ∙ w.turned y q d g.state g.shows (still x u g.state g.is r);
           }
         where
-          still : (x : Env) (u v : State) → moduleFor x.setting (two n) at u ≡ done (i, v) → Ready x u → Ready x v
+          still : (x : Env) (u v : State) → module_for x.setting (two n) at u ≡ done (i, v) → Ready x u → Ready x v
           still x u v q r =
-              let z = ap namespacesIn (after-done (moduleFor x.setting (two n) at u) (λ _ s'. s'.collected ≡ u.collected) (i, v) q (moduleFor-collects x.setting (two n) at u)) in
+              let z = ap namespaces_in (after-done (module_for x.setting (two n) at u) (λ _ s'. s'.collected ≡ u.collected) (i, v) q (module_for-collects x.setting (two n) at u)) in
               let b = r.2 in
               (r.0, r.1, omega arith, r.3)
 
-      module _ {m : List ℕ} {y : Module} (c : Resolves (λ E. moduleFor E (two n)) t m y) where
-        pub first-module : (i : ModuleId) {t' out out' : List ℕ} {o : ℕ} {k : Step} → y ≡ Is i → Steps encode Ready (λ _. importOn (some i.0) X CS at) m out o t' out' k →
-            Steps encode Ready (λ x. importFirst x.setting X CS at) t out o t' out' k
+      module _ {m : List ℕ} {y : Module} (c : Resolves (λ E. module_for E (two n)) t m y) where
+        pub first-module : (i : ModuleId) {t' out out' : List ℕ} {o : ℕ} {k : Step} → y ≡ Is i → Steps encode Ready (λ _. import_on (some i.0) X CS at) m out o t' out' k →
+            Steps encode Ready (λ x. import_first x.setting X CS at) t out o t' out' k
         first-module i q w = on-given (some i.0) (λ x u b. c.number i q u at b) w
 
-        pub first-nowhere : {t' out out' : List ℕ} {o : ℕ} {k : Step} → y ≡ Unresolved → Steps encode Ready (λ _. importOn nothing X CS at) m out o t' out' k →
-            Steps encode Ready (λ x. importFirst x.setting X CS at) t out o t' out' k
+        pub first-nowhere : {t' out out' : List ℕ} {o : ℕ} {k : Step} → y ≡ Unresolved → Steps encode Ready (λ _. import_on nothing X CS at) m out o t' out' k →
+            Steps encode Ready (λ x. import_first x.setting X CS at) t out o t' out' k
         first-nowhere q w = on-given nothing (λ x u b. c.unresolved q u at b) w
 
-        pub first-many : {out : List ℕ} {o : ℕ} → y ≡ TooMany → Steps encode Ready (λ x. importFirst x.setting X CS at) t out o m out (Refused TooManyFiles at)
+        pub first-many : {out : List ℕ} {o : ℕ} → y ≡ TooMany → Steps encode Ready (λ x. import_first x.setting X CS at) t out o m out (Refused TooManyFiles at)
         first-many q = steps-refused c.good refl (λ x u b r. module-is x.setting u n source (outside false u b own) ∙ ap then-on (c.full q u at b))

@@ -9,8 +9,8 @@ use lib.ListN.{length}
 use lib.Dec.{leb}
 use Rattle.tree.specs.declared.layout.Reach.TheVariants.{Upto, Short}
 use Rattle.tree.specs.Tree.{Field, Fields, none, more, fixed_of}
-use Rattle.tree.specs.Access.{extentAt}
-use Rattle.tree.specs.Standing.{treeAt, row_at}
+use Rattle.tree.specs.Access.{extent_at}
+use Rattle.tree.specs.Standing.{tree_at, row_at}
 use Rattle.tree.proofs.AccessLaws.{extent-upto}
 use Rattle.tree.proofs.StandingLaws.{row_more, row-none}
 use Rattle.scope.specs.declared.id.Id.{Id}
@@ -19,11 +19,11 @@ use Rattle.inputs.specs.Fields.{has, keep}
 use Rattle.inputs.specs.Outcome.{Outcome, done, refused}
 use Rattle.inputs.proofs.AcceptedLaws.{done_refused as not_done}
 use Rattle.tree.specs.Layout.{two, id_at, same, value_of}
-use Rattle.extraction_rules.specs.State.{Record, State, setCollected, change, refuse}
-use Rattle.extraction_rules.specs.First.{collectIn, collect}
+use Rattle.extraction_rules.specs.State.{Record, State, set_collected, change, refuse}
+use Rattle.extraction_rules.specs.First.{collect_in, collect}
 use Rattle.extraction_rules.proofs.KeepLaws.{keep-none, keep-yes, keep-no}
-use Rattle.state.specs.Cells.{Env, records, held, Good, Shows, idBy, literalBy, Valued, flag, countNamespaces, namespacesIn}
-use Rattle.state.specs.Does.{Says, Did, place_in, extendAt, Extends, Collects}
+use Rattle.state.specs.Cells.{Env, records, held, Good, Shows, id_by, literal_by, Valued, flag, count_namespaces, namespaces_in}
+use Rattle.state.specs.Does.{Says, Did, place_in, extend_at, Extends, Collects}
 use Rattle.state.specs.declared.Literal.{Literal}
 use Rattle.state.specs.declared.Place.{Place}
 use Rattle.state.specs.declared.Place.TheVariants.{Index, NoRoom}
@@ -33,44 +33,44 @@ use Rattle.state.proofs.CollectLaws.{length-extend}
 use Rattle.state.proofs.ExtendLaws.{extended-other}
 use Rattle.state.proofs.NamespaceLaws.{namespaces-extended, extend-more, extend-none}
 use Rattle.state.proofs.RecordLaws.{held-shown}
-use Rattle.steps.specs.Step.{identBy, Reads}
-use Rattle.steps.specs.Refusal.{refusalOf}
+use Rattle.steps.specs.Step.{ident_by, Reads}
+use Rattle.steps.specs.Refusal.{refusal_of}
 use Rattle.steps.specs.declared.Ident.{Ident}
 use Rattle.steps.specs.declared.Ident.TheVariants.{Is, Other}
 use Rattle.steps.specs.declared.Step.TheVariants.{Done, Refused}
 use Rattle.steps.specs.declared.Why.{Why}
 use Rattle.steps.specs.declared.Why.TheVariants.{TableFull}
 use Rattle.steps.proofs.StepsLaws.{done_refused, done-same}
-use Rattle.imports.specs.Parts.{namespaceIn, Gathers, Extending, Gathering, Collected}
+use Rattle.imports.specs.Parts.{namespace_in, Gathers, Extending, Gathering, Collected}
 
 -- ---- Specifiers that are no namespaces
 
-pub count-more : (f : Field) (fs : Fields) → countNamespaces (more f fs) ≡ flag (has 0x22 f) + countNamespaces fs
-unfolding countNamespaces
+pub count-more : (f : Field) (fs : Fields) → count_namespaces (more f fs) ≡ flag (has 0x22 f) + count_namespaces fs
+unfolding count_namespaces
 count-more f fs = refl
 
 no_more : {A : Type 0} {f : Field} {fs : Fields} → more f fs ≡ none → A
 no_more e = absurd (let z : ◌≡◌ {A = ℕ} 0 1 = cc in omega arith)
 
 -- one more of them, and then the others
-extend-then : {y : Env} {t : List ℕ} (i : ℕ) (f : Field) (fs : Fields) (s : State) → Shows y t (setCollected (extendAt i fs (extendAt i (more f none) s.collected)) s) →
-    Shows y t (setCollected (extendAt i (more f fs) s.collected) s)
-extend-then {y} {t} i f fs s w = subst (λ (l : List Record). Shows y t (setCollected l s)) (sym (extend-more i f fs s.collected)) w
+extend-then : {y : Env} {t : List ℕ} (i : ℕ) (f : Field) (fs : Fields) (s : State) → Shows y t (set_collected (extend_at i fs (extend_at i (more f none) s.collected)) s) →
+    Shows y t (set_collected (extend_at i (more f fs) s.collected) s)
+extend-then {y} {t} i f fs s w = subst (λ (l : List Record). Shows y t (set_collected l s)) (sym (extend-more i f fs s.collected)) w
 
 others-shown : {y : Env} {t : List ℕ} (i : ℕ) (fs : Fields) (s : State) → keep (has 0x22) fs ≡ none → i < length s.collected → Shows y t s →
-    Shows y t (setCollected (extendAt i fs s.collected) s)
-others-shown {y} {t} i none s e b w = subst (λ (l : List Record). Shows y t (setCollected l s)) (sym (extend-none i s.collected)) w
+    Shows y t (set_collected (extend_at i fs s.collected) s)
+others-shown {y} {t} i none s e b w = subst (λ (l : List Record). Shows y t (set_collected l s)) (sym (extend-none i s.collected)) w
 others-shown {y} {t} i (more f fs) s e b w = by (has 0x22 f) refl (λ u. others-shown i fs u)
   where
     by : (c : Bool) → has 0x22 f ≡ c →
         ((u : State) → keep (has 0x22) fs ≡ none → i < length u.collected → Shows y t u →
-        Shows y t (setCollected (extendAt i fs u.collected) u)) →
-        Shows y t (setCollected (extendAt i (more f fs) s.collected) s)
+        Shows y t (set_collected (extend_at i fs u.collected) u)) →
+        Shows y t (set_collected (extend_at i (more f fs) s.collected) s)
     by true q h = no_more (sym (keep-yes (has 0x22) f fs q) ∙ e)
     by false q h =
         let l = length-extend i (more f none) s.collected in
         extend-then i f fs s
-        (h (setCollected (extendAt i (more f none) s.collected) s) (sym (keep-no (has 0x22) f fs q) ∙ e) (omega arith) (extended-other i f q w b))
+        (h (set_collected (extend_at i (more f none) s.collected) s) (sym (keep-no (has 0x22) f fs q) ∙ e) (omega arith) (extended-other i f q w b))
 
 pub gathers-none : (i : ℕ) {t : List ℕ} → Good t → Gathers i none t t
 gathers-none i g = record { good = g; kept = refl; shows = λ s fs e b m w. others-shown i fs s (e ∙ keep-none (has 0x22)) b w }
@@ -90,7 +90,7 @@ gathers-other i f cs q g =
 
 module _ (i : ℕ) (f : Field) (cs : Fields) {t m t' : List ℕ} (q : has 0x22 f ≡ true) (x : Extends i (fixed_of f) t m) (g : Gathers i cs m t') where
   namespace-then : {y : Env} (g₀ : Field) (gs : Fields) (s : State) → has 0x22 g₀ ≡ true → more g₀ (keep (has 0x22) gs) ≡ more f (keep (has 0x22) cs) → i < length s.collected →
-      namespacesIn s.collected + (1 + countNamespaces cs) ≤ 3641 → Shows y t s → Shows y t' (setCollected (extendAt i (more g₀ gs) s.collected) s)
+      namespaces_in s.collected + (1 + count_namespaces cs) ≤ 3641 → Shows y t s → Shows y t' (set_collected (extend_at i (more g₀ gs) s.collected) s)
   namespace-then g₀ gs s p e b n w =
       let z : g₀ ≡ f = cc in
       let k : keep (has 0x22) gs ≡ keep (has 0x22) cs = cc in
@@ -98,23 +98,23 @@ module _ (i : ℕ) (f : Field) (cs : Fields) {t m t' : List ℕ} (q : has 0x22 f
       let c = namespaces-extended i g₀ s.collected b in
       let o : flag (has 0x22 g₀) ≡ 1 = ap flag p in
       extend-then i g₀ gs s
-      (g.shows (setCollected (extendAt i (more g₀ none) s.collected) s) gs k (omega arith) (omega arith) (x.shows s g₀ p (ap fixed_of z) (omega arith) w))
+      (g.shows (set_collected (extend_at i (more g₀ none) s.collected) s) gs k (omega arith) (omega arith) (x.shows s g₀ p (ap fixed_of z) (omega arith) w))
 
   namespace-shown : {y : Env} (fs : Fields) (s : State) → keep (has 0x22) fs ≡ more f (keep (has 0x22) cs) → i < length s.collected →
-      namespacesIn s.collected + (1 + countNamespaces cs) ≤ 3641 → Shows y t s → Shows y t' (setCollected (extendAt i fs s.collected) s)
+      namespaces_in s.collected + (1 + count_namespaces cs) ≤ 3641 → Shows y t s → Shows y t' (set_collected (extend_at i fs s.collected) s)
   namespace-shown none s e b n w = no_more (sym e ∙ keep-none (has 0x22))
   namespace-shown {y} (more h fs) s e b n w = by (has 0x22 h) refl (λ u. namespace-shown fs u)
     where
       by : (c : Bool) → has 0x22 h ≡ c → ((u : State) → keep (has 0x22) fs ≡ more f (keep (has 0x22) cs) → i < length u.collected →
-          namespacesIn u.collected + (1 + countNamespaces cs) ≤ 3641 → Shows y t u → Shows y t' (setCollected (extendAt i fs u.collected) u)) →
-          Shows y t' (setCollected (extendAt i (more h fs) s.collected) s)
+          namespaces_in u.collected + (1 + count_namespaces cs) ≤ 3641 → Shows y t u → Shows y t' (set_collected (extend_at i fs u.collected) u)) →
+          Shows y t' (set_collected (extend_at i (more h fs) s.collected) s)
       by true p r = namespace-then h fs s p (sym (keep-yes (has 0x22) h fs p) ∙ e) b n w
       by false p r =
           let l = length-extend i (more h none) s.collected in
           let c = namespaces-extended i h s.collected b in
           let o : flag (has 0x22 h) ≡ 0 = ap flag p in
           extend-then i h fs s
-          (r (setCollected (extendAt i (more h none) s.collected) s) (sym (keep-no (has 0x22) h fs p) ∙ e) (omega arith) (omega arith) (extended-other i h p w b))
+          (r (set_collected (extend_at i (more h none) s.collected) s) (sym (keep-no (has 0x22) h fs p) ∙ e) (omega arith) (omega arith) (extended-other i h p w b))
 
   gathers-more : Gathers i (more f cs) t t'
   gathers-more =
@@ -129,24 +129,24 @@ module _ (i : ℕ) (f : Field) (cs : Fields) {t m t' : List ℕ} (q : has 0x22 f
 
 -- ---- The field at a place
 
-named-is : (f : Field) (x : List ℕ) → some x ≡ namespaceIn f → (has 0x22 f ≡ true) × (x ≡ fixed_of f)
+named-is : (f : Field) (x : List ℕ) → some x ≡ namespace_in f → (has 0x22 f ≡ true) × (x ≡ fixed_of f)
 named-is f x e = by (has 0x22 f) refl e
   where
     by : (c : Bool) → has 0x22 f ≡ c → some x ≡ cond c (some (fixed_of f)) nothing → (has 0x22 f ≡ true) × (x ≡ fixed_of f)
     by true q e = (q, cc)
     by false q e = absurd (let z : ◌≡◌ {A = ℕ} 0 1 = cc in omega arith)
 
-named_other : (f : Field) → nothing ≡ namespaceIn f → has 0x22 f ≡ false
+named_other : (f : Field) → nothing ≡ namespace_in f → has 0x22 f ≡ false
 named_other f e = by (has 0x22 f) refl e
   where
     by : (c : Bool) → has 0x22 f ≡ c → nothing ≡ cond c (some (fixed_of f)) nothing → has 0x22 f ≡ false
     by true q e = absurd (let z : ◌≡◌ {A = ℕ} 0 1 = cc in omega arith)
     by false q e = q
 
-module _ (i : ℕ) (f : Field) (r : Ident) (e : identBy r ≡ namespaceIn f) {t : List ℕ} where
-  pub extending-is : (id : Id) {t' : List ℕ} → r ≡ Is id → Extends i (idBy id) t t' → Extending i f t t'
+module _ (i : ℕ) (f : Field) (r : Ident) (e : ident_by r ≡ namespace_in f) {t : List ℕ} where
+  pub extending-is : (id : Id) {t' : List ℕ} → r ≡ Is id → Extends i (id_by id) t t' → Extending i f t t'
   extending-is id {t'} q x =
-      let w = named-is f (idBy id) (sym (ap identBy q) ∙ e) in
+      let w = named-is f (id_by id) (sym (ap ident_by q) ∙ e) in
       record {
         good = x.good;
         kept = x.kept;
@@ -154,7 +154,7 @@ module _ (i : ℕ) (f : Field) (r : Ident) (e : identBy r ≡ namespaceIn f) {t 
       }
 
   pub extending-other : Good t → r ≡ Other → Extending i f t t
-  extending-other g q = record { good = g; kept = refl; next = λ {t''} {cs} h. gathers-other i f cs (named_other f (sym (ap identBy q) ∙ e)) h }
+  extending-other g q = record { good = g; kept = refl; next = λ {t''} {cs} h. gathers-other i f cs (named_other f (sym (ap ident_by q) ∙ e)) h }
 
 -- ---- All fields
 
@@ -169,7 +169,7 @@ pub filling-start : (i : ℕ) (s : List ℕ) (from end : ℕ) {t : List ℕ} →
 filling-start i s from end g h b = record { good = g; before = h; below = b; cells = refl; rest = λ t' w. w }
 
 module _ (i : ℕ) (s : List ℕ) (from end : ℕ) {t₀ t : List ℕ} {at : ℕ} (g : Filling i s from end t₀ t at) where
-  pub filling-more : {t' : List ℕ} {stop : ℕ} → extentAt s at end ≡ Upto stop → Extending i (treeAt s at stop) t t' → length t' ≡ length t → Filling i s from end t₀ t' stop
+  pub filling-more : {t' : List ℕ} {stop : ℕ} → extent_at s at end ≡ Upto stop → Extending i (tree_at s at stop) t t' → length t' ≡ length t → Filling i s from end t₀ t' stop
   filling-more {t'} {stop} e x l =
       let k = x.kept in
       let b = g.below in
@@ -181,24 +181,24 @@ module _ (i : ℕ) (s : List ℕ) (from end : ℕ) {t₀ t : List ℕ} {at : ℕ
         rest = λ t'' w. g.rest t'' (subst (λ (fs : Fields). Gathers i fs t t'') (sym (row_more s at end stop g.before e)) (x.next w));
       }
 
-  pub filling-end : extentAt s at end ≡ Short → Gathers i (row_at s from end) t₀ t
+  pub filling-end : extent_at s at end ≡ Short → Gathers i (row_at s from end) t₀ t
   filling-end e = g.rest t (subst (λ (fs : Fields). Gathers i fs t t) (sym (row-none s at end g.before e)) (gathers-none i g.good))
 
 -- ---- A record is collected
 
-count-append : (a b : Fields) → countNamespaces (append a b) ≡ countNamespaces a + countNamespaces b
-unfolding countNamespaces append
+count-append : (a b : Fields) → count_namespaces (append a b) ≡ count_namespaces a + count_namespaces b
+unfolding count_namespaces append
 count-append none b = omega arith
 count-append (more f a) b = let e = count-append a b in omega arith
 
-pub collect-count : (r : Record) (l : List Record) → namespacesIn (collectIn r l) ≡ namespacesIn l + countNamespaces r.specifiers
-unfolding collectIn namespacesIn
+pub collect-count : (r : Record) (l : List Record) → namespaces_in (collect_in r l) ≡ namespaces_in l + count_namespaces r.specifiers
+unfolding collect_in namespaces_in
 collect-count r [] = omega arith
 collect-count r (q ∷ l) = by (same (value_of q.literal) (value_of r.literal)) (collect-count r l)
   where
-    by : (b : Bool) → namespacesIn (collectIn r l) ≡ namespacesIn l + countNamespaces r.specifiers →
-        namespacesIn (cond b (record { literal = q.literal; specifiers = append q.specifiers r.specifiers } ∷ l) (q ∷ collectIn r l)) ≡
-        countNamespaces q.specifiers + namespacesIn l + countNamespaces r.specifiers
+    by : (b : Bool) → namespaces_in (collect_in r l) ≡ namespaces_in l + count_namespaces r.specifiers →
+        namespaces_in (cond b (record { literal = q.literal; specifiers = append q.specifiers r.specifiers } ∷ l) (q ∷ collect_in r l)) ≡
+        count_namespaces q.specifiers + namespaces_in l + count_namespaces r.specifiers
     by true h = let c = count-append q.specifiers r.specifiers in omega arith
     by false h = omega arith
 
@@ -210,17 +210,17 @@ done-state : {u v : State} → ◌≡◌ {A = Outcome (Unit {0} × State)} (done
 done-state {u} e = ap (state_of u) e
 
 -- collecting a record without specifiers brings no namespace
-gathered-count : (x : List ℕ) (l : List Record) (s : State) → collect (record { literal = x; specifiers = none }) 0 s ≡ done (tt, setCollected l s) →
-    namespacesIn l ≡ namespacesIn s.collected
-unfolding collect countNamespaces
-gathered-count x l s e = by (leb (length (collectIn (record { literal = x; specifiers = none }) s.collected)) 256) e
+gathered-count : (x : List ℕ) (l : List Record) (s : State) → collect (record { literal = x; specifiers = none }) 0 s ≡ done (tt, set_collected l s) →
+    namespaces_in l ≡ namespaces_in s.collected
+unfolding collect count_namespaces
+gathered-count x l s e = by (leb (length (collect_in (record { literal = x; specifiers = none }) s.collected)) 256) e
   where
-    by : (b : Bool) → cond b (change (setCollected (collectIn (record { literal = x; specifiers = none }) s.collected))) (refuse 8 0) s ≡ done (tt, setCollected l s) →
-        namespacesIn l ≡ namespacesIn s.collected
+    by : (b : Bool) → cond b (change (set_collected (collect_in (record { literal = x; specifiers = none }) s.collected))) (refuse 8 0) s ≡ done (tt, set_collected l s) →
+        namespaces_in l ≡ namespaces_in s.collected
     by true e =
         let c = collect-count (record { literal = x; specifiers = none }) s.collected in
-        let z : collectIn (record { literal = x; specifiers = none }) s.collected ≡ l = ap (λ (u : State). u.collected) (done-state e) in
-        ap namespacesIn (sym z) ∙ c ∙ omega arith
+        let z : collect_in (record { literal = x; specifiers = none }) s.collected ≡ l = ap (λ (u : State). u.collected) (done-state e) in
+        ap namespaces_in (sym z) ∙ c ∙ omega arith
     by false e = not_done e
 
 module _ (l : Literal) (cs : Fields) {t m : List ℕ} {r : Place} (c : Collects l t m r) where
@@ -230,13 +230,13 @@ module _ (l : Literal) (cs : Fields) {t m : List ℕ} {r : Place} (c : Collects 
         good = g.good;
         made = λ _ {y} s fs p k n w v.
             let d = c.made i e s w v in
-            let z = gathered-count (literalBy y l) d.list s (d.is none 0 ∙ ap (λ (q : List Record). done (tt, setCollected q s)) (extend-none i d.list)) in
+            let z = gathered-count (literal_by y l) d.list s (d.is none 0 ∙ ap (λ (q : List Record). done (tt, set_collected q s)) (extend-none i d.list)) in
             let h = held-shown d.shows in
             let b = c.below i e in
             record {
-              state = setCollected (extendAt i fs d.list) s;
+              state = set_collected (extend_at i fs d.list) s;
               is = d.is fs p;
-              shows = g.shows (setCollected d.list s) fs k (omega arith) (omega arith) d.shows;
+              shows = g.shows (set_collected d.list s) fs k (omega arith) (omega arith) d.shows;
             };
         full = λ q s fs p w v. absurd (let z : ◌≡◌ {A = ℕ} 0 1 = cc in omega arith);
       }
@@ -257,7 +257,7 @@ collecting fs at u z = collect (record { literal = z; specifiers = fs }) at u
 -- the literal that stands at `at` of the tree that is walked
 module _ {s x : List ℕ} {cs ds : Fields} (at p : ℕ) {l : Literal} {n : ℕ} {t t' : List ℕ} {r : Room} (fits : at + 3 + 6 ≤ length s) (a : id_at s (at + 3) ≡ x) (b : ds ≡ cs)
     (place : Says (λ e. place_in e.pass (at + 3)) t n) (read : (value_of (id_at s (at + 3)) ≡ two l.value.0) × (l.place ≡ n)) (g : Gathering l cs t t' r) where
-  literal-is : {y : Env} {u : State} → Shows y t u → Reads y s → literalBy y l ≡ id_at s (at + 3)
+  literal-is : {y : Env} {u : State} → Shows y t u → Reads y s → literal_by y l ≡ id_at s (at + 3)
   literal-is {y} {u} k d = ap y.literal (read.1 ∙ place.is u k) ∙ d.literals (at + 3) fits
 
   valued : {y : Env} {u : State} → Shows y t u → Reads y s → Valued y l
@@ -270,7 +270,7 @@ module _ {s x : List ℕ} {cs ds : Fields} (at p : ℕ) {l : Literal} {n : ℕ} 
         place = λ q d. sym (done-same d);
         made = λ q d {y} u fs k m w h.
             let f : keep (has 0x22) fs ≡ keep (has 0x22) cs = k ∙ ap (keep (has 0x22)) b in
-            let c = ap countNamespaces b in
+            let c = ap count_namespaces b in
             subst (λ (z : List ℕ). Did y (collecting fs at u z) t') (literal-is w h ∙ a) (g.made e u fs at f (omega arith) w (valued w h));
         turned = λ w q d u fs k h. done_refused refl d;
       }
@@ -285,5 +285,5 @@ module _ {s x : List ℕ} {cs ds : Fields} (at p : ℕ) {l : Literal} {n : ℕ} 
             let i : TableFull ≡ w = cc in
             let j : at ≡ q = cc in
             sym (ap (collecting fs at u) (literal-is k h ∙ a)) ∙ g.full e u fs at k (valued k h)
-            ∙ ap (λ (z : Why). refused (refusalOf z) at) i ∙ ap (refused (refusalOf w)) j;
+            ∙ ap (λ (z : Why). refused (refusal_of z) at) i ∙ ap (refused (refusal_of w)) j;
       }

@@ -9,13 +9,13 @@ use lib.Seq.{slice}
 use Rattle.writer.specs.Wrote.{Wrote}
 use Rattle.writer.proofs.Wrote.{wrote_as}
 use Rattle.tree.specs.declared.layout.Reach.TheVariants.{Upto, Short}
-use Rattle.tree.specs.Layout.{Bytes, two, twoAt, id_at, value_of}
+use Rattle.tree.specs.Layout.{Bytes, two, two_at, id_at, value_of}
 use Rattle.tree.specs.Tree.{Field, field, Fields, fixed_of, parts_of, encode}
 use Rattle.tree.specs.Access.{fixed_at}
-use Rattle.tree.specs.Grammar.{ruleOf}
-use Rattle.tree.specs.Standing.{treeAt, row_at, Row}
+use Rattle.tree.specs.Grammar.{rule_of}
+use Rattle.tree.specs.Standing.{tree_at, row_at, Row}
 use Rattle.tree.proofs.StandingLaws.{whole-step}
-use Rattle.tree.proofs.LayoutLaws.{two_at}
+use Rattle.tree.proofs.LayoutLaws.{two_at-is}
 use Rattle.tree.proofs.SliceLaws.{take-slice}
 use Rattle.tree.proofs.WidthLaws.{plain-width}
 use Rattle.tree.specs.declared.grammar.Value.TheVariants.{Literal}
@@ -56,7 +56,7 @@ headed-of {s} {at} {stop} room fits tag r =
 
 module _ {s : List ℕ} {at stop from : ℕ} (hd : Headed s at stop from) where
   abbrev pub F : Field
-  F = treeAt s at stop
+  F = tree_at s at stop
 
   -- its literal ends where its parts start
   pub head_in : (from ≡ at + 9) × (from ≤ stop) × (from ≤ length s)
@@ -89,14 +89,14 @@ module _ {s : List ℕ} {at stop from : ℕ} (hd : Headed s at stop from) where
   pub head-value : (n : ℕ) → value_of (id_at s (at + 3)) ≡ two n → two n ≡ value_of (fixed_of F)
   head-value n k = sym k ∙ ap value_of head-literal
 
-  pub head-source : {n : ℕ} → Bytes s → n ≡ twoAt s (at + 3) → two n ≡ value_of (fixed_of F)
+  pub head-source : {n : ℕ} → Bytes s → n ≡ two_at s (at + 3) → two n ≡ value_of (fixed_of F)
   head-source {n} b k =
       let i = head_in.0 in
       let l = head_in.2 in
-      head-value n (take-slice 2 (at + 3) (at + 3 + 6) s (omega arith) (omega arith) ∙ sym (ap two k ∙ two_at s (at + 3) b (omega arith)))
+      head-value n (take-slice 2 (at + 3) (at + 3 + 6) s (omega arith) (omega arith) ∙ sym (ap two k ∙ two_at-is s (at + 3) b (omega arith)))
 
-  pub head-row : ReadAt s at stop → Row s from stop (ruleOf 0x10)
-  head-row r = subst (λ (k : ℕ). Row s from stop (ruleOf k)) hd.tag (read-parts r hd.framed.fixed)
+  pub head-row : ReadAt s at stop → Row s from stop (rule_of 0x10)
+  head-row r = subst (λ (k : ℕ). Row s from stop (rule_of k)) hd.tag (read-parts r hd.framed.fixed)
 
   -- a copy is the import as it is
   pub head-copied : {out out' : List ℕ} {o p : ℕ} → Bytes s → ReadAt s at stop → Wrote out o (slice at stop s) out' p → Wrote out o (encode (field 0x10 (fixed_of F) (parts_of F))) out' p

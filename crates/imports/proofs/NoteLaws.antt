@@ -13,19 +13,19 @@ use Rattle.writer.proofs.Wrote.{wrote_as}
 use Rattle.scope.specs.Id.{export}
 use Rattle.scope.specs.declared.id.Id.{Id}
 use Rattle.scope.specs.declared.id.Atom.{Atom}
-use Rattle.tree.specs.Layout.{Bytes, two, four, atomAt, id_at, name_of, context_of}
+use Rattle.tree.specs.Layout.{Bytes, two, four, atom_at, id_at, name_of, context_of}
 use Rattle.tree.specs.Tree.{Field, field, none, tag_of, fixed_of, encode}
 use Rattle.tree.specs.declared.layout.Reach.TheVariants.{Short}
 use Rattle.tree.specs.Access.{fixed_at}
-use Rattle.tree.specs.Standing.{treeAt}
+use Rattle.tree.specs.Standing.{tree_at}
 use Rattle.tree.specs.Within.{Exact}
 use Rattle.tree.proofs.WidthLaws.{plain-width}
 use Rattle.tree.specs.declared.grammar.Value.TheVariants.{Id as id-value}
 use Rattle.extraction_rules.specs.State.{State, Act}
-use Rattle.extraction_rules.specs.First.{idFrom, outsideName, noteId, noteNamed, notedContext, noteSpecifier}
+use Rattle.extraction_rules.specs.First.{id_from, outside_name, note_id, note_named, noted_context, note_specifier}
 use Rattle.extraction_rules.proofs.ExactLaws.{width-20}
 use Rattle.extraction_rules.proofs.ShapeLaws.{one_of, specifier-is}
-use Rattle.state.specs.Cells.{Env, Good, idBy}
+use Rattle.state.specs.Cells.{Env, Good, id_by}
 use Rattle.state.specs.Does.{Acts, Anyhow}
 use Rattle.state.specs.declared.Room.{Room}
 use Rattle.state.specs.declared.Room.TheVariants.{Made, Full}
@@ -93,126 +93,126 @@ module _ {s : List ℕ} {at stop from : ℕ} (w : Framed s at stop from) where
         by false q n = let h = (text-room n (eqb-false (get_or s (at + 9) 0) 1 q)).1 in let i = (framed-in w).2 in omega arith
 
     outside-is : (o : Outside) → OutsideAt s (at + 9) o → OutsideIs X o
-    unfolding outsideName
+    unfolding outside_name
     outside-is Nothing h = rw (kind-byte, h) (refl, refl)
     outside-is (Name a) h =
         let k = name-room h.0 in (
           ap (λ (b : ℕ). eqb b 2) (kind-byte ∙ h.0),
-          ap (λ (b : ℕ). cond (eqb b 1) (atomAt X 7) (name_of X)) (kind-byte ∙ h.0)
+          ap (λ (b : ℕ). cond (eqb b 1) (atom_at X 7) (name_of X)) (kind-byte ∙ h.0)
               ∙ slice_of (at + 3) from s 7 9 (at + 9 + 1) (at + 9 + 1 + 2) (omega arith) (omega arith) (omega arith) (framed-in w).2 ∙ sym h.1,
         )
     outside-is (Text a) h = eq-eqb (get_or X 6 0) 2 (text-room h.0 h.1).0
 
-    pub specifier-named : (id : Id) (o : Outside) → idBy id ≡ id_at s (at + 3) → OutsideAt s (at + 9) o → SpecifierIs (treeAt s at stop) (Named id o)
+    pub specifier-named : (id : Id) (o : Outside) → id_by id ≡ id_at s (at + 3) → OutsideAt s (at + 9) o → SpecifierIs (tree_at s at stop) (Named id o)
     specifier-named id o i h =
         let k = named-kind in
         subst (λ (f : Field). SpecifierIs f (Named id o)) (sym (framed-tree w))
         (e, i ∙ sym (slice_of (at + 3) from s 0 6 (at + 3) (at + 3 + 6) (omega arith) (omega arith) (omega arith) (framed-in w).2), outside-is o h)
 
   -- a 21 or a 22 is an id
-  whole-id : length X ≡ 6 → id_at s (at + 3) ≡ fixed_of (treeAt s at stop)
+  whole-id : length X ≡ 6 → id_at s (at + 3) ≡ fixed_of (tree_at s at stop)
   whole-id n =
       let l = framed-length w in
       let k = (framed-in w).0 in
       let z : at + 3 + 6 ≡ from = omega arith in
       ap (λ (j : ℕ). slice (at + 3) j s) z ∙ sym (ap fixed_of (framed-tree w))
 
-  default-id : get_or s at 0 ≡ 0x21 → id_at s (at + 3) ≡ fixed_of (treeAt s at stop)
+  default-id : get_or s at 0 ≡ 0x21 → id_at s (at + 3) ≡ fixed_of (tree_at s at stop)
   default-id e = whole-id (plain-width 0x21 id-value refl X e (framed-exact w))
 
-  namespace-id : get_or s at 0 ≡ 0x22 → id_at s (at + 3) ≡ fixed_of (treeAt s at stop)
+  namespace-id : get_or s at 0 ≡ 0x22 → id_at s (at + 3) ≡ fixed_of (tree_at s at stop)
   namespace-id e = whole-id (plain-width 0x22 id-value refl X e (framed-exact w))
 
-  tag_is : tag_of (treeAt s at stop) ≡ get_or s at 0
+  tag_is : tag_of (tree_at s at stop) ≡ get_or s at 0
   tag_is = ap tag_of (framed-tree w)
 
-  pub specifier-default : (id : Id) → get_or s at 0 ≡ 0x21 → idBy id ≡ id_at s (at + 3) → SpecifierIs (treeAt s at stop) (Default id)
+  pub specifier-default : (id : Id) → get_or s at 0 ≡ 0x21 → id_by id ≡ id_at s (at + 3) → SpecifierIs (tree_at s at stop) (Default id)
   specifier-default id e i = (tag_is ∙ e, i ∙ default-id e)
 
-  pub specifier-namespace : (id : Id) → get_or s at 0 ≡ 0x22 → idBy id ≡ id_at s (at + 3) → SpecifierIs (treeAt s at stop) (Namespace id)
+  pub specifier-namespace : (id : Id) → get_or s at 0 ≡ 0x22 → id_by id ≡ id_at s (at + 3) → SpecifierIs (tree_at s at stop) (Namespace id)
   specifier-namespace id e i = (tag_is ∙ e, i ∙ namespace-id e)
 
 -- ---- A 20
 
 -- its id is noted in a context, which its outside name gets
 abbrev noted : Id → ℕ → ℕ → ℕ → Act Field
-noted id name c at = noting (record { id = idBy id; context = four c }) (field 0x20 (idBy id ++ 1 ∷ idFrom (two name) c) none) at
+noted id name c at = noting (record { id = id_by id; context = four c }) (field 0x20 (id_by id ++ 1 ∷ id_from (two name) c) none) at
 
-module _ (id : Id) (name n at : ℕ) {c : ℕ} (e : c ≡ export n) {t t' : List ℕ} {r : Room} (w : Acts Anyhow (λ _. noteId (record { id = idBy id; context = four c })) t t' r) where
-  pub as-made : {out out' : List ℕ} {o p : ℕ} → r ≡ Made → Wrote out o (encode (field 0x20 (idBy id ++ 1 ∷ (two name ++ four c)) none)) out' p →
+module _ (id : Id) (name n at : ℕ) {c : ℕ} (e : c ≡ export n) {t t' : List ℕ} {r : Room} (w : Acts Anyhow (λ _. note_id (record { id = id_by id; context = four c })) t t' r) where
+  pub as-made : {out out' : List ℕ} {o p : ℕ} → r ≡ Made → Wrote out o (encode (field 0x20 (id_by id ++ 1 ∷ (two name ++ four c)) none)) out' p →
       Steps encode (λ x u. Unit {0}) (λ _. noted id name (export n) at) t out o t' out' (Done p)
   as-made {out} {out'} {o} {p} k v =
       subst (λ (j : ℕ). Steps encode (λ x u. Unit {0}) (λ _. noted id name j at) t out o t' out' (Done p)) e
-      (acts-made at (field 0x20 (idBy id ++ 1 ∷ idFrom (two name) c) none) w k v.size (λ x s u. v))
+      (acts-made at (field 0x20 (id_by id ++ 1 ∷ id_from (two name) c) none) w k v.size (λ x s u. v))
 
   pub as-full : {out : List ℕ} {o : ℕ} → r ≡ Full → Steps encode (λ x u. Unit {0}) (λ _. noted id name (export n) at) t out o t' out (Refused TableFull at)
   as-full {out} {o} k =
       subst (λ (j : ℕ). Steps encode (λ x u. Unit {0}) (λ _. noted id name j at) t out o t' out (Refused TableFull at)) e
-      (acts-full at (field 0x20 (idBy id ++ 1 ∷ idFrom (two name) c) none) w k)
+      (acts-full at (field 0x20 (id_by id ++ 1 ∷ id_from (two name) c) none) w k)
 
-module _ (id : Id) (n at : ℕ) (x : List ℕ) (i : idBy id ≡ id_at x 0) {t t' out out' : List ℕ} {o : ℕ} {r : Step} where
-  named-as : (name : ℕ) → eqb (get_or x 6 0) 2 ≡ false → outsideName x ≡ two name → Steps encode (λ x u. Unit {0}) (λ _. noted id name (export n) at) t out o t' out' r →
-      Steps encode (λ x u. Unit {0}) (λ _. noteNamed n x at) t out o t' out' r
-  unfolding noteNamed
+module _ (id : Id) (n at : ℕ) (x : List ℕ) (i : id_by id ≡ id_at x 0) {t t' out out' : List ℕ} {o : ℕ} {r : Step} where
+  named-as : (name : ℕ) → eqb (get_or x 6 0) 2 ≡ false → outside_name x ≡ two name → Steps encode (λ x u. Unit {0}) (λ _. noted id name (export n) at) t out o t' out' r →
+      Steps encode (λ x u. Unit {0}) (λ _. note_named n x at) t out o t' out' r
+  unfolding note_named
   named-as name f g w =
       steps-as _ w (λ y s u. (
         u,
-        rw (f, g) (ap (λ (k : List ℕ). noting (record { id = k; context = four (export n) }) (field 0x20 (k ++ 1 ∷ idFrom (two name) (export n)) none) at s) (sym i)),
+        rw (f, g) (ap (λ (k : List ℕ). noting (record { id = k; context = four (export n) }) (field 0x20 (k ++ 1 ∷ id_from (two name) (export n)) none) at s) (sym i)),
       ))
 
   pub named-name : {y : Outside} (a : Atom) → y ≡ Name a → OutsideIs x y → Steps encode (λ x u. Unit {0}) (λ _. noted id a.0 (export n) at) t out o t' out' r →
-      Steps encode (λ x u. Unit {0}) (λ _. noteNamed n x at) t out o t' out' r
+      Steps encode (λ x u. Unit {0}) (λ _. note_named n x at) t out o t' out' r
   named-name a e h w = let k = subst (OutsideIs x) e h in named-as a.0 k.0 k.1 w
 
   pub named-nothing : {y : Outside} → y ≡ Nothing → OutsideIs x y → Steps encode (λ x u. Unit {0}) (λ _. noted id id.0.0 (export n) at) t out o t' out' r →
-      Steps encode (λ x u. Unit {0}) (λ _. noteNamed n x at) t out o t' out' r
+      Steps encode (λ x u. Unit {0}) (λ _. note_named n x at) t out o t' out' r
   named-nothing e h w =
       let k = subst (OutsideIs x) e h in
       named-as id.0.0 k.0 (k.1 ∙ sym (ap (take 2) i ∙ take-take 2 6 x (omega arith))) w
 
 pub named-text : (x : List ℕ) {y : Outside} {a : Atom} (n at : ℕ) {t out : List ℕ} {o : ℕ} → Good t → y ≡ Text a → OutsideIs x y →
-    Steps encode (λ x u. Unit {0}) (λ _. noteNamed n x at) t out o t out (Refused StringName at)
-unfolding noteNamed
+    Steps encode (λ x u. Unit {0}) (λ _. note_named n x at) t out o t out (Refused StringName at)
+unfolding note_named
 named-text x n at g e h = let k = subst (OutsideIs x) e h in steps-refused g refl (λ y s u v. rw k refl)
 
 -- ---- The specifier that was told
 
-module _ {s : List ℕ} {at stop from : ℕ} (w : Framed s at stop from) (n : ℕ) (y : Specifier) (h : SpecifierIs (treeAt s at stop) y) {t t' out out' : List ℕ} {o : ℕ} {r : Step} where
+module _ {s : List ℕ} {at stop from : ℕ} (w : Framed s at stop from) (n : ℕ) (y : Specifier) (h : SpecifierIs (tree_at s at stop) y) {t t' out out' : List ℕ} {o : ℕ} {r : Step} where
   pub given-named : {id : Id} {q : Outside} → y ≡ Named id q →
-      ((x : List ℕ) → idBy id ≡ id_at x 0 → OutsideIs x q → Steps encode (λ x u. Unit {0}) (λ _. noteNamed n x at) t out o t' out' r) →
-      Steps encode (λ x u. Specified s at stop) (λ _. noteSpecifier n (treeAt s at stop) at) t out o t' out' r
-  unfolding noteSpecifier
+      ((x : List ℕ) → id_by id ≡ id_at x 0 → OutsideIs x q → Steps encode (λ x u. Unit {0}) (λ _. note_named n x at) t out o t' out' r) →
+      Steps encode (λ x u. Specified s at stop) (λ _. note_specifier n (tree_at s at stop) at) t out o t' out' r
+  unfolding note_specifier
   given-named e v =
-      let k = subst (SpecifierIs (treeAt s at stop)) e h in
-      steps-as _ (v (fixed_of (treeAt s at stop)) k.1 k.2) (λ x u z. (tt, rw (eq-eqb (tag_of (treeAt s at stop)) 0x20 k.0) refl))
+      let k = subst (SpecifierIs (tree_at s at stop)) e h in
+      steps-as _ (v (fixed_of (tree_at s at stop)) k.1 k.2) (λ x u z. (tt, rw (eq-eqb (tag_of (tree_at s at stop)) 0x20 k.0) refl))
 
-  given-as : (c : List ℕ) → (tag_of (treeAt s at stop) ≡ 0x20 → ⊥) → id_at s (at + 3) ≡ fixed_of (treeAt s at stop) → c ≡ notedContext n (treeAt s at stop) →
-      Steps encode (λ x u. ReadAt s at stop) (λ _. noting (record { id = id_at s (at + 3); context = c }) (treeAt s at stop) at) t out o t' out' r →
-      Steps encode (λ x u. Specified s at stop) (λ _. noteSpecifier n (treeAt s at stop) at) t out o t' out' r
-  unfolding noteSpecifier
+  given-as : (c : List ℕ) → (tag_of (tree_at s at stop) ≡ 0x20 → ⊥) → id_at s (at + 3) ≡ fixed_of (tree_at s at stop) → c ≡ noted_context n (tree_at s at stop) →
+      Steps encode (λ x u. ReadAt s at stop) (λ _. noting (record { id = id_at s (at + 3); context = c }) (tree_at s at stop) at) t out o t' out' r →
+      Steps encode (λ x u. Specified s at stop) (λ _. note_specifier n (tree_at s at stop) at) t out o t' out' r
+  unfolding note_specifier
   given-as c m d e v =
-      let f = treeAt s at stop in
+      let f = tree_at s at stop in
       steps-as _ v (λ x u k. (
         k.read,
-        ap (λ (b : Bool). cond b (noteNamed n (fixed_of f) at) (noting (record { id = fixed_of f; context = notedContext n f }) f at) u) (ne_eqb (tag_of f) 0x20 m)
+        ap (λ (b : Bool). cond b (note_named n (fixed_of f) at) (noting (record { id = fixed_of f; context = noted_context n f }) f at) u) (ne_eqb (tag_of f) 0x20 m)
             ∙ ap₂ (λ (a b : List ℕ). noting (record { id = a; context = b }) f at u) (sym d) (sym e),
       ))
 
   pub given-default : {id : Id} → y ≡ Default id →
-      Steps encode (λ x u. ReadAt s at stop) (λ _. noting (record { id = id_at s (at + 3); context = four id.1.0 }) (treeAt s at stop) at) t out o t' out' r →
-      Steps encode (λ x u. Specified s at stop) (λ _. noteSpecifier n (treeAt s at stop) at) t out o t' out' r
+      Steps encode (λ x u. ReadAt s at stop) (λ _. noting (record { id = id_at s (at + 3); context = four id.1.0 }) (tree_at s at stop) at) t out o t' out' r →
+      Steps encode (λ x u. Specified s at stop) (λ _. note_specifier n (tree_at s at stop) at) t out o t' out' r
   given-default {id} e v =
-      let f = treeAt s at stop in
+      let f = tree_at s at stop in
       let k = subst (SpecifierIs f) e h in
       let j = k.0 in
       given-as (four id.1.0) (λ z. omega arith) (default-id w (sym (tag_is w) ∙ k.0))
       (ap context_of k.1 ∙ ap (λ (b : Bool). cond b (context_of (fixed_of f)) (four (export n))) (sym (eq-eqb (tag_of f) 0x21 k.0))) v
 
   pub given-namespace : {id : Id} {c : ℕ} → y ≡ Namespace id → c ≡ export n →
-      Steps encode (λ x u. ReadAt s at stop) (λ _. noting (record { id = id_at s (at + 3); context = four c }) (treeAt s at stop) at) t out o t' out' r →
-      Steps encode (λ x u. Specified s at stop) (λ _. noteSpecifier n (treeAt s at stop) at) t out o t' out' r
+      Steps encode (λ x u. ReadAt s at stop) (λ _. noting (record { id = id_at s (at + 3); context = four c }) (tree_at s at stop) at) t out o t' out' r →
+      Steps encode (λ x u. Specified s at stop) (λ _. note_specifier n (tree_at s at stop) at) t out o t' out' r
   given-namespace {c = c} e i v =
-      let f = treeAt s at stop in
+      let f = tree_at s at stop in
       let k = subst (SpecifierIs f) e h in
       let j = k.0 in
       given-as (four c) (λ z. omega arith) (namespace-id w (sym (tag_is w) ∙ k.0))
@@ -221,13 +221,13 @@ module _ {s : List ℕ} {at stop from : ℕ} (w : Framed s at stop from) (n : �
 -- ---- A 21 or a 22
 
 -- its id is as it stands in the tree
-pub noted-as : {i j : List ℕ} (c : List ℕ) {t t' : List ℕ} {r : Room} → i ≡ j → Acts Anyhow (λ _. noteId (record { id = i; context = c })) t t' r →
-    Acts Anyhow (λ _. noteId (record { id = j; context = c })) t t' r
-noted-as c {t} {t'} {r} e w = subst (λ (k : List ℕ). Acts Anyhow (λ _. noteId (record { id = k; context = c })) t t' r) e w
+pub noted-as : {i j : List ℕ} (c : List ℕ) {t t' : List ℕ} {r : Room} → i ≡ j → Acts Anyhow (λ _. note_id (record { id = i; context = c })) t t' r →
+    Acts Anyhow (λ _. note_id (record { id = j; context = c })) t t' r
+noted-as c {t} {t'} {r} e w = subst (λ (k : List ℕ). Acts Anyhow (λ _. note_id (record { id = k; context = c })) t t' r) e w
 
 -- and it stays as it is
 pub other-copied : {s : List ℕ} {at stop : ℕ} {out out' : List ℕ} {o p : ℕ} → Bytes s → Wrote out o (slice at stop s) out' p → (x : Env) (u : State) → ReadAt s at stop →
-    Wrote out o (encode (treeAt s at stop)) out' p
+    Wrote out o (encode (tree_at s at stop)) out' p
 other-copied b w x u r = wrote_as w (sym (read-bytes r b))
 
 -- ---- Fields that are no specifiers

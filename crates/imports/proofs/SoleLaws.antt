@@ -11,70 +11,70 @@ use borrow.Author.Tests.{eq-eqb, ne_eqb}
 use Rattle.tree.specs.declared.layout.Reach.TheVariants.{Upto, Short}
 use Rattle.tree.specs.Layout.{Bytes}
 use Rattle.tree.specs.Tree.{Field, Fields, none, more, tag_of, fixed_of}
-use Rattle.tree.specs.Access.{fixed_at, extentAt}
-use Rattle.tree.specs.Grammar.{ruleOf}
-use Rattle.tree.specs.Standing.{treeAt, row_at, Row}
+use Rattle.tree.specs.Access.{fixed_at, extent_at}
+use Rattle.tree.specs.Grammar.{rule_of}
+use Rattle.tree.specs.Standing.{tree_at, row_at, Row}
 use Rattle.tree.proofs.StandingLaws.{row-none, tree-short}
 use Rattle.scope.specs.declared.id.Id.{Id}
 use Rattle.inputs.specs.Fields.{sole}
-use Rattle.extraction_rules.specs.First.{specifiersIn}
+use Rattle.extraction_rules.specs.First.{specifiers_in}
 use Rattle.extraction_rules.proofs.KeepLaws.{keep-none}
-use Rattle.steps.specs.Step.{identBy}
+use Rattle.steps.specs.Step.{ident_by}
 use Rattle.steps.specs.declared.Ident.{Ident}
 use Rattle.steps.specs.declared.Ident.TheVariants.{Is, Other}
 use Rattle.imports.specs.declared.note.Specifier.TheVariants.{Namespace}
-use Rattle.imports.specs.Parts.{Framed, SpecifierIs, Ends, namespaceIn, namespaceBy}
+use Rattle.imports.specs.Parts.{Framed, SpecifierIs, Ends, namespace_in, namespace_by}
 use Rattle.imports.proofs.WidthLaws.{framed-tree}
 use Rattle.imports.proofs.PartsLaws.{LastPart, part-cases, first-specifiers, last-specifiers}
 
 -- ---- The id of a 22
 
-namespace-yes : (f : Field) → tag_of f ≡ 0x22 → namespaceIn f ≡ some (fixed_of f)
+namespace-yes : (f : Field) → tag_of f ≡ 0x22 → namespace_in f ≡ some (fixed_of f)
 namespace-yes f e = ap (λ (b : Bool). cond b (some (fixed_of f)) nothing) (eq-eqb (tag_of f) 0x22 e)
 
-namespace-no : (f : Field) → (tag_of f ≡ 0x22 → ⊥) → namespaceIn f ≡ nothing
+namespace-no : (f : Field) → (tag_of f ≡ 0x22 → ⊥) → namespace_in f ≡ nothing
 namespace-no f e = ap (λ (b : Bool). cond b (some (fixed_of f)) nothing) (ne_eqb (tag_of f) 0x22 e)
 
 module _ (s : List ℕ) (at stop : ℕ) where
-  pub namespace-is : (id : Id) → SpecifierIs (treeAt s at stop) (Namespace id) → identBy (Is id) ≡ namespaceIn (treeAt s at stop)
-  namespace-is id w = ap some w.1 ∙ sym (namespace-yes (treeAt s at stop) w.0)
+  pub namespace-is : (id : Id) → SpecifierIs (tree_at s at stop) (Namespace id) → ident_by (Is id) ≡ namespace_in (tree_at s at stop)
+  namespace-is id w = ap some w.1 ∙ sym (namespace-yes (tree_at s at stop) w.0)
 
-  pub namespace-other : {from : ℕ} → Framed s at stop from → (get_or s at 0 ≡ 0x22 → ⊥) → identBy Other ≡ namespaceIn (treeAt s at stop)
-  namespace-other w n = sym (namespace-no (treeAt s at stop) (λ e. n (sym (ap tag_of (framed-tree w)) ∙ e)))
+  pub namespace-other : {from : ℕ} → Framed s at stop from → (get_or s at 0 ≡ 0x22 → ⊥) → ident_by Other ≡ namespace_in (tree_at s at stop)
+  namespace-other w n = sym (namespace-no (tree_at s at stop) (λ e. n (sym (ap tag_of (framed-tree w)) ∙ e)))
 
-  pub namespace-short : fixed_at s (get_or s at 0) (at + 3) stop ≡ Short → identBy Other ≡ namespaceIn (treeAt s at stop)
-  namespace-short e = sym (ap namespaceIn (tree-short s at stop e))
+  pub namespace-short : fixed_at s (get_or s at 0) (at + 3) stop ≡ Short → ident_by Other ≡ namespace_in (tree_at s at stop)
+  namespace-short e = sym (ap namespace_in (tree-short s at stop e))
 
 -- ---- The only specifier
 
 abbrev Sole : List ℕ → ℕ → ℕ → Ident → Type 0
-Sole s from end r = Row s from end (ruleOf 0x10) → identBy r ≡ namespaceBy (sole (specifiersIn (row_at s from end)))
+Sole s from end r = Row s from end (rule_of 0x10) → ident_by r ≡ namespace_by (sole (specifiers_in (row_at s from end)))
 
-sole_none : namespaceBy (sole none) ≡ nothing
+sole_none : namespace_by (sole none) ≡ nothing
 unfolding sole
 sole_none = refl
 
-sole-one : (f : Field) → namespaceBy (sole (more f none)) ≡ namespaceIn f
+sole-one : (f : Field) → namespace_by (sole (more f none)) ≡ namespace_in f
 unfolding sole
 sole-one f = refl
 
-sole-two : (f g : Field) (gs : Fields) → namespaceBy (sole (more f (more g gs))) ≡ nothing
+sole-two : (f g : Field) (gs : Fields) → namespace_by (sole (more f (more g gs))) ≡ nothing
 unfolding sole
 sole-two f g gs = refl
 
 module _ (s : List ℕ) (from end : ℕ) (bytes : Bytes s) (le : from ≤ end) (fits : end ≤ length s) where
-  pub sole-short : extentAt s from end ≡ Short → Sole s from end Other
-  sole-short e w = sym (ap (λ (fs : Fields). namespaceBy (sole fs)) (ap specifiersIn (row-none s from end le e) ∙ keep-none _) ∙ sole_none)
+  pub sole-short : extent_at s from end ≡ Short → Sole s from end Other
+  sole-short e w = sym (ap (λ (fs : Fields). namespace_by (sole fs)) (ap specifiers_in (row-none s from end le e) ∙ keep-none _) ∙ sole_none)
 
-  module _ {stop : ℕ} (e : extentAt s from end ≡ Upto stop) where
-    last-sole : LastPart s from end stop → namespaceBy (sole (specifiersIn (row_at s from end))) ≡ nothing
-    last-sole l = ap (λ (fs : Fields). namespaceBy (sole fs)) (last-specifiers l) ∙ sole_none
+  module _ {stop : ℕ} (e : extent_at s from end ≡ Upto stop) where
+    last-sole : LastPart s from end stop → namespace_by (sole (specifiers_in (row_at s from end))) ≡ nothing
+    last-sole l = ap (λ (fs : Fields). namespace_by (sole fs)) (last-specifiers l) ∙ sole_none
 
-    pub sole-is : {k : ℕ} (r : Ident) → k ≡ stop → Ends s stop end k → identBy r ≡ namespaceIn (treeAt s from stop) → Sole s from end r
+    pub sole-is : {k : ℕ} (r : Ident) → k ≡ stop → Ends s stop end k → ident_by r ≡ namespace_in (tree_at s from stop) → Sole s from end r
     sole-is r q v w a =
         ⊎_elim (λ f.
-        w ∙ sym (ap (λ (fs : Fields). namespaceBy (sole fs)) (first-specifiers f ∙ ap (more (treeAt s from stop)) (v.stays f.rest q)) ∙ sole-one (treeAt s from stop)))
-        (λ l. w ∙ namespace-no (treeAt s from stop) (λ z. let j = l.tag in omega arith) ∙ sym (last-sole l))
+        w ∙ sym (ap (λ (fs : Fields). namespace_by (sole fs)) (first-specifiers f ∙ ap (more (tree_at s from stop)) (v.stays f.rest q)) ∙ sole-one (tree_at s from stop)))
+        (λ l. w ∙ namespace-no (tree_at s from stop) (λ z. let j = l.tag in omega arith) ∙ sym (last-sole l))
         (part-cases bytes le fits e a)
 
     pub sole-more : {k : ℕ} → (k ≡ stop → ⊥) → Ends s stop end k → Sole s from end Other
@@ -82,6 +82,6 @@ module _ (s : List ℕ) (from end : ℕ) (bytes : Bytes s) (le : from ≤ end) (
         ⊎_elim (λ f.
         let h = v.after in
         let g = v.goes f.rest (omega arith) in
-        sym (ap (λ (fs : Fields). namespaceBy (sole fs)) (first-specifiers f ∙ ap (more (treeAt s from stop)) g.2) ∙ sole-two (treeAt s from stop) g.0 g.1))
+        sym (ap (λ (fs : Fields). namespace_by (sole fs)) (first-specifiers f ∙ ap (more (tree_at s from stop)) g.2) ∙ sole-two (tree_at s from stop) g.0 g.1))
         (λ l. sym (last-sole l))
         (part-cases bytes le fits e a)

@@ -9,20 +9,20 @@ use lib.Seq.{slice}
 use Rattle.writer.specs.Bytes.{framed}
 use Rattle.writer.specs.Wrote.{Wrote, closed}
 use Rattle.writer.proofs.Wrote.{wrote_none, wrote_then, wrote_as, wrote-field}
-use Rattle.tree.specs.Layout.{Bytes, two, twoAt, value_of}
+use Rattle.tree.specs.Layout.{Bytes, two, two_at, value_of}
 use Rattle.tree.specs.Tree.{field, Fields, none, fixed_of, parts_of, encode, encodes}
-use Rattle.tree.specs.Grammar.{ruleOf}
-use Rattle.tree.specs.Standing.{treeAt}
+use Rattle.tree.specs.Grammar.{rule_of}
+use Rattle.tree.specs.Standing.{tree_at}
 use Rattle.tree.proofs.SoundLaws.{row-sound}
 use Rattle.scope.specs.declared.id.Id.{Id}
 use Rattle.metadata.specs.Metadata.{append}
 use Rattle.metadata.proofs.EncodeLaws.{encodes-append, framed-field}
 use Rattle.inputs.specs.Lists.{filter, among}
 use Rattle.inputs.specs.Outcome.{done}
-use Rattle.extraction_rules.specs.State.{Usage, State, setCollected}
-use Rattle.extraction_rules.specs.First.{attributesIn, forceSource}
-use Rattle.extraction_rules.specs.Second.{usagesOf, specifiersFrom, extend, takeApart}
-use Rattle.state.specs.Cells.{Good, Shows, idBy, sourcesIn}
+use Rattle.extraction_rules.specs.State.{Usage, State, set_collected}
+use Rattle.extraction_rules.specs.First.{attributes_in, force_source}
+use Rattle.extraction_rules.specs.Second.{usages_of, specifiers_from, extend, take_apart}
+use Rattle.state.specs.Cells.{Good, Shows, id_by, sources_in}
 use Rattle.state.specs.Does.{Tells, Lists, listed, any, Forces}
 use Rattle.state.specs.declared.Property.{Property}
 use Rattle.state.specs.declared.Property.TheVariants.{Is, Other}
@@ -30,25 +30,25 @@ use Rattle.state.proofs.SecondLaws.{specifiers-plain, shows-extended}
 use Rattle.steps.specs.Step.{ReadAt, Steps, Begun}
 use Rattle.steps.specs.declared.Step.TheVariants.{Done}
 use Rattle.steps.proofs.StepsLaws.{steps-done}
-use Rattle.imports.specs.Parts.{Ends, Writes, usagesFrom, Usage as Written}
+use Rattle.imports.specs.Parts.{Ends, Writes, usages_from, Usage as Written}
 use Rattle.imports.proofs.HeadLaws.{Headed, headed-of, head-parts, head-source, head-row, head-copied, head-begun}
 
 -- ---- One usage
 
-from_more : (u : Usage) (l : List Usage) → encodes (specifiersFrom (u ∷ l)) ≡ encode (field 0x20 (u.property ++ 0 ∷ []) none) ++ encodes (specifiersFrom l)
-unfolding specifiersFrom encode
+from_more : (u : Usage) (l : List Usage) → encodes (specifiers_from (u ∷ l)) ≡ encode (field 0x20 (u.property ++ 0 ∷ []) none) ++ encodes (specifiers_from l)
+unfolding specifiers_from encode
 from_more u l = refl
 
 module _ (x : List ℕ) (i : ℕ) {t out : List ℕ} {o : ℕ} {r : Property} (w : Lists x i t r) where
-  pub usage-is : (q : Id) {out' : List ℕ} {p : ℕ} → r ≡ Is q → Wrote out o (encode (field 0x20 (idBy q ++ 0 ∷ []) none)) out' p → Written x i t out o out' p
+  pub usage-is : (q : Id) {out' : List ℕ} {p : ℕ} → r ≡ Is q → Wrote out o (encode (field 0x20 (id_by q ++ 0 ∷ []) none)) out' p → Written x i t out o out' p
   usage-is q e v =
       record {
         next = λ k.
             record {
               is = λ s b.
-                  let rest = usagesOf x (drop (i + 1) s.usages) in
+                  let rest = usages_of x (drop (i + 1) s.usages) in
                   wrote_as (wrote_then v (k.is s b))
-                  (sym (ap (λ (l : List Usage). encodes (specifiersFrom l)) (w.is s b ∙ ap (λ (y : Property). listed x y rest) e) ∙ from_more (record { id = x; property = idBy q }) rest));
+                  (sym (ap (λ (l : List Usage). encodes (specifiers_from l)) (w.is s b ∙ ap (λ (y : Property). listed x y rest) e) ∙ from_more (record { id = x; property = id_by q }) rest));
             };
       }
 
@@ -58,30 +58,30 @@ module _ (x : List ℕ) (i : ℕ) {t out : List ℕ} {o : ℕ} {r : Property} (w
         next = λ k.
             record {
               is = λ s b.
-                  let rest = usagesOf x (drop (i + 1) s.usages) in
-                  wrote_as (k.is s b) (sym (ap (λ (l : List Usage). encodes (specifiersFrom l)) (w.is s b ∙ ap (λ (y : Property). listed x y rest) e)));
+                  let rest = usages_of x (drop (i + 1) s.usages) in
+                  wrote_as (k.is s b) (sym (ap (λ (l : List Usage). encodes (specifiers_from l)) (w.is s b ∙ ap (λ (y : Property). listed x y rest) e)));
             };
       }
 
 -- ---- All usages
 
-from-none : (x : List ℕ) → encodes (specifiersFrom (usagesOf x [])) ≡ []
-unfolding usagesOf filter specifiersFrom encode
+from-none : (x : List ℕ) → encodes (specifiers_from (usages_of x [])) ≡ []
+unfolding usages_of filter specifiers_from encode
 from-none x = refl
 
-pub usages-end : (x : List ℕ) (i : ℕ) {t out : List ℕ} {o n : ℕ} → Tells (λ s. length s.usages) t n → n ≤ i → Writes (usagesFrom x i) t out o out o
+pub usages-end : (x : List ℕ) (i : ℕ) {t out : List ℕ} {o n : ℕ} → Tells (λ s. length s.usages) t n → n ≤ i → Writes (usages_from x i) t out o out o
 usages-end x i w h =
     record {
       is = λ s b.
           let k = w.is s b in
           let z : length s.usages ≤ i = omega arith in
-          wrote_as wrote_none (sym (ap (λ (l : List Usage). encodes (specifiersFrom (usagesOf x l))) (drop_of_length-le s.usages {i = i} z) ∙ from-none x));
+          wrote_as wrote_none (sym (ap (λ (l : List Usage). encodes (specifiers_from (usages_of x l))) (drop_of_length-le s.usages {i = i} z) ∙ from-none x));
     }
 
 -- what is left to write makes the whole
 pub record Listing (x : List ℕ) (t out₀ : List ℕ) (o : ℕ) (out : List ℕ) (i to : ℕ) : Type 0 where
   pub size : length out ≡ length out₀
-  pub rest : (out' : List ℕ) (p : ℕ) → Writes (usagesFrom x i) t out to out' p → Writes (usagesFrom x 0) t out₀ o out' p
+  pub rest : (out' : List ℕ) (p : ℕ) → Writes (usages_from x i) t out to out' p → Writes (usages_from x 0) t out₀ o out' p
 
 pub listing_start : (x : List ℕ) {t out : List ℕ} {o : ℕ} → Listing x t out o out 0 o
 listing_start x = record { size = refl; rest = λ out' p w. w }
@@ -94,80 +94,80 @@ listing-more g w e = record { size = e ∙ g.size; rest = λ out'' q v. g.rest o
 
 module _ {s : List ℕ} {at stop from : ℕ} (bytes : Bytes s) (hd : Headed s at stop from) where
   abbrev X : List ℕ
-  X = fixed_of (treeAt s at stop)
+  X = fixed_of (tree_at s at stop)
 
   abbrev CS : Fields
-  CS = parts_of (treeAt s at stop)
+  CS = parts_of (tree_at s at stop)
 
   -- what is copied from the attributes on
-  pub attributes-are : {r : ℕ} → Ends s from stop r → ReadAt s at stop → slice r stop s ≡ encodes (attributesIn CS)
+  pub attributes-are : {r : ℕ} → Ends s from stop r → ReadAt s at stop → slice r stop s ≡ encodes (attributes_in CS)
   attributes-are {r} v k =
       let w = head-row hd k in
-      sym (ap (λ (fs : Fields). encodes (attributesIn fs)) (head-parts hd) ∙ ap encodes (v.attributes w)
-      ∙ (row-sound s r stop (ruleOf 0x10) bytes v.before hd.framed.fits (v.row w)).0)
+      sym (ap (λ (fs : Fields). encodes (attributes_in fs)) (head-parts hd) ∙ ap encodes (v.attributes w)
+      ∙ (row-sound s r stop (rule_of 0x10) bytes v.before hd.framed.fits (v.row w)).0)
 
-  taken-bytes : (fs : Fields) → framed 0x10 (X ++ (encodes fs ++ encodes (attributesIn CS))) ≡ encode (field 0x10 X (append fs (attributesIn CS)))
-  taken-bytes fs = ap (λ (b : List ℕ). framed 0x10 (X ++ b)) (sym (encodes-append fs (attributesIn CS))) ∙ framed-field 0x10 X (append fs (attributesIn CS))
+  taken-bytes : (fs : Fields) → framed 0x10 (X ++ (encodes fs ++ encodes (attributes_in CS))) ≡ encode (field 0x10 X (append fs (attributes_in CS)))
+  taken-bytes fs = ap (λ (b : List ℕ). framed 0x10 (X ++ b)) (sym (encodes-append fs (attributes_in CS))) ∙ framed-field 0x10 X (append fs (attributes_in CS))
 
-  pub taken-written : (id : Id) {t l k j h out' : List ℕ} {o d q p r : ℕ} → Begun l o (get_or s at 0) (slice (at + 3) from s) k d → Writes (usagesFrom (idBy id) 0) t k d j q →
+  pub taken-written : (id : Id) {t l k j h out' : List ℕ} {o d q p r : ℕ} → Begun l o (get_or s at 0) (slice (at + 3) from s) k d → Writes (usages_from (id_by id) 0) t k d j q →
       Ends s from stop r → Wrote j q (slice r stop s) h p → out' ≡ closed h o p → ReadAt s at stop →
-      Writes (λ u. encode (field 0x10 X (append (specifiersFrom (usagesOf (idBy id) u.usages)) (attributesIn CS)))) t l o out' p
+      Writes (λ u. encode (field 0x10 X (append (specifiers_from (usages_of (id_by id) u.usages)) (attributes_in CS)))) t l o out' p
   taken-written id b w v y z rd =
       let c = head-begun hd b in
       record {
         is = λ u n.
             wrote_as (wrote-field c.opened (wrote_then c.fixed (wrote_then (w.is u n) (wrote_as y (attributes-are v rd)))) z)
-            (taken-bytes (specifiersFrom (usagesOf (idBy id) u.usages)));
+            (taken-bytes (specifiers_from (usages_of (id_by id) u.usages)));
       }
 
 -- ---- Taken apart, or its source forced
 
 module _ (s : List ℕ) (at stop : ℕ) (bytes : Bytes s) (room : at + 3 ≤ stop) (fits : stop ≤ length s) (tag : get_or s at 0 ≡ 0x10) where
   abbrev Literal : List ℕ
-  Literal = fixed_of (treeAt s at stop)
+  Literal = fixed_of (tree_at s at stop)
 
   abbrev Parts : Fields
-  Parts = parts_of (treeAt s at stop)
+  Parts = parts_of (tree_at s at stop)
 
-  taken-some : (l : List Usage) (u : State) → any l ≡ true → takeApart l Literal Parts u ≡
-      done (field 0x10 Literal (append (specifiersFrom l) (attributesIn Parts)), setCollected (map (extend Literal (specifiersFrom l)) u.collected) u)
-  unfolding takeApart
+  taken-some : (l : List Usage) (u : State) → any l ≡ true → take_apart l Literal Parts u ≡
+      done (field 0x10 Literal (append (specifiers_from l) (attributes_in Parts)), set_collected (map (extend Literal (specifiers_from l)) u.collected) u)
+  unfolding take_apart
   taken-some [] u q = absurd (let z : ◌≡◌ {A = ℕ} 0 1 = cc in omega arith)
   taken-some (v ∷ l) u q = refl
 
-  taken_none : (l : List Usage) (u : State) → any l ≡ false → takeApart l Literal Parts u ≡ done (field 0x10 Literal Parts, forceSource (value_of Literal) u)
-  unfolding takeApart
+  taken_none : (l : List Usage) (u : State) → any l ≡ false → take_apart l Literal Parts u ≡ done (field 0x10 Literal Parts, force_source (value_of Literal) u)
+  unfolding take_apart
   taken_none [] u q = refl
   taken_none (v ∷ l) u q = absurd (let z : ◌≡◌ {A = ℕ} 0 1 = cc in omega arith)
 
   abbrev Apart : Id → List ℕ → List ℕ → ℕ → List ℕ → List ℕ → ℕ → Type 0
   Apart id t out o t' out' p =
-      Steps encode (λ x u. ReadAt s at stop × (among (value_of Literal) (sourcesIn u.collected) ≡ true)) (λ _ u. takeApart (usagesOf (idBy id) u.usages) Literal Parts u) t out o t' out' (Done p)
+      Steps encode (λ x u. ReadAt s at stop × (among (value_of Literal) (sources_in u.collected) ≡ true)) (λ _ u. take_apart (usages_of (id_by id) u.usages) Literal Parts u) t out o t' out' (Done p)
 
-  pub apart_some : (id : Id) {t out out' : List ℕ} {o p : ℕ} {b : Bool} → Good t → length out' ≡ length out → Tells (λ u. any (usagesOf (idBy id) u.usages)) t b → b ≡ true →
-      (ReadAt s at stop → Writes (λ u. encode (field 0x10 Literal (append (specifiersFrom (usagesOf (idBy id) u.usages)) (attributesIn Parts)))) t out o out' p) → Apart id t out o t out' p
+  pub apart_some : (id : Id) {t out out' : List ℕ} {o p : ℕ} {b : Bool} → Good t → length out' ≡ length out → Tells (λ u. any (usages_of (id_by id) u.usages)) t b → b ≡ true →
+      (ReadAt s at stop → Writes (λ u. encode (field 0x10 Literal (append (specifiers_from (usages_of (id_by id) u.usages)) (attributes_in Parts)))) t out o out' p) → Apart id t out o t out' p
   apart_some id g z w q v =
       steps-done g z (λ x u k h.
-      let l = usagesOf (idBy id) u.usages in
+      let l = usages_of (id_by id) u.usages in
       record {
-        value = field 0x10 Literal (append (specifiersFrom l) (attributesIn Parts));
-        state = setCollected (map (extend Literal (specifiersFrom l)) u.collected) u;
+        value = field 0x10 Literal (append (specifiers_from l) (attributes_in Parts));
+        state = set_collected (map (extend Literal (specifiers_from l)) u.collected) u;
         is = taken-some l u (sym (w.is u k) ∙ q);
         wrote = (v h.0).is u k;
-        shows = shows-extended (specifiersFrom l) (specifiers-plain l) Literal k;
+        shows = shows-extended (specifiers_from l) (specifiers-plain l) Literal k;
       })
 
-  pub apart_none : (id : Id) (n : ℕ) {t t' out out' : List ℕ} {o p : ℕ} {b : Bool} → Tells (λ u. any (usagesOf (idBy id) u.usages)) t b → b ≡ false →
-      n ≡ twoAt s (at + 3) → Forces (two n) t t' → Wrote out o (slice at stop s) out' p → Apart id t out o t' out' p
+  pub apart_none : (id : Id) (n : ℕ) {t t' out out' : List ℕ} {o p : ℕ} {b : Bool} → Tells (λ u. any (usages_of (id_by id) u.usages)) t b → b ≡ false →
+      n ≡ two_at s (at + 3) → Forces (two n) t t' → Wrote out o (slice at stop s) out' p → Apart id t out o t' out' p
   apart_none id n {t' = t'} w q c f v =
       steps-done f.good v.size (λ x u k h.
       let d = (headed-of room fits tag h.0).1 in
       let g = head-source d bytes c in
       record {
         value = field 0x10 Literal Parts;
-        state = forceSource (value_of Literal) u;
-        is = taken_none (usagesOf (idBy id) u.usages) u (sym (w.is u k) ∙ q);
+        state = force_source (value_of Literal) u;
+        is = taken_none (usages_of (id_by id) u.usages) u (sym (w.is u k) ∙ q);
         wrote = head-copied d bytes h.0 v;
         shows =
-            subst (λ (a : List ℕ). Shows x t' (forceSource a u)) g (f.shows u (ap (λ (a : List ℕ). among a (sourcesIn u.collected)) g ∙ h.1) k);
+            subst (λ (a : List ℕ). Shows x t' (force_source a u)) g (f.shows u (ap (λ (a : List ℕ). among a (sources_in u.collected)) g ∙ h.1) k);
       })

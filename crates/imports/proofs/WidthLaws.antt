@@ -13,15 +13,15 @@ use Rattle.tree.specs.declared.layout.Reach.TheVariants.{Upto, Short}
 use Rattle.tree.specs.declared.grammar.Value.TheVariants.{Atom}
 use Rattle.tree.specs.declared.grammar.Piece.TheVariants.{Outside}
 use Rattle.tree.specs.declared.access.Choice.TheVariants.{Take, Bad}
-use Rattle.tree.specs.Layout.{skipAt}
+use Rattle.tree.specs.Layout.{skip_at}
 use Rattle.tree.specs.Tree.{field}
 use Rattle.tree.specs.Grammar.{pieces_of}
-use Rattle.tree.specs.Access.{value_at, kinds, choice_of, onChoice, kind_at, piece_at, thenPiece, fixed_at}
-use Rattle.tree.specs.Standing.{treeAt, row_at}
+use Rattle.tree.specs.Access.{value_at, kinds, choice_of, on_choice, kind_at, piece_at, then_piece, fixed_at}
+use Rattle.tree.specs.Standing.{tree_at, row_at}
 use Rattle.tree.specs.Within.{Exact}
 use Rattle.tree.proofs.AccessLaws.{upto-in}
 use Rattle.tree.proofs.FixedLaws.{no-upto, fixed_same}
-use Rattle.tree.proofs.SliceLaws.{getD-slice, take-slice, drop-slice}
+use Rattle.tree.proofs.SliceLaws.{get_d-slice, take-slice, drop-slice}
 use Rattle.tree.proofs.StandingLaws.{tree-upto}
 use Rattle.tree.proofs.WidthLaws.{skip-ends}
 use Rattle.imports.specs.Parts.{Framed}
@@ -29,7 +29,7 @@ use Rattle.imports.specs.Parts.{Framed}
 -- ---- Bytes of a part
 
 pub byte_of : (a b : ℕ) (s : List ℕ) (k j : ℕ) → a + k ≡ j → j < b → get_or (slice a b s) k 0 ≡ get_or s j 0
-byte_of a b s k j e h = getD-slice a b s k (omega arith) ∙ ap (λ (n : ℕ). get_or s n 0) e
+byte_of a b s k j e h = get_d-slice a b s k (omega arith) ∙ ap (λ (n : ℕ). get_or s n 0) e
 
 pub slice_of : (a b : ℕ) (s : List ℕ) (i j k l : ℕ) → a + i ≡ k → a + j ≡ l → l ≤ b → b ≤ length s → slice i j (slice a b s) ≡ slice k l s
 slice_of a b s i j k l e f h g =
@@ -60,10 +60,10 @@ module _ {s : List ℕ} {at stop from : ℕ} (w : Framed s at stop from) where
       let e₁ : from ≡ at + 3 + length x = omega arith in
       let e₂ : 0 + length x ≡ length x = omega arith in
       fixed_same (get_or s at 0) s x (at + 3) 0 (length x) stop (length x) w.room
-      (λ k h. let u : 0 + k ≡ k = omega arith in sym (ap (λ (j : ℕ). get_or x j 0) u ∙ getD-slice (at + 3) from s k (omega arith)))
+      (λ k h. let u : 0 + k ≡ k = omega arith in sym (ap (λ (j : ℕ). get_or x j 0) u ∙ get_d-slice (at + 3) from s k (omega arith)))
       (omega arith) (λ _. e₂) (w.fixed ∙ ap Upto e₁) ∙ ap Upto e₂
 
-  pub framed-tree : treeAt s at stop ≡ field (get_or s at 0) (slice (at + 3) from s) (row_at s from stop)
+  pub framed-tree : tree_at s at stop ≡ field (get_or s at 0) (slice (at + 3) from s) (row_at s from stop)
   framed-tree = tree-upto s at stop from w.fixed
 
   pub framed-length : length (slice (at + 3) from s) ≡ from - (at + 3)
@@ -73,20 +73,20 @@ module _ {s : List ℕ} {at stop from : ℕ} (w : Framed s at stop from) where
 
 -- the third kind of an outside name
 text-is : (x : List ℕ) (b stop : ℕ) → kind_at x Outside b stop ≡ Upto stop → (get_or x b 0 ≡ 0 → ⊥) → (get_or x b 0 ≡ 1 → ⊥) → (get_or x b 0 ≡ 2) × (stop ≡ b + 3)
-unfolding kind_at choice_of kinds onChoice value_at
+unfolding kind_at choice_of kinds on_choice value_at
 text-is x b stop e n m = go (ltb b stop) e
   where
-    kind : (c : Bool) → eqb (get_or x b 0) 2 ≡ c → onChoice (cond c (Take Atom) Bad) (b + 1) stop ≡ Upto stop → (get_or x b 0 ≡ 2) × (stop ≡ b + 3)
+    kind : (c : Bool) → eqb (get_or x b 0) 2 ≡ c → on_choice (cond c (Take Atom) Bad) (b + 1) stop ≡ Upto stop → (get_or x b 0 ≡ 2) × (stop ≡ b + 3)
     kind true w e = (eqb-true (get_or x b 0) 2 w, let z = skip-ends (b + 1) 2 stop stop e in omega arith)
     kind false w e = absurd (no-upto e)
 
-    go : (c : Bool) → cond c (onChoice (choice_of Outside (get_or x b 0)) (b + 1) stop) Short ≡ Upto stop → (get_or x b 0 ≡ 2) × (stop ≡ b + 3)
+    go : (c : Bool) → cond c (on_choice (choice_of Outside (get_or x b 0)) (b + 1) stop) Short ≡ Upto stop → (get_or x b 0 ≡ 2) × (stop ≡ b + 3)
     go true e = kind (eqb (get_or x b 0) 2) refl (rw (ne_eqb (get_or x b 0) 0 n, ne_eqb (get_or x b 0) 1 m) at e)
     go false e = absurd (no-upto e)
 
-then-text : (x : List ℕ) (r : Reach) → skipAt 0 6 (length x) ≡ r → thenPiece r x Outside (length x) ≡ Upto (length x) →
+then-text : (x : List ℕ) (r : Reach) → skip_at 0 6 (length x) ≡ r → then_piece r x Outside (length x) ≡ Upto (length x) →
     (get_or x 6 0 ≡ 0 → ⊥) → (get_or x 6 0 ≡ 1 → ⊥) → (get_or x 6 0 ≡ 2) × (length x ≡ 9)
-unfolding thenPiece piece_at
+unfolding then_piece piece_at
 then-text x Short w e n m = absurd (no-upto e)
 then-text x (Upto b) w e n m =
     let q : b ≡ 6 = skip-ends 0 6 (length x) b w in
@@ -94,4 +94,4 @@ then-text x (Upto b) w e n m =
 
 pub width-text : (x : List ℕ) → Exact 0x20 x → (get_or x 6 0 ≡ 0 → ⊥) → (get_or x 6 0 ≡ 1 → ⊥) → (get_or x 6 0 ≡ 2) × (length x ≡ 9)
 unfolding fixed_at piece_at value_at pieces_of
-width-text x h n m = then-text x (skipAt 0 6 (length x)) refl h n m
+width-text x h n m = then-text x (skip_at 0 6 (length x)) refl h n m

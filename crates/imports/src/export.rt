@@ -5,12 +5,12 @@ ghost use Rattle.tree.specs.declared.layout.Reach.TheVariants.{Upto};
 ghost use Rattle.tree.specs.Layout.{two};
 ghost use Rattle.tree.specs.Tree.{encode, field, none, fixed_of};
 ghost use Rattle.tree.specs.Access.{fixed_at};
-ghost use Rattle.tree.specs.Standing.{treeAt};
+ghost use Rattle.tree.specs.Standing.{tree_at};
 ghost use Rattle.writer.specs.Wrote.{Wrote};
-ghost use Rattle.extraction_rules.specs.First.{idFrom, exportSpecifier};
+ghost use Rattle.extraction_rules.specs.First.{id_from, export_specifier};
 ghost use Rattle.state.specs.Cells.{Good};
 ghost use Rattle.steps.specs.Step.{Steps};
-ghost use Rattle.imports.specs.Parts.{exportedAt};
+ghost use Rattle.imports.specs.Parts.{exported_at};
 
 use scope::id::{Atom, Id, SyntaxContext};
 use state::forced::force_id;
@@ -30,7 +30,7 @@ pub fn export_specifier(
     o: usize,
 ) -> Step
     requires { (at + 3 ≤ stop) × (stop ≤ length s.now) × (get_or s.now at 0 ≡ 0x23) × (fixed_at s.now 0x23 (at + 3) stop ≡ Upto from) × Good t.old }
-    ensures { Steps encode (λ x u. Unit {0}) (λ x. exportSpecifier x.setting (fixed_of (treeAt s.now at stop)) at) t.old
+    ensures { Steps encode (λ x u. Unit {0}) (λ x. export_specifier x.setting (fixed_of (tree_at s.now at stop)) at) t.old
         out.old o t.new out.new result }
 {
     if s[at + 3] == 2 {
@@ -47,7 +47,7 @@ pub fn export_specifier(
 // The exported name of the 23 at `at`, 'filling none'.
 fn exported_name(s: &[u8], at: usize) -> Atom
     requires { (at + 11 ≤ length s.now) × (get_or s.now (at + 10) 0 ≡ 1 → at + 13 ≤ length s.now) }
-    ensures { two result.0 ≡ exportedAt s.now at }
+    ensures { two result.0 ≡ exported_at s.now at }
 {
     if s[at + 10] == 1 {
         Atom(atom_at(s, at + 11))
@@ -60,7 +60,7 @@ fn exported_name(s: &[u8], at: usize) -> Atom
 fn put_exported(s: &[u8], at: usize, c: SyntaxContext, out: &mut [u8], o: usize) -> usize
     requires { (at + 11 ≤ length s.now) × (get_or s.now (at + 10) 0 ≡ 1 → at + 13 ≤ length s.now) }
     ensures { Wrote out.old o
-        (encode (field 0x23 (slice (at + 3) (at + 10) s.now ++ 1 ∷ idFrom (exportedAt s.now at) c.0) none)) out.new
+        (encode (field 0x23 (slice (at + 3) (at + 10) s.now ++ 1 ∷ id_from (exported_at s.now at) c.0) none)) out.new
         result }
 {
     let content = writer::open_field(out, o, 0x23);

@@ -4,11 +4,11 @@ ghost use Rattle.std.proofs.Math.Option.{none as nothing, some};
 ghost use Rattle.tree.specs.declared.layout.Reach.TheVariants.{Upto};
 ghost use Rattle.tree.specs.Tree.{encode, fixed_of, parts_of};
 ghost use Rattle.tree.specs.Access.{fixed_at};
-ghost use Rattle.tree.specs.Standing.{treeAt, row_at};
-ghost use Rattle.extraction_rules.specs.First.{importFirst};
-ghost use Rattle.state.specs.Cells.{Good, records, held, namespacesIn};
+ghost use Rattle.tree.specs.Standing.{tree_at, row_at};
+ghost use Rattle.extraction_rules.specs.First.{import_first};
+ghost use Rattle.state.specs.Cells.{Good, records, held, namespaces_in};
 ghost use Rattle.steps.specs.Step.{ReadAt, Reads, Steps};
-ghost use Rattle.imports.specs.Parts.{Gathers, Extending, Gathering, Collected, importOn};
+ghost use Rattle.imports.specs.Parts.{Gathers, Extending, Gathering, Collected, import_on};
 
 use crate::note::{note_all, put_context_attributes};
 use crate::parts::{namespace_at, specifiers_end};
@@ -54,7 +54,7 @@ fn gather_namespaces(s: &[u8], from: usize, end: usize, i: usize, t: &mut [u64])
 // The field at `at` up to stop is a namespace of a record, if it is a 22.
 fn gather_namespace(s: &[u8], at: usize, stop: usize, i: usize, t: &mut [u64])
     requires { (at + 3 ≤ stop) × (stop ≤ length s.now) × Good t.old × (i < held records t.old) }
-    ensures { Extending i (treeAt s.now at stop) t.old t.new }
+    ensures { Extending i (tree_at s.now at stop) t.old t.new }
 {
     let Ident::Is(id) = namespace_at(s, at, stop) else {
         return;
@@ -72,8 +72,8 @@ pub fn import_first(
     o: usize,
 ) -> Step
     requires { (at + 3 ≤ stop) × (stop ≤ length s.now) × (get_or s.now at 0 ≡ 0x10) × Good t.old }
-    ensures { Steps encode (λ x u. ReadAt s.now at stop × Reads x s.now × (9 * namespacesIn u.collected ≤ at) × (stop ≤ 32768))
-        (λ x. importFirst x.setting (fixed_of (treeAt s.now at stop)) (parts_of (treeAt s.now at stop)) at) t.old
+    ensures { Steps encode (λ x u. ReadAt s.now at stop × Reads x s.now × (9 * namespaces_in u.collected ≤ at) × (stop ≤ 32768))
+        (λ x. import_first x.setting (fixed_of (tree_at s.now at stop)) (parts_of (tree_at s.now at stop)) at) t.old
         out.old o t.new out.new result }
 {
     let Reach::Upto(from) = fixed(s, 0x10, at + 3, stop) else {
@@ -101,8 +101,8 @@ fn import_resolved(
     o: usize,
 ) -> Step
     requires { (at + 3 ≤ stop) × (stop ≤ length s.now) × (get_or s.now at 0 ≡ 0x10) × Good t.old }
-    ensures { Steps encode (λ x u. ReadAt s.now at stop × Reads x s.now × (9 * namespacesIn u.collected ≤ at) × (stop ≤ 32768))
-        (λ _. importOn (some n.0) (fixed_of (treeAt s.now at stop)) (parts_of (treeAt s.now at stop)) at) t.old
+    ensures { Steps encode (λ x u. ReadAt s.now at stop × Reads x s.now × (9 * namespaces_in u.collected ≤ at) × (stop ≤ 32768))
+        (λ _. import_on (some n.0) (fixed_of (tree_at s.now at stop)) (parts_of (tree_at s.now at stop)) at) t.old
         out.old o t.new out.new result }
 {
     let Reach::Upto(from) = fixed(s, 0x10, at + 3, stop) else {
@@ -130,8 +130,8 @@ fn import_unresolved(
     o: usize,
 ) -> Step
     requires { (at + 3 ≤ stop) × (stop ≤ length s.now) × (get_or s.now at 0 ≡ 0x10) × Good t.old }
-    ensures { Steps encode (λ x u. ReadAt s.now at stop × Reads x s.now × (9 * namespacesIn u.collected ≤ at) × (stop ≤ 32768))
-        (λ _. importOn nothing (fixed_of (treeAt s.now at stop)) (parts_of (treeAt s.now at stop)) at) t.old
+    ensures { Steps encode (λ x u. ReadAt s.now at stop × Reads x s.now × (9 * namespaces_in u.collected ≤ at) × (stop ≤ 32768))
+        (λ _. import_on nothing (fixed_of (tree_at s.now at stop)) (parts_of (tree_at s.now at stop)) at) t.old
         out.old o t.new out.new result }
 {
     let Reach::Upto(from) = fixed(s, 0x10, at + 3, stop) else {
@@ -144,7 +144,7 @@ fn import_unresolved(
 // The import at `at`, which is written up to p, is collected.
 fn gathered(s: &[u8], at: usize, from: usize, stop: usize, t: &mut [u64], p: usize) -> Step
     requires { (at + 3 ≤ stop) × (stop ≤ length s.now) × (get_or s.now at 0 ≡ 0x10) × (fixed_at s.now 0x10 (at + 3) stop ≡ Upto from) × Good t.old }
-    ensures { Collected s.now (fixed_of (treeAt s.now at stop)) (parts_of (treeAt s.now at stop)) at t.old t.new p result }
+    ensures { Collected s.now (fixed_of (tree_at s.now at stop)) (parts_of (tree_at s.now at stop)) at t.old t.new p result }
 {
     let literal = literal_at(s, at + 3, place_of(t, at + 3));
     match gather(s, from, stop, literal, t) {

@@ -1,4 +1,6 @@
 // Imports in both passes, and export specifiers.
+#![tactic(auto)]
+
 mod parts; // an import's specifiers and attributes
 mod note; // what the first pass notes of a resolved import
 pub mod first; // an import in the first pass

@@ -3,13 +3,13 @@ ghost use Rattle.std.specs.Prelude.{◌≡◌, false, List, ◌∷◌, ◌++◌,
 ghost use Rattle.std.proofs.Math.Option.{some};
 ghost use Rattle.tree.specs.Layout.{two, four, id_at};
 ghost use Rattle.tree.specs.Tree.{encode, encodes, field, none};
-ghost use Rattle.tree.specs.Grammar.{ruleOf};
-ghost use Rattle.tree.specs.Standing.{treeAt, row_at, Row};
+ghost use Rattle.tree.specs.Grammar.{rule_of};
+ghost use Rattle.tree.specs.Standing.{tree_at, row_at, Row};
 ghost use Rattle.writer.specs.Wrote.{Wrote};
 ghost use Rattle.scope.specs.Id.{export};
-ghost use Rattle.metadata.specs.Metadata.{withMetadata};
-ghost use Rattle.extraction_rules.specs.First.{idFrom, noteNamed, noteSpecifier, noteAll, specifiersIn};
-ghost use Rattle.state.specs.Cells.{Good, idBy};
+ghost use Rattle.metadata.specs.Metadata.{with_metadata};
+ghost use Rattle.extraction_rules.specs.First.{id_from, note_named, note_specifier, note_all, specifiers_in};
+ghost use Rattle.state.specs.Cells.{Good, id_by};
 ghost use Rattle.steps.specs.Step.{ReadAt, Steps};
 ghost use Rattle.imports.specs.Parts.{Framed, OutsideAt, OutsideIs, SpecifierIs, Specified, noting, Attributes};
 
@@ -52,7 +52,7 @@ fn outside_at(s: &[u8], at: usize) -> Outside
 // The specifier at `at`, a field whose fixed bytes are whole.
 fn specifier_at(s: &[u8], at: usize) -> Specifier
     requires { ((stop : ℕ) × (from : ℕ) × Framed s.now at stop from) × (0x20 ≤ get_or s.now at 0) × (get_or s.now at 0 ≤ 0x22) }
-    ensures { (stop from : ℕ) → Framed s.now at stop from → SpecifierIs (treeAt s.now at stop) result }
+    ensures { (stop from : ℕ) → Framed s.now at stop from → SpecifierIs (tree_at s.now at stop) result }
 {
     let id = id_at(s, at + 3);
     match s[at] {
@@ -73,7 +73,7 @@ pub fn note_specifier(
     o: usize,
 ) -> Step
     requires { (at + 3 ≤ stop) × (stop ≤ length s.now) × Good t.old }
-    ensures { Steps encode (λ x u. Specified s.now at stop) (λ _. noteSpecifier n.0 (treeAt s.now at stop) at) t.old
+    ensures { Steps encode (λ x u. Specified s.now at stop) (λ _. note_specifier n.0 (tree_at s.now at stop) at) t.old
         out.old o t.new out.new result }
 {
     let tag = s[at];
@@ -105,7 +105,7 @@ fn note_other(
 ) -> Step
     requires { (at + 9 ≤ stop) × (stop ≤ length s.now) × Good t.old }
     ensures { Steps encode (λ x u. ReadAt s.now at stop) (λ _. noting (record { id = id_at s.now (at + 3); context = four c.0 })
-        (treeAt s.now at stop) at) t.old out.old o t.new out.new result }
+        (tree_at s.now at stop) at) t.old out.old o t.new out.new result }
 {
     match note_id(t, id_at(s, at + 3), c) {
         Room::Made => Step::Done(writer::copy(out, o, s, at, stop)),
@@ -124,8 +124,8 @@ fn note_named(
     o: usize,
 ) -> Step
     requires { Good t.old }
-    ensures { (x : List ℕ) → idBy id ≡ id_at x 0 → OutsideIs x outside →
-        Steps encode (λ x u. Unit {0}) (λ _. noteNamed n.0 x at) t.old out.old o t.new out.new result }
+    ensures { (x : List ℕ) → id_by id ≡ id_at x 0 → OutsideIs x outside →
+        Steps encode (λ x u. Unit {0}) (λ _. note_named n.0 x at) t.old out.old o t.new out.new result }
 {
     match outside {
         Outside::Nothing => note_as(id, id.0, at, n, t, out, o),
@@ -146,7 +146,7 @@ fn note_as(
 ) -> Step
     requires { Good t.old }
     ensures { Steps encode (λ x u. Unit {0})
-        (λ _. noting (record { id = idBy id; context = four (export n.0) }) (field 0x20 (idBy id ++ 1 ∷ idFrom (two name.0) (export n.0)) none)
+        (λ _. noting (record { id = id_by id; context = four (export n.0) }) (field 0x20 (id_by id ++ 1 ∷ id_from (two name.0) (export n.0)) none)
         at) t.old out.old o t.new out.new result }
 {
     let c = n.export_ctxt();
@@ -158,7 +158,7 @@ fn note_as(
 
 // Writes a 20 with an outside name.
 fn put_outside(id: Id, outside: Id, out: &mut [u8], o: usize) -> usize
-    ensures { Wrote out.old o (encode (field 0x20 (idBy id ++ 1 ∷ idBy outside) none)) out.new result }
+    ensures { Wrote out.old o (encode (field 0x20 (id_by id ++ 1 ∷ id_by outside) none)) out.new result }
 {
     let content = writer::open_field(out, o, 0x20);
     let kind = put_id(out, content, id);
@@ -179,7 +179,7 @@ pub fn note_all(
     o: usize,
 ) -> Step
     requires { (from ≤ end) × (end ≤ length s.now) × Good t.old }
-    ensures { Steps encodes (λ x u. Row s.now from end (ruleOf 0x10)) (λ _. noteAll n.0 (specifiersIn (row_at s.now from end)) from)
+    ensures { Steps encodes (λ x u. Row s.now from end (rule_of 0x10)) (λ _. note_all n.0 (specifiers_in (row_at s.now from end)) from)
         t.old out.old o t.new out.new result }
 {
     let mut at = from;
@@ -211,7 +211,7 @@ pub fn put_context_attributes(
     o: usize,
 ) -> usize
     requires { (at ≤ end) × (end ≤ length s.now) }
-    ensures { Attributes s.now at end (λ old. encode (withMetadata (record { injected = false; context = some (export n.0) }) old))
+    ensures { Attributes s.now at end (λ old. encode (with_metadata (record { injected = false; context = some (export n.0) }) old))
         out.old o out.new result }
 {
     let content = writer::open_field(out, o, 0x2F);

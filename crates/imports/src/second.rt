@@ -2,15 +2,15 @@
 ghost use Rattle.std.specs.Prelude.{◌≡◌, true, false, ◌+◌, ◌≤◌, ◌<◌, length, get_or};
 ghost use Rattle.tree.specs.Layout.{value_of};
 ghost use Rattle.tree.specs.Tree.{encode, field, fixed_of, parts_of};
-ghost use Rattle.tree.specs.Standing.{treeAt};
+ghost use Rattle.tree.specs.Standing.{tree_at};
 ghost use Rattle.metadata.specs.Metadata.{append};
 ghost use Rattle.inputs.specs.Lists.{among};
-ghost use Rattle.extraction_rules.specs.First.{external, attributesIn};
-ghost use Rattle.extraction_rules.specs.Second.{usagesOf, specifiersFrom, takeApart, importSecond};
-ghost use Rattle.state.specs.Cells.{Good, idBy, uses, held, sourcesIn};
+ghost use Rattle.extraction_rules.specs.First.{external, attributes_in};
+ghost use Rattle.extraction_rules.specs.Second.{usages_of, specifiers_from, take_apart, import_second};
+ghost use Rattle.state.specs.Cells.{Good, id_by, uses, held, sources_in};
 ghost use Rattle.steps.specs.Step.{ReadAt, Steps};
 ghost use Rattle.steps.specs.declared.Step.TheVariants.{Done};
-ghost use Rattle.imports.specs.Parts.{Writes, usagesFrom, Usage};
+ghost use Rattle.imports.specs.Parts.{Writes, usages_from, Usage};
 
 use crate::parts::{sole_namespace, specifiers_end};
 use scope::id::{Atom, Id};
@@ -36,9 +36,9 @@ pub fn import_second(
     requires { (at + 3 ≤ stop) × (stop ≤ length s.now) × (get_or s.now at 0 ≡ 0x10) × Good t.old }
     ensures { Steps encode
         (λ x u. ReadAt s.now at stop
-        × (external x.setting (fixed_of (treeAt s.now at stop)) ≡ false →
-        among (value_of (fixed_of (treeAt s.now at stop))) (sourcesIn u.collected) ≡ true))
-        (λ x. importSecond x.setting (fixed_of (treeAt s.now at stop)) (parts_of (treeAt s.now at stop))) t.old
+        × (external x.setting (fixed_of (tree_at s.now at stop)) ≡ false →
+        among (value_of (fixed_of (tree_at s.now at stop))) (sources_in u.collected) ≡ true))
+        (λ x. import_second x.setting (fixed_of (tree_at s.now at stop)) (parts_of (tree_at s.now at stop))) t.old
         out.old o t.new out.new result }
 {
     let Reach::Upto(from) = fixed(s, 0x10, at + 3, stop) else {
@@ -69,8 +69,8 @@ fn take_apart(
 ) -> usize
     requires { (at + 9 ≤ stop) × (stop ≤ length s.now) × (get_or s.now at 0 ≡ 0x10) × Good t.old }
     ensures { Steps encode
-        (λ x u. ReadAt s.now at stop × (among (value_of (fixed_of (treeAt s.now at stop))) (sourcesIn u.collected) ≡ true))
-        (λ _ u. takeApart (usagesOf (idBy id) u.usages) (fixed_of (treeAt s.now at stop)) (parts_of (treeAt s.now at stop)) u)
+        (λ x u. ReadAt s.now at stop × (among (value_of (fixed_of (tree_at s.now at stop))) (sources_in u.collected) ≡ true))
+        (λ _ u. take_apart (usages_of (id_by id) u.usages) (fixed_of (tree_at s.now at stop)) (parts_of (tree_at s.now at stop)) u)
         t.old out.old o t.new out.new (Done result) }
 {
     if has_usages(t, id) {
@@ -94,8 +94,8 @@ fn put_taken_apart(
     ensures { ReadAt s.now at stop →
         Writes
         (λ u. encode
-        (field 0x10 (fixed_of (treeAt s.now at stop))
-        (append (specifiersFrom (usagesOf (idBy id) u.usages)) (attributesIn (parts_of (treeAt s.now at stop)))))) t.now
+        (field 0x10 (fixed_of (tree_at s.now at stop))
+        (append (specifiers_from (usages_of (id_by id) u.usages)) (attributes_in (parts_of (tree_at s.now at stop)))))) t.now
         out.old o out.new result }
 {
     let Reach::Upto(from) = fixed(s, 0x10, at + 3, stop) else {
@@ -111,7 +111,7 @@ fn put_taken_apart(
 // Writes the usages of an id as 20s without outside name.
 fn put_usages(id: Id, t: &[u64], out: &mut [u8], o: usize) -> usize
     requires { Good t.now }
-    ensures { Writes (usagesFrom (idBy id) 0) t.now out.old o out.new result }
+    ensures { Writes (usages_from (id_by id) 0) t.now out.old o out.new result }
 {
     let n = count_usages(t);
     let mut i = 0;
@@ -126,7 +126,7 @@ fn put_usages(id: Id, t: &[u64], out: &mut [u8], o: usize) -> usize
 // Writes the usage at a place, if it is one of the id.
 fn put_usage(i: usize, id: Id, t: &[u64], out: &mut [u8], o: usize) -> usize
     requires { Good t.now × (i < held uses t.now) }
-    ensures { Usage (idBy id) i t.now out.old o out.new result }
+    ensures { Usage (id_by id) i t.now out.old o out.new result }
 {
     match usage_at(t, i, id) {
         Property::Is(property) => put_named(out, o, property),

@@ -5,11 +5,11 @@ use mathlib.Core.Bool.{Bool, true, false, not}
 use mathlib.Core.List.{List}
 use mathlib.Core.Option.{none as nothing}
 use native.Mathlib.Omega.{arith}
-use Rattle.inputs.specs.Outcome.{Outcome, done, refused, onto, placeless, refuseIf, refusalIn}
+use Rattle.inputs.specs.Outcome.{Outcome, done, refused, onto, placeless, refuse_if, refusal_in}
 use Rattle.tree.specs.Tree.{Field, size}
-use Rattle.writer.specs.Finished.{hasRoom}
+use Rattle.writer.specs.Finished.{has_room}
 use Rattle.inputs.specs.Buffer.{fits}
-use Rattle.inputs.specs.Table.{Row, rowsIn, repeats, table_of}
+use Rattle.inputs.specs.Table.{Row, rows_in, repeats, table_of}
 
 pub done_inj : {A : Type 0} {a b : A} → done a ≡ done b → a ≡ b
 done_inj e = cc
@@ -18,7 +18,7 @@ pub done_refused : {A B : Type 0} {a : A} {n p : ℕ} → refused n p ≡ done a
 done_refused {a = a} e = absurd (let z : ◌≡◌ {A = ℕ} 0 1 = cc in omega arith)
 
 -- without a refusal there is a value
-pub refusal-none : {A : Type 0} (m : Outcome A) → refusalIn m ≡ nothing → (a : A) × (m ≡ done a)
+pub refusal-none : {A : Type 0} (m : Outcome A) → refusal_in m ≡ nothing → (a : A) × (m ≡ done a)
 refusal-none (done a) e = (a, refl)
 refusal-none (refused n p) e = absurd (let z : ◌≡◌ {A = ℕ} 0 1 = cc in omega arith)
 
@@ -32,15 +32,15 @@ placeless-done (done b) a e = e
 placeless-done (refused n p) a e = done_refused e
 
 -- a table that is accepted has the rows that its bytes say
-pub table-rows : (t : List ℕ) (rows : List Row) → table_of t ≡ done rows → rows ≡ rowsIn t
+pub table-rows : (t : List ℕ) (rows : List Row) → table_of t ≡ done rows → rows ≡ rows_in t
 unfolding table_of
-table-rows t rows e = sym (done_inj (onto-done (refuseIf (repeats (rowsIn t)) 2) _ rows e).2)
+table-rows t rows e = sym (done_inj (onto-done (refuse_if (repeats (rows_in t)) 2) _ rows e).2)
 
 -- a field that was accepted has room
-pub fits-room : (f : Field) (room : ℕ) (u : Unit {0}) → fits f room ≡ done u → hasRoom (size f) room ≡ true
+pub fits-room : (f : Field) (room : ℕ) (u : Unit {0}) → fits f room ≡ done u → has_room (size f) room ≡ true
 unfolding fits
-fits-room f room u e = go (hasRoom (size f) room) e
+fits-room f room u e = go (has_room (size f) room) e
   where
-    go : (b : Bool) → refuseIf (not b) 9 ≡ done u → b ≡ true
+    go : (b : Bool) → refuse_if (not b) 9 ≡ done u → b ≡ true
     go true e = refl
     go false e = done_refused e

@@ -55,34 +55,34 @@ others-kept x j k h =
     ap (λ (d : ℕ). eqb d 1) f
 
 -- the cell of the bit n with this bit set
-abbrev cellWith : List ℕ → ℕ → ℕ
-cellWith cells n = bit_or (get_or cells (n / 64) 0) (1 * 2 ^ (n % 64))
+abbrev cell_with : List ℕ → ℕ → ℕ
+cell_with cells n = bit_or (get_or cells (n / 64) 0) (1 * 2 ^ (n % 64))
 
 module _ (cells : List ℕ) (n : ℕ) (h : n / 64 < length cells) where
-  bit-of : (m : ℕ) → is_set (set cells (n / 64) (cellWith cells n)) m ≡ (is_set cells m || eqb m n)
+  bit-of : (m : ℕ) → is_set (set cells (n / 64) (cell_with cells n)) m ≡ (is_set cells m || eqb m n)
   unfolding is_set
   bit-of m = by (eqb (m / 64) (n / 64)) (eqb (m % 64) (n % 64)) refl refl
     where
       by : (a b : Bool) → eqb (m / 64) (n / 64) ≡ a → eqb (m % 64) (n % 64) ≡ b →
-          eqb (get_or (set cells (n / 64) (cellWith cells n)) (m / 64) 0 / 2 ^ (m % 64) % 2) 1
+          eqb (get_or (set cells (n / 64) (cell_with cells n)) (m / 64) 0 / 2 ^ (m % 64) % 2) 1
           ≡ (eqb (get_or cells (m / 64) 0 / 2 ^ (m % 64) % 2) 1 || eqb m n)
       by true true e f =
           let p = eqb-true (m / 64) (n / 64) e in
           let q = eqb-true (m % 64) (n % 64) f in
-          rw (p, q, get_or-set_same cells (n / 64) (cellWith cells n) 0 h, one_set, eq-eqb m n (omega arith), or-true)
+          rw (p, q, get_or-set_same cells (n / 64) (cell_with cells n) 0 h, one_set, eq-eqb m n (omega arith), or-true)
       by true false e f =
           let p = eqb-true (m / 64) (n / 64) e in
           let q = eqb-false (m % 64) (n % 64) f in
-          rw (p, get_or-set_same cells (n / 64) (cellWith cells n) 0 h, others-kept _ _ _ q, ne_eqb m n (λ r. q (ap (λ (k : ℕ). k % 64) r)), or-false)
+          rw (p, get_or-set_same cells (n / 64) (cell_with cells n) 0 h, others-kept _ _ _ q, ne_eqb m n (λ r. q (ap (λ (k : ℕ). k % 64) r)), or-false)
       by false b e f =
           let p = eqb-false (m / 64) (n / 64) e in
-          rw (get_or-set_other cells (n / 64) (m / 64) (cellWith cells n) 0 p, ne_eqb m n (λ r. p (ap (λ (k : ℕ). k / 64) r)), or-false)
+          rw (get_or-set_other cells (n / 64) (m / 64) (cell_with cells n) 0 p, ne_eqb m n (λ r. p (ap (λ (k : ℕ). k / 64) r)), or-false)
 
   -- as the code makes it: 2^(n % 64) is shifted, and loses no bit
   pub with-bit : WithBit cells n (set cells (n / 64) (bit_or (get_or cells (n / 64) 0) ((1 * 2 ^ (n % 64)) % 2 ^ 64)))
   with-bit =
       rw (shl_exact {a = 1} 1 (n % 64) 64 (omega arith) (omega arith))
-      (record { size = length-set cells (n / 64) (cellWith cells n); bits = bit-of })
+      (record { size = length-set cells (n / 64) (cell_with cells n); bits = bit-of })
 
 -- in zeros no bit is set
 zeros : (n i : ℕ) → get_or {A = ℕ} (replicate n 0) i 0 ≡ 0

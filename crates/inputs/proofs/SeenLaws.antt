@@ -11,29 +11,29 @@ use lib.Dec.{eqb}
 use lib.ListN.{length, get_or, drop, replicate}
 use lib.Seq.{get_or-drop}
 use borrow.Author.Tests.{eqb-true, eqb-false, eq-eqb, ne_eqb}
-use Rattle.tree.specs.Layout.{two, twoAt}
+use Rattle.tree.specs.Layout.{two, two_at}
 use Rattle.inputs.specs.Bitmap.{is_set, WithBit, half_of}
 use Rattle.inputs.specs.Lists.{find, filter, is_some}
-use Rattle.inputs.specs.Table.{Row, rowsIn, row_of, repeats}
+use Rattle.inputs.specs.Table.{Row, rows_in, row_of, repeats}
 use Rattle.inputs.proofs.TableLaws.{bytes-two, small, atom-is, rows_step, rows_end}
 use Rattle.inputs.proofs.BitmapLaws.{none-set}
 
 -- one of these rows has a source whose bit, in its half, is set
 unfoldable pub hits : List ℕ → List Row → Bool
 hits cells [] = false
-hits cells (r ∷ rows) = is_set cells (twoAt r.source 0 % 32768) || hits cells rows
+hits cells (r ∷ rows) = is_set cells (two_at r.source 0 % 32768) || hits cells rows
 
 -- one of them has, or two have the same source
-abbrev pub twiceFrom : List ℕ → List Row → Bool
-twiceFrom cells rows = hits cells rows || repeats rows
+abbrev pub twice_from : List ℕ → List Row → Bool
+twice_from cells rows = hits cells rows || repeats rows
 
 -- before the first row no bit is set
 no_hit : (n : ℕ) (rows : List Row) → hits (replicate n 0) rows ≡ false
 unfolding hits
 no_hit n [] = refl
-no_hit n (r ∷ rows) = rw (none-set n (twoAt r.source 0 % 32768), no_hit n rows)
+no_hit n (r ∷ rows) = rw (none-set n (two_at r.source 0 % 32768), no_hit n rows)
 
-pub twice-first : (n : ℕ) (rows : List Row) → repeats rows ≡ twiceFrom (replicate n 0) rows
+pub twice-first : (n : ℕ) (rows : List Row) → repeats rows ≡ twice_from (replicate n 0) rows
 twice-first n rows = rw (no_hit n rows)
 
 either : (p q x : Bool) (r : Row) (o : Option Row) → ((p || q) || (x || is_some o)) ≡ ((p || x) || is_some (cond q (some r) o))
@@ -64,43 +64,43 @@ module _ {cells cells' : List ℕ} {m half : ℕ} (w : WithBit cells (m % 32768)
       rw (w.bits (n % 32768), q, ih, atom-is x y m a b h) (either (is_set cells (n % 32768)) (eqb n m) _ _ _)
   told-row x y f rows a b ih false e = ih
 
-  hits_more : (l : List ℕ) → ((i : ℕ) → get_or l i 0 < 256) → Told (half_of half (rowsIn l))
-  unfolding hits half_of filter rowsIn row_of find
+  hits_more : (l : List ℕ) → ((i : ℕ) → get_or l i 0 < 256) → Told (half_of half (rows_in l))
+  unfolding hits half_of filter rows_in row_of find
   hits_more [] b = refl
   hits_more (x ∷ []) b = refl
   hits_more (x ∷ (y ∷ [])) b = refl
   hits_more (x ∷ (y ∷ (z ∷ []))) b = refl
   hits_more (x ∷ (y ∷ (z ∷ (v ∷ l)))) b =
-      told-row x y (z * 256 + v) (half_of half (rowsIn l)) (b 0) (b 1) (hits_more l (λ i. b (suc (suc (suc (suc i)))))) _ refl
+      told-row x y (z * 256 + v) (half_of half (rows_in l)) (b 0) (b 1) (hits_more l (λ i. b (suc (suc (suc (suc i)))))) _ refl
 
 -- the row at i has the source m
-module _ (l : List ℕ) (i m : ℕ) (h : i + 4 ≤ length l) (s : m ≡ twoAt l i) (half : ℕ) (cells : List ℕ) where
-  pub twice-past : (m / 32768 ≡ half → ⊥) → half_of half (rowsIn (drop i l)) ≡ half_of half (rowsIn (drop (i + 4) l))
+module _ (l : List ℕ) (i m : ℕ) (h : i + 4 ≤ length l) (s : m ≡ two_at l i) (half : ℕ) (cells : List ℕ) where
+  pub twice-past : (m / 32768 ≡ half → ⊥) → half_of half (rows_in (drop i l)) ≡ half_of half (rows_in (drop (i + 4) l))
   unfolding half_of filter
-  twice-past d = rw (rows_step l i h, ne_eqb (twoAt l i / 32768) half (λ e. d (rw s e)))
+  twice-past d = rw (rows_step l i h, ne_eqb (two_at l i / 32768) half (λ e. d (rw s e)))
 
   module _ (p : m / 32768 ≡ half) where
-    this-half : half_of half (rowsIn (drop i l))
-        ≡ record { source = get_or l i 0 ∷ get_or l (i + 1) 0 ∷ []; file = twoAt l (i + 2) } ∷ half_of half (rowsIn (drop (i + 4) l))
+    this-half : half_of half (rows_in (drop i l))
+        ≡ record { source = get_or l i 0 ∷ get_or l (i + 1) 0 ∷ []; file = two_at l (i + 2) } ∷ half_of half (rows_in (drop (i + 4) l))
     unfolding half_of filter
-    this-half = rw (rows_step l i h, eq-eqb (twoAt l i / 32768) half (rw s at p))
+    this-half = rw (rows_step l i h, eq-eqb (two_at l i / 32768) half (rw s at p))
 
-    pub twice-here : is_set cells (m % 32768) ≡ true → twiceFrom cells (half_of half (rowsIn (drop i l))) ≡ true
+    pub twice-here : is_set cells (m % 32768) ≡ true → twice_from cells (half_of half (rows_in (drop i l))) ≡ true
     unfolding hits
     twice-here e = rw (this-half, rw s at e)
 
     pub twice-on : {cells' : List ℕ} → ((j : ℕ) → get_or l j 0 < 256) → is_set cells (m % 32768) ≡ false → WithBit cells (m % 32768) cells' →
-        twiceFrom cells (half_of half (rowsIn (drop i l))) ≡ twiceFrom cells' (half_of half (rowsIn (drop (i + 4) l)))
+        twice_from cells (half_of half (rows_in (drop i l))) ≡ twice_from cells' (half_of half (rows_in (drop (i + 4) l)))
     unfolding hits repeats
     twice-on b e w =
-        let rest = half_of half (rowsIn (drop (i + 4) l)) in
+        let rest = half_of half (rows_in (drop (i + 4) l)) in
         let x = b i in
         let y = b (i + 1) in
         let more = hits_more w (rw s (small (get_or l i 0) (get_or l (i + 1) 0) x y)) p (drop (i + 4) l) (λ j. rw get_or-drop (b (i + 4 + j))) in
         rw (this-half, rw s at e, bytes-two (get_or l i 0) (get_or l (i + 1) 0) x y, more, s)
-        (sym (or_assoc (hits cells rest) (is_some (row_of (two (twoAt l i)) rest)) (repeats rest)))
+        (sym (or_assoc (hits cells rest) (is_some (row_of (two (two_at l i)) rest)) (repeats rest)))
 
-pub twice-end : (l : List ℕ) (i half : ℕ) (cells : List ℕ) → length l < i + 4 → twiceFrom cells (half_of half (rowsIn (drop i l))) ≡ false
+pub twice-end : (l : List ℕ) (i half : ℕ) (cells : List ℕ) → length l < i + 4 → twice_from cells (half_of half (rows_in (drop i l))) ≡ false
 unfolding hits half_of filter repeats
 twice-end l i half cells h = rw (rows_end l i h)
 
@@ -118,14 +118,14 @@ module _ (m : ℕ) (h : m < 65536) where
       let d = eqb-false (n / 32768) (m / 32768) e in
       rw (atom-is x y m a b h, ne_eqb n m (λ r. d (ap (λ (k : ℕ). k / 32768) r))) ih
 
-  row-half : (l : List ℕ) → ((i : ℕ) → get_or l i 0 < 256) → row_of (two m) (half_of (m / 32768) (rowsIn l)) ≡ row_of (two m) (rowsIn l)
-  unfolding half_of filter rowsIn
+  row-half : (l : List ℕ) → ((i : ℕ) → get_or l i 0 < 256) → row_of (two m) (half_of (m / 32768) (rows_in l)) ≡ row_of (two m) (rows_in l)
+  unfolding half_of filter rows_in
   row-half [] b = refl
   row-half (x ∷ []) b = refl
   row-half (x ∷ (y ∷ [])) b = refl
   row-half (x ∷ (y ∷ (z ∷ []))) b = refl
   row-half (x ∷ (y ∷ (z ∷ (v ∷ l)))) b =
-      kept_row x y (z * 256 + v) (half_of (m / 32768) (rowsIn l)) (rowsIn l) (b 0) (b 1) (row-half l (λ i. b (suc (suc (suc (suc i)))))) _ refl
+      kept_row x y (z * 256 + v) (half_of (m / 32768) (rows_in l)) (rows_in l) (b 0) (b 1) (row-half l (λ i. b (suc (suc (suc (suc i)))))) _ refl
 
 swap : (s a b : Bool) → (s || (a || b)) ≡ (a || (s || b))
 swap true true b = refl
@@ -134,29 +134,29 @@ swap false a b = refl
 
 -- a source is named twice just where one of the lower half is, or one of the upper half
 module _ (x y f : ℕ) (l : List ℕ) (b : (i : ℕ) → get_or l i 0 < 256) (p : x < 256) (q : y < 256) where
-  row-of : (half : ℕ) → (x * 256 + y) / 32768 ≡ half → row_of (two (x * 256 + y)) (half_of half (rowsIn l)) ≡ row_of (two (x * 256 + y)) (rowsIn l)
+  row-of : (half : ℕ) → (x * 256 + y) / 32768 ≡ half → row_of (two (x * 256 + y)) (half_of half (rows_in l)) ≡ row_of (two (x * 256 + y)) (rows_in l)
   row-of half e = rw e at (row-half (x * 256 + y) (small x y p q) l b)
 
   again : Bool
-  again = is_some (row_of (two (x * 256 + y)) (rowsIn l))
+  again = is_some (row_of (two (x * 256 + y)) (rows_in l))
 
-  halves-row : repeats (rowsIn l) ≡ (repeats (half_of 0 (rowsIn l)) || repeats (half_of 1 (rowsIn l))) →
+  halves-row : repeats (rows_in l) ≡ (repeats (half_of 0 (rows_in l)) || repeats (half_of 1 (rows_in l))) →
       (t u : Bool) → eqb ((x * 256 + y) / 32768) 0 ≡ t → eqb ((x * 256 + y) / 32768) 1 ≡ u →
-      repeats (record { source = x ∷ y ∷ []; file = f } ∷ rowsIn l)
-      ≡ (repeats (cond t (record { source = x ∷ y ∷ []; file = f } ∷ half_of 0 (rowsIn l)) (half_of 0 (rowsIn l)))
-      || repeats (cond u (record { source = x ∷ y ∷ []; file = f } ∷ half_of 1 (rowsIn l)) (half_of 1 (rowsIn l))))
+      repeats (record { source = x ∷ y ∷ []; file = f } ∷ rows_in l)
+      ≡ (repeats (cond t (record { source = x ∷ y ∷ []; file = f } ∷ half_of 0 (rows_in l)) (half_of 0 (rows_in l)))
+      || repeats (cond u (record { source = x ∷ y ∷ []; file = f } ∷ half_of 1 (rows_in l)) (half_of 1 (rows_in l))))
   unfolding repeats again
   halves-row ih true true d e = let g = eqb-true ((x * 256 + y) / 32768) 0 d in let h = eqb-true ((x * 256 + y) / 32768) 1 e in absurd (omega arith)
   halves-row ih true false d e =
       rw (bytes-two x y p q, row-of 0 (eqb-true _ 0 d), ih)
-      (sym (or_assoc again (repeats (half_of 0 (rowsIn l))) (repeats (half_of 1 (rowsIn l)))))
+      (sym (or_assoc again (repeats (half_of 0 (rows_in l))) (repeats (half_of 1 (rows_in l)))))
   halves-row ih false true d e =
-      rw (bytes-two x y p q, row-of 1 (eqb-true _ 1 e), ih) (swap again (repeats (half_of 0 (rowsIn l))) (repeats (half_of 1 (rowsIn l))))
+      rw (bytes-two x y p q, row-of 1 (eqb-true _ 1 e), ih) (swap again (repeats (half_of 0 (rows_in l))) (repeats (half_of 1 (rows_in l))))
   halves-row ih false false d e = let g = eqb-false ((x * 256 + y) / 32768) 0 d in let h = eqb-false ((x * 256 + y) / 32768) 1 e in absurd (omega arith)
 
 pub names-by-halves : (l : List ℕ) → ((i : ℕ) → get_or l i 0 < 256) →
-    repeats (rowsIn l) ≡ (repeats (half_of 0 (rowsIn l)) || repeats (half_of 1 (rowsIn l)))
-unfolding repeats half_of filter rowsIn
+    repeats (rows_in l) ≡ (repeats (half_of 0 (rows_in l)) || repeats (half_of 1 (rows_in l)))
+unfolding repeats half_of filter rows_in
 names-by-halves [] b = refl
 names-by-halves (x ∷ []) b = refl
 names-by-halves (x ∷ (y ∷ [])) b = refl

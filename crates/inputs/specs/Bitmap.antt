@@ -1,7 +1,7 @@
 -- How the code finds a source that a table names twice: it notes the sources that it meets in a bitmap, first those below 32,768, then the
 -- others, since one bitmap for all takes twice the stack. No rule speaks of it.
 use Rattle.std.specs.Prelude.{ℕ, ◌/◌, ◌%◌, ◌^◌, Bool, ◌||◌, List, ◌≡◌, eqb, length, get_or}
-use Rattle.tree.specs.Layout.{twoAt}
+use Rattle.tree.specs.Layout.{two_at}
 use Rattle.inputs.specs.Lists.{filter}
 use Rattle.inputs.specs.Table.{Row}
 
@@ -16,4 +16,4 @@ pub record WithBit (cells : List ℕ) (n : ℕ) (cells' : List ℕ) : Type 0 whe
 
 -- the rows with a source below 32,768 (0), or with another (1)
 unfoldable pub half_of : ℕ → List Row → List Row
-half_of half rows = filter (λ (r : Row). eqb (twoAt r.source 0 / 32768) half) rows
+half_of half rows = filter (λ (r : Row). eqb (two_at r.source 0 / 32768) half) rows

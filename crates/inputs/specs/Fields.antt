@@ -11,9 +11,9 @@ unfoldable pub keep : (Field → Bool) → Fields → Fields
 keep p none = none
 keep p (more f fs) = cond (p f) (more f (keep p fs)) (keep p fs)
 
-unfoldable pub findField : (Field → Bool) → Fields → Option Field
-findField p none = nothing
-findField p (more f fs) = cond (p f) (some f) (findField p fs)
+unfoldable pub find_field : (Field → Bool) → Fields → Option Field
+find_field p none = nothing
+find_field p (more f fs) = cond (p f) (some f) (find_field p fs)
 
 -- the only part
 unfoldable pub sole : Fields → Option Field

@@ -21,8 +21,8 @@ abbrev pub ◌>>◌ : {A B : Type 0} → Outcome A → Outcome B → Outcome B
 ◌>>◌ m n = onto m (λ a. n)
 
 -- the refusal n where a test fails, 'Place .. (1, 2, 9, 12 ..: 0)'
-abbrev pub refuseIf : Bool → ℕ → Outcome (Unit {0})
-refuseIf b n = cond b (refused n 0) (done tt)
+abbrev pub refuse_if : Bool → ℕ → Outcome (Unit {0})
+refuse_if b n = cond b (refused n 0) (done tt)
 
 -- the same refusal without a place: 'all of pass two: 0'
 abbrev pub placeless : {A : Type 0} → Outcome A → Outcome A
@@ -30,9 +30,9 @@ placeless (done a) = done a
 placeless (refused n p) = refused n 0
 
 -- a refusal's number and place; none where the call is accepted
-abbrev pub refusalIn : {A : Type 0} → Outcome A → Option (ℕ × ℕ)
-refusalIn (done a) = nothing
-refusalIn (refused n p) = some (n, p)
+abbrev pub refusal_in : {A : Type 0} → Outcome A → Option (ℕ × ℕ)
+refusal_in (done a) = nothing
+refusal_in (refused n p) = some (n, p)
 
 -- the two of a refusal, 0 and 0 of none
 abbrev pub number_in : Option (ℕ × ℕ) → ℕ

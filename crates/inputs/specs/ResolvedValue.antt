@@ -4,6 +4,6 @@ use Rattle.std.proofs.Math.Option.{Option, none, some}
 use Rattle.inputs.specs.declared.Resolved.{Resolved}
 use Rattle.inputs.specs.declared.Resolved.TheVariants.{File, Nowhere}
 
-abbrev pub fileBy : Resolved → Option ℕ
-fileBy (File f) = some f.0
-fileBy Nowhere = none
+abbrev pub file_by : Resolved → Option ℕ
+file_by (File f) = some f.0
+file_by Nowhere = none

@@ -1,9 +1,11 @@
 // The lent lists that extraction and resolving share: externals (two bytes each), and the table of sources and files (two bytes each).
+#![tactic(auto)]
+
 ghost use Rattle.std.specs.Prelude.{◌≡◌, ◌<◌, length};
 ghost use Rattle.tree.specs.Layout.{two};
 ghost use Rattle.inputs.specs.Lists.{among};
-ghost use Rattle.inputs.specs.Table.{atomsIn, rowsIn, fileOf, badExternals, badTable, repeats};
-ghost use Rattle.inputs.specs.ResolvedValue.{fileBy};
+ghost use Rattle.inputs.specs.Table.{atoms_in, rows_in, file_of, bad_externals, bad_table, repeats};
+ghost use Rattle.inputs.specs.ResolvedValue.{file_by};
 ghost use Rattle.inputs.specs.Bitmap.{is_set, WithBit, half_of};
 
 use scope::id::{Atom, FileName};
@@ -18,7 +20,7 @@ pub enum Resolved {
 
 // Whether a list of externals is too long, or has half an atom.
 pub fn bad_externals(externals: &[u8]) -> bool
-    ensures { result ≡ badExternals externals.now }
+    ensures { result ≡ bad_externals externals.now }
 {
     if 1024 < externals.len() {
         true
@@ -29,7 +31,7 @@ pub fn bad_externals(externals: &[u8]) -> bool
 
 // Whether a table is too long, or has a part of a row.
 pub fn bad_table(table: &[u8]) -> bool
-    ensures { result ≡ badTable table.now }
+    ensures { result ≡ bad_table table.now }
 {
     if 4096 < table.len() {
         true
@@ -40,7 +42,7 @@ pub fn bad_table(table: &[u8]) -> bool
 
 // Whether an atom is among the externals.
 pub fn is_external(externals: &[u8], atom: Atom) -> bool
-    ensures { result ≡ among (two atom.0) (atomsIn externals.now) }
+    ensures { result ≡ among (two atom.0) (atoms_in externals.now) }
 {
     let mut i = 0;
     while 2 <= externals.len() - i {
@@ -54,7 +56,7 @@ pub fn is_external(externals: &[u8], atom: Atom) -> bool
 
 // The file that a table names for a source.
 pub fn resolve(table: &[u8], source: Atom) -> Resolved
-    ensures { fileBy result ≡ fileOf (two source.0) (rowsIn table.now) }
+    ensures { file_by result ≡ file_of (two source.0) (rows_in table.now) }
 {
     let mut i = 0;
     while 4 <= table.len() - i {
@@ -86,7 +88,7 @@ fn set_bit(cells: &mut [u64; 512], n: u16)
 
 // Whether a table names a source twice that is below 32,768 (0), or another (1).
 fn names_twice_in(table: &[u8], half: u16) -> bool
-    ensures { result ≡ repeats (half_of half (rowsIn table.now)) }
+    ensures { result ≡ repeats (half_of half (rows_in table.now)) }
 {
     let mut seen = [0u64; 512];
     let mut i = 0;
@@ -106,7 +108,7 @@ fn names_twice_in(table: &[u8], half: u16) -> bool
 
 // Whether a table names a source twice.
 pub fn names_twice(table: &[u8]) -> bool
-    ensures { result ≡ repeats (rowsIn table.now) }
+    ensures { result ≡ repeats (rows_in table.now) }
 {
     if names_twice_in(table, 0) {
         true

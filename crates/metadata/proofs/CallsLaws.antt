@@ -9,7 +9,7 @@ use lib.ListN.{length, drop, drop_of_length-le}
 use borrow.Author.Tests.{lt-leb, le-leb, eq-eqb, ne_eqb, eqb-true}
 use Rattle.writer.specs.Bytes.{framed}
 use Rattle.writer.specs.Wrote.{Wrote}
-use Rattle.writer.specs.Finished.{hasRoom, zeroed, Finished}
+use Rattle.writer.specs.Finished.{has_room, zeroed, Finished}
 use Rattle.writer.proofs.Wrote.{wrote_as, wrote-end}
 use Rattle.writer.proofs.Finished.{delivers, room-true}
 use Rattle.tree.specs.declared.layout.Reach.{Reach}
@@ -19,56 +19,56 @@ use Rattle.tree.specs.declared.grammar.Piece.TheVariants.{Plain}
 use Rattle.tree.specs.declared.grammar.Value.TheVariants.{Empty}
 use Rattle.tree.specs.declared.read.Why.{Why}
 use Rattle.tree.specs.declared.read.Verdict.TheVariants.{Good, Refused}
-use Rattle.tree.specs.Layout.{Bytes, skipAt}
-use Rattle.tree.specs.Tree.{Field, field, Fields, none, parts_of, framed as framedField, encode, encodes, depth, depths}
-use Rattle.tree.specs.Grammar.{within, ruleOf, pieces_of, holdsAt}
-use Rattle.tree.specs.Access.{value_at, piece_at, thenPiece, fixed_at, extentAt}
+use Rattle.tree.specs.Layout.{Bytes, skip_at}
+use Rattle.tree.specs.Tree.{Field, field, Fields, none, parts_of, framed as framed_field, encode, encodes, depth, depths}
+use Rattle.tree.specs.Grammar.{within, rule_of, pieces_of, holds_at}
+use Rattle.tree.specs.Access.{value_at, piece_at, then_piece, fixed_at, extent_at}
 use Rattle.tree.specs.Read.{Reading, fine, refused, mapped, verdict, read}
-use Rattle.tree.specs.Standing.{rowOn, row, row_at}
+use Rattle.tree.specs.Standing.{row_on, row, row_at}
 use Rattle.tree.specs.Within.{Exact, FormedAll, Within}
 use Rattle.tree.proofs.TreeLaws.{depth-parts}
 use Rattle.tree.proofs.ReadLaws.{mapped-fine, fine-inj, good-fine, verdict-mapped, verdict-refused}
 use Rattle.tree.proofs.StandingLaws.{read-standing}
 use Rattle.tree.proofs.SoundLaws.{read-sound}
 use Rattle.metadata.specs.declared.Encoded.TheVariants.{Done, Broken, NoRoom}
-use Rattle.metadata.specs.Metadata.{Metadata, append, attributesFor, withMetadata, decode}
-use Rattle.metadata.specs.MetadataValue.{writtenBytes}
-use Rattle.metadata.specs.Calls.{attributesIn, lent, decodeCall, answerOn, outOn, encodeAnswer, encodeOut, Encoding}
+use Rattle.metadata.specs.Metadata.{Metadata, append, attributes_for, with_metadata, decode}
+use Rattle.metadata.specs.MetadataValue.{written_bytes}
+use Rattle.metadata.specs.Calls.{attributes_in, lent, decode_call, answer_on, out_on, encode_answer, encode_out, Encoding}
 use Rattle.metadata.proofs.EncodeLaws.{framed-field, encodes-append}
 
 -- ---- What was lent
 
 -- nothing stands where no byte is left
 row-past : (s : List ℕ) (at end : ℕ) → end ≤ at → row_at s at end ≡ none
-unfolding row_at row rowOn extentAt
+unfolding row_at row row_on extent_at
 row-past s at end h = rw (lt-leb 3 (end - at) (omega arith))
 
-pub skip-none : (at stop : ℕ) → skipAt at 0 stop ≡ Upto (at + 0)
-unfolding skipAt
+pub skip-none : (at stop : ℕ) → skip_at at 0 stop ≡ Upto (at + 0)
+unfolding skip_at
 skip-none at stop = rw (le-leb 0 (stop - at) (omega arith))
 
 -- a 2F has no fixed bytes
 fixed-none : (x : List ℕ) → Exact 0x2F x → x ≡ []
-unfolding fixed_at thenPiece pieces_of piece_at value_at
+unfolding fixed_at then_piece pieces_of piece_at value_at
 fixed-none [] e = refl
 fixed-none (b ∷ x) e =
-    let f = ap (λ (r : Reach). thenPiece r (b ∷ x) (Plain Empty) (length (b ∷ x))) (skip-none 0 (length (b ∷ x))) ∙ skip-none (0 + 0) (length (b ∷ x)) in
+    let f = ap (λ (r : Reach). then_piece r (b ∷ x) (Plain Empty) (length (b ∷ x))) (skip-none 0 (length (b ∷ x))) ∙ skip-none (0 + 0) (length (b ∷ x)) in
     let z : 0 + 0 + 0 ≡ length (b ∷ x) = cc in
     absurd (omega arith)
 
 -- what reading accepted: the attributes' bytes stand behind the head, and they are within the grammar
 pub record Sound (s : List ℕ) (old : Fields) : Type 0 where
   pub bytes : encodes old ≡ drop 3 s
-  pub formed : FormedAll old (ruleOf 0x2F)
+  pub formed : FormedAll old (rule_of 0x2F)
   pub shallow : depths old ≤ 63
 
 none-sound : (s : List ℕ) → length s ≡ 0 → Sound s none
-unfolding encode ruleOf within depth
+unfolding encode rule_of within depth
 none-sound s e = record { bytes = sym (drop_of_length-le s {i = 3} (omega arith)); formed = refl; shallow = omega arith }
 
 module _ (s : List ℕ) where
   field-sound : (t : ℕ) (x : List ℕ) (cs : Fields) → Within Attributes (field t x cs) → encode (field t x cs) ≡ s → Sound s cs
-  unfolding holdsAt encode framedField
+  unfolding holds_at encode framed_field
   field-sound t x cs w e =
       let tag : t ≡ 0x2F = eqb-true t 0x2F w.0 in
       let empty : x ≡ [] = fixed-none x (subst (λ (u : ℕ). Exact u x) tag w.1.1) in
@@ -76,7 +76,7 @@ module _ (s : List ℕ) where
       let k = w.2 in
       record {
         bytes = sym (ap (λ (y : List ℕ). y ++ encodes cs) empty) ∙ ap (drop 3) e;
-        formed = subst (λ (u : ℕ). FormedAll cs (ruleOf u)) tag w.1.2;
+        formed = subst (λ (u : ℕ). FormedAll cs (rule_of u)) tag w.1.2;
         shallow = omega arith;
       }
 
@@ -84,28 +84,28 @@ module _ (s : List ℕ) where
   root-sound (field t x cs) w e = field-sound t x cs w e
 
   module _ (old : Fields) where
-    read-lent : (fs : Fields) → Bytes s → read Attributes s ≡ fine fs → attributesIn fs ≡ old → Sound s old
+    read-lent : (fs : Fields) → Bytes s → read Attributes s ≡ fine fs → attributes_in fs ≡ old → Sound s old
     read-lent fs bs e o =
         let r = read-sound Attributes s fs bs e in
-        subst (Sound s) (sym (ap attributesIn r.1) ∙ o) (root-sound r.0 r.2 r.3)
+        subst (Sound s) (sym (ap attributes_in r.1) ∙ o) (root-sound r.0 r.2 r.3)
 
-    sound-by : (b : Bool) → eqb (length s) 0 ≡ b → Bytes s → cond b (fine none) (mapped attributesIn (read Attributes s)) ≡ fine old → Sound s old
+    sound-by : (b : Bool) → eqb (length s) 0 ≡ b → Bytes s → cond b (fine none) (mapped attributes_in (read Attributes s)) ≡ fine old → Sound s old
     sound-by true l bs e = subst (Sound s) (fine-inj e) (none-sound s (eqb-true (length s) 0 l))
-    sound-by false l bs e = let m = mapped-fine attributesIn (read Attributes s) old e in read-lent m.0 bs m.1 m.2
+    sound-by false l bs e = let m = mapped-fine attributes_in (read Attributes s) old e in read-lent m.0 bs m.1 m.2
 
     pub lent-sound : Bytes s → lent s ≡ fine old → Sound s old
     unfolding lent
     lent-sound bs e = sound-by (eqb (length s) 0) refl bs e
 
-    stands_by : (b : Bool) → eqb (length s) 0 ≡ b → cond b (fine none) (mapped attributesIn (read Attributes s)) ≡ fine old →
-        attributesIn (row_at s 0 (length s)) ≡ old
-    stands_by true l e = let z = eqb-true (length s) 0 l in ap attributesIn (row-past s 0 (length s) (omega arith)) ∙ fine-inj e
+    stands_by : (b : Bool) → eqb (length s) 0 ≡ b → cond b (fine none) (mapped attributes_in (read Attributes s)) ≡ fine old →
+        attributes_in (row_at s 0 (length s)) ≡ old
+    stands_by true l e = let z = eqb-true (length s) 0 l in ap attributes_in (row-past s 0 (length s) (omega arith)) ∙ fine-inj e
     stands_by false l e =
-        let m = mapped-fine attributesIn (read Attributes s) old e in
-        ap attributesIn (read-standing Attributes s m.0 m.1) ∙ m.2
+        let m = mapped-fine attributes_in (read Attributes s) old e in
+        ap attributes_in (read-standing Attributes s m.0 m.1) ∙ m.2
 
     -- they are what stands in the field at 0
-    pub lent-stands : lent s ≡ fine old → attributesIn (row_at s 0 (length s)) ≡ old
+    pub lent-stands : lent s ≡ fine old → attributes_in (row_at s 0 (length s)) ≡ old
     unfolding lent
     lent-stands e = stands_by (eqb (length s) 0) refl e
 
@@ -117,40 +117,40 @@ lent-empty s e = rw (eq-eqb (length s) 0 e)
 
 pub lent-read : (s : List ℕ) → (length s ≡ 0 → ⊥) → verdict (lent s) ≡ verdict (read Attributes s)
 unfolding lent
-lent-read s e = rw (ne_eqb (length s) 0 e) (verdict-mapped attributesIn (read Attributes s))
+lent-read s e = rw (ne_eqb (length s) 0 e) (verdict-mapped attributes_in (read Attributes s))
 
 -- ---- The calls, by the verdict
 
 module _ (s : List ℕ) where
-  pub decode-good : verdict (lent s) ≡ Good → fine (decode (attributesIn (row_at s 0 (length s)))) ≡ decodeCall s
-  unfolding decodeCall
+  pub decode-good : verdict (lent s) ≡ Good → fine (decode (attributes_in (row_at s 0 (length s)))) ≡ decode_call s
+  unfolding decode_call
   decode-good v =
       let g = good-fine (lent s) v in
       ap (λ (old : Fields). fine (decode old)) (lent-stands s g.0 g.1) ∙ sym (ap (mapped decode) g.1)
 
-  pub decode-refused : (w : Why) (p : ℕ) → verdict (lent s) ≡ Refused w p → refused w p ≡ decodeCall s
-  unfolding decodeCall
+  pub decode-refused : (w : Why) (p : ℕ) → verdict (lent s) ≡ Refused w p → refused w p ≡ decode_call s
+  unfolding decode_call
   decode-refused w p v = sym (ap (mapped decode) (verdict-refused (lent s) v))
 
   module _ (m : Metadata) where
     pub encode-refused : {l k : List ℕ} → k ≡ zeroed l → (w : Why) (p : ℕ) → verdict (lent s) ≡ Refused w p → Encoding m s l (Broken w p) k
-    unfolding encodeAnswer encodeOut answerOn outOn zeroed
+    unfolding encode_answer encode_out answer_on out_on zeroed
     encode-refused {l} z w p v =
         let e = verdict-refused (lent s) v in
         record {
-          answer = sym (ap (λ (r : Reading Fields). answerOn r m (length l)) e);
-          buffer = z ∙ sym (ap (λ (r : Reading Fields). outOn r m (length l)) e);
+          answer = sym (ap (λ (r : Reading Fields). answer_on r m (length l)) e);
+          buffer = z ∙ sym (ap (λ (r : Reading Fields). out_on r m (length l)) e);
         }
 
     -- the bytes that are written are those of the new attributes
-    written : (old : Fields) → Bytes s → lent s ≡ fine old → writtenBytes m s ≡ encode (withMetadata m old)
-    unfolding withMetadata
+    written : (old : Fields) → Bytes s → lent s ≡ fine old → written_bytes m s ≡ encode (with_metadata m old)
+    unfolding with_metadata
     written old bs e =
-        ap (framed 0x2F) (ap (λ (x : List ℕ). x ++ encodes (attributesFor m)) (sym (lent-sound s old bs e).bytes) ∙ sym (encodes-append old (attributesFor m)))
-        ∙ framed-field 0x2F [] (append old (attributesFor m))
+        ap (framed 0x2F) (ap (λ (x : List ℕ). x ++ encodes (attributes_for m)) (sym (lent-sound s old bs e).bytes) ∙ sym (encodes-append old (attributes_for m)))
+        ∙ framed-field 0x2F [] (append old (attributes_for m))
 
     module _ {l mid k : List ℕ} {n : ℕ} {r : Bool} (bs : Bytes s) (v : verdict (lent s) ≡ Good)
-        (w : Wrote l 0 (writtenBytes m s) mid n) (f : Finished n mid r k) where
+        (w : Wrote l 0 (written_bytes m s) mid n) (f : Finished n mid r k) where
       old : Fields
       old = (good-fine (lent s) v).0
 
@@ -159,19 +159,19 @@ module _ (s : List ℕ) where
       is-lent = (good-fine (lent s) v).1
 
       new : List ℕ
-      new = encode (withMetadata m old)
+      new = encode (with_metadata m old)
 
       wrote : Wrote l 0 new mid n
       unfolding new
       wrote = wrote_as w (written old bs is-lent)
 
-      out-given : k ≡ encodeOut m s (length l)
-      unfolding new encodeOut outOn
-      out-given = (delivers wrote f).buffer ∙ sym (ap (λ (x : Reading Fields). outOn x m (length l)) is-lent)
+      out-given : k ≡ encode_out m s (length l)
+      unfolding new encode_out out_on
+      out-given = (delivers wrote f).buffer ∙ sym (ap (λ (x : Reading Fields). out_on x m (length l)) is-lent)
 
-      answer-by : (b : Bool) → hasRoom (length new) (length l) ≡ b → cond b (Done (length new)) NoRoom ≡ encodeAnswer m s (length l)
-      unfolding new encodeAnswer answerOn
-      answer-by b e = sym (ap (λ (x : Reading Fields). answerOn x m (length l)) is-lent ∙ rw e)
+      answer-by : (b : Bool) → has_room (length new) (length l) ≡ b → cond b (Done (length new)) NoRoom ≡ encode_answer m s (length l)
+      unfolding new encode_answer answer_on
+      answer-by b e = sym (ap (λ (x : Reading Fields). answer_on x m (length l)) is-lent ∙ rw e)
 
       -- what was written had room
       pub encode-done : r ≡ true → Encoding m s l (Done n) k

@@ -11,31 +11,31 @@ use lib.Dec.{ltb, leb}
 use lib.ListN.{length, get_or, length-append}
 use lib.Seq.{slice, slice-cons, slice_empty}
 use borrow.Author.Tests.{lt-ltb, le-ltb, le-leb, lt-leb, ltb-true, ltb-false, leb-true, eq-eqb, ne_eqb}
-use Rattle.metadata.specs.Decimal.{decimalBy, decimal, isDigit, numberFrom, number, limited, unsigned, parsed}
+use Rattle.metadata.specs.Decimal.{decimal_by, decimal, is_digit, number_from, number, limited, unsigned, parsed}
 
 -- ---- Digits
 
-by-digit : (k n : ℕ) → n < 10 → decimalBy (suc k) n ≡ (48 + n) ∷ []
-unfolding decimalBy
-by-digit k n h = rw (decimalBy, lt-ltb n 10 h)
+by-digit : (k n : ℕ) → n < 10 → decimal_by (suc k) n ≡ (48 + n) ∷ []
+unfolding decimal_by
+by-digit k n h = rw (decimal_by, lt-ltb n 10 h)
 
-by-more : (k n : ℕ) → 10 ≤ n → decimalBy (suc k) n ≡ decimalBy k (n / 10) ++ ((48 + n % 10) ∷ [])
-unfolding decimalBy
-by-more k n h = rw (decimalBy, le-ltb n 10 h)
+by-more : (k n : ℕ) → 10 ≤ n → decimal_by (suc k) n ≡ decimal_by k (n / 10) ++ ((48 + n % 10) ∷ [])
+unfolding decimal_by
+by-more k n h = rw (decimal_by, le-ltb n 10 h)
 
 -- the last digit behind the others
 abbrev behind : ℕ → List ℕ → List ℕ
 behind n l = l ++ ((48 + n % 10) ∷ [])
 
-agree : (j k n : ℕ) → (10 ≤ n → decimalBy j (n / 10) ≡ decimalBy k (n / 10)) → decimalBy (suc j) n ≡ decimalBy (suc k) n
+agree : (j k n : ℕ) → (10 ≤ n → decimal_by j (n / 10) ≡ decimal_by k (n / 10)) → decimal_by (suc j) n ≡ decimal_by (suc k) n
 agree j k n h = go (ltb n 10) refl
   where
-    go : (t : Bool) → ltb n 10 ≡ t → decimalBy (suc j) n ≡ decimalBy (suc k) n
+    go : (t : Bool) → ltb n 10 ≡ t → decimal_by (suc j) n ≡ decimal_by (suc k) n
     go true e = by-digit j n (ltb-true n 10 e) ∙ sym (by-digit k n (ltb-true n 10 e))
     go false e = let g = ltb-false n 10 e in by-more j n g ∙ ap (behind n) (h g) ∙ sym (by-more k n g)
 
 -- more steps than a number needs change nothing
-enough : (j k n : ℕ) → n < j → n < k → decimalBy j n ≡ decimalBy k n
+enough : (j k n : ℕ) → n < j → n < k → decimal_by j n ≡ decimal_by k n
 enough zero k n a b = absurd (omega arith)
 enough (suc j) zero n a b = absurd (omega arith)
 enough (suc j) (suc k) n a b = agree j k n (λ h. enough j k (n / 10) (omega arith) (omega arith))
@@ -85,10 +85,10 @@ decimal-leads =
 
 -- ---- Parsing
 
-digit-true : (b : ℕ) → 48 ≤ b → b ≤ 57 → isDigit b ≡ true
+digit-true : (b : ℕ) → 48 ≤ b → b ≤ 57 → is_digit b ≡ true
 digit-true b h g = rw (le-leb 48 b h, le-leb b 57 g)
 
-pub digit-is : (b : ℕ) → isDigit b ≡ true → (48 ≤ b) × (b ≤ 57)
+pub digit-is : (b : ℕ) → is_digit b ≡ true → (48 ≤ b) × (b ≤ 57)
 digit-is b e = go (leb 48 b) (leb b 57) refl refl e
   where
     go : (l h : Bool) → leb 48 b ≡ l → leb b 57 ≡ h → l && h ≡ true → (48 ≤ b) × (b ≤ 57)
@@ -96,27 +96,27 @@ digit-is b e = go (leb 48 b) (leb b 57) refl refl e
     go true false l h e = absurd (let z : ◌≡◌ {A = ℕ} 0 1 = cc in omega arith)
     go false h l k e = absurd (let z : ◌≡◌ {A = ℕ} 0 1 = cc in omega arith)
 
-from-digit : (n b : ℕ) (l : List ℕ) → 48 ≤ b → b ≤ 57 → numberFrom n (b ∷ l) ≡ numberFrom (n * 10 + (b - 48)) l
-unfolding numberFrom
+from-digit : (n b : ℕ) (l : List ℕ) → 48 ≤ b → b ≤ 57 → number_from n (b ∷ l) ≡ number_from (n * 10 + (b - 48)) l
+unfolding number_from
 from-digit n b l h g = rw (digit-true b h g)
 
 -- what was written is read, whatever follows
-from-decimal : (n : ℕ) (l : List ℕ) → numberFrom 0 (decimal n ++ l) ≡ numberFrom n l
+from-decimal : (n : ℕ) (l : List ℕ) → number_from 0 (decimal n ++ l) ≡ number_from n l
 from-decimal =
-    by_digits (λ n. (l : List ℕ) → numberFrom 0 (decimal n ++ l) ≡ numberFrom n l)
+    by_digits (λ n. (l : List ℕ) → number_from 0 (decimal n ++ l) ≡ number_from n l)
     (λ n h l. let e : 0 * 10 + (48 + n - 48) ≡ n = omega arith in
-    ap (λ (d : List ℕ). numberFrom 0 (d ++ l)) (decimal_digit n h)
-    ∙ from-digit 0 (48 + n) l (omega arith) (omega arith) ∙ ap (λ (m : ℕ). numberFrom m l) e)
+    ap (λ (d : List ℕ). number_from 0 (d ++ l)) (decimal_digit n h)
+    ∙ from-digit 0 (48 + n) l (omega arith) (omega arith) ∙ ap (λ (m : ℕ). number_from m l) e)
     (λ n h f l. let e : n / 10 * 10 + (48 + n % 10 - 48) ≡ n = omega arith in
-    ap (λ (d : List ℕ). numberFrom 0 (d ++ l)) (decimal-more n h)
-    ∙ ap (numberFrom 0) (append_assoc (decimal (n / 10)) ((48 + n % 10) ∷ []) l) ∙ f ((48 + n % 10) ∷ l)
-    ∙ from-digit (n / 10) (48 + n % 10) l (omega arith) (omega arith) ∙ ap (λ (m : ℕ). numberFrom m l) e)
+    ap (λ (d : List ℕ). number_from 0 (d ++ l)) (decimal-more n h)
+    ∙ ap (number_from 0) (append_assoc (decimal (n / 10)) ((48 + n % 10) ∷ []) l) ∙ f ((48 + n % 10) ∷ l)
+    ∙ from-digit (n / 10) (48 + n % 10) l (omega arith) (omega arith) ∙ ap (λ (m : ℕ). number_from m l) e)
 
 number-decimal : (n : ℕ) → number (decimal n) ≡ some n
-unfolding number numberFrom
+unfolding number number_from
 number-decimal n =
     let f = (decimal-leads n).2 in
-    ap number f.is ∙ ap (numberFrom 0) (sym f.is ∙ sym (append-nil (decimal n))) ∙ from-decimal n []
+    ap number f.is ∙ ap (number_from 0) (sym f.is ∙ sym (append-nil (decimal n))) ∙ from-decimal n []
 
 unsigned-decimal : (n : ℕ) → unsigned (decimal n) ≡ decimal n
 unfolding unsigned
@@ -131,12 +131,12 @@ unfolding parsed
 decimal-parses n h = rw (unsigned-decimal n, number-decimal n, le-leb n 4294967295 h)
 
 -- a number that is too large stays so, whatever follows
-pub too_large : (l : List ℕ) (n : ℕ) → 4294967295 < n → limited (numberFrom n l) ≡ none
-unfolding numberFrom
+pub too_large : (l : List ℕ) (n : ℕ) → 4294967295 < n → limited (number_from n l) ≡ none
+unfolding number_from
 too_large [] n h = rw (lt-leb n 4294967295 h)
-too_large (b ∷ l) n h = go (isDigit b) (too_large l (n * 10 + (b - 48)) (omega arith))
+too_large (b ∷ l) n h = go (is_digit b) (too_large l (n * 10 + (b - 48)) (omega arith))
   where
-    go : (t : Bool) → limited (numberFrom (n * 10 + (b - 48)) l) ≡ none → limited (cond t (numberFrom (n * 10 + (b - 48)) l) none) ≡ none
+    go : (t : Bool) → limited (number_from (n * 10 + (b - 48)) l) ≡ none → limited (cond t (number_from (n * 10 + (b - 48)) l) none) ≡ none
     go true e = e
     go false e = refl
 
@@ -146,14 +146,14 @@ module _ (s : List ℕ) (at end : ℕ) (h : at < end) (g : end ≤ length s) whe
   part : slice at end s ≡ get_or s at 0 ∷ slice (at + 1) end s
   part = rw (add-one at) (slice-cons at end s 0 h g)
 
-  pub number_more : (n : ℕ) → isDigit (get_or s at 0) ≡ true →
-      numberFrom n (slice at end s) ≡ numberFrom (n * 10 + (get_or s at 0 - 48)) (slice (at + 1) end s)
-  unfolding numberFrom
-  number_more n e = ap (numberFrom n) part ∙ rw e
+  pub number_more : (n : ℕ) → is_digit (get_or s at 0) ≡ true →
+      number_from n (slice at end s) ≡ number_from (n * 10 + (get_or s at 0 - 48)) (slice (at + 1) end s)
+  unfolding number_from
+  number_more n e = ap (number_from n) part ∙ rw e
 
-  pub number-other : (n : ℕ) → isDigit (get_or s at 0) ≡ false → numberFrom n (slice at end s) ≡ none
-  unfolding numberFrom
-  number-other n e = ap (numberFrom n) part ∙ rw e
+  pub number-other : (n : ℕ) → is_digit (get_or s at 0) ≡ false → number_from n (slice at end s) ≡ none
+  unfolding number_from
+  number-other n e = ap (number_from n) part ∙ rw e
 
   pub unsigned-plus : get_or s at 0 ≡ 43 → unsigned (slice at end s) ≡ slice (at + 1) end s
   unfolding unsigned
@@ -163,16 +163,16 @@ module _ (s : List ℕ) (at end : ℕ) (h : at < end) (g : end ≤ length s) whe
   unfolding unsigned
   unsigned-other e = ap unsigned part ∙ rw (ne_eqb (get_or s at 0) 43 e) (sym part)
 
-  pub number-some : number (slice at end s) ≡ numberFrom 0 (slice at end s)
+  pub number-some : number (slice at end s) ≡ number_from 0 (slice at end s)
   unfolding number
-  number-some = ap number part ∙ ap (numberFrom 0) (sym part)
+  number-some = ap number part ∙ ap (number_from 0) (sym part)
 
 part_none : (s : List ℕ) {at end : ℕ} → at ≡ end → slice at end s ≡ []
 part_none s {at} {end} e = rw e (slice_empty end s)
 
-pub number-end : (s : List ℕ) (n : ℕ) {at end : ℕ} → at ≡ end → numberFrom n (slice at end s) ≡ some n
-unfolding numberFrom
-number-end s n e = ap (numberFrom n) (part_none s e)
+pub number-end : (s : List ℕ) (n : ℕ) {at end : ℕ} → at ≡ end → number_from n (slice at end s) ≡ some n
+unfolding number_from
+number-end s n e = ap (number_from n) (part_none s e)
 
 pub number-none : (s : List ℕ) {at end : ℕ} → at ≡ end → number (slice at end s) ≡ none
 unfolding number

@@ -15,16 +15,16 @@ use Rattle.tree.specs.declared.grammar.Value.TheVariants.{Empty}
 use Rattle.tree.specs.declared.grammar.Slot.TheVariants.{Nothing, Many}
 use Rattle.tree.specs.declared.grammar.Rule.{Rule}
 use Rattle.tree.specs.declared.grammar.Step.TheVariants.{Go}
-use Rattle.tree.specs.Layout.{skipAt}
+use Rattle.tree.specs.Layout.{skip_at}
 use Rattle.tree.specs.Tree.{field, Fields, none, more, tag_of, encode, size, depth, depths}
-use Rattle.tree.specs.Grammar.{within, holdsAt, parts0, parts1, slot_at, stepBy, stepAt, ruleOf, pieces_of}
-use Rattle.tree.specs.Access.{value_at, key_at, piece_at, thenPiece, fixed_at}
+use Rattle.tree.specs.Grammar.{within, holds_at, parts0, parts1, slot_at, step_by, step_at, rule_of, pieces_of}
+use Rattle.tree.specs.Access.{value_at, key_at, piece_at, then_piece, fixed_at}
 use Rattle.tree.specs.Within.{Exact, Formed, FormedAll, Within}
 use Rattle.tree.proofs.GrammarLaws.{no_step, many-slot}
 use Rattle.tree.proofs.TreeLaws.{size-encode, content-size, depth-parts, depth-none, depth-first, depth-rest, depth-most}
 use Rattle.metadata.specs.Decimal.{decimal}
-use Rattle.metadata.specs.Metadata.{Metadata, Small, injectedKey, contextKey, header, attribute, injectedAttribute, contextAttribute}
-use Rattle.metadata.specs.Metadata.{injectedAttributes, contextAttributes, append, attributesFor, withMetadata}
+use Rattle.metadata.specs.Metadata.{Metadata, Small, injected_key, context_key, header, attribute, injected_attribute, context_attribute}
+use Rattle.metadata.specs.Metadata.{injected_attributes, context_attributes, append, attributes_for, with_metadata}
 use Rattle.metadata.proofs.DecimalLaws.{decimal-short}
 use Rattle.metadata.proofs.CallsLaws.{skip-none, Sound}
 
@@ -32,15 +32,15 @@ use Rattle.metadata.proofs.CallsLaws.{skip-none, Sound}
 abbrev pub attributes : Rule
 attributes = parts1 (Many Attribute)
 
-rule-is : ruleOf 0x2F ≡ attributes
-unfolding ruleOf within
+rule-is : rule_of 0x2F ≡ attributes
+unfolding rule_of within
 rule-is = refl
 
 -- in a 2F only attributes follow, any number
-pub attributes-step : (t : ℕ) (q : Rule) → stepAt attributes t ≡ Go q → (holdsAt Attribute t ≡ true) × (q ≡ attributes)
-attributes-step t q e = by (holdsAt Attribute t) refl (sym (many-slot Attribute Nothing Nothing Nothing t) ∙ e)
+pub attributes-step : (t : ℕ) (q : Rule) → step_at attributes t ≡ Go q → (holds_at Attribute t ≡ true) × (q ≡ attributes)
+attributes-step t q e = by (holds_at Attribute t) refl (sym (many-slot Attribute Nothing Nothing Nothing t) ∙ e)
   where
-    by : (b : Bool) → holdsAt Attribute t ≡ b → cond b (Go attributes) (stepAt parts0 t) ≡ Go q → (holdsAt Attribute t ≡ true) × (q ≡ attributes)
+    by : (b : Bool) → holds_at Attribute t ≡ b → cond b (Go attributes) (step_at parts0 t) ≡ Go q → (holds_at Attribute t ≡ true) × (q ≡ attributes)
     by true h e = (h, cc)
     by false h e = absurd (no_step t e)
 
@@ -61,19 +61,19 @@ key-whole key value =
     rw (le-ltb (n - 0) 3 (omega arith), le-leb (length key) (n - (0 + 3)) (omega arith))
 
 attribute-exact : (key value : List ℕ) → Exact 0x30 (header key ++ value)
-unfolding fixed_at thenPiece pieces_of piece_at value_at
+unfolding fixed_at then_piece pieces_of piece_at value_at
 attribute-exact key value =
     let x = header key ++ value in
     let e : length x + 0 ≡ length x = omega arith in
-    ap (λ (r : Reach). thenPiece r x (Plain Empty) (length x)) (key-whole key value) ∙ skip-none (length x) (length x) ∙ ap Upto e
+    ap (λ (r : Reach). then_piece r x (Plain Empty) (length x)) (key-whole key value) ∙ skip-none (length x) (length x) ∙ ap Upto e
 
 attribute-formed : (key value : List ℕ) → length key + length value ≤ 65532 → Formed (attribute key value)
-unfolding ruleOf within size
+unfolding rule_of within size
 attribute-formed key value h = let e = length-append key value in (omega arith, attribute-exact key value, refl)
 
 module _ (key value : List ℕ) (short : length key + length value ≤ 65532) where
   row-formed : FormedAll (more (attribute key value) none) attributes
-  unfolding stepAt stepBy slot_at holdsAt
+  unfolding step_at step_by slot_at holds_at
   row-formed = (attributes, refl, attribute-formed key value short, refl)
 
 row-shallow : (key value : List ℕ) → depths (more (attribute key value) none) ≤ 63
@@ -82,20 +82,20 @@ row-shallow key value = omega arith
 
 -- ---- What metadata adds
 
-injected-formed : (b : Bool) → FormedAll (injectedAttributes b) attributes
-unfolding injectedAttribute
-injected-formed true = row-formed injectedKey (49 ∷ []) (omega arith)
+injected-formed : (b : Bool) → FormedAll (injected_attributes b) attributes
+unfolding injected_attribute
+injected-formed true = row-formed injected_key (49 ∷ []) (omega arith)
 injected-formed false = refl
 
-context-formed : (x : Option ℕ) → Small x → FormedAll (contextAttributes x) attributes
-unfolding contextAttribute
+context-formed : (x : Option ℕ) → Small x → FormedAll (context_attributes x) attributes
+unfolding context_attribute
 context-formed nothing h = refl
-context-formed (some c) h = row-formed contextKey (decimal c) (let e = decimal-short c h in omega arith)
+context-formed (some c) h = row-formed context_key (decimal c) (let e = decimal-short c h in omega arith)
 
-added-formed : (m : Metadata) → Small m.context → FormedAll (attributesFor m) attributes
-unfolding attributesFor
+added-formed : (m : Metadata) → Small m.context → FormedAll (attributes_for m) attributes
+unfolding attributes_for
 added-formed m h =
-    formed-append (injectedAttributes m.injected) (contextAttributes m.context) (injected-formed m.injected)
+    formed-append (injected_attributes m.injected) (context_attributes m.context) (injected-formed m.injected)
     (context-formed m.context h)
 
 shallow-append : (fs gs : Fields) → depths fs ≤ 63 → depths gs ≤ 63 → depths (append fs gs) ≤ 63
@@ -109,37 +109,37 @@ shallow-append (more f fs) gs v w =
 none-shallow : depths none ≤ 63
 none-shallow = let e = depth-none in omega arith
 
-injected-shallow : (b : Bool) → depths (injectedAttributes b) ≤ 63
-unfolding injectedAttribute
-injected-shallow true = row-shallow injectedKey (49 ∷ [])
+injected-shallow : (b : Bool) → depths (injected_attributes b) ≤ 63
+unfolding injected_attribute
+injected-shallow true = row-shallow injected_key (49 ∷ [])
 injected-shallow false = none-shallow
 
-context-shallow : (x : Option ℕ) → depths (contextAttributes x) ≤ 63
-unfolding contextAttribute
+context-shallow : (x : Option ℕ) → depths (context_attributes x) ≤ 63
+unfolding context_attribute
 context-shallow nothing = none-shallow
-context-shallow (some c) = row-shallow contextKey (decimal c)
+context-shallow (some c) = row-shallow context_key (decimal c)
 
-added-shallow : (m : Metadata) → depths (attributesFor m) ≤ 63
-unfolding attributesFor
+added-shallow : (m : Metadata) → depths (attributes_for m) ≤ 63
+unfolding attributes_for
 added-shallow m =
-    shallow-append (injectedAttributes m.injected) (contextAttributes m.context) (injected-shallow m.injected)
+    shallow-append (injected_attributes m.injected) (context_attributes m.context) (injected-shallow m.injected)
     (context-shallow m.context)
 
 -- ---- The whole
 
 empty-exact : Exact 0x2F []
-unfolding fixed_at thenPiece pieces_of piece_at value_at skipAt
+unfolding fixed_at then_piece pieces_of piece_at value_at skip_at
 empty-exact = refl
 
 -- attributes that were read, with metadata that has a field's room
-pub new-within : (m : Metadata) (s : List ℕ) (old : Fields) → Small m.context → Sound s old → length (encode (withMetadata m old)) ≤ 65538 →
-    Within Attributes (withMetadata m old)
-unfolding withMetadata holdsAt
+pub new-within : (m : Metadata) (s : List ℕ) (old : Fields) → Small m.context → Sound s old → length (encode (with_metadata m old)) ≤ 65538 →
+    Within Attributes (with_metadata m old)
+unfolding with_metadata holds_at
 new-within m s old h w n =
-    let cs = append old (attributesFor m) in
+    let cs = append old (attributes_for m) in
     let e = size-encode (field 0x2F [] cs) in
     let f = content-size 0x2F [] cs in
     let d = depth-parts 0x2F [] cs in
-    let k = shallow-append old (attributesFor m) w.shallow (added-shallow m) in
-    let p = subst (FormedAll cs) (sym rule-is) (formed-append old (attributesFor m) (subst (FormedAll old) rule-is w.formed) (added-formed m h)) in
+    let k = shallow-append old (attributes_for m) w.shallow (added-shallow m) in
+    let p = subst (FormedAll cs) (sym rule-is) (formed-append old (attributes_for m) (subst (FormedAll old) rule-is w.formed) (added-formed m h)) in
     (refl, (omega arith, empty-exact, p), omega arith)

@@ -3,26 +3,26 @@ use Rattle.std.specs.Prelude.{ℕ, zero, suc, ◌+◌, ◌-◌, ◌*◌, ◌/◌
 use Rattle.std.proofs.Math.Option.{Option, none, some}
 
 -- n in at most k digits: its own below 10, else those of n / 10 and the last one
-unfoldable pub decimalBy : ℕ → ℕ → List ℕ
-decimalBy zero n = []
-decimalBy (suc k) n = elim (ltb n 10) [ true ↦ (48 + n) ∷ [] | false ↦ decimalBy k (n / 10) ++ ((48 + n % 10) ∷ []) ]
+unfoldable pub decimal_by : ℕ → ℕ → List ℕ
+decimal_by zero n = []
+decimal_by (suc k) n = elim (ltb n 10) [ true ↦ (48 + n) ∷ [] | false ↦ decimal_by k (n / 10) ++ ((48 + n % 10) ∷ []) ]
 
 -- '(decimal)': without leading zeros; n has at most n + 1 digits
 unfoldable pub decimal : ℕ → List ℕ
-decimal n = decimalBy (suc n) n
+decimal n = decimal_by (suc n) n
 
-abbrev pub isDigit : ℕ → Bool
-isDigit b = leb 48 b && leb b 57
+abbrev pub is_digit : ℕ → Bool
+is_digit b = leb 48 b && leb b 57
 
 -- the number of the digits of a text, behind a number already read; none at any other byte
-unfoldable pub numberFrom : ℕ → List ℕ → Option ℕ
-numberFrom n [] = some n
-numberFrom n (b ∷ l) = cond (isDigit b) (numberFrom (n * 10 + (b - 48)) l) none
+unfoldable pub number_from : ℕ → List ℕ → Option ℕ
+number_from n [] = some n
+number_from n (b ∷ l) = cond (is_digit b) (number_from (n * 10 + (b - 48)) l) none
 
 -- 'one or more digits'
 unfoldable pub number : List ℕ → Option ℕ
 number [] = none
-number (b ∷ l) = numberFrom 0 (b ∷ l)
+number (b ∷ l) = number_from 0 (b ∷ l)
 
 -- 'at most 4,294,967,295'
 abbrev pub limited : Option ℕ → Option ℕ

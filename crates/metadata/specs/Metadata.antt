@@ -6,13 +6,13 @@ use Rattle.tree.specs.Tree.{Field, field, Fields, none, more, fixed_of}
 use Rattle.metadata.specs.Decimal.{decimal, parsed}
 
 -- `__swc_bundler__injected__`
-abbrev pub injectedKey : List ℕ
-injectedKey =
+abbrev pub injected_key : List ℕ
+injected_key =
     95 ∷ 95 ∷ 115 ∷ 119 ∷ 99 ∷ 95 ∷ 98 ∷ 117 ∷ 110 ∷ 100 ∷ 108 ∷ 101 ∷ 114 ∷ 95 ∷ 95 ∷ 105 ∷ 110 ∷ 106 ∷ 101 ∷ 99 ∷ 116 ∷ 101 ∷ 100 ∷ 95 ∷ 95 ∷ []
 
 -- `__swc_bundler__export_ctxt__`
-abbrev pub contextKey : List ℕ
-contextKey =
+abbrev pub context_key : List ℕ
+context_key =
     95 ∷ 95 ∷ 115 ∷ 119 ∷ 99 ∷ 95 ∷ 98 ∷ 117 ∷ 110 ∷ 100 ∷ 108 ∷ 101 ∷ 114 ∷ 95 ∷ 95 ∷ 101 ∷ 120 ∷ 112 ∷ 111 ∷ 114 ∷ 116 ∷ 95 ∷ 99 ∷ 116 ∷ 120 ∷ 116 ∷
     95 ∷ 95 ∷ []
 
@@ -24,11 +24,11 @@ abbrev pub attribute : List ℕ → List ℕ → Field
 attribute key value = field 0x30 (header key ++ value) none
 
 -- 'Keys `__swc_bundler__injected__` ("1") and `__swc_bundler__export_ctxt__` (decimal)'
-unfoldable pub injectedAttribute : Field
-injectedAttribute = attribute injectedKey (49 ∷ [])
+unfoldable pub injected_attribute : Field
+injected_attribute = attribute injected_key (49 ∷ [])
 
-unfoldable pub contextAttribute : ℕ → Field
-contextAttribute c = attribute contextKey (decimal c)
+unfoldable pub context_attribute : ℕ → Field
+context_attribute c = attribute context_key (decimal c)
 
 -- whether the export is injected, and its context, if it is known
 pub record Metadata : Type 0 where
@@ -42,25 +42,25 @@ Small (some c) = c ≤ 4294967295
 
 -- ---- Encode
 
-abbrev pub injectedAttributes : Bool → Fields
-injectedAttributes true = more injectedAttribute none
-injectedAttributes false = none
+abbrev pub injected_attributes : Bool → Fields
+injected_attributes true = more injected_attribute none
+injected_attributes false = none
 
-abbrev pub contextAttributes : Option ℕ → Fields
-contextAttributes nothing = none
-contextAttributes (some c) = more (contextAttribute c) none
+abbrev pub context_attributes : Option ℕ → Fields
+context_attributes nothing = none
+context_attributes (some c) = more (context_attribute c) none
 
 unfoldable pub append : Fields → Fields → Fields
 append none gs = gs
 append (more f fs) gs = more f (append fs gs)
 
 -- what metadata adds, 'in that order'
-unfoldable pub attributesFor : Metadata → Fields
-attributesFor m = append (injectedAttributes m.injected) (contextAttributes m.context)
+unfoldable pub attributes_for : Metadata → Fields
+attributes_for m = append (injected_attributes m.injected) (context_attributes m.context)
 
 -- 'Encode appends to it, or to a new 2F even with nothing set': to the attributes that were lent, none where nothing was
-unfoldable pub withMetadata : Metadata → Fields → Field
-withMetadata m old = field 0x2F [] (append old (attributesFor m))
+unfoldable pub with_metadata : Metadata → Fields → Field
+with_metadata m old = field 0x2F [] (append old (attributes_for m))
 
 -- ---- Decode
 
@@ -69,12 +69,12 @@ unfoldable pub starts_with : List ℕ → List ℕ → Bool
 starts_with h x = same (take (length h) x) h
 
 -- the context that an attribute with the content x tells: what is parsable behind the key, and 'needs kinds 1'
-unfoldable pub contextIn : List ℕ → Option ℕ
-contextIn x = cond (starts_with (header contextKey) x) (parsed (drop (length (header contextKey)) x)) nothing
+unfoldable pub context_in : List ℕ → Option ℕ
+context_in x = cond (starts_with (header context_key) x) (parsed (drop (length (header context_key)) x)) nothing
 
 -- what an attribute with the content x tells
 unfoldable pub told : List ℕ → Metadata
-told x = record { injected = same x (fixed_of injectedAttribute); context = contextIn x }
+told x = record { injected = same x (fixed_of injected_attribute); context = context_in x }
 
 abbrev pub newer : Option ℕ → Option ℕ → Option ℕ
 newer nothing old = old

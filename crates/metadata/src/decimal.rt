@@ -2,8 +2,8 @@
 ghost use Rattle.std.specs.Prelude.{◌≡◌, ◌+◌, ◌≤◌, length};
 ghost use Rattle.std.proofs.Math.Seq.{slice};
 ghost use Rattle.writer.specs.Wrote.{Wrote};
-ghost use Rattle.metadata.specs.Decimal.{decimal, isDigit, numberFrom, limited, unsigned, parsed};
-ghost use Rattle.metadata.specs.MetadataValue.{numberBy};
+ghost use Rattle.metadata.specs.Decimal.{decimal, is_digit, number_from, limited, unsigned, parsed};
+ghost use Rattle.metadata.specs.MetadataValue.{number_by};
 
 // What a text stands for.
 #[derive(Drop)]
@@ -24,7 +24,7 @@ pub fn put_decimal(out: &mut [u8], o: usize, n: u32) -> usize
 }
 
 fn is_digit(b: u8) -> bool
-    ensures { result ≡ isDigit b }
+    ensures { result ≡ is_digit b }
 {
     if 48 <= b { b <= 57 } else { false }
 }
@@ -43,7 +43,7 @@ fn behind_plus(s: &[u8], from: usize, end: usize) -> usize
 // The number of the digits from `from` up to end. One that is too large stays so, whatever follows.
 fn number_at(s: &[u8], from: usize, end: usize) -> Parsed
     requires { (from ≤ end) × (end ≤ length s.now) }
-    ensures { numberBy result ≡ limited (numberFrom 0 (slice from end s.now)) }
+    ensures { number_by result ≡ limited (number_from 0 (slice from end s.now)) }
 {
     let mut n: u64 = 0;
     let mut at = from;
@@ -64,7 +64,7 @@ fn number_at(s: &[u8], from: usize, end: usize) -> Parsed
 // What the text from `from` up to end stands for.
 pub fn parse(s: &[u8], from: usize, end: usize) -> Parsed
     requires { (from ≤ end) × (end ≤ length s.now) }
-    ensures { numberBy result ≡ parsed (slice from end s.now) }
+    ensures { number_by result ≡ parsed (slice from end s.now) }
 {
     let start = behind_plus(s, from, end);
     if start == end {

@@ -1,4 +1,6 @@
 // What an export tells of itself in the attributes of an import. Port of swc_bundler's `util.rs`, `ExportMetadata`.
+#![tactic(auto)]
+
 mod decimal;
 
 ghost use Rattle.std.specs.Prelude.{◌≡◌, ◌||◌, ◌+◌, ◌≤◌, length};
@@ -7,10 +9,10 @@ ghost use Rattle.writer.specs.Wrote.{Wrote};
 ghost use Rattle.tree.specs.Layout.{same};
 ghost use Rattle.tree.specs.Tree.{size, encode, encodes, fixed_of};
 ghost use Rattle.tree.specs.Read.{verdict};
-ghost use Rattle.tree.specs.Standing.{treeAt, row_at};
-ghost use Rattle.metadata.specs.Metadata.{injectedAttribute, contextAttribute, injectedAttributes, attributesFor, starts_with, contextIn, told, newer as newerOf, merged, unset, decode};
-ghost use Rattle.metadata.specs.MetadataValue.{context_of, metadataOf, writtenBytes};
-ghost use Rattle.metadata.specs.Calls.{attributesIn, lent, decoded, decodeCall, Encoding};
+ghost use Rattle.tree.specs.Standing.{tree_at, row_at};
+ghost use Rattle.metadata.specs.Metadata.{injected_attribute, context_attribute, injected_attributes, attributes_for, starts_with, context_in, told, newer as newer_of, merged, unset, decode};
+ghost use Rattle.metadata.specs.MetadataValue.{context_of, metadata_of, written_bytes};
+ghost use Rattle.metadata.specs.Calls.{attributes_in, lent, decoded, decode_call, Encoding};
 
 use decimal::Parsed;
 use scope::id::SyntaxContext;
@@ -57,7 +59,7 @@ pub enum Decoded {
 
 // Writes the attribute of an injected export at o, and answers the position behind it, as each of these does.
 fn put_injected(out: &mut [u8], o: usize, injected: bool) -> usize
-    ensures { Wrote out.old o (encodes (injectedAttributes injected)) out.new result }
+    ensures { Wrote out.old o (encodes (injected_attributes injected)) out.new result }
 {
     if injected {
         let content = writer::open_field(out, o, 0x30);
@@ -70,7 +72,7 @@ fn put_injected(out: &mut [u8], o: usize, injected: bool) -> usize
 
 // Writes the attribute of an export context.
 pub fn put_context(out: &mut [u8], o: usize, ctxt: SyntaxContext) -> usize
-    ensures { Wrote out.old o (encode (contextAttribute ctxt.0)) out.new result }
+    ensures { Wrote out.old o (encode (context_attribute ctxt.0)) out.new result }
 {
     let content = writer::open_field(out, o, 0x30);
     let value = writer::put_all(out, content, &CONTEXT);
@@ -93,7 +95,7 @@ fn starts_with(s: &[u8], from: usize, end: usize, h: &[u8]) -> bool
 // Whether the content tells that the export is injected.
 fn tells_injected(s: &[u8], from: usize, end: usize) -> bool
     requires { (from ≤ end) × (end ≤ length s.now) }
-    ensures { result ≡ same (slice from end s.now) (fixed_of injectedAttribute) }
+    ensures { result ≡ same (slice from end s.now) (fixed_of injected_attribute) }
 {
     if end - from != 29 {
         return false;
@@ -104,7 +106,7 @@ fn tells_injected(s: &[u8], from: usize, end: usize) -> bool
 // The context that the content tells.
 fn context_in(s: &[u8], from: usize, end: usize) -> ExportCtxt
     requires { (from ≤ end) × (end ≤ length s.now) }
-    ensures { context_of result ≡ contextIn (slice from end s.now) }
+    ensures { context_of result ≡ context_in (slice from end s.now) }
 {
     if !starts_with(s, from, end, &CONTEXT) {
         return ExportCtxt::None;
@@ -123,7 +125,7 @@ fn either(a: bool, b: bool) -> bool
 
 // The newer of two contexts.
 fn newer(new: ExportCtxt, old: ExportCtxt) -> ExportCtxt
-    ensures { context_of result ≡ newerOf (context_of new) (context_of old) }
+    ensures { context_of result ≡ newer_of (context_of new) (context_of old) }
 {
     match new {
         ExportCtxt::Some(c) => ExportCtxt::Some(c),
@@ -143,7 +145,7 @@ fn read_lent(attributes: &[u8]) -> Verdict
 
 impl ExportMetadata {
     fn unset() -> ExportMetadata
-        ensures { metadataOf result ≡ unset }
+        ensures { metadata_of result ≡ unset }
     {
         ExportMetadata {
             injected: false,
@@ -153,7 +155,7 @@ impl ExportMetadata {
 
     // Metadata with what a later attribute tells.
     fn merge(self, later: ExportMetadata) -> ExportMetadata
-        ensures { metadataOf result ≡ merged (metadataOf self) (metadataOf later) }
+        ensures { metadata_of result ≡ merged (metadata_of self) (metadata_of later) }
     {
         let old = self.export_ctxt;
         let new = later.export_ctxt;
@@ -166,7 +168,7 @@ impl ExportMetadata {
     // What the field at `at` up to stop tells.
     fn told_at(s: &[u8], at: usize, stop: usize) -> ExportMetadata
         requires { (at + 3 ≤ stop) × (stop ≤ length s.now) }
-        ensures { metadataOf result ≡ told (fixed_of (treeAt s.now at stop)) }
+        ensures { metadata_of result ≡ told (fixed_of (tree_at s.now at stop)) }
     {
         match pieces_end(s, s[at], at + 3, stop) {
             Reach::Upto(end) => ExportMetadata {
@@ -180,7 +182,7 @@ impl ExportMetadata {
     // What the fields from `from` up to end tell.
     fn decode_row(s: &[u8], from: usize, end: usize) -> ExportMetadata
         requires { (from ≤ end) × (end ≤ length s.now) }
-        ensures { metadataOf result ≡ decode (row_at s.now from end) }
+        ensures { metadata_of result ≡ decode (row_at s.now from end) }
     {
         let mut m = ExportMetadata::unset();
         let mut at = from;
@@ -197,7 +199,7 @@ impl ExportMetadata {
 
     // What the parts of the field at 0 tell; nothing where there is none.
     fn decode_parts(s: &[u8]) -> ExportMetadata
-        ensures { metadataOf result ≡ decode (attributesIn (row_at s.now 0 (length s.now))) }
+        ensures { metadata_of result ≡ decode (attributes_in (row_at s.now 0 (length s.now))) }
     {
         let Reach::Upto(stop) = extent(s, 0, s.len()) else {
             return ExportMetadata::unset();
@@ -210,7 +212,7 @@ impl ExportMetadata {
 
     // The metadata in lent attributes, empty bytes for none.
     pub fn decode(attributes: &[u8]) -> Decoded
-        ensures { decoded result ≡ decodeCall attributes.now }
+        ensures { decoded result ≡ decode_call attributes.now }
     {
         match read_lent(attributes) {
             Verdict::Good => Decoded::Done(ExportMetadata::decode_parts(attributes)),
@@ -220,7 +222,7 @@ impl ExportMetadata {
 
     // Writes the attributes that the metadata adds.
     fn put(self, out: &mut [u8], o: usize) -> usize
-        ensures { Wrote out.old o (encodes (attributesFor (metadataOf self))) out.new result }
+        ensures { Wrote out.old o (encodes (attributes_for (metadata_of self))) out.new result }
     {
         let p = put_injected(out, o, self.injected);
         let ctxt = self.export_ctxt;
@@ -232,7 +234,7 @@ impl ExportMetadata {
 
     // Writes the lent attributes' children and those that the metadata adds, as attributes at 0.
     fn write(self, attributes: &[u8], out: &mut [u8]) -> usize
-        ensures { Wrote out.old 0 (writtenBytes (metadataOf self) attributes.now) out.new result }
+        ensures { Wrote out.old 0 (written_bytes (metadata_of self) attributes.now) out.new result }
     {
         let content = writer::open_field(out, 0, 0x2F);
         let p = writer::copy(out, content, attributes, 3, attributes.len());
@@ -243,7 +245,7 @@ impl ExportMetadata {
 
     // Adds the metadata to lent attributes, empty bytes for none.
     pub fn encode(self, attributes: &[u8], out: &mut [u8]) -> Encoded
-        ensures { Encoding (metadataOf self) attributes.now out.old result out.new }
+        ensures { Encoding (metadata_of self) attributes.now out.old result out.new }
     {
         match read_lent(attributes) {
             Verdict::Good => {

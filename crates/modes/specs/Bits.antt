@@ -2,18 +2,18 @@
 use Rattle.std.specs.Prelude.{ℕ, ◌+◌, ◌*◌, ◌%◌, ◌≡◌, refl, true, false, eqb}
 use Rattle.modes.specs.declared.Modes.{Modes}
 
-abbrev pub modesOf : ℕ → Modes
-modesOf bits = record { require = eqb (bits % 2) 1 }
+abbrev pub modes_of : ℕ → Modes
+modes_of bits = record { require = eqb (bits % 2) 1 }
 
 -- no bit and bit 1; the other bits of the u32, without and with it
-none-set : modesOf 0 ≡ record { require = false }
+none-set : modes_of 0 ≡ record { require = false }
 none-set = refl
 
-require-set : modesOf 1 ≡ record { require = true }
+require-set : modes_of 1 ≡ record { require = true }
 require-set = refl
 
-others-set : modesOf 0xFFFFFFFE ≡ modesOf 0
+others-set : modes_of 0xFFFFFFFE ≡ modes_of 0
 others-set = refl
 
-all_set : modesOf 0xFFFFFFFF ≡ modesOf 1
+all_set : modes_of 0xFFFFFFFF ≡ modes_of 1
 all_set = refl

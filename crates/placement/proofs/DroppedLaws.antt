@@ -12,24 +12,24 @@ use borrow.Author.Tests.{eqb-true}
 use Rattle.tree.specs.Tree.{Field, field, Fields, none, more, tag_of}
 use Rattle.inputs.specs.Fields.{keep}
 use Rattle.extraction_rules.specs.First.{stays}
-use Rattle.extraction_rules.specs.Walk.{partsFor}
+use Rattle.extraction_rules.specs.Walk.{parts_for}
 use Rattle.extraction_rules.proofs.AlikeLaws.{Regular}
 use Rattle.extraction_rules.proofs.StayLaws.{import-stays}
 use Rattle.extraction_rules.proofs.KeepLaws.{Each}
 use Rattle.placement.specs.Stands.{How, ids_in}
 use Rattle.placement.specs.Placed.{item_at}
-use Rattle.placement.proofs.WaysLaws.{met, ways, waysAll}
+use Rattle.placement.proofs.WaysLaws.{met, ways, ways_all}
 use Rattle.placement.proofs.LocalsLaws.{each_keep}
 use Rattle.placement.proofs.PlacedLaws.{Amid, Front}
 
 -- ---- Dropped items hold no id
 
 empty-ways : (t : ℕ) (x i : List ℕ) → t ≡ 0x40 → ways (field t x none) i false ≡ []
-unfolding ways ids_in met partsFor
+unfolding ways ids_in met parts_for
 empty-ways t x i p = rw p
 
 var-ways : (t : ℕ) (x i : List ℕ) → t ≡ 0x41 → ways (field t x none) i false ≡ []
-unfolding ways ids_in met partsFor
+unfolding ways ids_in met parts_for
 var-ways t x i p = rw p
 
 dropped : (f : Field) (i : List ℕ) → Regular f → stays f ≡ false → ways f i false ≡ []
@@ -54,36 +54,36 @@ item-dropped : (f : Field) (i : List ℕ) → Item f → stays f ≡ false → w
 item-dropped f i (inl t) q = absurd (true≢false (sym (import-stays f t) ∙ q))
 item-dropped f i (inr w) q = dropped f i w q
 
-pub keep-ways : (fs : Fields) (i : List ℕ) → Each Item fs → waysAll (keep stays fs) i false ≡ waysAll fs i false
+pub keep-ways : (fs : Fields) (i : List ℕ) → Each Item fs → ways_all (keep stays fs) i false ≡ ways_all fs i false
 unfolding keep ways
 keep-ways none i w = refl
 keep-ways (more f fs) i w = go (stays f) refl (keep-ways fs i w.1)
   where
-    go : (b : Bool) → stays f ≡ b → waysAll (keep stays fs) i false ≡ waysAll fs i false →
-        waysAll (cond b (more f (keep stays fs)) (keep stays fs)) i false ≡ ways f i false ++ waysAll fs i false
+    go : (b : Bool) → stays f ≡ b → ways_all (keep stays fs) i false ≡ ways_all fs i false →
+        ways_all (cond b (more f (keep stays fs)) (keep stays fs)) i false ≡ ways f i false ++ ways_all fs i false
     go true q h = ap (λ (l : List How). ways f i false ++ l) h
-    go false q h = h ∙ ap (λ (l : List How). l ++ waysAll fs i false) (sym (item-dropped f i w.0 q))
+    go false q h = h ∙ ap (λ (l : List How). l ++ ways_all fs i false) (sym (item-dropped f i w.0 q))
 
 -- ---- The place among the items that stay
 
-unfoldable pub placeKept : ℕ → Fields → ℕ
-placeKept k none = 0
-placeKept zero (more f fs) = 0
-placeKept (suc k) (more f fs) = cond (stays f) (suc (placeKept k fs)) (placeKept k fs)
+unfoldable pub place_kept : ℕ → Fields → ℕ
+place_kept k none = 0
+place_kept zero (more f fs) = 0
+place_kept (suc k) (more f fs) = cond (stays f) (suc (place_kept k fs)) (place_kept k fs)
 
 -- behind imports alone it is the same
-pub place-front : (k : ℕ) (fs : Fields) (f : Field) → item_at k fs ≡ some f → Front k fs → placeKept k fs ≡ k
-unfolding placeKept
+pub place-front : (k : ℕ) (fs : Fields) (f : Field) → item_at k fs ≡ some f → Front k fs → place_kept k fs ≡ k
+unfolding place_kept
 place-front k none f e h = absurd (let z : ◌≡◌ {A = ℕ} 0 1 = cc in omega arith)
 place-front zero (more g fs) f e h = refl
 place-front (suc k) (more g fs) f e h = rw (import-stays g h.0) (ap suc (place-front k fs f e h.1))
 
-pub amid-keep : (P Q : Field → Type 0) (k : ℕ) (fs : Fields) → ((f : Field) → P f → stays f ≡ true) → Amid P Q k fs → Amid P Q (placeKept k fs) (keep stays fs)
-unfolding placeKept keep
+pub amid-keep : (P Q : Field → Type 0) (k : ℕ) (fs : Fields) → ((f : Field) → P f → stays f ≡ true) → Amid P Q k fs → Amid P Q (place_kept k fs) (keep stays fs)
+unfolding place_kept keep
 amid-keep P Q k none p h = absurd h
 amid-keep P Q zero (more f fs) p h = rw (p f h.0) (h.0, each_keep Q stays fs h.1)
 amid-keep P Q (suc k) (more f fs) p h = go (stays f) (amid-keep P Q k fs p h.1)
   where
-    go : (b : Bool) → Amid P Q (placeKept k fs) (keep stays fs) → Amid P Q (cond b (suc (placeKept k fs)) (placeKept k fs)) (cond b (more f (keep stays fs)) (keep stays fs))
+    go : (b : Bool) → Amid P Q (place_kept k fs) (keep stays fs) → Amid P Q (cond b (suc (place_kept k fs)) (place_kept k fs)) (cond b (more f (keep stays fs)) (keep stays fs))
     go true w = (h.0, w)
     go false w = w

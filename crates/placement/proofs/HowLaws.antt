@@ -10,27 +10,27 @@ use Rattle.tree.specs.Tree.{field, Fields, none, more, fixed_of}
 use Rattle.tree.proofs.Table.{both_true}
 use Rattle.inputs.specs.Lists.{filter}
 use Rattle.inputs.specs.Fields.{has}
-use Rattle.extraction_rules.specs.Walk.{partsFor}
+use Rattle.extraction_rules.specs.Walk.{parts_for}
 use Rattle.extraction_rules.proofs.ListLaws.{All}
 use Rattle.extraction_rules.proofs.TagLaws.{find-any}
 use Rattle.extraction_rules.proofs.SeekLaws.{filter-append}
 use Rattle.extraction_rules.proofs.KeepLaws.{Each}
-use Rattle.placement.specs.Stands.{How, plain, computed, bare, original, imported, otherwise, firstId, namedIds, originalIds, ids_in, isUse, is_plain, properties}
-use Rattle.placement.specs.Stands.{objectIds, isMisplaced}
+use Rattle.placement.specs.Stands.{How, plain, computed, bare, original, imported, otherwise, first_id, named_ids, original_ids, ids_in, is_use, is_plain, properties}
+use Rattle.placement.specs.Stands.{object_ids, is_misplaced}
 use Rattle.placement.specs.Placed.{all}
-use Rattle.placement.proofs.WaysLaws.{met, ways, waysAll}
+use Rattle.placement.proofs.WaysLaws.{met, ways, ways_all}
 
 -- every use is a plain property
-abbrev pub allPlain : List How → Bool
-allPlain us = all is_plain (filter isUse us)
+abbrev pub all_plain : List How → Bool
+all_plain us = all is_plain (filter is_use us)
 
 pub all_append : {A : Type 0} (t : A → Bool) (l m : List A) → all t (l ++ m) ≡ all t l && all t m
 unfolding all
 all_append t [] m = refl
 all_append t (a ∷ l) m = rw (all_append t l m) (sym (and_assoc (t a) (all t l) (all t m)))
 
-pub plain-append : (l m : List How) → allPlain (l ++ m) ≡ allPlain l && allPlain m
-plain-append l m = ap (all is_plain) (filter-append isUse l m) ∙ all_append is_plain (filter isUse l) (filter isUse m)
+pub plain-append : (l m : List How) → all_plain (l ++ m) ≡ all_plain l && all_plain m
+plain-append l m = ap (all is_plain) (filter-append is_use l m) ∙ all_append is_plain (filter is_use l) (filter is_use m)
 
 pub properties-append : (l m : List How) → properties (l ++ m) ≡ properties l ++ properties m
 unfolding properties
@@ -52,7 +52,7 @@ properties-skip original l q = refl
 properties-skip imported l q = refl
 properties-skip otherwise l q = refl
 
-pub not-use : (h : How) → isUse h ≡ false → is_plain h ≡ false
+pub not-use : (h : How) → is_use h ≡ false → is_plain h ≡ false
 not-use (plain p) q = absurd (true≢false q)
 not-use computed q = refl
 not-use bare q = refl
@@ -62,11 +62,11 @@ not-use otherwise q = refl
 
 -- no uses among them
 abbrev pub Neutral : List How → Type 0
-Neutral l = (filter isUse l ≡ []) × (properties l ≡ [])
+Neutral l = (filter is_use l ≡ []) × (properties l ≡ [])
 
 -- the ids of a field that stand in no use
 abbrev pub Unused : List (How × List ℕ) → Type 0
-Unused l = All (λ h. isUse h.0 ≡ false) l
+Unused l = All (λ h. is_use h.0 ≡ false) l
 
 pub unused-neutral : (l : List (How × List ℕ)) (i : List ℕ) → Unused l → Neutral (met l i)
 unfolding met filter properties
@@ -81,8 +81,8 @@ pub unused-append : (l m : List (How × List ℕ)) → Unused l → Unused m →
 unused-append [] m h k = k
 unused-append (w ∷ l) m h k = (h.0, unused-append l m h.1 k)
 
-pub object-unused : (cs : Fields) → Unused (objectIds false cs)
-unfolding objectIds
+pub object-unused : (cs : Fields) → Unused (object_ids false cs)
+unfolding object_ids
 object-unused none = tt
 object-unused (more o ps) = go (has 0x60 o)
   where
@@ -103,13 +103,13 @@ unplain-properties (w ∷ l) i h = go (same w.1 i) (unplain-properties l i h.1)
     go false k = k
 
 -- the table of ids, as in Stands
-abbrev pub idTable : List ℕ → Bool → List (ℕ × List (How × List ℕ))
-idTable x object =
-    (0x20, namedIds x) ∷ (0x21, firstId imported x) ∷ (0x22, firstId imported x) ∷ (0x23, originalIds x) ∷ (0x24, firstId otherwise x) ∷
-    (0x43, firstId otherwise x) ∷ (0x50, firstId otherwise x) ∷
-    (0x54, firstId otherwise x) ∷ (0x60, firstId (cond object otherwise bare) x) ∷ (0x77, firstId otherwise x) ∷ []
+abbrev pub id_table : List ℕ → Bool → List (ℕ × List (How × List ℕ))
+id_table x object =
+    (0x20, named_ids x) ∷ (0x21, first_id imported x) ∷ (0x22, first_id imported x) ∷ (0x23, original_ids x) ∷ (0x24, first_id otherwise x) ∷
+    (0x43, first_id otherwise x) ∷ (0x50, first_id otherwise x) ∷
+    (0x54, first_id otherwise x) ∷ (0x60, first_id (cond object otherwise bare) x) ∷ (0x77, first_id otherwise x) ∷ []
 
-named-unused : (x : List ℕ) → Unused (namedIds x)
+named-unused : (x : List ℕ) → Unused (named_ids x)
 named-unused x = (refl, go (eqb (get_or x 6 0) 1))
   where
     go : (b : Bool) → Unused (cond b ((otherwise, id_at x 7) ∷ []) [])
@@ -120,7 +120,7 @@ named-unused x = (refl, go (eqb (get_or x 6 0) 1))
 pub ids-unused : (t : ℕ) (x : List ℕ) (object : Bool) → eqb t 0x23 ≡ false → (eqb t 0x60 ≡ true → object ≡ true) → Unused (ids_in t x object)
 unfolding ids_in
 ids-unused t x object n k =
-    find-any Unused t (idTable x object) [] (
+    find-any Unused t (id_table x object) [] (
       (λ _. named-unused x),
       (
         (λ _. (refl, tt)),
@@ -140,7 +140,7 @@ pub ids-properties : (t : ℕ) (x : List ℕ) (object : Bool) (i : List ℕ) →
 unfolding ids_in
 ids-properties t x object i =
     unplain-properties (ids_in t x object) i
-    (find-any Unplain t (idTable x object) [] (
+    (find-any Unplain t (id_table x object) [] (
       (λ _. (refl, named (eqb (get_or x 6 0) 1))),
       (
         (λ _. (refl, tt)),
@@ -169,7 +169,7 @@ ids-properties t x object i =
 
 -- a 60 that is a 63's object stands in no use by itself
 pub ident-neutral : (i : List ℕ) (t : ℕ) (x : List ℕ) (cs : Fields) → t ≡ 0x60 → cs ≡ none → Neutral (ways (field t x cs) i true)
-unfolding ways partsFor
+unfolding ways parts_for
 ident-neutral i t x cs q k =
     rw (q, k) (rw (append-nil (met (ids_in 0x60 x true) i)) (unused-neutral (ids_in 0x60 x true) i (ids-unused 0x60 x true refl (λ _. refl))))
 
@@ -177,12 +177,12 @@ ident-neutral i t x cs q k =
 
 -- none is misplaced
 abbrev pub fits : List How → Bool
-fits l = all (λ h. not (isMisplaced h)) l
+fits l = all (λ h. not (is_misplaced h)) l
 
 pub fits-append : (l m : List How) → fits (l ++ m) ≡ true → (fits l ≡ true) × (fits m ≡ true)
-fits-append l m h = both_true (fits l) (fits m) (sym (all_append (λ h. not (isMisplaced h)) l m) ∙ h)
+fits-append l m h = both_true (fits l) (fits m) (sym (all_append (λ h. not (is_misplaced h)) l m) ∙ h)
 
-pub fits_each : (fs : Fields) (i : List ℕ) → fits (waysAll fs i false) ≡ true → Each (λ f. fits (ways f i false) ≡ true) fs
+pub fits_each : (fs : Fields) (i : List ℕ) → fits (ways_all fs i false) ≡ true → Each (λ f. fits (ways f i false) ≡ true) fs
 unfolding ways
 fits_each none i h = tt
-fits_each (more f fs) i h = let w = fits-append (ways f i false) (waysAll fs i false) h in (w.0, fits_each fs i w.1)
+fits_each (more f fs) i h = let w = fits-append (ways f i false) (ways_all fs i false) h in (w.0, fits_each fs i w.1)

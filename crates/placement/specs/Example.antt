@@ -6,14 +6,14 @@ use Rattle.tree.specs.Tree.{Field, field, Fields, none, more}
 use Rattle.extraction_rules.specs.Computes.{computing}
 use Rattle.extraction_rules.specs.Build.{a, x, b, d, f, y, q, own, exp, listed, leaf, fields, imports, named, default, namespace, const, statement, ident, member, call}
 use Rattle.extraction_rules.specs.Build.{requiring}
-use Rattle.placement.specs.Stands.{plain, computed, bare, original, imported, otherwise, ids_in, matching, objectIds, standings, stands, properties}
-use Rattle.placement.specs.Placed.{all, importsIn, importsPrecede, localIds, hasSource, hasLocal, sharesNone, ownLocals, soleNamespace, fitNamespace, fitNamespaces, wellPlaced}
+use Rattle.placement.specs.Stands.{plain, computed, bare, original, imported, otherwise, ids_in, matching, object_ids, standings, stands, properties}
+use Rattle.placement.specs.Placed.{all, imports_in, imports_precede, local_ids, has_source, has_local, shares_none, own_locals, sole_namespace, fit_namespace, fit_namespaces, well_placed}
 
 -- every definition of this crate: a worked case says `unfolding placing`
 unfoldable pub placing : ℕ → Fields → Bool
-unfolding computing ids_in matching objectIds standings stands properties all importsIn importsPrecede localIds hasSource hasLocal sharesNone ownLocals
-    soleNamespace fitNamespace fitNamespaces wellPlaced
-placing n items = wellPlaced n items
+unfolding computing ids_in matching object_ids standings stands properties all imports_in imports_precede local_ids has_source has_local shares_none own_locals
+    sole_namespace fit_namespace fit_namespaces well_placed
+placing n items = well_placed n items
 
 -- import * as a from './m', and uses of a
 abbrev pub spaced : Field
@@ -63,17 +63,17 @@ misplaced-ways = refl
 
 -- ---- Well placed, where the own file is module 0
 
-used-in-all-ways : wellPlaced 0 (listed (spaced ∷ statement ax ∷ statement (at ax) ∷ statement (ident (own a)) ∷ [])) ≡ true
+used-in-all-ways : well_placed 0 (listed (spaced ∷ statement ax ∷ statement (at ax) ∷ statement (ident (own a)) ∷ [])) ≡ true
 unfolding placing
 used-in-all-ways = refl
 
-other-imports : wellPlaced 0 (listed (spaced ∷ field 0x10 (two 30 ++ four 1) (listed (named (own b) ∷ default (own d) ∷ [])) ∷ statement (ident (own b)) ∷ [])) ≡ true
+other-imports : well_placed 0 (listed (spaced ∷ field 0x10 (two 30 ++ four 1) (listed (named (own b) ∷ default (own d) ∷ [])) ∷ statement (ident (own b)) ∷ [])) ≡ true
 unfolding placing
 other-imports = refl
 
 -- and not: an import behind another item; two of one source; a namespace in another context; one with company; one as target; one
 -- below an object; a property named require
-not-placed : map (wellPlaced 0)
+not-placed : map (well_placed 0)
     (listed (statement ax ∷ spaced ∷ []) ∷
     listed (spaced ∷ imports (namespace (own b) ∷ []) ∷ []) ∷
     listed (imports (namespace (exp a) ∷ []) ∷ []) ∷
@@ -135,11 +135,11 @@ namespace-require = listed (imports (namespace (own 0) ∷ []) ∷ statement (re
 abbrev pub property-require : Fields
 property-require = behind (const (own q) (call (member (ident (own a)) 0) (leaf 0x61 literal-n)) ∷ [])
 
--- the five conjuncts of `wellPlaced`, in its order
+-- the five conjuncts of `well_placed`, in its order
 abbrev clauses : Fields → List Bool
 clauses items =
-    let fs : List Field = importsIn items in
-    importsPrecede items ∷ sharesNone fs ∷ all (ownLocals 0) fs ∷ all soleNamespace fs ∷ all (fitNamespaces items) fs ∷ []
+    let fs : List Field = imports_in items in
+    imports_precede items ∷ shares_none fs ∷ all (own_locals 0) fs ∷ all sole_namespace fs ∷ all (fit_namespaces items) fs ∷ []
 
 each-breaks-one : map clauses
     (late ∷ shared-source ∷ shared-local ∷ other-context ∷ in-company ∷ as-target ∷ below-object ∷ as-shorthand ∷ with-private ∷ namespace-require ∷ property-require ∷ []) ≡

@@ -5,9 +5,9 @@ use Rattle.scope.specs.Id.{require-atom, local}
 use Rattle.tree.specs.Layout.{two, four, same, id_at, name_of, context_of, value_of}
 use Rattle.tree.specs.Tree.{Field, Fields, none, more, fixed_of, parts_of}
 use Rattle.inputs.specs.Lists.{is_some, among}
-use Rattle.inputs.specs.Fields.{has, keep, findField, sole}
-use Rattle.extraction_rules.specs.First.{specifiersIn}
-use Rattle.placement.specs.Stands.{How, stands, isMisplaced, properties}
+use Rattle.inputs.specs.Fields.{has, keep, find_field, sole}
+use Rattle.extraction_rules.specs.First.{specifiers_in}
+use Rattle.placement.specs.Stands.{How, stands, is_misplaced, properties}
 
 unfoldable pub all : {A : Type 0} → (A → Bool) → List A → Bool
 all p [] = true
@@ -20,58 +20,58 @@ item_at zero (more f fs) = some f
 item_at (suc k) (more f fs) = item_at k fs
 
 -- the imports among the items, in order
-unfoldable pub importsIn : Fields → List Field
-importsIn none = []
-importsIn (more f fs) = cond (has 0x10 f) (f ∷ importsIn fs) (importsIn fs)
+unfoldable pub imports_in : Fields → List Field
+imports_in none = []
+imports_in (more f fs) = cond (has 0x10 f) (f ∷ imports_in fs) (imports_in fs)
 
 -- 'imports precede other items'
-unfoldable pub importsPrecede : Fields → Bool
-importsPrecede none = true
-importsPrecede (more f fs) = cond (has 0x10 f) (importsPrecede fs) (not (is_some (findField (has 0x10) fs)))
+unfoldable pub imports_precede : Fields → Bool
+imports_precede none = true
+imports_precede (more f fs) = cond (has 0x10 f) (imports_precede fs) (not (is_some (find_field (has 0x10) fs)))
 
 -- the local ids of specifiers
-unfoldable pub localIds : Fields → List (List ℕ)
-localIds none = []
-localIds (more f fs) = id_at (fixed_of f) 0 ∷ localIds fs
+unfoldable pub local_ids : Fields → List (List ℕ)
+local_ids none = []
+local_ids (more f fs) = id_at (fixed_of f) 0 ∷ local_ids fs
 
 abbrev pub locals_of : Field → List (List ℕ)
-locals_of f = localIds (specifiersIn (parts_of f))
+locals_of f = local_ids (specifiers_in (parts_of f))
 
 -- a source, or a local id, of one of these imports
-unfoldable pub hasSource : List ℕ → List Field → Bool
-hasSource a [] = false
-hasSource a (f ∷ l) = same (value_of (fixed_of f)) a || hasSource a l
+unfoldable pub has_source : List ℕ → List Field → Bool
+has_source a [] = false
+has_source a (f ∷ l) = same (value_of (fixed_of f)) a || has_source a l
 
-unfoldable pub hasLocal : List ℕ → List Field → Bool
-hasLocal i [] = false
-hasLocal i (f ∷ l) = among i (locals_of f) || hasLocal i l
+unfoldable pub has_local : List ℕ → List Field → Bool
+has_local i [] = false
+has_local i (f ∷ l) = among i (locals_of f) || has_local i l
 
 -- 'share no source or local id'
-unfoldable pub sharesNone : List Field → Bool
-sharesNone [] = true
-sharesNone (f ∷ l) = not (hasSource (value_of (fixed_of f)) l) && all (λ i. not (hasLocal i l)) (locals_of f) && sharesNone l
+unfoldable pub shares_none : List Field → Bool
+shares_none [] = true
+shares_none (f ∷ l) = not (has_source (value_of (fixed_of f)) l) && all (λ i. not (has_local i l)) (locals_of f) && shares_none l
 
 -- 'locals have own local context'
-unfoldable pub ownLocals : ℕ → Field → Bool
-ownLocals own f = all (λ i. same (context_of i) (four (local own))) (locals_of f)
+unfoldable pub own_locals : ℕ → Field → Bool
+own_locals own f = all (λ i. same (context_of i) (four (local own))) (locals_of f)
 
 -- 'a 22 is sole'
-unfoldable pub soleNamespace : Field → Bool
-soleNamespace f = not (is_some (findField (has 0x22) (parts_of f))) || is_some (sole (specifiersIn (parts_of f)))
+unfoldable pub sole_namespace : Field → Bool
+sole_namespace f = not (is_some (find_field (has 0x22) (parts_of f))) || is_some (sole (specifiers_in (parts_of f)))
 
 -- the ids of the namespaces of an import
-abbrev pub namespacesOf : Field → List (List ℕ)
-namespacesOf f = localIds (keep (has 0x22) (parts_of f))
+abbrev pub namespaces_of : Field → List (List ℕ)
+namespaces_of f = local_ids (keep (has 0x22) (parts_of f))
 
 -- 'namespace ids stand elsewhere only as ..'; 'neither a namespace nor a property of one is named require'
-unfoldable pub fitNamespace : List How → List ℕ → Bool
-fitNamespace hs i = all (λ h. not (isMisplaced h)) hs && not (same (name_of i) (two require-atom)) && not (among (two require-atom) (properties hs))
+unfoldable pub fit_namespace : List How → List ℕ → Bool
+fit_namespace hs i = all (λ h. not (is_misplaced h)) hs && not (same (name_of i) (two require-atom)) && not (among (two require-atom) (properties hs))
 
-unfoldable pub fitNamespaces : Fields → Field → Bool
-fitNamespaces items f = all (λ i. fitNamespace (stands items i) i) (namespacesOf f)
+unfoldable pub fit_namespaces : Fields → Field → Bool
+fit_namespaces items f = all (λ i. fit_namespace (stands items i) i) (namespaces_of f)
 
 -- a module's items, where the own file's module number is as told
-unfoldable pub wellPlaced : ℕ → Fields → Bool
-wellPlaced own items =
-    let fs : List Field = importsIn items in
-    importsPrecede items && sharesNone fs && all (ownLocals own) fs && all soleNamespace fs && all (fitNamespaces items) fs
+unfoldable pub well_placed : ℕ → Fields → Bool
+well_placed own items =
+    let fs : List Field = imports_in items in
+    imports_precede items && shares_none fs && all (own_locals own) fs && all sole_namespace fs && all (fit_namespaces items) fs

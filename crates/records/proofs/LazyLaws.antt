@@ -10,89 +10,89 @@ use borrow.Author.Tests.{le-leb, lt-leb, eq-eqb, ne_eqb, lt-ltb, le-ltb}
 use Rattle.tree.specs.declared.layout.Reach.{Reach}
 use Rattle.tree.specs.declared.layout.Reach.TheVariants.{Upto, Short}
 use Rattle.tree.specs.Layout.{two}
-use Rattle.tree.specs.Tree.{Field, field, none, framed as framedField, encode, encodes}
-use Rattle.tree.specs.Access.{extentAt}
-use Rattle.tree.specs.Standing.{treeAt}
-use Rattle.writer.specs.Bytes.{twoBytes, framed}
+use Rattle.tree.specs.Tree.{Field, field, none, framed as framed_field, encode, encodes}
+use Rattle.tree.specs.Access.{extent_at}
+use Rattle.tree.specs.Standing.{tree_at}
+use Rattle.writer.specs.Bytes.{two_bytes, framed}
 use Rattle.writer.specs.Wrote.{Wrote}
 use Rattle.writer.proofs.Wrote.{wrote_none, wrote_as}
 use Rattle.extraction_rules.specs.State.{Record, State}
 use Rattle.extraction_rules.specs.First.{bindings}
-use Rattle.extraction_rules.specs.Records.{recordFields, forcedFields}
-use Rattle.state.specs.Cells.{Env, literalBy, Shows}
+use Rattle.extraction_rules.specs.Records.{record_fields, forced_fields}
+use Rattle.state.specs.Cells.{Env, literal_by, Shows}
 use Rattle.state.specs.declared.Literal.{Literal}
 use Rattle.state.specs.Does.{Holds}
-use Rattle.records.specs.Writes.{patternOn, patternAt, placed, literalIn, Placing}
+use Rattle.records.specs.Writes.{pattern_on, pattern_at, placed, literal_in, Placing}
 
 -- ---- The pattern at a place
 
 module _ (s : List ℕ) (at : ℕ) where
-  pub pattern-past : {l : List ℕ} {o : ℕ} → length s < at → Wrote l o (encodes (patternAt s at)) l o
-  unfolding patternAt encodes
-  pattern-past h = wrote_as wrote_none (sym (ap (λ (b : Bool). encodes (cond b (patternOn (extentAt s at (length s)) s at) none)) (lt-leb at (length s) h)))
+  pub pattern-past : {l : List ℕ} {o : ℕ} → length s < at → Wrote l o (encodes (pattern_at s at)) l o
+  unfolding pattern_at encodes
+  pattern-past h = wrote_as wrote_none (sym (ap (λ (b : Bool). encodes (cond b (pattern_on (extent_at s at (length s)) s at) none)) (lt-leb at (length s) h)))
 
-  here : at ≤ length s → (r : Reach) → extentAt s at (length s) ≡ r → patternAt s at ≡ patternOn r s at
-  unfolding patternAt
-  here h r e = ap (λ (b : Bool). cond b (patternOn (extentAt s at (length s)) s at) none) (le-leb at (length s) h) ∙ ap (λ (k : Reach). patternOn k s at) e
+  here : at ≤ length s → (r : Reach) → extent_at s at (length s) ≡ r → pattern_at s at ≡ pattern_on r s at
+  unfolding pattern_at
+  here h r e = ap (λ (b : Bool). cond b (pattern_on (extent_at s at (length s)) s at) none) (le-leb at (length s) h) ∙ ap (λ (k : Reach). pattern_on k s at) e
 
-  pub pattern-none : {l : List ℕ} {o : ℕ} → at ≤ length s → extentAt s at (length s) ≡ Short → Wrote l o (encodes (patternAt s at)) l o
-  unfolding patternOn encodes
+  pub pattern-none : {l : List ℕ} {o : ℕ} → at ≤ length s → extent_at s at (length s) ≡ Short → Wrote l o (encodes (pattern_at s at)) l o
+  unfolding pattern_on encodes
   pattern-none h e = wrote_as wrote_none (sym (ap encodes (here h Short e)))
 
-  pub pattern-here : {l l' : List ℕ} {o p stop : ℕ} → at ≤ length s → extentAt s at (length s) ≡ Upto stop →
-      Wrote l o (encodes (bindings (treeAt s at stop))) l' p → Wrote l o (encodes (patternAt s at)) l' p
-  unfolding patternOn
+  pub pattern-here : {l l' : List ℕ} {o p stop : ℕ} → at ≤ length s → extent_at s at (length s) ≡ Upto stop →
+      Wrote l o (encodes (bindings (tree_at s at stop))) l' p → Wrote l o (encodes (pattern_at s at)) l' p
+  unfolding pattern_on
   pattern-here {stop = stop} h e w = wrote_as w (sym (ap encodes (here h (Upto stop) e)))
 
 module _ (tree work : List ℕ) (q : ℕ) where
   pub placed-none : {l : List ℕ} {o : ℕ} → q ≡ 0 → Wrote l o (encodes (placed tree work q)) l o
   unfolding placed encodes
-  placed-none e = wrote_as wrote_none (sym (ap (λ (b : Bool). encodes (cond b none (cond (ltb q 65536) (patternAt tree q) (patternAt work (q - 65536))))) (eq-eqb q 0 e)))
+  placed-none e = wrote_as wrote_none (sym (ap (λ (b : Bool). encodes (cond b none (cond (ltb q 65536) (pattern_at tree q) (pattern_at work (q - 65536))))) (eq-eqb q 0 e)))
 
-  behind : (q ≡ 0 → ⊥) → placed tree work q ≡ cond (ltb q 65536) (patternAt tree q) (patternAt work (q - 65536))
+  behind : (q ≡ 0 → ⊥) → placed tree work q ≡ cond (ltb q 65536) (pattern_at tree q) (pattern_at work (q - 65536))
   unfolding placed
-  behind n = ap (λ (b : Bool). cond b none (cond (ltb q 65536) (patternAt tree q) (patternAt work (q - 65536)))) (ne_eqb q 0 n)
+  behind n = ap (λ (b : Bool). cond b none (cond (ltb q 65536) (pattern_at tree q) (pattern_at work (q - 65536)))) (ne_eqb q 0 n)
 
-  pub placed-tree : {l l' : List ℕ} {o p : ℕ} → (q ≡ 0 → ⊥) → q < 65536 → Wrote l o (encodes (patternAt tree q)) l' p → Wrote l o (encodes (placed tree work q)) l' p
-  placed-tree n h w = wrote_as w (sym (ap encodes (behind n ∙ ap (λ (b : Bool). cond b (patternAt tree q) (patternAt work (q - 65536))) (lt-ltb q 65536 h))))
+  pub placed-tree : {l l' : List ℕ} {o p : ℕ} → (q ≡ 0 → ⊥) → q < 65536 → Wrote l o (encodes (pattern_at tree q)) l' p → Wrote l o (encodes (placed tree work q)) l' p
+  placed-tree n h w = wrote_as w (sym (ap encodes (behind n ∙ ap (λ (b : Bool). cond b (pattern_at tree q) (pattern_at work (q - 65536))) (lt-ltb q 65536 h))))
 
-  pub placed-work : {l l' : List ℕ} {o p : ℕ} → (q ≡ 0 → ⊥) → 65536 ≤ q → Wrote l o (encodes (patternAt work (q - 65536))) l' p → Wrote l o (encodes (placed tree work q)) l' p
-  placed-work n h w = wrote_as w (sym (ap encodes (behind n ∙ ap (λ (b : Bool). cond b (patternAt tree q) (patternAt work (q - 65536))) (le-ltb q 65536 h))))
+  pub placed-work : {l l' : List ℕ} {o p : ℕ} → (q ≡ 0 → ⊥) → 65536 ≤ q → Wrote l o (encodes (pattern_at work (q - 65536))) l' p → Wrote l o (encodes (placed tree work q)) l' p
+  placed-work n h w = wrote_as w (sym (ap encodes (behind n ∙ ap (λ (b : Bool). cond b (pattern_at tree q) (pattern_at work (q - 65536))) (le-ltb q 65536 h))))
 
 -- ---- One entry more
 
 pub cons-inj : {A : Type 0} {a b : A} {k m : List A} → a ∷ k ≡ b ∷ m → a ≡ b
 cons-inj e = cc
 
-pub lazy-more : (tree work : List ℕ) (lit : Literal) (place : ℕ) {t : List ℕ} {i : ℕ} → Holds (λ s. s.lazy) (λ q. q.literal) i t (λ x. literalBy x lit) →
+pub lazy-more : (tree work : List ℕ) (lit : Literal) (place : ℕ) {t : List ℕ} {i : ℕ} → Holds (λ s. s.lazy) (λ q. q.literal) i t (λ x. literal_by x lit) →
     Holds (λ s. s.lazy) (λ q. q.specifiers) i t (λ x. x.bound place) → (x : Env) (s : State) → Shows x t s → Placing tree work x →
-    encodes (recordFields 0x81 (drop i s.lazy)) ≡ encode (field 0x81 (literalIn tree work lit.place) (placed tree work place)) ++
-    encodes (recordFields 0x81 (drop (i + 1) s.lazy))
-unfolding recordFields encodes
+    encodes (record_fields 0x81 (drop i s.lazy)) ≡ encode (field 0x81 (literal_in tree work lit.place) (placed tree work place)) ++
+    encodes (record_fields 0x81 (drop (i + 1) s.lazy))
+unfolding record_fields encodes
 lazy-more tree work lit place {i = i} g h x s w k =
     let a = g.is s w in
     let c = h.is s w in
     let same : c.0 ≡ a.0 = cons-inj (sym c.2 ∙ a.2) in
-    ap (λ (l : List Record). encodes (recordFields 0x81 l)) a.2
-    ∙ ap (λ (f : Field). encode f ++ encodes (recordFields 0x81 (drop (i + 1) s.lazy)))
+    ap (λ (l : List Record). encodes (record_fields 0x81 l)) a.2
+    ∙ ap (λ (f : Field). encode f ++ encodes (record_fields 0x81 (drop (i + 1) s.lazy)))
     (ap₂ (field 0x81) (a.1 ∙ k.literals-placed lit.place) (ap (λ (r : Record). r.specifiers) (sym same) ∙ c.1 ∙ k.bindings-placed place))
 
-pub record-none : (k : ℕ) (l : List Record) → l ≡ [] → encodes (recordFields k l) ≡ []
-unfolding recordFields encodes
-record-none k l e = ap (λ (m : List Record). encodes (recordFields k m)) e
+pub record-none : (k : ℕ) (l : List Record) → l ≡ [] → encodes (record_fields k l) ≡ []
+unfolding record_fields encodes
+record-none k l e = ap (λ (m : List Record). encodes (record_fields k m)) e
 
-pub forced-none : (l : List (List ℕ)) → l ≡ [] → encodes (forcedFields l) ≡ []
-unfolding forcedFields encodes
-forced-none l e = ap (λ (m : List (List ℕ)). encodes (forcedFields m)) e
+pub forced-none : (l : List (List ℕ)) → l ≡ [] → encodes (forced_fields l) ≡ []
+unfolding forced_fields encodes
+forced-none l e = ap (λ (m : List (List ℕ)). encodes (forced_fields m)) e
 
 pub forced-more : (a : ℕ) {t : List ℕ} {i : ℕ} → Holds (λ s. s.forced) (λ a. a) i t (λ _. two a) → (x : Env) (s : State) → Shows x t s →
-    encodes (forcedFields (drop i s.forced)) ≡ encode (field 0x83 (two a) none) ++ encodes (forcedFields (drop (i + 1) s.forced))
-unfolding forcedFields encodes
+    encodes (forced_fields (drop i s.forced)) ≡ encode (field 0x83 (two a) none) ++ encodes (forced_fields (drop (i + 1) s.forced))
+unfolding forced_fields encodes
 forced-more n {i = i} g x s w =
     let a = g.is s w in
-    ap (λ (l : List (List ℕ)). encodes (forcedFields l)) a.2 ∙ ap (λ (x : List ℕ). encode (field 0x83 x none) ++ encodes (forcedFields (drop (i + 1) s.forced))) a.1
+    ap (λ (l : List (List ℕ)). encodes (forced_fields l)) a.2 ∙ ap (λ (x : List ℕ). encode (field 0x83 x none) ++ encodes (forced_fields (drop (i + 1) s.forced))) a.1
 
 -- the bytes of a forced source
-pub forced-field : (a : ℕ) → a < 65536 → framed 0x83 (twoBytes a) ≡ encode (field 0x83 (two a) none)
-unfolding framedField encode framed
+pub forced-field : (a : ℕ) → a < 65536 → framed 0x83 (two_bytes a) ≡ encode (field 0x83 (two a) none)
+unfolding framed_field encode framed
 forced-field a h = let e : a / 256 % 256 ≡ a / 256 = omega arith in rw e refl

@@ -10,19 +10,19 @@ use lib.Seq.{slice, drop-cons, get_or-take, length-take-le, get_or-append_seam, 
 use borrow.Author.Tests.{le-leb, leb-true, leb-false, eqb-true, eqb-false}
 use Rattle.tree.specs.declared.layout.Reach.{Reach}
 use Rattle.tree.specs.declared.layout.Reach.TheVariants.{Upto, Short}
-use Rattle.tree.specs.Layout.{same, two, value_of, literalValue, sameLiteral}
+use Rattle.tree.specs.Layout.{same, two, value_of, literal_value, same_literal}
 use Rattle.tree.specs.Tree.{Field, none, tag_of, fixed_of, parts_of, encodes}
-use Rattle.tree.specs.Access.{extentAt}
+use Rattle.tree.specs.Access.{extent_at}
 use Rattle.tree.specs.Standing.{row_at}
 use Rattle.tree.proofs.FixedLaws.{no-upto}
 use Rattle.tree.proofs.LayoutLaws.{same-equal}
 use Rattle.inputs.specs.Fields.{has, sole}
 use Rattle.writer.proofs.Wrote.{wrote_then, wrote_as}
-use Rattle.extraction_rules.specs.First.{specifiersIn}
+use Rattle.extraction_rules.specs.First.{specifiers_in}
 use Rattle.steps.proofs.SoundLaws.{row_read}
-use Rattle.records.specs.Model.{gatheredOf, gathered, isNamespace, whole_of, taken_of, taken}
+use Rattle.records.specs.Model.{gathered_of, gathered, is_namespace, whole_of, taken_of, taken}
 use Rattle.records.specs.Writes.{WroteIf, RowRead, sieve, items_in, item_at, ItemRead}
-use Rattle.records.specs.Listing.{Place, workOf, out_of, importBytes, pairBytes, spread, EachRead, Listed, Paired, chainAt, chainIn, place_in, placesIn, Unchained, Lists}
+use Rattle.records.specs.Listing.{Place, work_of, out_of, import_bytes, pair_bytes, spread, EachRead, Listed, Paired, chain_at, chain_in, place_in, places_in, Unchained, Lists}
 use Rattle.records.proofs.SpecifierLaws.{item-is, item-none, item-read, extent-past, tag-import, import-is}
 use Rattle.records.proofs.CollectedLaws.{sieve-nothing, imports-more, pair-other, taken_more}
 
@@ -31,28 +31,28 @@ use Rattle.records.proofs.CollectedLaws.{sieve-nothing, imports-more, pair-other
 abbrev pub nowhere : Place
 nowhere = (0, 0)
 
-pub places-length : (a : List ℕ) (n : ℕ) → length (placesIn a n) ≡ n
-unfolding placesIn
+pub places-length : (a : List ℕ) (n : ℕ) → length (places_in a n) ≡ n
+unfolding places_in
 places-length a zero = refl
-places-length a (suc n) = let z = places-length a n in let y = length-append (placesIn a n) (place_in a n ∷ []) in omega arith
+places-length a (suc n) = let z = places-length a n in let y = length-append (places_in a n) (place_in a n ∷ []) in omega arith
 
-pub places-at : (a : List ℕ) (n i : ℕ) → i < n → get_or (placesIn a n) i nowhere ≡ place_in a i
-unfolding placesIn
+pub places-at : (a : List ℕ) (n i : ℕ) → i < n → get_or (places_in a n) i nowhere ≡ place_in a i
+unfolding places_in
 places-at a zero i h = absurd (omega arith)
 places-at a (suc n) i h = by (eqb i n) refl (places-at a n i)
   where
-    by : (c : Bool) → eqb i n ≡ c → (i < n → get_or (placesIn a n) i nowhere ≡ place_in a i) → get_or (placesIn a n ++ (place_in a n ∷ [])) i nowhere ≡ place_in a i
+    by : (c : Bool) → eqb i n ≡ c → (i < n → get_or (places_in a n) i nowhere ≡ place_in a i) → get_or (places_in a n ++ (place_in a n ∷ [])) i nowhere ≡ place_in a i
     by true q r =
         let e = eqb-true i n q in
-        ap (λ (j : ℕ). get_or (placesIn a n ++ (place_in a n ∷ [])) j nowhere) (e ∙ sym (places-length a n))
-        ∙ get_or-append_seam (placesIn a n) (place_in a n) [] nowhere ∙ ap (place_in a) (sym e)
+        ap (λ (j : ℕ). get_or (places_in a n ++ (place_in a n ∷ [])) j nowhere) (e ∙ sym (places-length a n))
+        ∙ get_or-append_seam (places_in a n) (place_in a n) [] nowhere ∙ ap (place_in a) (sym e)
     by false q r =
         let e = eqb-false i n q in
         let l = places-length a n in
-        get_or-append (placesIn a n) (place_in a n ∷ []) nowhere i (omega arith) ∙ r (omega arith)
+        get_or-append (places_in a n) (place_in a n ∷ []) nowhere i (omega arith) ∙ r (omega arith)
 
-pub places-agree : (a b : List ℕ) (n : ℕ) → ((i : ℕ) → i < n → place_in a i ≡ place_in b i) → placesIn a n ≡ placesIn b n
-unfolding placesIn
+pub places-agree : (a b : List ℕ) (n : ℕ) → ((i : ℕ) → i < n → place_in a i ≡ place_in b i) → places_in a n ≡ places_in b n
+unfolding places_in
 places-agree a b zero h = refl
 places-agree a b (suc n) h = ap₂ (λ (ps : List Place) (p : Place). ps ++ (p ∷ [])) (places-agree a b n (λ i k. h i (omega arith))) (h n (omega arith))
 
@@ -77,9 +77,9 @@ abbrev SourceAt : List ℕ → ℕ → Field → Type 0
 SourceAt s at f = (at + 9 ≤ length s) × (value_of (fixed_of f) ≡ get_or s (at + 3) 0 ∷ get_or s (at + 4) 0 ∷ [])
 
 item-source : (s : List ℕ) (at : ℕ) → tag_of (item_at s at) ≡ 0x10 → SourceAt s at (item_at s at)
-item-source s at h = by (extentAt s at (length s)) refl
+item-source s at h = by (extent_at s at (length s)) refl
   where
-    some : (b : Bool) (stop : ℕ) → leb at (length s) ≡ b → extentAt s at (length s) ≡ Upto stop → SourceAt s at (item_at s at)
+    some : (b : Bool) (stop : ℕ) → leb at (length s) ≡ b → extent_at s at (length s) ≡ Upto stop → SourceAt s at (item_at s at)
     some true stop q e =
         let i = import-is s at stop (leb-true at (length s) q) e (sym (ap tag_of (item-is s at stop e)) ∙ h) in
         let u = i.inside in
@@ -90,17 +90,17 @@ item-source s at h = by (extentAt s at (length s)) refl
         )
     some false stop q e = absurd (no-upto (sym (extent-past s at (length s) (leb-false at (length s) q)) ∙ e))
 
-    by : (r : Reach) → extentAt s at (length s) ≡ r → SourceAt s at (item_at s at)
+    by : (r : Reach) → extent_at s at (length s) ≡ r → SourceAt s at (item_at s at)
     by (Upto stop) e = some (leb at (length s)) stop refl e
     by Short e = absurd (let z : 0 ≡ 0x10 = sym (ap tag_of (item-none s at e)) ∙ h in omega arith)
 
 -- ---- Items of which nothing is written
 
-import-absent : (b : Bool) (v : List ℕ) (f : Field) → (tag_of f ≡ 0x10 → value_of (fixed_of f) ≡ v → ⊥) → encodes (sieve b (gatheredOf v f)) ≡ []
-unfolding gatheredOf
+import-absent : (b : Bool) (v : List ℕ) (f : Field) → (tag_of f ≡ 0x10 → value_of (fixed_of f) ≡ v → ⊥) → encodes (sieve b (gathered_of v f)) ≡ []
+unfolding gathered_of
 import-absent b v f h =
-    sieve-nothing b (gatheredOf v f)
-    (ap (λ (c : Bool). cond c (specifiersIn (parts_of f)) none) (by (has 0x10 f) (same (value_of (fixed_of f)) v) refl refl))
+    sieve-nothing b (gathered_of v f)
+    (ap (λ (c : Bool). cond c (specifiers_in (parts_of f)) none) (by (has 0x10 f) (same (value_of (fixed_of f)) v) refl refl))
   where
     by : (c d : Bool) → has 0x10 f ≡ c → same (value_of (fixed_of f)) v ≡ d → (c && d) ≡ false
     by true true p q = absurd (h (eqb-true (tag_of f) 0x10 p) (same-equal (value_of (fixed_of f)) v q))
@@ -111,16 +111,16 @@ pair-absent : (b : Bool) (l : List ℕ) (w g : Field) → (tag_of w ≡ 0x10 →
 unfolding whole_of
 pair-absent b l w g h =
     pair-other b l w g
-    (ap (λ (c : Bool). c && isNamespace (sole (specifiersIn (parts_of w)))) (by (has 0x10 w) (sameLiteral (fixed_of w) l) refl refl))
+    (ap (λ (c : Bool). c && is_namespace (sole (specifiers_in (parts_of w)))) (by (has 0x10 w) (same_literal (fixed_of w) l) refl refl))
   where
-    by : (c d : Bool) → has 0x10 w ≡ c → sameLiteral (fixed_of w) l ≡ d → (c && d) ≡ false
+    by : (c d : Bool) → has 0x10 w ≡ c → same_literal (fixed_of w) l ≡ d → (c && d) ≡ false
     by true true p q = absurd (h (eqb-true (tag_of w) 0x10 p) (ap value_of (same-equal (fixed_of w) l q)))
     by true false p q = refl
     by false d p q = refl
 
 -- an import of another chain has another source
-other-chain : (work : List ℕ) (at a : ℕ) → (chainAt work at ≡ a % 2048 → ⊥) → tag_of (item_at work at) ≡ 0x10 → value_of (fixed_of (item_at work at)) ≡ two a → ⊥
-unfolding chainAt
+other-chain : (work : List ℕ) (at a : ℕ) → (chain_at work at ≡ a % 2048 → ⊥) → tag_of (item_at work at) ≡ 0x10 → value_of (fixed_of (item_at work at)) ≡ two a → ⊥
+unfolding chain_at
 other-chain work at a h t v =
     let i = item-source work at t in
     let k = sym i.1 ∙ v in
@@ -128,29 +128,29 @@ other-chain work at a h t v =
     let y : get_or work (at + 4) 0 ≡ a % 256 = ap (λ (l : List ℕ). get_or l 1 0) k in
     let z : at + 3 + 1 ≡ at + 4 = omega arith in
     let w = ap (λ (j : ℕ). get_or work j 0) z in
-    let e : literalValue work (at + 3) % 2048 ≡ a % 2048 = omega arith in
+    let e : literal_value work (at + 3) % 2048 ≡ a % 2048 = omega arith in
     h (rw (le-leb (at + 9) (length work) i.0) e)
 
-module _ (b : Bool) (work : List ℕ) (a : ℕ) (p : Place) (h : chainIn work p ≡ a % 2048 → ⊥) where
-  pub import-off : importBytes b (two a) work p ≡ []
-  unfolding importBytes
-  import-off = import-absent b (two a) (item_at work (workOf p)) (other-chain work (workOf p) a h)
+module _ (b : Bool) (work : List ℕ) (a : ℕ) (p : Place) (h : chain_in work p ≡ a % 2048 → ⊥) where
+  pub import-off : import_bytes b (two a) work p ≡ []
+  unfolding import_bytes
+  import-off = import-absent b (two a) (item_at work (work_of p)) (other-chain work (work_of p) a h)
 
-  pub pair-off : (out l : List ℕ) → value_of l ≡ two a → pairBytes b l work out p ≡ []
-  unfolding pairBytes
-  pair-off out l q = pair-absent b l (item_at work (workOf p)) (item_at out (out_of p)) (λ t v. other-chain work (workOf p) a h t (v ∙ q))
+  pub pair-off : (out l : List ℕ) → value_of l ≡ two a → pair_bytes b l work out p ≡ []
+  unfolding pair_bytes
+  pair-off out l q = pair-absent b l (item_at work (work_of p)) (item_at out (out_of p)) (λ t v. other-chain work (work_of p) a h t (v ∙ q))
 
 -- ---- What is written of a place
 
-module _ (b : Bool) (v work : List ℕ) (p : Place) {l l' : List ℕ} {o q at : ℕ} (e : at ≡ workOf p) where
-  pub import-placed : WroteIf (ItemRead work at) (encodes (sieve b (gatheredOf v (item_at work at)))) l o l' q →
-      WroteIf (ItemRead work (workOf p)) (importBytes b v work p) l o l' q
-  unfolding importBytes
-  import-placed w = subst (λ (j : ℕ). WroteIf (ItemRead work j) (encodes (sieve b (gatheredOf v (item_at work j)))) l o l' q) e w
+module _ (b : Bool) (v work : List ℕ) (p : Place) {l l' : List ℕ} {o q at : ℕ} (e : at ≡ work_of p) where
+  pub import-placed : WroteIf (ItemRead work at) (encodes (sieve b (gathered_of v (item_at work at)))) l o l' q →
+      WroteIf (ItemRead work (work_of p)) (import_bytes b v work p) l o l' q
+  unfolding import_bytes
+  import-placed w = subst (λ (j : ℕ). WroteIf (ItemRead work j) (encodes (sieve b (gathered_of v (item_at work j)))) l o l' q) e w
 
   pub pair-placed : {made : ℕ} (out : List ℕ) → made ≡ out_of p → WroteIf (ItemRead out made) (encodes (sieve b (taken_of v (item_at work at) (item_at out made)))) l o l' q →
-      WroteIf (ItemRead out (out_of p)) (pairBytes b v work out p) l o l' q
-  unfolding pairBytes
+      WroteIf (ItemRead out (out_of p)) (pair_bytes b v work out p) l o l' q
+  unfolding pair_bytes
   pair-placed out f w =
       subst (λ (j : ℕ). WroteIf (ItemRead out (out_of p)) (encodes (sieve b (taken_of v (item_at work j) (item_at out (out_of p))))) l o l' q) e
       (subst (λ (j : ℕ). WroteIf (ItemRead out j) (encodes (sieve b (taken_of v (item_at work at) (item_at out j)))) l o l' q) f w)
@@ -188,36 +188,36 @@ paired-start : (work out : List ℕ) → Paired work out [] 3 3
 unfolding spread
 paired-start work out = record { is = λ b l. refl; read = λ r. (tt, r) }
 
-module _ (work : List ℕ) (at stop : ℕ) (le : at ≤ length work) (e : extentAt work at (length work) ≡ Upto stop) where
+module _ (work : List ℕ) (at stop : ℕ) (le : at ≤ length work) (e : extent_at work at (length work) ≡ Upto stop) where
   no-import : (get_or work at 0 ≡ 0x10 → ⊥) → tag_of (item_at work at) ≡ 0x10 → ⊥
   no-import h t = h (tag-import work at stop (sym (ap tag_of (item-is work at stop e)) ∙ t))
 
   listed_more : (ps : List Place) (made : ℕ) → Listed work ps at → Listed work (ps ++ ((at, made) ∷ [])) stop
-  unfolding importBytes
+  unfolding import_bytes
   listed_more ps made i =
       record {
-        is = λ b v. spread-more (importBytes b v work) ps (at, made) _ _ _ (i.is b v) (imports-more b v work at stop le e);
+        is = λ b v. spread-more (import_bytes b v work) ps (at, made) _ _ _ (i.is b v) (imports-more b v work at stop le e);
         read = λ r.
             let a = i.read r in
             let b = row_read a.1.0 le (omega arith) a.1.1 e in
-            (each_more workOf work ps (at, made) a.0 (item-read e b.0), (b.1.0, b.1.2));
+            (each_more work_of work ps (at, made) a.0 (item-read e b.0), (b.1.0, b.1.2));
       }
 
   listed-pass : (ps : List Place) → (get_or work at 0 ≡ 0x10 → ⊥) → Listed work ps at → Listed work ps stop
   listed-pass ps h i =
       record {
         is = λ b v.
-            spread-pass (importBytes b v work) ps _ _ _ _ (i.is b v) (imports-more b v work at stop le e)
+            spread-pass (import_bytes b v work) ps _ _ _ _ (i.is b v) (imports-more b v work at stop le e)
             (import-absent b v (item_at work at) (λ t _. no-import h t));
         read = λ r. let a = i.read r in let b = row_read a.1.0 le (omega arith) a.1.1 e in (a.0, (b.1.0, b.1.2));
       }
 
-  module _ (out : List ℕ) (made until : ℕ) (le' : made ≤ length out) (e' : extentAt out made (length out) ≡ Upto until) where
+  module _ (out : List ℕ) (made until : ℕ) (le' : made ≤ length out) (e' : extent_at out made (length out) ≡ Upto until) where
     paired-more : (ps : List Place) → Paired work out ps at made → Paired work out (ps ++ ((at, made) ∷ [])) stop until
-    unfolding pairBytes
+    unfolding pair_bytes
     paired-more ps i =
         record {
-          is = λ b l. spread-more (pairBytes b l work out) ps (at, made) _ _ _ (i.is b l) (taken_more b l work at out made stop until le e le' e');
+          is = λ b l. spread-more (pair_bytes b l work out) ps (at, made) _ _ _ (i.is b l) (taken_more b l work at out made stop until le e le' e');
           read = λ r.
               let a = i.read r in
               let b = row_read a.1.0 le' (omega arith) a.1.1 e' in
@@ -228,7 +228,7 @@ module _ (work : List ℕ) (at stop : ℕ) (le : at ≤ length work) (e : extent
     paired-pass ps h i =
         record {
           is = λ b l.
-              spread-pass (pairBytes b l work out) ps _ _ _ _ (i.is b l) (taken_more b l work at out made stop until le e le' e')
+              spread-pass (pair_bytes b l work out) ps _ _ _ _ (i.is b l) (taken_more b l work at out made stop until le e le' e')
               (pair-absent b l (item_at work at) (item_at out made) (λ t _. no-import h t));
           read = λ r. let a = i.read r in let b = row_read a.1.0 le' (omega arith) a.1.1 e' in (a.0, (b.1.0, b.1.2));
         }
@@ -250,13 +250,13 @@ module _ (work : List ℕ) (at stop : ℕ) (le : at ≤ length work) (e : extent
       put-unchained : Unchained put2
       put-unchained = record { cells = put-cells; ends = λ k h. put_other k (λ z. omega arith) (λ z. omega arith) ∙ u.ends k h }
 
-      put-places : placesIn put2 (n + 1) ≡ placesIn a n ++ ((at, made) ∷ [])
-      unfolding placesIn
+      put-places : places_in put2 (n + 1) ≡ places_in a n ++ ((at, made) ∷ [])
+      unfolding places_in
       put-places =
           let l = u.cells in
           let m = length-set a (2049 + 3 * n) at in
           let z : n + 1 ≡ suc n = omega arith in
-          ap (placesIn put2) z
+          ap (places_in put2) z
           ∙ ap₂ (λ (ps : List Place) (p : Place). ps ++ (p ∷ []))
           (places-agree put2 a n (λ i h. place-agree put2 a i (put_other (2049 + 3 * i) (λ e. omega arith) (λ e. omega arith)) (put_other (2050 + 3 * i) (λ e. omega arith) (λ e. omega arith))))
           (ap₂ (λ (x y : ℕ). (x, y))
@@ -277,8 +277,8 @@ module _ (work : List ℕ) (at stop : ℕ) (le : at ≤ length work) (e : extent
                 few = omega arith;
                 low = low;
                 low-out = low';
-                listed = subst (λ (ps : List Place). Listed work ps stop) (sym (put-places a n few u)) (listed_more (placesIn a n) made i.listed);
-                paired = subst (λ (ps : List Place). Paired work out ps stop until) (sym (put-places a n few u)) (paired-more (placesIn a n) i.paired);
+                listed = subst (λ (ps : List Place). Listed work ps stop) (sym (put-places a n few u)) (listed_more (places_in a n) made i.listed);
+                paired = subst (λ (ps : List Place). Paired work out ps stop until) (sym (put-places a n few u)) (paired-more (places_in a n) i.paired);
               },
               put-unchained a n few u,
             ))
@@ -291,14 +291,14 @@ module _ (work : List ℕ) (at stop : ℕ) (le : at ≤ length work) (e : extent
                 few = i.few;
                 low = low;
                 low-out = low';
-                listed = listed-pass (placesIn a n) h i.listed;
-                paired = paired-pass (placesIn a n) h i.paired;
+                listed = listed-pass (places_in a n) h i.listed;
+                paired = paired-pass (places_in a n) h i.paired;
               },
               u,
             ))
 
 pub lists-start : (work out a : List ℕ) → Lists work out a 0 3 3
-unfolding placesIn
+unfolding places_in
 lists-start work out a = record { few = omega arith; low = omega arith; low-out = omega arith; listed = listed_start work; paired = paired-start work out }
 
 pub unchained-start : Unchained (replicate 12974 3641)
@@ -307,14 +307,14 @@ unchained-start = record { cells = length-replicate {A = ℕ} 12974 3641; ends =
 -- ---- With the items behind, all
 
 module _ (b : Bool) (v : List ℕ) {l l' l'' : List ℕ} {o p q : ℕ} where
-  pub imports-joined : {work : List ℕ} {ps : List Place} {at : ℕ} → Listed work ps at → WroteIf (EachRead workOf work ps) (spread (importBytes b v work) ps) l o l' p →
+  pub imports-joined : {work : List ℕ} {ps : List Place} {at : ℕ} → Listed work ps at → WroteIf (EachRead work_of work ps) (spread (import_bytes b v work) ps) l o l' p →
       WroteIf (RowRead work at (length work)) (encodes (sieve b (gathered v (row_at work at (length work))))) l' p l'' q →
       WroteIf (RowRead work 3 (length work)) (encodes (sieve b (gathered v (items_in work)))) l o l'' q
   imports-joined i w x =
       record { size = x.size ∙ w.size; is = λ r. let a = i.read r in wrote_as (wrote_then (w.is a.0) (x.is a.1)) (sym (i.is b v)) }
 
   pub pairs-joined : {Q : Type 0} {work out : List ℕ} {ps : List Place} {at made : ℕ} → Paired work out ps at made →
-      WroteIf (EachRead out_of out ps × Q) (spread (pairBytes b v work out) ps) l o l' p →
+      WroteIf (EachRead out_of out ps × Q) (spread (pair_bytes b v work out) ps) l o l' p →
       WroteIf (RowRead out made (length out)) (encodes (sieve b (taken v (row_at work at (length work)) (row_at out made (length out))))) l' p l'' q →
       WroteIf (RowRead out 3 (length out) × Q) (encodes (sieve b (taken v (items_in work) (items_in out)))) l o l'' q
   pairs-joined i w x =

@@ -6,18 +6,18 @@ use mathlib.Core.Option.{Option}
 use Rattle.tree.specs.Tree.{Fields}
 use Rattle.metadata.specs.Metadata.{append}
 use Rattle.extraction_rules.specs.State.{Usage}
-use Rattle.extraction_rules.specs.First.{specifiersIn, attributesIn, withContext}
-use Rattle.extraction_rules.specs.Second.{specifiersFrom}
-use Rattle.extraction_rules.proofs.KeepLaws.{Meets, notAttributes, specifiers-front, no-context, no-specifiers}
+use Rattle.extraction_rules.specs.First.{specifiers_in, attributes_in, with_context}
+use Rattle.extraction_rules.specs.Second.{specifiers_from}
+use Rattle.extraction_rules.proofs.KeepLaws.{Meets, not_attributes, specifiers-front, no-context, no-specifiers}
 
-pub specifiers-context : (fs : Fields) (o : Option ℕ) (cs : Fields) → Meets notAttributes fs → specifiersIn (append fs (withContext o cs)) ≡ fs
-specifiers-context fs o cs h = specifiers-front fs (withContext o cs) h (no-context o cs)
+pub specifiers-context : (fs : Fields) (o : Option ℕ) (cs : Fields) → Meets not_attributes fs → specifiers_in (append fs (with_context o cs)) ≡ fs
+specifiers-context fs o cs h = specifiers-front fs (with_context o cs) h (no-context o cs)
 
 -- usages become 20s
-usages-meet : (us : List Usage) → Meets notAttributes (specifiersFrom us)
-unfolding specifiersFrom
+usages-meet : (us : List Usage) → Meets not_attributes (specifiers_from us)
+unfolding specifiers_from
 usages-meet [] = tt
 usages-meet (u ∷ us) = (refl, usages-meet us)
 
-pub specifiers-usages : (us : List Usage) (cs : Fields) → specifiersIn (append (specifiersFrom us) (attributesIn cs)) ≡ specifiersFrom us
-specifiers-usages us cs = specifiers-front (specifiersFrom us) (attributesIn cs) (usages-meet us) (no-specifiers cs)
+pub specifiers-usages : (us : List Usage) (cs : Fields) → specifiers_in (append (specifiers_from us) (attributes_in cs)) ≡ specifiers_from us
+specifiers-usages us cs = specifiers-front (specifiers_from us) (attributes_in cs) (usages-meet us) (no-specifiers cs)

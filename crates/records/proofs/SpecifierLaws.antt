@@ -11,8 +11,8 @@ use Rattle.tree.specs.declared.layout.Reach.{Reach}
 use Rattle.tree.specs.declared.layout.Reach.TheVariants.{Upto, Short}
 use Rattle.tree.specs.Layout.{Bytes}
 use Rattle.tree.specs.Tree.{Field, field, Fields, none, more, tag_of, encode, encodes}
-use Rattle.tree.specs.Access.{fixed_at, extentAt}
-use Rattle.tree.specs.Standing.{treeAt, row_at}
+use Rattle.tree.specs.Access.{fixed_at, extent_at}
+use Rattle.tree.specs.Standing.{tree_at, row_at}
 use Rattle.tree.proofs.FixedLaws.{no-upto, upto-inj}
 use Rattle.tree.proofs.AccessLaws.{upto-in, extent-upto}
 use Rattle.tree.proofs.StandingLaws.{row_more, row-none, tree-upto, tree-short}
@@ -24,82 +24,82 @@ use Rattle.metadata.proofs.EncodeLaws.{encodes-append}
 use Rattle.inputs.specs.Fields.{has, keep, sole}
 use Rattle.writer.specs.Wrote.{Wrote}
 use Rattle.writer.proofs.Wrote.{wrote_none, wrote_then, wrote_as}
-use Rattle.extraction_rules.specs.First.{specifiersIn}
+use Rattle.extraction_rules.specs.First.{specifiers_in}
 use Rattle.extraction_rules.proofs.KeepLaws.{keep_append}
 use Rattle.steps.specs.Step.{ReadAt}
 use Rattle.steps.proofs.SoundLaws.{read-bytes, row_read}
-use Rattle.records.specs.Model.{isNamespace}
-use Rattle.records.specs.Writes.{WroteIf, RowRead, RowOnward, sieve, specifierOf, is_none, itemOn, item_at, ItemRead, ImportIs, ImportAt}
+use Rattle.records.specs.Model.{is_namespace}
+use Rattle.records.specs.Writes.{WroteIf, RowRead, RowOnward, sieve, specifier_of, is_none, item_on, item_at, ItemRead, ImportIs, ImportAt}
 
 -- ---- Tags
 
-pub tag-upto : (s : List ℕ) (at stop b : ℕ) → fixed_at s (get_or s at 0) (at + 3) stop ≡ Upto b → get_or s at 0 ≡ tag_of (treeAt s at stop)
+pub tag-upto : (s : List ℕ) (at stop b : ℕ) → fixed_at s (get_or s at 0) (at + 3) stop ≡ Upto b → get_or s at 0 ≡ tag_of (tree_at s at stop)
 tag-upto s at stop b e = sym (ap tag_of (tree-upto s at stop b e))
 
-pub tag-short : (s : List ℕ) (at stop : ℕ) → fixed_at s (get_or s at 0) (at + 3) stop ≡ Short → 0 ≡ tag_of (treeAt s at stop)
+pub tag-short : (s : List ℕ) (at stop : ℕ) → fixed_at s (get_or s at 0) (at + 3) stop ≡ Short → 0 ≡ tag_of (tree_at s at stop)
 tag-short s at stop e = sym (ap tag_of (tree-short s at stop e))
 
 -- ---- Specifiers
 
-specifiers-skip : (f : Field) (fs : Fields) → tag_of f ≡ 0x2F → specifiersIn (more f fs) ≡ specifiersIn fs
+specifiers-skip : (f : Field) (fs : Fields) → tag_of f ≡ 0x2F → specifiers_in (more f fs) ≡ specifiers_in fs
 unfolding keep
-specifiers-skip f fs h = ap (λ (b : Bool). cond (not b) (more f (specifiersIn fs)) (specifiersIn fs)) (eq-eqb (tag_of f) 0x2F h)
+specifiers-skip f fs h = ap (λ (b : Bool). cond (not b) (more f (specifiers_in fs)) (specifiers_in fs)) (eq-eqb (tag_of f) 0x2F h)
 
-specifiers-take : (f : Field) (fs : Fields) → (tag_of f ≡ 0x2F → ⊥) → specifiersIn (more f fs) ≡ more f (specifiersIn fs)
+specifiers-take : (f : Field) (fs : Fields) → (tag_of f ≡ 0x2F → ⊥) → specifiers_in (more f fs) ≡ more f (specifiers_in fs)
 unfolding keep
-specifiers-take f fs h = ap (λ (b : Bool). cond (not b) (more f (specifiersIn fs)) (specifiersIn fs)) (ne_eqb (tag_of f) 0x2F h)
+specifiers-take f fs h = ap (λ (b : Bool). cond (not b) (more f (specifiers_in fs)) (specifiers_in fs)) (ne_eqb (tag_of f) 0x2F h)
 
-specifiers-end : specifiersIn none ≡ none
+specifiers-end : specifiers_in none ≡ none
 unfolding keep
 specifiers-end = refl
 
 module _ (s : List ℕ) (at end : ℕ) (le : at ≤ end) where
   -- what a test of the specifiers says where the row ends, and where its first field is a 2F
-  pub row_ends : {A : Type 0} (p : Fields → A) → extentAt s at end ≡ Short → p (specifiersIn (row_at s at end)) ≡ p none
-  row_ends p e = ap (λ (fs : Fields). p (specifiersIn fs)) (row-none s at end le e) ∙ ap p specifiers-end
+  pub row_ends : {A : Type 0} (p : Fields → A) → extent_at s at end ≡ Short → p (specifiers_in (row_at s at end)) ≡ p none
+  row_ends p e = ap (λ (fs : Fields). p (specifiers_in fs)) (row-none s at end le e) ∙ ap p specifiers-end
 
-  pub row-skips : {A : Type 0} (p : Fields → A) (stop : ℕ) → extentAt s at end ≡ Upto stop → tag_of (treeAt s at stop) ≡ 0x2F →
-      p (specifiersIn (row_at s at end)) ≡ p (specifiersIn (row_at s stop end))
-  row-skips p stop e h = ap (λ (fs : Fields). p (specifiersIn fs)) (row_more s at end stop le e) ∙ ap p (specifiers-skip (treeAt s at stop) (row_at s stop end) h)
+  pub row-skips : {A : Type 0} (p : Fields → A) (stop : ℕ) → extent_at s at end ≡ Upto stop → tag_of (tree_at s at stop) ≡ 0x2F →
+      p (specifiers_in (row_at s at end)) ≡ p (specifiers_in (row_at s stop end))
+  row-skips p stop e h = ap (λ (fs : Fields). p (specifiers_in fs)) (row_more s at end stop le e) ∙ ap p (specifiers-skip (tree_at s at stop) (row_at s stop end) h)
 
-  pub row-takes : {A : Type 0} (p : Fields → A) (stop : ℕ) → extentAt s at end ≡ Upto stop → (tag_of (treeAt s at stop) ≡ 0x2F → ⊥) →
-      p (specifiersIn (row_at s at end)) ≡ p (more (treeAt s at stop) (specifiersIn (row_at s stop end)))
-  row-takes p stop e h = ap (λ (fs : Fields). p (specifiersIn fs)) (row_more s at end stop le e) ∙ ap p (specifiers-take (treeAt s at stop) (row_at s stop end) h)
+  pub row-takes : {A : Type 0} (p : Fields → A) (stop : ℕ) → extent_at s at end ≡ Upto stop → (tag_of (tree_at s at stop) ≡ 0x2F → ⊥) →
+      p (specifiers_in (row_at s at end)) ≡ p (more (tree_at s at stop) (specifiers_in (row_at s stop end)))
+  row-takes p stop e h = ap (λ (fs : Fields). p (specifiers_in fs)) (row_more s at end stop le e) ∙ ap p (specifiers-take (tree_at s at stop) (row_at s stop end) h)
 
-pub namespace-then : (f : Field) (fs : Fields) → tag_of f ≡ 0x22 → is_none fs ≡ isNamespace (sole (more f fs))
+pub namespace-then : (f : Field) (fs : Fields) → tag_of f ≡ 0x22 → is_none fs ≡ is_namespace (sole (more f fs))
 unfolding sole
 namespace-then f none h = sym (eq-eqb (tag_of f) 0x22 h)
 namespace-then f (more g gs) h = refl
 
-pub namespace-no : (f : Field) (fs : Fields) → (tag_of f ≡ 0x22 → ⊥) → false ≡ isNamespace (sole (more f fs))
+pub namespace-no : (f : Field) (fs : Fields) → (tag_of f ≡ 0x22 → ⊥) → false ≡ is_namespace (sole (more f fs))
 unfolding sole
 namespace-no f none h = sym (ne_eqb (tag_of f) 0x22 h)
 namespace-no f (more g gs) h = refl
 
-pub sole_none : isNamespace (sole none) ≡ false
+pub sole_none : is_namespace (sole none) ≡ false
 unfolding sole
 sole_none = refl
 
 -- ---- The item at a place
 
-pub item-is : (s : List ℕ) (at stop : ℕ) → extentAt s at (length s) ≡ Upto stop → item_at s at ≡ treeAt s at stop
-unfolding item_at itemOn
-item-is s at stop e = ap (λ (r : Reach). itemOn r s at) e
+pub item-is : (s : List ℕ) (at stop : ℕ) → extent_at s at (length s) ≡ Upto stop → item_at s at ≡ tree_at s at stop
+unfolding item_at item_on
+item-is s at stop e = ap (λ (r : Reach). item_on r s at) e
 
-pub item-none : (s : List ℕ) (at : ℕ) → extentAt s at (length s) ≡ Short → item_at s at ≡ field 0 [] none
-unfolding item_at itemOn
-item-none s at e = ap (λ (r : Reach). itemOn r s at) e
+pub item-none : (s : List ℕ) (at : ℕ) → extent_at s at (length s) ≡ Short → item_at s at ≡ field 0 [] none
+unfolding item_at item_on
+item-none s at e = ap (λ (r : Reach). item_on r s at) e
 
-pub item-read : {s : List ℕ} {at stop : ℕ} → extentAt s at (length s) ≡ Upto stop → ReadAt s at stop → ItemRead s at
+pub item-read : {s : List ℕ} {at stop : ℕ} → extent_at s at (length s) ≡ Upto stop → ReadAt s at stop → ItemRead s at
 item-read {s = s} {at = at} e r = λ stop' e'. subst (ReadAt s at) (upto-inj (sym e ∙ e')) r
 
-pub extent-past : (s : List ℕ) (at end : ℕ) → end < at → extentAt s at end ≡ Short
-unfolding extentAt
+pub extent-past : (s : List ℕ) (at end : ℕ) → end < at → extent_at s at end ≡ Short
+unfolding extent_at
 extent-past s at end h = rw (lt-leb 3 (end - at) (omega arith)) refl
 
 -- ---- An import
 
-pub tag-import : (s : List ℕ) (at stop : ℕ) → tag_of (treeAt s at stop) ≡ 0x10 → get_or s at 0 ≡ 0x10
+pub tag-import : (s : List ℕ) (at stop : ℕ) → tag_of (tree_at s at stop) ≡ 0x10 → get_or s at 0 ≡ 0x10
 tag-import s at stop h = by (fixed_at s (get_or s at 0) (at + 3) stop) refl
   where
     by : (r : Reach) → fixed_at s (get_or s at 0) (at + 3) stop ≡ r → get_or s at 0 ≡ 0x10
@@ -113,17 +113,17 @@ import-ends s at stop b le e h =
     (omega arith, omega arith)
 
 module _ (s : List ℕ) (at : ℕ) where
-  pub import-nowhere : extentAt s at (length s) ≡ Short → ImportAt s at Short
+  pub import-nowhere : extent_at s at (length s) ≡ Short → ImportAt s at Short
   import-nowhere e =
       record {
         is = λ n q. absurd (no-upto q);
         other = λ _ t. absurd (let z : 0 ≡ 0x10 = sym (ap tag_of (item-none s at e)) ∙ t in omega arith);
       }
 
-  pub import-other : (stop : ℕ) → extentAt s at (length s) ≡ Upto stop → (tag_of (treeAt s at stop) ≡ 0x10 → ⊥) → ImportAt s at Short
+  pub import-other : (stop : ℕ) → extent_at s at (length s) ≡ Upto stop → (tag_of (tree_at s at stop) ≡ 0x10 → ⊥) → ImportAt s at Short
   import-other stop e h = record { is = λ n q. absurd (no-upto q); other = λ _ t. h (sym (ap tag_of (item-is s at stop e)) ∙ t) }
 
-  pub import-is : (stop : ℕ) → at ≤ length s → extentAt s at (length s) ≡ Upto stop → tag_of (treeAt s at stop) ≡ 0x10 → ImportIs s at stop
+  pub import-is : (stop : ℕ) → at ≤ length s → extent_at s at (length s) ≡ Upto stop → tag_of (tree_at s at stop) ≡ 0x10 → ImportIs s at stop
   import-is stop le x h = by (fixed_at s (get_or s at 0) (at + 3) stop) refl
     where
       by : (r : Reach) → fixed_at s (get_or s at 0) (at + 3) stop ≡ r → ImportIs s at stop
@@ -143,7 +143,7 @@ module _ (s : List ℕ) (at : ℕ) where
           }
       by Short e = absurd (let z : 0 ≡ 0x10 = tag-short s at stop e ∙ h in omega arith)
 
-  pub import-here : (stop : ℕ) → at ≤ length s → extentAt s at (length s) ≡ Upto stop → tag_of (treeAt s at stop) ≡ 0x10 → ImportAt s at (Upto stop)
+  pub import-here : (stop : ℕ) → at ≤ length s → extent_at s at (length s) ≡ Upto stop → tag_of (tree_at s at stop) ≡ 0x10 → ImportAt s at (Upto stop)
   import-here stop le x h = record { is = λ m q. subst (ImportIs s at) (upto-inj q) (import-is stop le x h); other = λ q _. absurd (no-upto (sym q)) }
 
 -- ---- With namespaces or without
@@ -159,24 +159,24 @@ sieve-append true fs gs = refl
 sieve-append false fs gs = keep_append (λ f. not (has 0x22 f)) fs gs
 
 -- one part, then the others
-specifiers-more : (b : Bool) (f : Field) (fs : Fields) → sieve b (specifiersIn (more f fs)) ≡ append (specifierOf b f) (sieve b (specifiersIn fs))
-unfolding specifierOf append
+specifiers-more : (b : Bool) (f : Field) (fs : Fields) → sieve b (specifiers_in (more f fs)) ≡ append (specifier_of b f) (sieve b (specifiers_in fs))
+unfolding specifier_of append
 specifiers-more b f fs = by (has 0x2F f) refl
   where
-    by : (c : Bool) → has 0x2F f ≡ c → sieve b (specifiersIn (more f fs)) ≡ append (cond c none (sieve b (more f none))) (sieve b (specifiersIn fs))
+    by : (c : Bool) → has 0x2F f ≡ c → sieve b (specifiers_in (more f fs)) ≡ append (cond c none (sieve b (more f none))) (sieve b (specifiers_in fs))
     by true q = ap (sieve b) (specifiers-skip f fs (eqb-true (tag_of f) 0x2F q))
-    by false q = ap (sieve b) (specifiers-take f fs (eqb-false (tag_of f) 0x2F q)) ∙ sieve-append b (more f none) (specifiersIn fs)
+    by false q = ap (sieve b) (specifiers-take f fs (eqb-false (tag_of f) 0x2F q)) ∙ sieve-append b (more f none) (specifiers_in fs)
 
 module _ (s : List ℕ) (at end : ℕ) (le : at ≤ end) (b : Bool) where
-  pub bytes-none : extentAt s at end ≡ Short → encodes (sieve b (specifiersIn (row_at s at end))) ≡ []
+  pub bytes-none : extent_at s at end ≡ Short → encodes (sieve b (specifiers_in (row_at s at end))) ≡ []
   unfolding encodes
   bytes-none e = row_ends s at end le (λ fs. encodes (sieve b fs)) e ∙ ap encodes (sieve-none b)
 
-  pub bytes-more : (stop : ℕ) → extentAt s at end ≡ Upto stop →
-      encodes (sieve b (specifiersIn (row_at s at end))) ≡ encodes (specifierOf b (treeAt s at stop)) ++ encodes (sieve b (specifiersIn (row_at s stop end)))
+  pub bytes-more : (stop : ℕ) → extent_at s at end ≡ Upto stop →
+      encodes (sieve b (specifiers_in (row_at s at end))) ≡ encodes (specifier_of b (tree_at s at stop)) ++ encodes (sieve b (specifiers_in (row_at s stop end)))
   bytes-more stop e =
-      ap (λ (fs : Fields). encodes (sieve b (specifiersIn fs))) (row_more s at end stop le e) ∙ ap encodes (specifiers-more b (treeAt s at stop) (row_at s stop end))
-      ∙ encodes-append (specifierOf b (treeAt s at stop)) (sieve b (specifiersIn (row_at s stop end)))
+      ap (λ (fs : Fields). encodes (sieve b (specifiers_in fs))) (row_more s at end stop le e) ∙ ap encodes (specifiers-more b (tree_at s at stop) (row_at s stop end))
+      ∙ encodes-append (specifier_of b (tree_at s at stop)) (sieve b (specifiers_in (row_at s stop end)))
 
 -- ---- One part
 
@@ -185,30 +185,30 @@ pub if_none : {P : Type 0} {bs l : List ℕ} {o : ℕ} → bs ≡ [] → WroteIf
 if_none e = record { size = refl; is = λ _. wrote_as wrote_none (sym e) }
 
 module _ (b : Bool) (f : Field) where
-  pub part-attributes : tag_of f ≡ 0x2F → encodes (specifierOf b f) ≡ []
-  unfolding specifierOf
+  pub part-attributes : tag_of f ≡ 0x2F → encodes (specifier_of b f) ≡ []
+  unfolding specifier_of
   part-attributes h = ap (λ (c : Bool). encodes (cond c none (sieve b (more f none)))) (eq-eqb (tag_of f) 0x2F h) ∙ encodes-none
 
-  part-other : (tag_of f ≡ 0x2F → ⊥) → specifierOf b f ≡ sieve b (more f none)
-  unfolding specifierOf
+  part-other : (tag_of f ≡ 0x2F → ⊥) → specifier_of b f ≡ sieve b (more f none)
+  unfolding specifier_of
   part-other h = ap (λ (c : Bool). cond c none (sieve b (more f none))) (ne_eqb (tag_of f) 0x2F h)
 
-  pub part-namespace : (tag_of f ≡ 0x2F → ⊥) → b ≡ false → tag_of f ≡ 0x22 → encodes (specifierOf b f) ≡ []
+  pub part-namespace : (tag_of f ≡ 0x2F → ⊥) → b ≡ false → tag_of f ≡ 0x22 → encodes (specifier_of b f) ≡ []
   unfolding sieve keep
   part-namespace h q k =
       ap encodes (part-other h ∙ ap (λ (c : Bool). sieve c (more f none)) q ∙ ap (λ (c : Bool). cond (not c) (more f none) none) (eq-eqb (tag_of f) 0x22 k)) ∙ encodes-none
 
-  pub part-any : (tag_of f ≡ 0x2F → ⊥) → b ≡ true → encode f ≡ encodes (specifierOf b f)
+  pub part-any : (tag_of f ≡ 0x2F → ⊥) → b ≡ true → encode f ≡ encodes (specifier_of b f)
   unfolding sieve
   part-any h q = sym (encodes_one f) ∙ ap encodes (sym (part-other h ∙ ap (λ (c : Bool). sieve c (more f none)) q))
 
-  pub part-named : (tag_of f ≡ 0x2F → ⊥) → b ≡ false → (tag_of f ≡ 0x22 → ⊥) → encode f ≡ encodes (specifierOf b f)
+  pub part-named : (tag_of f ≡ 0x2F → ⊥) → b ≡ false → (tag_of f ≡ 0x22 → ⊥) → encode f ≡ encodes (specifier_of b f)
   unfolding sieve keep
   part-named h q k =
       sym (encodes_one f) ∙ ap encodes (sym (part-other h ∙ ap (λ (c : Bool). sieve c (more f none)) q ∙ ap (λ (c : Bool). cond (not c) (more f none) none) (ne_eqb (tag_of f) 0x22 k)))
 
 -- a part that was read is copied
-pub if-copied : {s : List ℕ} {at stop : ℕ} {bs l l' : List ℕ} {o p : ℕ} → Bytes s → encode (treeAt s at stop) ≡ bs →
+pub if-copied : {s : List ℕ} {at stop : ℕ} {bs l l' : List ℕ} {o p : ℕ} → Bytes s → encode (tree_at s at stop) ≡ bs →
     Wrote l o (slice at stop s) l' p → WroteIf (ReadAt s at stop) bs l o l' p
 if-copied bytes e w = record { size = w.size; is = λ r. wrote_as w (sym (read-bytes r bytes) ∙ e) }
 
@@ -217,7 +217,7 @@ if-copied bytes e w = record { size = w.size; is = λ r. wrote_as w (sym (read-b
 pub row-start : {s : List ℕ} {from end : ℕ} {bs l : List ℕ} {o : ℕ} → RowOnward s from from end bs bs l o l o
 row-start = record { size = refl; read = λ r. r; is = λ r w. w }
 
-pub row_step : {s : List ℕ} {from at end stop : ℕ} {bs cs ds es l l' l'' : List ℕ} {o p q : ℕ} → at ≤ end → end ≤ length s → extentAt s at end ≡ Upto stop →
+pub row_step : {s : List ℕ} {from at end stop : ℕ} {bs cs ds es l l' l'' : List ℕ} {o p q : ℕ} → at ≤ end → end ≤ length s → extent_at s at end ≡ Upto stop →
     RowOnward s from at end bs cs l o l' p → cs ≡ ds ++ es → WroteIf (ReadAt s at stop) ds l' p l'' q → RowOnward s from stop end bs es l o l'' q
 row_step le fits e i k w =
     record {

@@ -6,18 +6,18 @@ use mathlib.Core.List.{List, [], ◌∷◌, map}
 use mathlib.Core.Option.{Option, none as nothing, some}
 use lib.Dec.{eqb}
 use borrow.Author.Tests.{eqb-true, eqb-false, ne_eqb}
-use Rattle.tree.specs.Layout.{same, value_of, sameLiteral}
+use Rattle.tree.specs.Layout.{same, value_of, same_literal}
 use Rattle.tree.specs.Tree.{Field, field, Fields, none, more, tag_of, fixed_of, parts_of, size}
-use Rattle.tree.specs.Grammar.{ruleOf}
+use Rattle.tree.specs.Grammar.{rule_of}
 use Rattle.metadata.specs.Metadata.{append}
 use Rattle.metadata.proofs.EncodeLaws.{append-none, append-rows}
 use Rattle.inputs.specs.Outcome.{Outcome}
 use Rattle.inputs.specs.Lists.{among}
 use Rattle.inputs.specs.Fields.{has, sole}
-use Rattle.extraction_rules.specs.State.{Record, Usage, State, second, Setting, give, setTop}
-use Rattle.extraction_rules.specs.First.{external, forceSource, forget, specifiersIn, attributesIn, stays}
-use Rattle.extraction_rules.specs.Second.{usagesOf, specifiersFrom, extend, takeApart, onSole, importSecond}
-use Rattle.extraction_rules.specs.Walk.{partsFor, walk, walkAll, walkModule}
+use Rattle.extraction_rules.specs.State.{Record, Usage, State, second, Setting, give, set_top}
+use Rattle.extraction_rules.specs.First.{external, force_source, forget, specifiers_in, attributes_in, stays}
+use Rattle.extraction_rules.specs.Second.{usages_of, specifiers_from, extend, take_apart, on_sole, import_second}
+use Rattle.extraction_rules.specs.Walk.{parts_for, walk, walk_all, walk_module}
 use Rattle.extraction_rules.proofs.OutcomeLaws.{After, after-bind, after-weaken, after_both, after-if}
 use Rattle.extraction_rules.proofs.ListLaws.{all-weaken, all_map, same-swap}
 use Rattle.extraction_rules.proofs.FirstLaws.{source-cases, force-cases}
@@ -30,13 +30,13 @@ use Rattle.extraction_rules.proofs.RegularLaws.{regular, item-outer}
 use Rattle.extraction_rules.proofs.ReadableLaws.{item-step}
 use Rattle.extraction_rules.proofs.StayLaws.{item-no-member, import-stays, walk-stays}
 use Rattle.extraction_rules.proofs.KeepLaws.{Meets, keep_all}
-use Rattle.records.specs.Model.{isNamespace, startsNamed, whole_of, taken_of, taken}
+use Rattle.records.specs.Model.{is_namespace, starts_named, whole_of, taken_of, taken}
 use Rattle.records.proofs.PartLaws.{specifiers-usages}
 use Rattle.records.proofs.GatheredLaws.{Written}
 
 -- ---- What is taken of an item
 
-sole-named : (fs : Fields) → isNamespace (sole fs) && startsNamed fs ≡ false
+sole-named : (fs : Fields) → is_namespace (sole fs) && starts_named fs ≡ false
 unfolding sole
 sole-named none = refl
 sole-named (more f none) = by (has 0x22 f) refl
@@ -50,9 +50,9 @@ sole-named (more f (more g gs)) = refl
 taken-same : (l : List ℕ) (w : Field) → taken_of l w w ≡ none
 unfolding taken_of whole_of
 taken-same l w =
-    ap (λ (b : Bool). cond b (specifiersIn (parts_of w)) none)
-    (by (has 0x10 w && sameLiteral (fixed_of w) l) (isNamespace (sole (specifiersIn (parts_of w)))) (startsNamed (specifiersIn (parts_of w)))
-    (sole-named (specifiersIn (parts_of w))))
+    ap (λ (b : Bool). cond b (specifiers_in (parts_of w)) none)
+    (by (has 0x10 w && same_literal (fixed_of w) l) (is_namespace (sole (specifiers_in (parts_of w)))) (starts_named (specifiers_in (parts_of w)))
+    (sole-named (specifiers_in (parts_of w))))
   where
     by : (a b c : Bool) → b && c ≡ false → a && b && c ≡ false
     by true b c h = h
@@ -62,26 +62,26 @@ taken-same l w =
 taken-other : (l : List ℕ) (w g : Field) → (tag_of w ≡ 0x10 → ⊥) → taken_of l w g ≡ none
 unfolding taken_of whole_of
 taken-other l w g h =
-    ap (λ (b : Bool). cond (b && sameLiteral (fixed_of w) l && isNamespace (sole (specifiersIn (parts_of w))) && startsNamed (specifiersIn (parts_of g)))
-    (specifiersIn (parts_of g)) none) (ne_eqb (tag_of w) 0x10 h)
+    ap (λ (b : Bool). cond (b && same_literal (fixed_of w) l && is_namespace (sole (specifiers_in (parts_of w))) && starts_named (specifiers_in (parts_of g)))
+    (specifiers_in (parts_of g)) none) (ne_eqb (tag_of w) 0x10 h)
 
-starts : (u : Usage) (us : List Usage) → startsNamed (specifiersFrom (u ∷ us)) ≡ true
-unfolding specifiersFrom
+starts : (u : Usage) (us : List Usage) → starts_named (specifiers_from (u ∷ us)) ≡ true
+unfolding specifiers_from
 starts u us = refl
 
 -- of one that was taken apart: the usages
-taken-apart : (l x : List ℕ) (cs : Fields) (u : Usage) (us : List Usage) → isNamespace (sole (specifiersIn cs)) ≡ true →
-    taken_of l (field 0x10 x cs) (field 0x10 x (append (specifiersFrom (u ∷ us)) (attributesIn cs))) ≡ cond (same x l) (specifiersFrom (u ∷ us)) none
+taken-apart : (l x : List ℕ) (cs : Fields) (u : Usage) (us : List Usage) → is_namespace (sole (specifiers_in cs)) ≡ true →
+    taken_of l (field 0x10 x cs) (field 0x10 x (append (specifiers_from (u ∷ us)) (attributes_in cs))) ≡ cond (same x l) (specifiers_from (u ∷ us)) none
 unfolding taken_of whole_of
 taken-apart l x cs u us h =
-    ap (λ (z : Fields). cond (same x l && isNamespace (sole (specifiersIn cs)) && startsNamed z) z none) (specifiers-usages (u ∷ us) cs)
-    ∙ named ∙ by (same x l) (isNamespace (sole (specifiersIn cs))) h
+    ap (λ (z : Fields). cond (same x l && is_namespace (sole (specifiers_in cs)) && starts_named z) z none) (specifiers-usages (u ∷ us) cs)
+    ∙ named ∙ by (same x l) (is_namespace (sole (specifiers_in cs))) h
   where
-    named : cond (same x l && isNamespace (sole (specifiersIn cs)) && startsNamed (specifiersFrom (u ∷ us))) (specifiersFrom (u ∷ us)) none ≡ cond
-        (same x l && isNamespace (sole (specifiersIn cs)) && true) (specifiersFrom (u ∷ us)) none
-    named = ap (λ (b : Bool). cond (same x l && isNamespace (sole (specifiersIn cs)) && b) (specifiersFrom (u ∷ us)) none) (starts u us)
+    named : cond (same x l && is_namespace (sole (specifiers_in cs)) && starts_named (specifiers_from (u ∷ us))) (specifiers_from (u ∷ us)) none ≡ cond
+        (same x l && is_namespace (sole (specifiers_in cs)) && true) (specifiers_from (u ∷ us)) none
+    named = ap (λ (b : Bool). cond (same x l && is_namespace (sole (specifiers_in cs)) && b) (specifiers_from (u ∷ us)) none) (starts u us)
 
-    by : (a b : Bool) → b ≡ true → cond (a && b && true) (specifiersFrom (u ∷ us)) none ≡ cond a (specifiersFrom (u ∷ us)) none
+    by : (a b : Bool) → b ≡ true → cond (a && b && true) (specifiers_from (u ∷ us)) none ≡ cond a (specifiers_from (u ∷ us)) none
     by true true q = refl
     by true false q = absurd (true≢false (sym q))
     by false b q = refl
@@ -117,7 +117,7 @@ NoLiteral x = ⊥
 
 mutual
   regular-imports : (f : Field) → Regular f → Imports f NoLiteral
-  regular-imports (field t x cs) w = (λ q. w.0.no-import q, imports-parts (partsFor t) cs NoLiteral (regular-imports-all cs w.1) (regular-imports-assignment cs w.1))
+  regular-imports (field t x cs) w = (λ q. w.0.no-import q, imports-parts (parts_for t) cs NoLiteral (regular-imports-all cs w.1) (regular-imports-assignment cs w.1))
 
   regular-imports-all : (fs : Fields) → RegularAll fs → ImportsAll fs NoLiteral
   regular-imports-all none w = tt
@@ -155,27 +155,27 @@ module _ (e : Setting) (two : e.pass ≡ second) where
   same_takes : (F : List ℕ → Fields) (x : List ℕ) (cs : Fields) (s : State) → Written F s.collected → Takes F (field 0x10 x cs) (field 0x10 x cs) s
   same_takes F x cs s h = (written_none F (λ l. taken_of l (field 0x10 x cs) (field 0x10 x cs)) s.collected (λ l. taken-same l (field 0x10 x cs)) h, import-stays (field 0x10 x cs) refl)
 
-  apart-takes : (F : List ℕ → Fields) (us : List Usage) (x : List ℕ) (cs : Fields) (s : State) → isNamespace (sole (specifiersIn cs)) ≡ true →
-      Written F s.collected → After (takeApart us x cs s) (Takes F (field 0x10 x cs))
-  unfolding takeApart
-  apart-takes F [] x cs s n h = same_takes F x cs (forceSource (value_of x) s) (source-cases (value_of x) s (λ t. Written F t.collected) (λ _. h) h)
+  apart-takes : (F : List ℕ → Fields) (us : List Usage) (x : List ℕ) (cs : Fields) (s : State) → is_namespace (sole (specifiers_in cs)) ≡ true →
+      Written F s.collected → After (take_apart us x cs s) (Takes F (field 0x10 x cs))
+  unfolding take_apart
+  apart-takes F [] x cs s n h = same_takes F x cs (force_source (value_of x) s) (source-cases (value_of x) s (λ t. Written F t.collected) (λ _. h) h)
   apart-takes F (u ∷ us) x cs s n h =
-      let g : Field = field 0x10 x (append (specifiersFrom (u ∷ us)) (attributesIn cs)) in
-      (written-extend F (λ l. taken_of l (field 0x10 x cs) g) x (specifiersFrom (u ∷ us)) s.collected (λ l. taken-apart l x cs u us n) h, import-stays g refl)
+      let g : Field = field 0x10 x (append (specifiers_from (u ∷ us)) (attributes_in cs)) in
+      (written-extend F (λ l. taken_of l (field 0x10 x cs) g) x (specifiers_from (u ∷ us)) s.collected (λ l. taken-apart l x cs u us n) h, import-stays g refl)
 
-  sole-takes : (F : List ℕ → Fields) (o : Option Field) (x : List ℕ) (cs : Fields) (s : State) → sole (specifiersIn cs) ≡ o →
-      Written F s.collected → After (onSole o x cs s) (Takes F (field 0x10 x cs))
-  unfolding onSole
+  sole-takes : (F : List ℕ → Fields) (o : Option Field) (x : List ℕ) (cs : Fields) (s : State) → sole (specifiers_in cs) ≡ o →
+      Written F s.collected → After (on_sole o x cs s) (Takes F (field 0x10 x cs))
+  unfolding on_sole
   sole-takes F nothing x cs s q h = same_takes F x cs s h
   sole-takes F (some f) x cs s q h =
       after-if (has 0x22 f) _ (give (field 0x10 x cs)) s (Takes F (field 0x10 x cs))
-      (λ b. apart-takes F (usagesOf (fixed_of f) s.usages) x cs s (ap isNamespace q ∙ b) h) (λ _. same_takes F x cs s h)
+      (λ b. apart-takes F (usages_of (fixed_of f) s.usages) x cs s (ap is_namespace q ∙ b) h) (λ _. same_takes F x cs s h)
 
-  import-takes : (F : List ℕ → Fields) (x : List ℕ) (cs : Fields) (s : State) → Written F s.collected → After (importSecond e x cs s) (Takes F (field 0x10 x cs))
-  unfolding importSecond
+  import-takes : (F : List ℕ → Fields) (x : List ℕ) (cs : Fields) (s : State) → Written F s.collected → After (import_second e x cs s) (Takes F (field 0x10 x cs))
+  unfolding import_second
   import-takes F x cs s h =
-      after-if (external e x || among (value_of x) s.forced) (give (field 0x10 x cs)) (onSole (sole (specifiersIn cs)) x cs) s (Takes F (field 0x10 x cs))
-      (λ _. same_takes F x cs s h) (λ _. sole-takes F (sole (specifiersIn cs)) x cs s refl h)
+      after-if (external e x || among (value_of x) s.forced) (give (field 0x10 x cs)) (on_sole (sole (specifiers_in cs)) x cs) s (Takes F (field 0x10 x cs))
+      (λ _. same_takes F x cs s h) (λ _. sole-takes F (sole (specifiers_in cs)) x cs s refl h)
 
   -- ---- The items
 
@@ -186,7 +186,7 @@ module _ (e : Setting) (two : e.pass ≡ second) where
       go : (f : Field) (b : Bool) → has 0x10 f ≡ b → ((tag_of f ≡ 0x10 → ⊥) → Regular f) → (tag_of f ≡ 0x63 → ⊥) → stays f ≡ true → After (walk f e false p s) (Takes F f)
       go (field t x cs) true q w m v =
           subst (λ (k : Outcome (Field × State)). After k (Takes F (field t x cs))) (sym (walk-second e two (field t x cs) p s (eqb-true t 0x10 q)))
-          (subst (λ (k : ℕ). After (importSecond e x cs s) (Takes F (field k x cs))) (sym (eqb-true t 0x10 q)) (import-takes F x cs s h))
+          (subst (λ (k : ℕ). After (import_second e x cs s) (Takes F (field k x cs))) (sym (eqb-true t 0x10 q)) (import-takes F x cs s h))
       go f false q w m v =
           let n = eqb-false (tag_of f) 0x10 q in
           after-weaken (walk f e false p s) (λ g s'. Written F s'.collected × (stays g ≡ true)) (Takes F f)
@@ -194,15 +194,15 @@ module _ (e : Setting) (two : e.pass ≡ second) where
           (after_both (walk f e false p s) (λ g s'. Written F s'.collected) (λ g s'. stays g ≡ true)
           (walk-keeps e NoLiteral (λ s'. Written F s'.collected) (written-steps e F two) f false p s (regular-imports f (w n)) h) (walk-stays e f p s n m v))
 
-  pub items-take : (F : List ℕ → Fields) (fs : Fields) (p : ℕ) (s : State) → ShapedAll fs (ruleOf 0x01) → Meets stays fs → Written F s.collected →
-      After (walkAll fs e false p s) (λ gs s'. Written (λ l. append (F l) (taken l fs gs)) s'.collected × Meets stays gs)
-  unfolding walkAll taken
+  pub items-take : (F : List ℕ → Fields) (fs : Fields) (p : ℕ) (s : State) → ShapedAll fs (rule_of 0x01) → Meets stays fs → Written F s.collected →
+      After (walk_all fs e false p s) (λ gs s'. Written (λ l. append (F l) (taken l fs gs)) s'.collected × Meets stays gs)
+  unfolding walk_all taken
   items-take F none p s h v w = (written_none F (λ l. taken l none none) s.collected (λ l. refl) w, tt)
   items-take F (more f fs) p s h v w =
       let i = item-step (tag_of f) h.0 h.1 in
       after-bind (walk f e false p s) _ (Takes F f) _
       (item-takes F f p s (λ n. regular f (item-outer (tag_of f) i.0 (ne_eqb (tag_of f) 0x10 n)) h.2) (item-no-member (tag_of f) i.0) v.0 w) λ g s1 a.
-      after-bind (walkAll fs e false (p + size f) s1) _ (λ gs s'. Written (λ l. append (append (F l) (taken_of l f g)) (taken l fs gs)) s'.collected × Meets stays gs) _
+      after-bind (walk_all fs e false (p + size f) s1) _ (λ gs s'. Written (λ l. append (append (F l) (taken_of l f g)) (taken l fs gs)) s'.collected × Meets stays gs) _
       (items-take (λ l. append (F l) (taken_of l f g)) fs (p + size f) s1 (subst (ShapedAll fs) i.1 h.3) v.1 a.0) λ gs s2 b. (
         written_as (λ l. append (append (F l) (taken_of l f g)) (taken l fs gs)) (λ l. append (F l) (append (taken_of l f g) (taken l fs gs)))
             s2.collected (λ l. append-rows (F l) (taken_of l f g) (taken l fs gs)) b.0,
@@ -210,11 +210,11 @@ module _ (e : Setting) (two : e.pass ≡ second) where
       )
 
   -- the second pass before its end
-  pub second-written : (F : List ℕ → Fields) (works : Fields) (s : State) → ShapedAll works (ruleOf 0x01) → Meets stays works → Written F s.collected →
-      After (walkModule e works s) (λ outs s'. Written (λ l. append (F l) (taken l works outs)) s'.collected)
-  unfolding walkModule
+  pub second-written : (F : List ℕ → Fields) (works : Fields) (s : State) → ShapedAll works (rule_of 0x01) → Meets stays works → Written F s.collected →
+      After (walk_module e works s) (λ outs s'. Written (λ l. append (F l) (taken l works outs)) s'.collected)
+  unfolding walk_module
   second-written F works s h v w =
-      after-bind (walkAll works e false 3 (setTop true s)) _
-      (λ gs s'. Written (λ l. append (F l) (taken l works gs)) s'.collected × Meets stays gs) _ (items-take F works 3 (setTop true s) h v w)
+      after-bind (walk_all works e false 3 (set_top true s)) _
+      (λ gs s'. Written (λ l. append (F l) (taken l works gs)) s'.collected × Meets stays gs) _ (items-take F works 3 (set_top true s) h v w)
       λ gs s' a.
       subst (λ (outs : Fields). Written (λ l. append (F l) (taken l works outs)) s'.collected) (sym (keep_all stays gs a.1)) a.0

@@ -5,45 +5,45 @@ use Rattle.tree.specs.declared.layout.Reach.{Reach}
 use Rattle.tree.specs.declared.layout.Reach.TheVariants.{Upto, Short}
 use Rattle.tree.specs.declared.grammar.Rule.{Rule}
 use Rattle.tree.specs.Tree.{Field, field, Fields, none, more, tag_of, parts_of}
-use Rattle.tree.specs.Access.{fixed_at, extentAt}
-use Rattle.tree.specs.Standing.{treeAt, row_at, Row}
+use Rattle.tree.specs.Access.{fixed_at, extent_at}
+use Rattle.tree.specs.Standing.{tree_at, row_at, Row}
 use Rattle.inputs.specs.Fields.{has, keep}
 use Rattle.writer.specs.Wrote.{Wrote}
 use Rattle.extraction_rules.specs.State.{Record, State}
-use Rattle.extraction_rules.specs.First.{bindings, specifiersIn}
-use Rattle.extraction_rules.specs.Records.{recordFields, forcedFields}
+use Rattle.extraction_rules.specs.First.{bindings, specifiers_in}
+use Rattle.extraction_rules.specs.Records.{record_fields, forced_fields}
 use Rattle.metadata.specs.Metadata.{append}
-use Rattle.tree.specs.Layout.{two, value_of, literalWidth, literalAt}
+use Rattle.tree.specs.Layout.{two, value_of, literal_width, literal_at}
 use Rattle.state.specs.Cells.{Env, Shows}
 use Rattle.steps.specs.Step.{ReadAt}
 use Rattle.records.specs.declared.literals.Wanted.{Wanted}
-use Rattle.records.specs.Model.{startsNamed, rebuilt}
+use Rattle.records.specs.Model.{starts_named, rebuilt}
 
 -- ---- Lazy records
 
 -- the binding ids of the pattern that stands at a place
-unfoldable pub patternOn : Reach → List ℕ → ℕ → Fields
-patternOn Short s at = none
-patternOn (Upto stop) s at = bindings (treeAt s at stop)
+unfoldable pub pattern_on : Reach → List ℕ → ℕ → Fields
+pattern_on Short s at = none
+pattern_on (Upto stop) s at = bindings (tree_at s at stop)
 
-unfoldable pub patternAt : List ℕ → ℕ → Fields
-patternAt s at = cond (leb at (length s)) (patternOn (extentAt s at (length s)) s at) none
+unfoldable pub pattern_at : List ℕ → ℕ → Fields
+pattern_at s at = cond (leb at (length s)) (pattern_on (extent_at s at (length s)) s at) none
 
 -- a lazy record's place: 0 for none, below 65536 in the lent tree, and behind that in the tree after the first pass
 unfoldable pub placed : List ℕ → List ℕ → ℕ → Fields
-placed tree work q = cond (eqb q 0) none (cond (ltb q 65536) (patternAt tree q) (patternAt work (q - 65536)))
+placed tree work q = cond (eqb q 0) none (cond (ltb q 65536) (pattern_at tree q) (pattern_at work (q - 65536)))
 
 -- the literal that stands at a place of these trees
-unfoldable pub literalOn : List ℕ → ℕ → List ℕ
-literalOn s at = cond (leb (at + literalWidth) (length s)) (literalAt s at) []
+unfoldable pub literal_on : List ℕ → ℕ → List ℕ
+literal_on s at = cond (leb (at + literal_width) (length s)) (literal_at s at) []
 
-unfoldable pub literalIn : List ℕ → List ℕ → ℕ → List ℕ
-literalIn tree work q = cond (ltb q 65536) (literalOn tree q) (literalOn work (q - 65536))
+unfoldable pub literal_in : List ℕ → List ℕ → ℕ → List ℕ
+literal_in tree work q = cond (ltb q 65536) (literal_on tree q) (literal_on work (q - 65536))
 
 -- what stands at places is read off these trees
 pub record Placing (tree work : List ℕ) (x : Env) : Type 0 where
   pub bindings-placed : (q : ℕ) → x.bound q ≡ placed tree work q
-  pub literals-placed : (q : ℕ) → x.literal q ≡ literalIn tree work q
+  pub literals-placed : (q : ℕ) → x.literal q ≡ literal_in tree work q
 
 -- ---- What is written
 
@@ -79,12 +79,12 @@ unfoldable pub sieve : Bool → Fields → Fields
 sieve b fs = cond b fs (keep (λ f. not (has 0x22 f)) fs)
 
 -- what is written of a part
-unfoldable pub specifierOf : Bool → Field → Fields
-specifierOf b f = cond (has 0x2F f) none (sieve b (more f none))
+unfoldable pub specifier_of : Bool → Field → Fields
+specifier_of b f = cond (has 0x2F f) none (sieve b (more f none))
 
 -- the specifiers of an item whose first is a 20
-unfoldable pub namedParts : Field → Fields
-namedParts g = cond (startsNamed (specifiersIn (parts_of g))) (specifiersIn (parts_of g)) none
+unfoldable pub named_parts : Field → Fields
+named_parts g = cond (starts_named (specifiers_in (parts_of g))) (specifiers_in (parts_of g)) none
 
 abbrev pub is_none : Fields → Bool
 is_none none = true
@@ -92,24 +92,24 @@ is_none (more f fs) = false
 
 -- ---- The item at a place
 
-unfoldable pub itemOn : Reach → List ℕ → ℕ → Field
-itemOn Short s at = field 0 [] none
-itemOn (Upto stop) s at = treeAt s at stop
+unfoldable pub item_on : Reach → List ℕ → ℕ → Field
+item_on Short s at = field 0 [] none
+item_on (Upto stop) s at = tree_at s at stop
 
 unfoldable pub item_at : List ℕ → ℕ → Field
-item_at s at = itemOn (extentAt s at (length s)) s at
+item_at s at = item_on (extent_at s at (length s)) s at
 
 -- it is read
 abbrev pub ItemRead : List ℕ → ℕ → Type 0
-ItemRead s at = (stop : ℕ) → extentAt s at (length s) ≡ Upto stop → ReadAt s at stop
+ItemRead s at = (stop : ℕ) → extent_at s at (length s) ≡ Upto stop → ReadAt s at stop
 
 -- it is an import and ends at stop
 pub record ImportIs (s : List ℕ) (at stop : ℕ) : Type 0 where
   pub inside : at + 9 ≤ stop
   pub fits : stop ≤ length s
-  pub extent : extentAt s at (length s) ≡ Upto stop
+  pub extent : extent_at s at (length s) ≡ Upto stop
   pub fixed : fixed_at s (get_or s at 0) (at + 3) stop ≡ Upto (at + 9)
-  pub item : item_at s at ≡ field 0x10 (literalAt s (at + 3)) (row_at s (at + 9) stop)
+  pub item : item_at s at ≡ field 0x10 (literal_at s (at + 3)) (row_at s (at + 9) stop)
 
 pub record ImportAt (s : List ℕ) (at : ℕ) (r : Reach) : Type 0 where
   pub is : (stop : ℕ) → r ≡ Upto stop → ImportIs s at stop
@@ -117,7 +117,7 @@ pub record ImportAt (s : List ℕ) (at : ℕ) (r : Reach) : Type 0 where
 
 -- what a record is written for has the value of the literal at its place
 abbrev pub Valued : List ℕ → List ℕ → Wanted → Type 0
-Valued tree work w = value_of (literalIn tree work w.place) ≡ two w.value.0
+Valued tree work w = value_of (literal_in tree work w.place) ≡ two w.value.0
 
 -- ---- The records
 
@@ -133,6 +133,6 @@ BothRead work out = RowRead work 3 (length work) × RowRead out 3 (length out)
 abbrev pub retold : List ℕ → List ℕ → State → List Record
 retold work out s = map (rebuilt (items_in work) (items_in out) s.forced) s.collected
 
-unfoldable pub recordsIn : List ℕ → List ℕ → State → Field
-recordsIn work out s =
-    field 0x02 [] (append (recordFields 0x80 (retold work out s)) (append (recordFields 0x81 s.lazy) (forcedFields s.forced)))
+unfoldable pub records_in : List ℕ → List ℕ → State → Field
+records_in work out s =
+    field 0x02 [] (append (record_fields 0x80 (retold work out s)) (append (record_fields 0x81 s.lazy) (forced_fields s.forced)))

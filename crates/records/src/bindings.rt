@@ -1,9 +1,9 @@
 // The binding ids of a pattern, left to right, as 20s without outside name.
 ghost use Rattle.std.specs.Prelude.{◌+◌, ◌≤◌, length};
 ghost use Rattle.tree.specs.Tree.{encodes};
-ghost use Rattle.tree.specs.Standing.{treeAt, row_at};
+ghost use Rattle.tree.specs.Standing.{tree_at, row_at};
 ghost use Rattle.writer.specs.Wrote.{Wrote};
-ghost use Rattle.extraction_rules.specs.First.{bindings, bindingsAll, bindingsFirst};
+ghost use Rattle.extraction_rules.specs.First.{bindings, bindings_all, bindings_first};
 
 use state::ident::{id_at, put_named};
 use tree::access::{extent, fixed};
@@ -13,7 +13,7 @@ use tree::layout::Reach;
 #[cycle(put_below_put_bindings_put_left)]
 pub fn put_bindings(s: &[u8], at: usize, stop: usize, records: &mut [u8], o: usize) -> usize
     requires { (at + 3 ≤ stop) × (stop ≤ length s.now) }
-    ensures { Wrote records.old o (encodes (bindings (treeAt s.now at stop))) records.new result }
+    ensures { Wrote records.old o (encodes (bindings (tree_at s.now at stop))) records.new result }
 {
     let tag = s[at];
     let Reach::Upto(from) = fixed(s, tag, at + 3, stop) else {
@@ -30,7 +30,7 @@ pub fn put_bindings(s: &[u8], at: usize, stop: usize, records: &mut [u8], o: usi
 #[cycle(put_below_put_bindings_put_left)]
 fn put_left(s: &[u8], from: usize, end: usize, records: &mut [u8], o: usize) -> usize
     requires { (from ≤ end) × (end ≤ length s.now) }
-    ensures { Wrote records.old o (encodes (bindingsFirst (row_at s.now from end))) records.new result }
+    ensures { Wrote records.old o (encodes (bindings_first (row_at s.now from end))) records.new result }
 {
     match extent(s, from, end) {
         Reach::Upto(stop) => put_bindings(s, from, stop, records, o),
@@ -42,7 +42,7 @@ fn put_left(s: &[u8], from: usize, end: usize, records: &mut [u8], o: usize) -> 
 #[cycle(put_below_put_bindings_put_left)]
 fn put_below(s: &[u8], from: usize, end: usize, records: &mut [u8], o: usize) -> usize
     requires { (from ≤ end) × (end ≤ length s.now) }
-    ensures { Wrote records.old o (encodes (bindingsAll (row_at s.now from end))) records.new result }
+    ensures { Wrote records.old o (encodes (bindings_all (row_at s.now from end))) records.new result }
 {
     let mut at = from;
     let mut to = o;

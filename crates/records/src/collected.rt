@@ -1,10 +1,10 @@
 // Collected records. A record has the specifiers of the imports of its source value, and then what the second pass made of the
 // namespace imports with its literal. A value with a record is never external, so an import with that value or literal is none either.
 ghost use Rattle.tree.specs.Tree.{field, encode, encodes};
-ghost use Rattle.extraction_rules.specs.Records.{recordFields};
+ghost use Rattle.extraction_rules.specs.Records.{record_fields};
 ghost use Rattle.state.specs.Cells.{Good};
-ghost use Rattle.records.specs.Model.{specifiersOf};
-ghost use Rattle.records.specs.Writes.{WroteFor, WroteIf, Placing, BothRead, literalIn, Valued, sieve, items_in, retold};
+ghost use Rattle.records.specs.Model.{specifiers_of};
+ghost use Rattle.records.specs.Writes.{WroteFor, WroteIf, Placing, BothRead, literal_in, Valued, sieve, items_in, retold};
 ghost use Rattle.records.specs.Listing.{ChartedBoth};
 
 use crate::literals::{Wanted, put_literal};
@@ -25,7 +25,7 @@ pub fn put_collected(
 ) -> usize
     requires { Good t.now }
     ensures { WroteFor (λ x. Placing tree.now work.now x × BothRead work.now out.now)
-        (λ s. encodes (recordFields 0x80 (retold work.now out.now s))) t.now records.old o
+        (λ s. encodes (record_fields 0x80 (retold work.now out.now s))) t.now records.old o
         records.new result }
 {
     let mut imports = [3641u16; 12974];
@@ -45,7 +45,7 @@ fn put_each(
 ) -> usize
     requires { Good t.now × ChartedBoth work.now out.now imports.now }
     ensures { WroteFor (λ x. Placing tree.now work.now x × BothRead work.now out.now)
-        (λ s. encodes (recordFields 0x80 (retold work.now out.now s))) t.now records.old o
+        (λ s. encodes (record_fields 0x80 (retold work.now out.now s))) t.now records.old o
         records.new result }
 {
     let n = count_records(t);
@@ -79,9 +79,9 @@ fn put_record(
     requires { ChartedBoth work.now out.now imports.now }
     ensures { WroteIf (BothRead work.now out.now × Valued tree.now work.now wanted)
         (encode
-        (field 0x80 (literalIn tree.now work.now wanted.place)
+        (field 0x80 (literal_in tree.now work.now wanted.place)
         (sieve wanted.namespaces
-        (specifiersOf (items_in work.now) (items_in out.now) (literalIn tree.now work.now wanted.place)))))
+        (specifiers_of (items_in work.now) (items_in out.now) (literal_in tree.now work.now wanted.place)))))
         records.old o records.new result }
 {
     let content = writer::open_field(records, o, 0x80);

@@ -1,9 +1,9 @@
 // Lazy records and forced sources.
 ghost use Rattle.tree.specs.Tree.{field, encode, encodes};
 ghost use Rattle.writer.specs.Wrote.{Wrote};
-ghost use Rattle.extraction_rules.specs.Records.{recordFields, forcedFields};
+ghost use Rattle.extraction_rules.specs.Records.{record_fields, forced_fields};
 ghost use Rattle.state.specs.Cells.{Good};
-ghost use Rattle.records.specs.Writes.{patternAt, placed, literalIn, Placing, WroteFor};
+ghost use Rattle.records.specs.Writes.{pattern_at, placed, literal_in, Placing, WroteFor};
 
 use crate::bindings::put_bindings;
 use crate::literals::{IN_WORK, put_literal};
@@ -16,7 +16,7 @@ use tree::layout::Reach;
 // Writes the lazy records.
 pub fn put_lazies(tree: &[u8], work: &[u8], t: &[u64], records: &mut [u8], o: usize) -> usize
     requires { Good t.now }
-    ensures { WroteFor (Placing tree.now work.now) (λ s. encodes (recordFields 0x81 s.lazy)) t.now records.old o records.new result }
+    ensures { WroteFor (Placing tree.now work.now) (λ s. encodes (record_fields 0x81 s.lazy)) t.now records.old o records.new result }
 {
     let n = count_lazies(t);
     let mut i = 0;
@@ -40,7 +40,7 @@ fn put_lazy(
     o: usize,
 ) -> usize
     ensures { Wrote records.old o
-        (encode (field 0x81 (literalIn tree.now work.now literal.place) (placed tree.now work.now place)))
+        (encode (field 0x81 (literal_in tree.now work.now literal.place) (placed tree.now work.now place)))
         records.new result }
 {
     let content = writer::open_field(records, o, 0x81);
@@ -66,7 +66,7 @@ fn put_placed(tree: &[u8], work: &[u8], place: u32, records: &mut [u8], o: usize
 
 // Writes the binding ids of the pattern that stands at `at`.
 fn put_pattern(s: &[u8], at: usize, records: &mut [u8], o: usize) -> usize
-    ensures { Wrote records.old o (encodes (patternAt s.now at)) records.new result }
+    ensures { Wrote records.old o (encodes (pattern_at s.now at)) records.new result }
 {
     if s.len() < at {
         return o;
@@ -80,7 +80,7 @@ fn put_pattern(s: &[u8], at: usize, records: &mut [u8], o: usize) -> usize
 // Writes the forced sources, first forced first.
 pub fn put_forced(t: &[u64], records: &mut [u8], o: usize) -> usize
     requires { Good t.now }
-    ensures { WroteFor (λ _. Unit {0}) (λ s. encodes (forcedFields s.forced)) t.now records.old o records.new result }
+    ensures { WroteFor (λ _. Unit {0}) (λ s. encodes (forced_fields s.forced)) t.now records.old o records.new result }
 {
     let n = count_forced(t);
     let mut i = 0;

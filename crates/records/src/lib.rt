@@ -1,7 +1,9 @@
 // The records of an extraction, written at the end from the lent tree, the trees after both passes and the tables.
+#![tactic(auto)]
+
 ghost use Rattle.tree.specs.Tree.{encode};
 ghost use Rattle.state.specs.Cells.{Good};
-ghost use Rattle.records.specs.Writes.{WroteFor, Placing, BothRead, recordsIn};
+ghost use Rattle.records.specs.Writes.{WroteFor, Placing, BothRead, records_in};
 
 mod bindings; // the binding ids of a pattern
 mod collected; // collected records
@@ -19,7 +21,7 @@ use lazy::{put_forced, put_lazies};
 pub fn put_records(tree: &[u8], work: &[u8], out: &[u8], t: &[u64], records: &mut [u8]) -> usize
     requires { Good t.now }
     ensures { WroteFor (λ x. Placing tree.now work.now x × BothRead work.now out.now)
-        (λ s. encode (recordsIn work.now out.now s)) t.now records.old 0 records.new result }
+        (λ s. encode (records_in work.now out.now s)) t.now records.old 0 records.new result }
 {
     let content = writer::open_field(records, 0, 0x02);
     let lazies = put_collected(tree, work, out, t, records, content);

@@ -1,8 +1,8 @@
 // Literals by their places: their bytes are read off the trees.
 ghost use Rattle.std.specs.Prelude.{◌≡◌, ◌+◌, ◌≤◌, length};
-ghost use Rattle.tree.specs.Layout.{sameLiteral, literalAt, literalWidth};
+ghost use Rattle.tree.specs.Layout.{same_literal, literal_at, literal_width};
 ghost use Rattle.writer.specs.Wrote.{Wrote};
-ghost use Rattle.records.specs.Writes.{literalOn, literalIn};
+ghost use Rattle.records.specs.Writes.{literal_on, literal_in};
 
 use scope::id::Atom;
 use tree::layout::{LITERAL, same_run};
@@ -20,7 +20,7 @@ pub struct Wanted {
 
 // Writes the literal at a place.
 pub fn put_literal(tree: &[u8], work: &[u8], place: u32, records: &mut [u8], o: usize) -> usize
-    ensures { Wrote records.old o (literalIn tree.now work.now place) records.new result }
+    ensures { Wrote records.old o (literal_in tree.now work.now place) records.new result }
 {
     if place < IN_WORK {
         put_standing(tree, place, records, o)
@@ -31,7 +31,7 @@ pub fn put_literal(tree: &[u8], work: &[u8], place: u32, records: &mut [u8], o: 
 
 // Writes the literal that stands at `place` of s.
 fn put_standing(s: &[u8], place: u32, records: &mut [u8], o: usize) -> usize
-    ensures { Wrote records.old o (literalOn s.now place) records.new result }
+    ensures { Wrote records.old o (literal_on s.now place) records.new result }
 {
     let at = place as usize;
     if s.len() < at + LITERAL {
@@ -42,8 +42,8 @@ fn put_standing(s: &[u8], place: u32, records: &mut [u8], o: usize) -> usize
 
 // Whether the literal at `at` of `work` is that at a place.
 pub fn same_literal(tree: &[u8], work: &[u8], place: u32, at: usize) -> bool
-    requires { at + literalWidth ≤ length work.now }
-    ensures { result ≡ sameLiteral (literalAt work.now at) (literalIn tree.now work.now place) }
+    requires { at + literal_width ≤ length work.now }
+    ensures { result ≡ same_literal (literal_at work.now at) (literal_in tree.now work.now place) }
 {
     if place < IN_WORK {
         same_standing(tree, place, work, at)
@@ -54,8 +54,8 @@ pub fn same_literal(tree: &[u8], work: &[u8], place: u32, at: usize) -> bool
 
 // Whether it is the literal that stands at `place` of s.
 fn same_standing(s: &[u8], place: u32, work: &[u8], at: usize) -> bool
-    requires { at + literalWidth ≤ length work.now }
-    ensures { result ≡ sameLiteral (literalAt work.now at) (literalOn s.now place) }
+    requires { at + literal_width ≤ length work.now }
+    ensures { result ≡ same_literal (literal_at work.now at) (literal_on s.now place) }
 {
     let from = place as usize;
     if s.len() < from + LITERAL {

@@ -3,8 +3,8 @@ ghost use Rattle.std.specs.Prelude.{◌≡◌, length};
 ghost use Rattle.tree.specs.Tree.{encodes};
 ghost use Rattle.tree.specs.Standing.{row_at};
 ghost use Rattle.records.specs.Model.{whole_of, taken_of, taken};
-ghost use Rattle.records.specs.Writes.{WroteIf, RowRead, sieve, namedParts, items_in, item_at, ItemRead, literalIn, Valued};
-ghost use Rattle.records.specs.Listing.{out_of, importsIn, pairBytes, spread, EachRead, ChartedBoth};
+ghost use Rattle.records.specs.Writes.{WroteIf, RowRead, sieve, named_parts, items_in, item_at, ItemRead, literal_in, Valued};
+ghost use Rattle.records.specs.Listing.{out_of, imports_in, pair_bytes, spread, EachRead, ChartedBoth};
 
 use crate::literals::{Wanted, same_literal};
 use crate::parts::{import_end, is_namespace, put_specifiers, starts_named};
@@ -26,7 +26,7 @@ pub fn put_taken(
     ensures { WroteIf (RowRead out.now 3 (length out.now) × Valued tree.now work.now wanted)
         (encodes
         (sieve wanted.namespaces
-        (taken (literalIn tree.now work.now wanted.place) (items_in work.now) (items_in out.now))))
+        (taken (literal_in tree.now work.now wanted.place) (items_in work.now) (items_in out.now))))
         records.old o records.new result }
 {
     let q = put_listed_pairs(tree, work, out, imports, wanted, records, o);
@@ -44,10 +44,10 @@ fn put_listed_pairs(
     o: usize,
 ) -> usize
     requires { ChartedBoth work.now out.now imports.now }
-    ensures { WroteIf (EachRead out_of out.now (importsIn imports.now) × Valued tree.now work.now wanted)
+    ensures { WroteIf (EachRead out_of out.now (imports_in imports.now) × Valued tree.now work.now wanted)
         (spread
-        (pairBytes wanted.namespaces (literalIn tree.now work.now wanted.place) work.now out.now)
-        (importsIn imports.now))
+        (pair_bytes wanted.namespaces (literal_in tree.now work.now wanted.place) work.now out.now)
+        (imports_in imports.now))
         records.old o records.new result }
 {
     let n = count_imports(imports);
@@ -74,7 +74,7 @@ fn put_pairs(
     ensures { WroteIf (RowRead out.now from.made (length out.now))
         (encodes
         (sieve wanted.namespaces
-        (taken (literalIn tree.now work.now wanted.place) (row_at work.now from.at (length work.now))
+        (taken (literal_in tree.now work.now wanted.place) (row_at work.now from.at (length work.now))
         (row_at out.now from.made (length out.now)))))
         records.old o records.new result }
 {
@@ -113,7 +113,7 @@ fn put_pair(
     ensures { WroteIf (ItemRead out.now pair.made)
         (encodes
         (sieve wanted.namespaces
-        (taken_of (literalIn tree.now work.now wanted.place) (item_at work.now pair.at)
+        (taken_of (literal_in tree.now work.now wanted.place) (item_at work.now pair.at)
         (item_at out.now pair.made))))
         records.old o records.new result }
 {
@@ -126,7 +126,7 @@ fn put_pair(
 
 // Whether the item at `at` is an import with the literal at a place and a sole 22.
 fn is_whole(tree: &[u8], work: &[u8], at: usize, place: u32) -> bool
-    ensures { result ≡ whole_of (literalIn tree.now work.now place) (item_at work.now at) }
+    ensures { result ≡ whole_of (literal_in tree.now work.now place) (item_at work.now at) }
 {
     let Reach::Upto(stop) = import_end(work, at) else {
         return false;
@@ -140,7 +140,7 @@ fn is_whole(tree: &[u8], work: &[u8], at: usize, place: u32) -> bool
 
 // Writes the specifiers of the item at `at`, if the first is a 20: then it was taken apart.
 fn put_named_parts(out: &[u8], at: usize, namespaces: bool, records: &mut [u8], o: usize) -> usize
-    ensures { WroteIf (ItemRead out.now at) (encodes (sieve namespaces (namedParts (item_at out.now at)))) records.old o records.new result }
+    ensures { WroteIf (ItemRead out.now at) (encodes (sieve namespaces (named_parts (item_at out.now at)))) records.old o records.new result }
 {
     if out.len() < at {
         return o;

@@ -1,12 +1,12 @@
 // The parts of an import: where it ends, which specifiers it has, and their copies.
 ghost use Rattle.std.specs.Prelude.{◌≡◌, ◌+◌, ◌≤◌, length};
 ghost use Rattle.tree.specs.Tree.{tag_of, encodes};
-ghost use Rattle.tree.specs.Standing.{treeAt, row_at};
+ghost use Rattle.tree.specs.Standing.{tree_at, row_at};
 ghost use Rattle.inputs.specs.Fields.{sole};
-ghost use Rattle.extraction_rules.specs.First.{specifiersIn};
+ghost use Rattle.extraction_rules.specs.First.{specifiers_in};
 ghost use Rattle.steps.specs.Step.{ReadAt};
-ghost use Rattle.records.specs.Model.{isNamespace, startsNamed};
-ghost use Rattle.records.specs.Writes.{WroteIf, RowRead, sieve, specifierOf, is_none, ImportAt};
+ghost use Rattle.records.specs.Model.{is_namespace, starts_named};
+ghost use Rattle.records.specs.Writes.{WroteIf, RowRead, sieve, specifier_of, is_none, ImportAt};
 
 use tree::access::{extent, fixed};
 use tree::layout::Reach;
@@ -14,7 +14,7 @@ use tree::layout::Reach;
 // The tag of the field at `at` up to stop, 0 where its fixed bytes are not whole.
 fn tag_of(s: &[u8], at: usize, stop: usize) -> u8
     requires { (at + 3 ≤ stop) × (stop ≤ length s.now) }
-    ensures { result ≡ tag_of (treeAt s.now at stop) }
+    ensures { result ≡ tag_of (tree_at s.now at stop) }
 {
     let tag = s[at];
     match fixed(s, tag, at + 3, stop) {
@@ -26,7 +26,7 @@ fn tag_of(s: &[u8], at: usize, stop: usize) -> u8
 // Whether no field from `from` up to end is a specifier.
 fn is_bare(s: &[u8], from: usize, end: usize) -> bool
     requires { (from ≤ end) × (end ≤ length s.now) }
-    ensures { result ≡ is_none (specifiersIn (row_at s.now from end)) }
+    ensures { result ≡ is_none (specifiers_in (row_at s.now from end)) }
 {
     let mut at = from;
     loop {
@@ -43,7 +43,7 @@ fn is_bare(s: &[u8], from: usize, end: usize) -> bool
 // Whether they are a sole 22.
 pub fn is_namespace(s: &[u8], from: usize, end: usize) -> bool
     requires { (from ≤ end) × (end ≤ length s.now) }
-    ensures { result ≡ isNamespace (sole (specifiersIn (row_at s.now from end))) }
+    ensures { result ≡ is_namespace (sole (specifiers_in (row_at s.now from end))) }
 {
     let mut at = from;
     loop {
@@ -64,7 +64,7 @@ pub fn is_namespace(s: &[u8], from: usize, end: usize) -> bool
 // Whether the first of them is a 20.
 pub fn starts_named(s: &[u8], from: usize, end: usize) -> bool
     requires { (from ≤ end) × (end ≤ length s.now) }
-    ensures { result ≡ startsNamed (specifiersIn (row_at s.now from end)) }
+    ensures { result ≡ starts_named (specifiers_in (row_at s.now from end)) }
 {
     let mut at = from;
     loop {
@@ -109,7 +109,7 @@ fn put_specifier(
     o: usize,
 ) -> usize
     requires { (at + 3 ≤ stop) × (stop ≤ length s.now) }
-    ensures { WroteIf (ReadAt s.now at stop) (encodes (specifierOf namespaces (treeAt s.now at stop))) records.old o records.new result }
+    ensures { WroteIf (ReadAt s.now at stop) (encodes (specifier_of namespaces (tree_at s.now at stop))) records.old o records.new result }
 {
     let tag = tag_of(s, at, stop);
     if tag == 0x2F {
@@ -134,7 +134,7 @@ pub fn put_specifiers(
     o: usize,
 ) -> usize
     requires { (from ≤ end) × (end ≤ length s.now) }
-    ensures { WroteIf (RowRead s.now from end) (encodes (sieve namespaces (specifiersIn (row_at s.now from end)))) records.old o records.new result }
+    ensures { WroteIf (RowRead s.now from end) (encodes (sieve namespaces (specifiers_in (row_at s.now from end)))) records.old o records.new result }
 {
     let mut at = from;
     let mut to = o;

@@ -3,7 +3,7 @@
 // One array has it all: the first import of each chain; for each import the next of its chain, and its places in both trees; then how many
 // there are, and where the items behind them start.
 ghost use Rattle.std.specs.Prelude.{◌≡◌, true, ◌+◌, ◌*◌, ◌%◌, ◌≤◌, ◌<◌, length, get_or, set};
-ghost use Rattle.records.specs.Listing.{chainAt, nextIn, countIn, behindIn, behindOut, placesIn, Unchained, Lists, Linked, ChartedBoth};
+ghost use Rattle.records.specs.Listing.{chain_at, next_in, count_in, behind_in, behind_out, places_in, Unchained, Lists, Linked, ChartedBoth};
 
 use tree::access::extent;
 use tree::layout::{Reach, literal_value};
@@ -123,7 +123,7 @@ fn list_item(tag: u8, at: usize, made: usize, imports: &mut [u16; 12974], n: usi
 // Chains the n listed imports, the last first. What is not below n ends a chain.
 fn link_imports(work: &[u8], imports: &mut [u16; 12974], n: usize)
     requires { (n ≤ 3641) × Unchained imports.old }
-    ensures { Linked work.now imports.new n 0 × (placesIn imports.new n ≡ placesIn imports.old n) }
+    ensures { Linked work.now imports.new n 0 × (places_in imports.new n ≡ places_in imports.old n) }
 {
     let mut i = n;
     while 0 < i {
@@ -136,7 +136,7 @@ fn link_imports(work: &[u8], imports: &mut [u16; 12974], n: usize)
 
 // The chain of the import at a place.
 fn chain_of(work: &[u8], place: u16) -> usize
-    ensures { (result ≡ chainAt work.now place) × (result < 2048) }
+    ensures { (result ≡ chain_at work.now place) × (result < 2048) }
 {
     let at = place as usize;
     if work.len() < at + 9 {
@@ -154,7 +154,7 @@ fn wide(cell: u16) -> usize
 
 // How many imports are listed.
 pub fn count_imports(imports: &[u16; 12974]) -> usize
-    ensures { result ≡ countIn imports.now }
+    ensures { result ≡ count_in imports.now }
 {
     wide(imports[COUNT])
 }
@@ -169,7 +169,7 @@ pub fn first_of(imports: &[u16; 12974], source: u16) -> usize
 // The next one of the chain of an import.
 pub fn next_of(imports: &[u16; 12974], i: usize) -> usize
     requires { i < 3641 }
-    ensures { result ≡ nextIn imports.now i }
+    ensures { result ≡ next_in imports.now i }
 {
     wide(imports[NEXT + 3 * i])
 }
@@ -187,7 +187,7 @@ pub fn pair_at(imports: &[u16; 12974], i: usize) -> Pair
 
 // Where the items behind the listed imports start.
 pub fn behind(imports: &[u16; 12974]) -> Pair
-    ensures { (result.at ≡ behindIn imports.now) × (result.made ≡ behindOut imports.now) }
+    ensures { (result.at ≡ behind_in imports.now) × (result.made ≡ behind_out imports.now) }
 {
     Pair {
         at: wide(imports[BEHIND]),

@@ -3,9 +3,9 @@ ghost use Rattle.std.specs.Prelude.{length};
 ghost use Rattle.tree.specs.Layout.{two};
 ghost use Rattle.tree.specs.Tree.{encodes};
 ghost use Rattle.tree.specs.Standing.{row_at};
-ghost use Rattle.records.specs.Model.{gatheredOf, gathered};
+ghost use Rattle.records.specs.Model.{gathered_of, gathered};
 ghost use Rattle.records.specs.Writes.{WroteIf, RowRead, sieve, items_in, item_at, ItemRead};
-ghost use Rattle.records.specs.Listing.{workOf, importsIn, importBytes, spread, EachRead, Charted};
+ghost use Rattle.records.specs.Listing.{work_of, imports_in, import_bytes, spread, EachRead, Charted};
 
 use crate::literals::Wanted;
 use crate::parts::{import_end, put_specifiers};
@@ -40,8 +40,8 @@ fn put_listed_imports(
     o: usize,
 ) -> usize
     requires { Charted work.now imports.now }
-    ensures { WroteIf (EachRead workOf work.now (importsIn imports.now))
-        (spread (importBytes wanted.namespaces (two wanted.value.0) work.now) (importsIn imports.now))
+    ensures { WroteIf (EachRead work_of work.now (imports_in imports.now))
+        (spread (import_bytes wanted.namespaces (two wanted.value.0) work.now) (imports_in imports.now))
         records.old o records.new result }
 {
     let n = count_imports(imports);
@@ -80,7 +80,7 @@ fn put_imports(work: &[u8], from: usize, wanted: Wanted, records: &mut [u8], o: 
 // Writes the specifiers of the item at `at`, if it is an import of the source.
 fn put_import(work: &[u8], at: usize, wanted: Wanted, records: &mut [u8], o: usize) -> usize
     ensures { WroteIf (ItemRead work.now at)
-        (encodes (sieve wanted.namespaces (gatheredOf (two wanted.value.0) (item_at work.now at)))) records.old o
+        (encodes (sieve wanted.namespaces (gathered_of (two wanted.value.0) (item_at work.now at)))) records.old o
         records.new result }
 {
     let Reach::Upto(stop) = import_end(work, at) else {

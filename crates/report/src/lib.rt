@@ -1,6 +1,8 @@
 // What a call counts, handed back beside its answer and its scope.
+#![tactic(auto)]
+
 ghost use Rattle.std.specs.Prelude.{◌≡◌};
-ghost use Rattle.report.specs.Counts.{noCounts};
+ghost use Rattle.report.specs.Counts.{no_counts};
 
 // No call counts anything yet: a later count is a field here, and zero in `no_counts`.
 #[derive(Drop)]
@@ -8,7 +10,7 @@ pub struct Report {}
 
 // The report of a call that counts nothing.
 pub fn no_counts() -> Report
-    ensures { result ≡ noCounts }
+    ensures { result ≡ no_counts }
 {
     Report {}
 }

@@ -1,4 +1,6 @@
 // What the fields of a request ask for, beside plain bytes and plain numbers: flags, files, contexts, lengths of buffers.
+#![tactic(auto)]
+
 pub mod lists;
 
 ghost use Rattle.std.specs.Prelude.{◌≡◌, ◌≤◌, ◌<◌, length};

@@ -17,17 +17,17 @@ use Rattle.tree.specs.declared.grammar.Slot.TheVariants.{Nothing, Many}
 use Rattle.tree.specs.declared.grammar.Rule.{Rule}
 use Rattle.tree.specs.declared.grammar.Step.TheVariants.{Go}
 use Rattle.tree.specs.declared.grammar.Value.TheVariants.{Empty, Atom, Literal}
-use Rattle.tree.specs.Layout.{Bytes, two, twoAt, same}
-use Rattle.tree.specs.Grammar.{parts3, parts4, within, holdsAt, ruleOf, stepAt}
+use Rattle.tree.specs.Layout.{Bytes, two, two_at, same}
+use Rattle.tree.specs.Grammar.{parts3, parts4, within, holds_at, rule_of, step_at}
 use Rattle.tree.specs.Tree.{Field, field, Fields, none, more, tag_of, fixed_of, size}
-use Rattle.tree.specs.Access.{fixed_at, extentAt}
+use Rattle.tree.specs.Access.{fixed_at, extent_at}
 use Rattle.tree.specs.Read.{fine, read}
-use Rattle.tree.specs.Standing.{treeAt, row_at, Whole, Row}
+use Rattle.tree.specs.Standing.{tree_at, row_at, Whole, Row}
 use Rattle.tree.specs.Within.{FormedAll}
 use Rattle.tree.proofs.FixedLaws.{no-upto, upto-inj}
 use Rattle.tree.proofs.GrammarLaws.{go-inj, many-slot, no_step}
 use Rattle.tree.proofs.AccessLaws.{extent-upto, upto-in}
-use Rattle.tree.proofs.LayoutLaws.{two_at, same-two}
+use Rattle.tree.proofs.LayoutLaws.{two_at-is, same-two}
 use Rattle.tree.proofs.StandingLaws.{row_more, row-none, tree-upto, whole-step, whole-tag, row_next, read-field}
 use Rattle.tree.proofs.WidthLaws.{Plainly, plain-ends, tree-bare}
 use Rattle.tree.proofs.SoundLaws.{row-sound, whole-sound}
@@ -35,18 +35,18 @@ use Rattle.tree.proofs.TreeLaws.{size-encode}
 use Rattle.inputs.specs.Lists.{among}
 use Rattle.inputs.specs.Fields.{keep}
 use Rattle.inputs.specs.Outcome.{done}
-use Rattle.resolving_rules.specs.Resolve.{sourcesIn, forcedIn}
-use Rattle.resolving_rules.specs.Call.{recordsRead}
-use Rattle.resolving.specs.Records.{FieldRead, FieldsRead, recordsIn, leftRule, RecordsFrom, RecordsRead, SourceRead, sourceOn, source_end, forcesAt}
+use Rattle.resolving_rules.specs.Resolve.{sources_in, forced_in}
+use Rattle.resolving_rules.specs.Call.{records_read}
+use Rattle.resolving.specs.Records.{FieldRead, FieldsRead, records_in, left_rule, RecordsFrom, RecordsRead, SourceRead, source_on, source_end, forces_at}
 
 -- ---- The rules that are left
 
 -- a slot for many takes a tag of its set and stays, or is passed over
-many-step : (x : Set) (a b c : Slot) (t : ℕ) (q : Rule) (P : Type 0) → stepAt (parts4 (Many x) a b c) t ≡ Go q →
-    (holdsAt x t ≡ true → q ≡ parts4 (Many x) a b c → P) → (stepAt (parts3 a b c) t ≡ Go q → P) → P
-many-step x a b c t q P e here past = go (holdsAt x t) refl (sym (many-slot x a b c t) ∙ e)
+many-step : (x : Set) (a b c : Slot) (t : ℕ) (q : Rule) (P : Type 0) → step_at (parts4 (Many x) a b c) t ≡ Go q →
+    (holds_at x t ≡ true → q ≡ parts4 (Many x) a b c → P) → (step_at (parts3 a b c) t ≡ Go q → P) → P
+many-step x a b c t q P e here past = go (holds_at x t) refl (sym (many-slot x a b c t) ∙ e)
   where
-    go : (y : Bool) → holdsAt x t ≡ y → cond y (Go (parts4 (Many x) a b c)) (stepAt (parts3 a b c) t) ≡ Go q → P
+    go : (y : Bool) → holds_at x t ≡ y → cond y (Go (parts4 (Many x) a b c)) (step_at (parts3 a b c) t) ≡ Go q → P
     go true w z = here w (sym (go-inj z))
     go false w z = past z
 
@@ -55,32 +55,32 @@ record Kind (t : ℕ) (q : Rule) : Type 0 where
   kind : ℕ
   most : kind ≤ 3
   tag : t ≡ 0x80 + kind
-  rule : q ≡ leftRule kind
+  rule : q ≡ left_rule kind
 
 -- behind a forced source all are
-only-forced : (t : ℕ) (q : Rule) → stepAt (leftRule 3) t ≡ Go q → (t ≡ 0x83) × (q ≡ leftRule 3)
-unfolding holdsAt
+only-forced : (t : ℕ) (q : Rule) → step_at (left_rule 3) t ≡ Go q → (t ≡ 0x83) × (q ≡ left_rule 3)
+unfolding holds_at
 only-forced t q e =
-    many-step Forced Nothing Nothing Nothing t q ((t ≡ 0x83) × (q ≡ leftRule 3)) e
+    many-step Forced Nothing Nothing Nothing t q ((t ≡ 0x83) × (q ≡ left_rule 3)) e
     (λ h r. (eqb-true t 0x83 h, r)) (λ z. absurd (no_step t z))
 
-kind_3 : (t : ℕ) (q : Rule) → stepAt (leftRule 3) t ≡ Go q → Kind t q
+kind_3 : (t : ℕ) (q : Rule) → step_at (left_rule 3) t ≡ Go q → Kind t q
 kind_3 t q e = let o = only-forced t q e in record { kind = 3; most = omega arith; tag = o.0; rule = o.1 }
 
-kind_2 : (t : ℕ) (q : Rule) → stepAt (leftRule 2) t ≡ Go q → Kind t q
-unfolding holdsAt
+kind_2 : (t : ℕ) (q : Rule) → step_at (left_rule 2) t ≡ Go q → Kind t q
+unfolding holds_at
 kind_2 t q e =
     many-step Dynamic (Many Forced) Nothing Nothing t q (Kind t q) e
     (λ h r. record { kind = 2; most = omega arith; tag = eqb-true t 0x82 h; rule = r }) (λ z. kind_3 t q z)
 
-kind_1 : (t : ℕ) (q : Rule) → stepAt (leftRule 1) t ≡ Go q → Kind t q
-unfolding holdsAt
+kind_1 : (t : ℕ) (q : Rule) → step_at (left_rule 1) t ≡ Go q → Kind t q
+unfolding holds_at
 kind_1 t q e =
     many-step Lazy (Many Dynamic) (Many Forced) Nothing t q (Kind t q) e
     (λ h r. record { kind = 1; most = omega arith; tag = eqb-true t 0x81 h; rule = r }) (λ z. kind_2 t q z)
 
-kind-of : (k t : ℕ) (q : Rule) → stepAt (leftRule k) t ≡ Go q → Kind t q
-unfolding holdsAt
+kind-of : (k t : ℕ) (q : Rule) → step_at (left_rule k) t ≡ Go q → Kind t q
+unfolding holds_at
 kind-of zero t q e =
     many-step Collected (Many Lazy) (Many Dynamic) (Many Forced) t q (Kind t q) e
     (λ h r. record { kind = 0; most = omega arith; tag = eqb-true t 0x80 h; rule = r }) (λ z. kind_1 t q z)
@@ -90,19 +90,19 @@ kind-of (suc (suc (suc k))) t q e = kind_3 t q e
 
 -- ---- Which have a source
 
-source-skip : (f : Field) (fs : Fields) → tag_of f ≡ 0x83 → sourcesIn (more f fs) ≡ sourcesIn fs
+source-skip : (f : Field) (fs : Fields) → tag_of f ≡ 0x83 → sources_in (more f fs) ≡ sources_in fs
 unfolding keep
-source-skip f fs h = ap (λ (b : Bool). cond (not b) (more f (sourcesIn fs)) (sourcesIn fs)) (eq-eqb (tag_of f) 0x83 h)
+source-skip f fs h = ap (λ (b : Bool). cond (not b) (more f (sources_in fs)) (sources_in fs)) (eq-eqb (tag_of f) 0x83 h)
 
-source-take : (f : Field) (fs : Fields) → (tag_of f ≡ 0x83 → ⊥) → sourcesIn (more f fs) ≡ more f (sourcesIn fs)
+source-take : (f : Field) (fs : Fields) → (tag_of f ≡ 0x83 → ⊥) → sources_in (more f fs) ≡ more f (sources_in fs)
 unfolding keep
-source-take f fs h = ap (λ (b : Bool). cond (not b) (more f (sourcesIn fs)) (sourcesIn fs)) (ne_eqb (tag_of f) 0x83 h)
+source-take f fs h = ap (λ (b : Bool). cond (not b) (more f (sources_in fs)) (sources_in fs)) (ne_eqb (tag_of f) 0x83 h)
 
-source-end : sourcesIn none ≡ none
+source-end : sources_in none ≡ none
 unfolding keep
 source-end = refl
 
-forced-rest : (fs : Fields) → FormedAll fs (leftRule 3) → sourcesIn fs ≡ none
+forced-rest : (fs : Fields) → FormedAll fs (left_rule 3) → sources_in fs ≡ none
 forced-rest none w = source-end
 forced-rest (more f fs) w =
     let o = only-forced (tag_of f) w.0 w.1 in
@@ -111,14 +111,14 @@ forced-rest (more f fs) w =
 -- ---- Fields in bytes
 
 -- a field is as long as the rules count
-field-long : (s : List ℕ) (at end stop : ℕ) → Bytes s → at ≤ end → end ≤ length s → extentAt s at end ≡ Upto stop → Whole s at stop →
-    size (treeAt s at stop) ≡ stop - at
+field-long : (s : List ℕ) (at end stop : ℕ) → Bytes s → at ≤ end → end ≤ length s → extent_at s at end ≡ Upto stop → Whole s at stop →
+    size (tree_at s at stop) ≡ stop - at
 field-long s at end stop bs le fits e w =
     let i = extent-upto s at end le e in
-    size-encode (treeAt s at stop) ∙ ap length (whole-sound s at end stop bs le fits e w).0 ∙ length-slice at stop s (omega arith)
+    size-encode (tree_at s at stop) ∙ ap length (whole-sound s at end stop bs le fits e w).0 ∙ length-slice at stop s (omega arith)
 
-module _ {s : List ℕ} {at end stop : ℕ} (r : FieldsRead s at end) (e : extentAt s at end ≡ Upto stop) where
-  next_field : (q : Rule) × (stepAt r.rule (get_or s at 0) ≡ Go q) × FieldRead s at stop × Row s stop end q
+module _ {s : List ℕ} {at end stop : ℕ} (r : FieldsRead s at end) (e : extent_at s at end ≡ Upto stop) where
+  next_field : (q : Rule) × (step_at r.rule (get_or s at 0) ≡ Go q) × FieldRead s at stop × Row s stop end q
   next_field =
       let i = extent-upto s at end r.inside e in
       let f = row_next s at end r.rule r.inside r.row (λ z. omega arith) in
@@ -145,15 +145,15 @@ record Next (s : List ℕ) (at stop : ℕ) : Type 0 where
   kind : ℕ
   most : kind ≤ 3
   tag : get_or s at 0 ≡ 0x80 + kind
-  row : Row s stop (length s) (leftRule kind)
+  row : Row s stop (length s) (left_rule kind)
   fixed : ℕ
   fixes : fixed_at s (get_or s at 0) (at + 3) stop ≡ Upto fixed
-  parts : Row s fixed stop (ruleOf (get_or s at 0))
+  parts : Row s fixed stop (rule_of (get_or s at 0))
 
-module _ {s : List ℕ} {at stop : ℕ} (r : RecordsFrom s at) (e : extentAt s at (length s) ≡ Upto stop) where
+module _ {s : List ℕ} {at stop : ℕ} (r : RecordsFrom s at) (e : extent_at s at (length s) ≡ Upto stop) where
   next-record : Next s at stop
   next-record =
-      let f = next_field (record { bytes = r.bytes; inside = r.inside; fits = omega arith; rule = leftRule r.kind; row = r.row }) e in
+      let f = next_field (record { bytes = r.bytes; inside = r.inside; fits = omega arith; rule = left_rule r.kind; row = r.row }) e in
       let k = kind-of r.kind (get_or s at 0) f.0 f.1 in
       let w = whole-step s at stop f.2.whole in
       record {
@@ -170,10 +170,10 @@ module _ {s : List ℕ} {at stop : ℕ} (r : RecordsFrom s at) (e : extentAt s a
   pub records-next : RecordsFrom s stop
   records-next = let n = next-record in record { bytes = r.bytes; inside = n.read.fits; kind = n.kind; row = n.row }
 
-  records-more : row_at s at (length s) ≡ more (treeAt s at stop) (row_at s stop (length s))
+  records-more : row_at s at (length s) ≡ more (tree_at s at stop) (row_at s stop (length s))
   records-more = row_more s at (length s) stop r.inside e
 
-  record-tag : tag_of (treeAt s at stop) ≡ get_or s at 0
+  record-tag : tag_of (tree_at s at stop) ≡ get_or s at 0
   record-tag = whole-tag s at stop next-record.read.whole
 
   -- ---- those with a source
@@ -205,13 +205,13 @@ module _ {s : List ℕ} {at stop : ℕ} (r : RecordsFrom s at) (e : extentAt s a
                 bytes = r.bytes;
                 inside = omega arith;
                 fits = n.read.fits;
-                rule = ruleOf (get_or s at 0);
-                row = subst (λ (k : ℕ). Row s k stop (ruleOf (get_or s at 0))) b n.parts;
+                rule = rule_of (get_or s at 0);
+                row = subst (λ (k : ℕ). Row s k stop (rule_of (get_or s at 0))) b n.parts;
               };
         }
 
-    source_more : sourcesIn (row_at s at (length s)) ≡ more (treeAt s at stop) (sourcesIn (row_at s stop (length s)))
-    source_more = ap sourcesIn records-more ∙ source-take (treeAt s at stop) (row_at s stop (length s)) (λ q. h (sym record-tag ∙ q))
+    source_more : sources_in (row_at s at (length s)) ≡ more (tree_at s at stop) (sources_in (row_at s stop (length s)))
+    source_more = ap sources_in records-more ∙ source-take (tree_at s at stop) (row_at s stop (length s)) (λ q. h (sym record-tag ∙ q))
 
   -- ---- the forced ones behind them
 
@@ -219,11 +219,11 @@ module _ {s : List ℕ} {at stop : ℕ} (r : RecordsFrom s at) (e : extentAt s a
     forced-kind : next-record.kind ≡ 3
     forced-kind = let t = next-record.tag in omega arith
 
-    source-gone : sourcesIn (row_at s at (length s)) ≡ none
+    source-gone : sources_in (row_at s at (length s)) ≡ none
     source-gone =
         let n = next-record in
-        let w = row-sound s stop (length s) (leftRule 3) r.bytes n.read.fits (omega arith) (subst (λ (k : ℕ). Row s stop (length s) (leftRule k)) forced-kind n.row) in
-        ap sourcesIn records-more ∙ source-skip (treeAt s at stop) (row_at s stop (length s)) (record-tag ∙ h) ∙ forced-rest (row_at s stop (length s)) w.1
+        let w = row-sound s stop (length s) (left_rule 3) r.bytes n.read.fits (omega arith) (subst (λ (k : ℕ). Row s stop (length s) (left_rule k)) forced-kind n.row) in
+        ap sources_in records-more ∙ source-skip (tree_at s at stop) (row_at s stop (length s)) (record-tag ∙ h) ∙ forced-rest (row_at s stop (length s)) w.1
 
 -- ---- By the code's test
 
@@ -231,60 +231,60 @@ module _ {s : List ℕ} {at stop : ℕ} (r : RecordsFrom s at) (e : extentAt s a
 pub record Standing (s : List ℕ) (at stop : ℕ) : Type 0 where
   pub source : SourceRead s at stop
   pub rest : RecordsFrom s stop
-  pub row : sourcesIn (row_at s at (length s)) ≡ more (treeAt s at stop) (sourcesIn (row_at s stop (length s)))
+  pub row : sources_in (row_at s at (length s)) ≡ more (tree_at s at stop) (sources_in (row_at s stop (length s)))
 
 module _ {s : List ℕ} {at : ℕ} (r : RecordsFrom s at) where
   pub source-stands : {stop : ℕ} → source_end s at ≡ Upto stop → Standing s at stop
-  unfolding source_end sourceOn
-  source-stands {stop} e = on (extentAt s at (length s)) refl e
+  unfolding source_end source_on
+  source-stands {stop} e = on (extent_at s at (length s)) refl e
     where
-      by : (b : Bool) (i : ℕ) → extentAt s at (length s) ≡ Upto i → eqb (get_or s at 0) 0x83 ≡ b → cond b Short (Upto i) ≡ Upto stop → Standing s at stop
+      by : (b : Bool) (i : ℕ) → extent_at s at (length s) ≡ Upto i → eqb (get_or s at 0) 0x83 ≡ b → cond b Short (Upto i) ≡ Upto stop → Standing s at stop
       by true i x t q = absurd (no-upto q)
       by false i x t q =
-          let y : extentAt s at (length s) ≡ Upto stop = x ∙ q in
+          let y : extent_at s at (length s) ≡ Upto stop = x ∙ q in
           let h = eqb-false (get_or s at 0) 0x83 t in
           record { source = source-here r y h; rest = records-next r y; row = source_more r y h }
 
-      on : (k : Reach) → extentAt s at (length s) ≡ k → sourceOn k (get_or s at 0) ≡ Upto stop → Standing s at stop
+      on : (k : Reach) → extent_at s at (length s) ≡ k → source_on k (get_or s at 0) ≡ Upto stop → Standing s at stop
       on Short x q = absurd (no-upto q)
       on (Upto i) x q = by (eqb (get_or s at 0) 0x83) i x refl q
 
-  pub sources-end : source_end s at ≡ Short → sourcesIn (row_at s at (length s)) ≡ none
-  unfolding source_end sourceOn
-  sources-end e = on (extentAt s at (length s)) refl e
+  pub sources-end : source_end s at ≡ Short → sources_in (row_at s at (length s)) ≡ none
+  unfolding source_end source_on
+  sources-end e = on (extent_at s at (length s)) refl e
     where
-      by : (b : Bool) (i : ℕ) → extentAt s at (length s) ≡ Upto i → eqb (get_or s at 0) 0x83 ≡ b → cond b Short (Upto i) ≡ Short → sourcesIn (row_at s at (length s)) ≡ none
+      by : (b : Bool) (i : ℕ) → extent_at s at (length s) ≡ Upto i → eqb (get_or s at 0) 0x83 ≡ b → cond b Short (Upto i) ≡ Short → sources_in (row_at s at (length s)) ≡ none
       by true i x t q = source-gone r x (eqb-true (get_or s at 0) 0x83 t)
       by false i x t q = absurd (no-upto (sym q))
 
-      on : (k : Reach) → extentAt s at (length s) ≡ k → sourceOn k (get_or s at 0) ≡ Short → sourcesIn (row_at s at (length s)) ≡ none
-      on Short x q = ap sourcesIn (row-none s at (length s) r.inside x) ∙ source-end
+      on : (k : Reach) → extent_at s at (length s) ≡ k → source_on k (get_or s at 0) ≡ Short → sources_in (row_at s at (length s)) ≡ none
+      on Short x q = ap sources_in (row-none s at (length s) r.inside x) ∙ source-end
       on (Upto i) x q = by (eqb (get_or s at 0) 0x83) i x refl q
 
 -- ---- Forced sources
 
 module _ (a : ℕ) (small : a < 65536) where
-  among-here : (f : Field) (fs : Fields) → tag_of f ≡ 0x83 → among (two a) (forcedIn (more f fs)) ≡ same (two a) (fixed_of f) || among (two a) (forcedIn fs)
-  unfolding forcedIn among
-  among-here f fs h = ap (λ (b : Bool). among (two a) (cond b (fixed_of f ∷ forcedIn fs) (forcedIn fs))) (eq-eqb (tag_of f) 0x83 h)
+  among-here : (f : Field) (fs : Fields) → tag_of f ≡ 0x83 → among (two a) (forced_in (more f fs)) ≡ same (two a) (fixed_of f) || among (two a) (forced_in fs)
+  unfolding forced_in among
+  among-here f fs h = ap (λ (b : Bool). among (two a) (cond b (fixed_of f ∷ forced_in fs) (forced_in fs))) (eq-eqb (tag_of f) 0x83 h)
 
-  among-past : (f : Field) (fs : Fields) → (tag_of f ≡ 0x83 → ⊥) → among (two a) (forcedIn (more f fs)) ≡ among (two a) (forcedIn fs)
-  unfolding forcedIn
-  among-past f fs h = ap (λ (b : Bool). among (two a) (cond b (fixed_of f ∷ forcedIn fs) (forcedIn fs))) (ne_eqb (tag_of f) 0x83 h)
+  among-past : (f : Field) (fs : Fields) → (tag_of f ≡ 0x83 → ⊥) → among (two a) (forced_in (more f fs)) ≡ among (two a) (forced_in fs)
+  unfolding forced_in
+  among-past f fs h = ap (λ (b : Bool). among (two a) (cond b (fixed_of f ∷ forced_in fs) (forced_in fs))) (ne_eqb (tag_of f) 0x83 h)
 
   module _ {s : List ℕ} {at : ℕ} (r : RecordsFrom s at) where
-    pub forced-end : extentAt s at (length s) ≡ Short → among (two a) (forcedIn (row_at s at (length s))) ≡ false
-    unfolding forcedIn among
-    forced-end e = ap (λ (fs : Fields). among (two a) (forcedIn fs)) (row-none s at (length s) r.inside e)
+    pub forced-end : extent_at s at (length s) ≡ Short → among (two a) (forced_in (row_at s at (length s))) ≡ false
+    unfolding forced_in among
+    forced-end e = ap (λ (fs : Fields). among (two a) (forced_in fs)) (row-none s at (length s) r.inside e)
 
-    module _ {stop : ℕ} (e : extentAt s at (length s) ≡ Upto stop) where
+    module _ {stop : ℕ} (e : extent_at s at (length s) ≡ Upto stop) where
       forced-fixed : get_or s at 0 ≡ 0x83 → (next-record r e).fixed ≡ at + 5
       forced-fixed h =
           let n = next-record r e in
           let b = plain-ends 0x83 Atom refl s (get_or s at 0) (at + 3) stop n.fixed h n.fixes in omega arith
 
       -- the atom of a forced source
-      forced-atom : get_or s at 0 ≡ 0x83 → same (two a) (fixed_of (treeAt s at stop)) ≡ eqb a (twoAt s (at + 3))
+      forced-atom : get_or s at 0 ≡ 0x83 → same (two a) (fixed_of (tree_at s at stop)) ≡ eqb a (two_at s (at + 3))
       forced-atom h =
           let n = next-record r e in
           let i = upto-in s (get_or s at 0) (at + 3) stop n.read.inside n.fixes in
@@ -295,8 +295,8 @@ module _ (a : ℕ) (small : a < 65536) where
           let v = r.bytes (at + 3 + 1) in
           ap (λ (g : Field). same (two a) (fixed_of g)) (tree-upto s at stop n.fixed n.fixes)
           ∙ ap (λ (k : ℕ). same (two a) (slice (at + 3) k s)) (b ∙ z)
-          ∙ ap (same (two a)) (sym (two_at s (at + 3) r.bytes (omega arith)))
-          ∙ same-two a (twoAt s (at + 3)) small (omega arith)
+          ∙ ap (same (two a)) (sym (two_at-is s (at + 3) r.bytes (omega arith)))
+          ∙ same-two a (two_at s (at + 3)) small (omega arith)
 
       pub forced-inside : at + 5 ≤ length s
       forced-inside =
@@ -313,35 +313,35 @@ module _ (a : ℕ) (small : a < 65536) where
               let u = w.wide in
               let v = w.parts.fits in omega arith
 
-      pub forced-step : among (two a) (forcedIn (row_at s at (length s))) ≡ forcesAt s at a || among (two a) (forcedIn (row_at s stop (length s)))
-      unfolding forcesAt
-      forced-step = ap (λ (fs : Fields). among (two a) (forcedIn fs)) (records-more r e) ∙ by (eqb (get_or s at 0) 0x83) refl
+      pub forced-step : among (two a) (forced_in (row_at s at (length s))) ≡ forces_at s at a || among (two a) (forced_in (row_at s stop (length s)))
+      unfolding forces_at
+      forced-step = ap (λ (fs : Fields). among (two a) (forced_in fs)) (records-more r e) ∙ by (eqb (get_or s at 0) 0x83) refl
         where
           by : (b : Bool) → eqb (get_or s at 0) 0x83 ≡ b →
-              among (two a) (forcedIn (more (treeAt s at stop) (row_at s stop (length s)))) ≡ cond b (eqb a (twoAt s (at + 3))) false || among (two a) (forcedIn (row_at s stop (length s)))
+              among (two a) (forced_in (more (tree_at s at stop) (row_at s stop (length s)))) ≡ cond b (eqb a (two_at s (at + 3))) false || among (two a) (forced_in (row_at s stop (length s)))
           by true q =
               let h = eqb-true (get_or s at 0) 0x83 q in
-              among-here (treeAt s at stop) (row_at s stop (length s)) (record-tag r e ∙ h)
-              ∙ ap (λ (b : Bool). b || among (two a) (forcedIn (row_at s stop (length s)))) (forced-atom h)
+              among-here (tree_at s at stop) (row_at s stop (length s)) (record-tag r e ∙ h)
+              ∙ ap (λ (b : Bool). b || among (two a) (forced_in (row_at s stop (length s)))) (forced-atom h)
           by false q =
               let h = eqb-false (get_or s at 0) 0x83 q in
-              among-past (treeAt s at stop) (row_at s stop (length s)) (λ z. h (sym (record-tag r e) ∙ z))
+              among-past (tree_at s at stop) (row_at s stop (length s)) (λ z. h (sym (record-tag r e) ∙ z))
 
 -- ---- The records of a call
 
-records-tag : (t : ℕ) → holdsAt Records t ≡ true → t ≡ 0x02
-unfolding holdsAt
+records-tag : (t : ℕ) → holds_at Records t ≡ true → t ≡ 0x02
+unfolding holds_at
 records-tag t h = eqb-true t 0x02 h
 
-records-rule : ruleOf 0x02 ≡ leftRule 0
-unfolding ruleOf within
+records-rule : rule_of 0x02 ≡ left_rule 0
+unfolding rule_of within
 records-rule = refl
 
 -- they stand from 3 on, by the rule of the 02
-pub records-read : (s : List ℕ) (fs : Fields) → read Records s ≡ fine fs → recordsRead (read Records s) ≡ done (recordsIn s)
+pub records-read : (s : List ℕ) (fs : Fields) → read Records s ≡ fine fs → records_read (read Records s) ≡ done (records_in s)
 records-read s fs e =
     let r = read-field Records s fs e in
-    ap recordsRead (e ∙ ap fine (r.tree ∙ ap (λ (f : Field). more f none) (tree-bare 0x02 refl s 0 (length s) r.room (records-tag (get_or s 0 0) r.tag))))
+    ap records_read (e ∙ ap fine (r.tree ∙ ap (λ (f : Field). more f none) (tree-bare 0x02 refl s 0 (length s) r.room (records-tag (get_or s 0 0) r.tag))))
 
 pub records-sound : (s : List ℕ) (fs : Fields) → read Records s ≡ fine fs → Bytes s → RecordsRead s
 records-sound s fs e bs =
@@ -353,5 +353,5 @@ records-sound s fs e bs =
       bytes = bs;
       inside = r.room;
       kind = 0;
-      row = subst (Row s 3 (length s)) (ap ruleOf t ∙ records-rule) (subst (λ (k : ℕ). Row s k (length s) (ruleOf (get_or s 0 0))) b w.2);
+      row = subst (Row s 3 (length s)) (ap rule_of t ∙ records-rule) (subst (λ (k : ℕ). Row s k (length s) (rule_of (get_or s 0 0))) b w.2);
     }

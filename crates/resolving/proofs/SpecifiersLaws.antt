@@ -13,41 +13,41 @@ use Rattle.tree.specs.declared.layout.Reach.TheVariants.{Upto, Short}
 use Rattle.tree.specs.declared.grammar.Piece.TheVariants.{Outside}
 use Rattle.tree.specs.declared.access.Choice.{Choice}
 use Rattle.tree.specs.declared.access.Choice.TheVariants.{Take, Bad}
-use Rattle.tree.specs.Layout.{skipAt, two, four}
+use Rattle.tree.specs.Layout.{skip_at, two, four}
 use Rattle.tree.specs.Grammar.{pieces_of}
 use Rattle.tree.specs.Tree.{Field, field, Fields, none, encode, size}
-use Rattle.tree.specs.Access.{value_at, choice_of, onChoice, kind_at, piece_at, thenPiece, fixed_at, extentAt}
-use Rattle.tree.specs.Standing.{treeAt, row_at}
+use Rattle.tree.specs.Access.{value_at, choice_of, on_choice, kind_at, piece_at, then_piece, fixed_at, extent_at}
+use Rattle.tree.specs.Standing.{tree_at, row_at}
 use Rattle.tree.proofs.AccessLaws.{ReachIn, cond_ind, value_in}
 use Rattle.tree.proofs.FixedLaws.{no-upto}
-use Rattle.tree.proofs.SliceLaws.{getD-slice}
+use Rattle.tree.proofs.SliceLaws.{get_d-slice}
 use Rattle.tree.proofs.StandingLaws.{row_more, row-none, tree-upto, whole-step}
 use Rattle.tree.proofs.WidthLaws.{skip-ends}
-use Rattle.writer.specs.Bytes.{twoBytes, fourBytes, framed}
+use Rattle.writer.specs.Bytes.{two_bytes, four_bytes, framed}
 use Rattle.inputs.specs.Outcome.{Outcome, done, refused}
-use Rattle.resolving_rules.specs.Resolve.{resolvedNamed, resolvedDefault, resolvedNamespace, resolvedSpecifier, resolvedSpecifiers}
+use Rattle.resolving_rules.specs.Resolve.{resolved_named, resolved_default, resolved_namespace, resolved_specifier, resolved_specifiers}
 use Rattle.resolving.specs.declared.specifiers.Outside.TheVariants.{Nothing, Name, Text}
 use Rattle.resolving.specs.declared.specifiers.Specifier.{Specifier}
 use Rattle.resolving.specs.declared.specifiers.Specifier.TheVariants.{Named, Default, Namespace}
 use Rattle.resolving.specs.Records.{FieldRead}
-use Rattle.resolving.specs.Specifiers.{outsideOf, specifierAt, named_by}
+use Rattle.resolving.specs.Specifiers.{outside_of, specifier_at, named_by}
 use Rattle.resolving.proofs.WritesLaws.{framed-leaf, consed, Cons}
 
 -- ---- A 20
 
-choice-ends : (c : Choice) (at stop b : ℕ) → at ≤ stop → onChoice c at stop ≡ Upto b → at ≤ b
-unfolding onChoice
+choice-ends : (c : Choice) (at stop b : ℕ) → at ≤ stop → on_choice c at stop ≡ Upto b → at ≤ b
+unfolding on_choice
 choice-ends Bad at stop b h e = absurd (no-upto e)
 choice-ends (Take v) at stop b h e = (subst (ReachIn at stop) e (value_in v at stop h)).0
 
 kind-ends : (s : List ℕ) (at stop b : ℕ) → kind_at s Outside at stop ≡ Upto b → at + 1 ≤ b
 unfolding kind_at
 kind-ends s at stop b =
-    cond_ind (λ (r : Reach). r ≡ Upto b → at + 1 ≤ b) (ltb at stop) (onChoice (choice_of Outside (get_or s at 0)) (at + 1) stop) Short
+    cond_ind (λ (r : Reach). r ≡ Upto b → at + 1 ≤ b) (ltb at stop) (on_choice (choice_of Outside (get_or s at 0)) (at + 1) stop) Short
     (λ q e. let h = ltb-true at stop q in choice-ends (choice_of Outside (get_or s at 0)) (at + 1) stop b (omega arith) e) (λ _ e. absurd (no-upto e))
 
-outside-ends : (n at stop b : ℕ) (s : List ℕ) (r : Reach) → skipAt at n stop ≡ r → thenPiece r s Outside stop ≡ Upto b → at + n + 1 ≤ b
-unfolding thenPiece piece_at
+outside-ends : (n at stop b : ℕ) (s : List ℕ) (r : Reach) → skip_at at n stop ≡ r → then_piece r s Outside stop ≡ Upto b → at + n + 1 ≤ b
+unfolding then_piece piece_at
 outside-ends n at stop b s Short w e = absurd (no-upto e)
 outside-ends n at stop b s (Upto c) w e = let i = skip-ends at n stop c w in let j = kind-ends s c stop b e in omega arith
 
@@ -55,11 +55,11 @@ outside-ends n at stop b s (Upto c) w e = let i = skip-ends at n stop c w in let
 ends-20 : (s : List ℕ) (t at stop b : ℕ) → t ≡ 0x20 → fixed_at s t at stop ≡ Upto b → at + 7 ≤ b
 unfolding fixed_at piece_at value_at pieces_of
 ends-20 s t at stop b h e =
-    let z = outside-ends 6 at stop b s (skipAt at 6 stop) refl (subst (λ (k : ℕ). fixed_at s k at stop ≡ Upto b) h e) in omega arith
+    let z = outside-ends 6 at stop b s (skip_at at 6 stop) refl (subst (λ (k : ℕ). fixed_at s k at stop ≡ Upto b) h e) in omega arith
 
 -- by its outside name
-by-outside : (x : List ℕ) (p k : ℕ) → get_or x 6 0 ≡ k → resolvedNamed x p ≡ named_by (outsideOf k) x p
-unfolding resolvedNamed outsideOf
+by-outside : (x : List ℕ) (p k : ℕ) → get_or x 6 0 ≡ k → resolved_named x p ≡ named_by (outside_of k) x p
+unfolding resolved_named outside_of
 by-outside x p k e = ap (λ (b : ℕ). cond (eqb b 2) (refused 6 p) (done (field 0x91 x none))) e ∙ go (eqb k 0) (eqb k 2) (λ u. ne_eqb k 2 (λ v. let z = eqb-true k 0 u in absurd (omega arith)))
   where
     go : (a b : Bool) → (a ≡ true → b ≡ false) → cond b (refused 6 p) (done (field 0x91 x none)) ≡ named_by (cond a Nothing (cond b Text Name)) x p
@@ -70,16 +70,16 @@ by-outside x p k e = ap (λ (b : ℕ). cond (eqb b 2) (refused 6 p) (done (field
 
 -- ---- A 21
 
-pub default-bytes : (x : List ℕ) → framed 0x91 (x ++ ((1 ∷ []) ++ (twoBytes 3 ++ fourBytes 0))) ≡ encode (resolvedDefault x)
-default-bytes x = framed-leaf 0x91 (x ++ ((1 ∷ []) ++ (twoBytes 3 ++ fourBytes 0))) ∙ ap (λ (y : List ℕ). encode (field 0x91 y none)) (sym (append_assoc x (1 ∷ two 3) (four 0)))
+pub default-bytes : (x : List ℕ) → framed 0x91 (x ++ ((1 ∷ []) ++ (two_bytes 3 ++ four_bytes 0))) ≡ encode (resolved_default x)
+default-bytes x = framed-leaf 0x91 (x ++ ((1 ∷ []) ++ (two_bytes 3 ++ four_bytes 0))) ∙ ap (λ (y : List ℕ). encode (field 0x91 y none)) (sym (append_assoc x (1 ∷ two 3) (four 0)))
 
 -- ---- By the code's test
 
 -- a specifier with the fixed bytes x, resolved
-abbrev resolvedBy : Specifier → Bool → List ℕ → ℕ → Outcome Field
-resolvedBy (Named outside) all x p = named_by outside x p
-resolvedBy Default all x p = done (resolvedDefault x)
-resolvedBy Namespace all x p = done (resolvedNamespace all x)
+abbrev resolved_by : Specifier → Bool → List ℕ → ℕ → Outcome Field
+resolved_by (Named outside) all x p = named_by outside x p
+resolved_by Default all x p = done (resolved_default x)
+resolved_by Namespace all x p = done (resolved_namespace all x)
 
 module _ (all : Bool) (s : List ℕ) (at stop b : ℕ) (e : fixed_at s (get_or s at 0) (at + 3) stop ≡ Upto b) where
   -- a 20 has its kind byte
@@ -90,18 +90,18 @@ module _ (all : Bool) (s : List ℕ) (at stop b : ℕ) (e : fixed_at s (get_or s
   name-kind h =
       let i = named-inside h in
       let z : at + 3 + 6 ≡ at + 9 = omega arith in
-      getD-slice (at + 3) b s 6 (omega arith) ∙ ap (λ (k : ℕ). get_or s k 0) z
+      get_d-slice (at + 3) b s 6 (omega arith) ∙ ap (λ (k : ℕ). get_or s k 0) z
 
-  pub specifier-by : {r : Specifier} → specifierAt s at ≡ r → resolvedSpecifier all (treeAt s at stop) at ≡ resolvedBy r all (slice (at + 3) b s) at
-  unfolding resolvedSpecifier specifierAt
+  pub specifier-by : {r : Specifier} → specifier_at s at ≡ r → resolved_specifier all (tree_at s at stop) at ≡ resolved_by r all (slice (at + 3) b s) at
+  unfolding resolved_specifier specifier_at
   specifier-by {r} q =
-      ap (λ (f : Field). resolvedSpecifier all f at) (tree-upto s at stop b e)
+      ap (λ (f : Field). resolved_specifier all f at) (tree-upto s at stop b e)
       ∙ go (eqb (get_or s at 0) 0x20) (eqb (get_or s at 0) 0x21) refl
-      ∙ ap (λ (i : Specifier). resolvedBy i all (slice (at + 3) b s) at) q
+      ∙ ap (λ (i : Specifier). resolved_by i all (slice (at + 3) b s) at) q
     where
       go : (c d : Bool) → eqb (get_or s at 0) 0x20 ≡ c →
-          cond c (resolvedNamed (slice (at + 3) b s) at) (cond d (done (resolvedDefault (slice (at + 3) b s))) (done (resolvedNamespace all (slice (at + 3) b s))))
-          ≡ resolvedBy (cond c (Named (outsideOf (get_or s (at + 9) 0))) (cond d Default Namespace)) all (slice (at + 3) b s) at
+          cond c (resolved_named (slice (at + 3) b s) at) (cond d (done (resolved_default (slice (at + 3) b s))) (done (resolved_namespace all (slice (at + 3) b s))))
+          ≡ resolved_by (cond c (Named (outside_of (get_or s (at + 9) 0))) (cond d Default Namespace)) all (slice (at + 3) b s) at
       go true d t = by-outside (slice (at + 3) b s) at (get_or s (at + 9) 0) (name-kind (eqb-true (get_or s at 0) 0x20 t))
       go false true t = refl
       go false false t = refl
@@ -113,19 +113,19 @@ read_short {s = s} {at} {stop} r e = absurd (let w = whole-step s at stop r.whol
 -- ---- All of them
 
 module _ (all : Bool) (s : List ℕ) (at end : ℕ) (le : at ≤ end) where
-  pub specifiers-end : extentAt s at end ≡ Short → resolvedSpecifiers all (row_at s at end) at ≡ done none
-  unfolding resolvedSpecifiers
-  specifiers-end e = ap (λ (fs : Fields). resolvedSpecifiers all fs at) (row-none s at end le e)
+  pub specifiers-end : extent_at s at end ≡ Short → resolved_specifiers all (row_at s at end) at ≡ done none
+  unfolding resolved_specifiers
+  specifiers-end e = ap (λ (fs : Fields). resolved_specifiers all fs at) (row-none s at end le e)
 
-  pub specifiers-more : {stop : ℕ} → extentAt s at end ≡ Upto stop → FieldRead s at stop →
-      Cons (resolvedSpecifiers all (row_at s at end) at) (resolvedSpecifier all (treeAt s at stop) at) (resolvedSpecifiers all (row_at s stop end) stop)
-  unfolding resolvedSpecifiers
+  pub specifiers-more : {stop : ℕ} → extent_at s at end ≡ Upto stop → FieldRead s at stop →
+      Cons (resolved_specifiers all (row_at s at end) at) (resolved_specifier all (tree_at s at stop) at) (resolved_specifiers all (row_at s stop end) stop)
+  unfolding resolved_specifiers
   specifiers-more {stop} e r =
       let l = r.long in
       let i = r.inside in
-      let z : at + size (treeAt s at stop) ≡ stop = omega arith in
+      let z : at + size (tree_at s at stop) ≡ stop = omega arith in
       record {
         is =
-            ap (λ (fs : Fields). resolvedSpecifiers all fs at) (row_more s at end stop le e)
-            ∙ ap (λ (p : ℕ). consed (resolvedSpecifier all (treeAt s at stop) at) (resolvedSpecifiers all (row_at s stop end) p)) z;
+            ap (λ (fs : Fields). resolved_specifiers all fs at) (row_more s at end stop le e)
+            ∙ ap (λ (p : ℕ). consed (resolved_specifier all (tree_at s at stop) at) (resolved_specifiers all (row_at s stop end) p)) z;
       }

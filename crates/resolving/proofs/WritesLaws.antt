@@ -4,7 +4,7 @@ use mathlib.Core.Path.{◌≡◌, refl, sym, ap, subst, ◌∙◌}
 use mathlib.Core.List.{List, ◌++◌, append-nil}
 use native.Mathlib.Omega.{arith}
 use lib.ListN.{length, length-set}
-use Rattle.tree.specs.Tree.{Field, field, Fields, none, more, framed as framedField, encode, encodes}
+use Rattle.tree.specs.Tree.{Field, field, Fields, none, more, framed as framed_field, encode, encodes}
 use Rattle.tree.proofs.TreeLaws.{encodes-none, encodes_more}
 use Rattle.writer.specs.Bytes.{framed}
 use Rattle.writer.specs.Wrote.{Wrote, Opened, closed}
@@ -14,15 +14,15 @@ use Rattle.resolving.specs.declared.specifiers.Why.{Why}
 use Rattle.resolving.specs.declared.specifiers.Step.{Step}
 use Rattle.resolving.specs.declared.specifiers.Step.TheVariants.{Done, Refused}
 use Rattle.resolving.specs.Writes.{Puts, Onward}
-use Rattle.resolving.specs.Answer.{whyNumber}
+use Rattle.resolving.specs.Answer.{why_number}
 
 -- a field's bytes, as the writer frames them
 framed-parts : (t : ℕ) (x : List ℕ) (cs : Fields) → framed t (x ++ encodes cs) ≡ encode (field t x cs)
-unfolding framed framedField encode
+unfolding framed framed_field encode
 framed-parts t x cs = refl
 
 pub framed-leaf : (t : ℕ) (x : List ℕ) → framed t x ≡ encode (field t x none)
-unfolding framed framedField encode
+unfolding framed framed_field encode
 framed-leaf t x = ap (framed t) (sym (append-nil x))
 
 -- ---- A value, or a refusal
@@ -42,7 +42,7 @@ module _ {A : Type 0} {bytes : A → List ℕ} {m : Outcome A} {l l' : List ℕ}
         turned = λ v q z. done-refuses z;
       }
 
-  pub puts-refused : {w : Why} {q : ℕ} → length l' ≡ length l → m ≡ refused (whyNumber w) q → Puts bytes m l o l' (Refused w q)
+  pub puts-refused : {w : Why} {q : ℕ} → length l' ≡ length l → m ≡ refused (why_number w) q → Puts bytes m l o l' (Refused w q)
   puts-refused {w} {q} n e =
       record {
         size = n;
@@ -52,7 +52,7 @@ module _ {A : Type 0} {bytes : A → List ℕ} {m : Outcome A} {l l' : List ℕ}
     where
       refusal : Step → Outcome A
       refusal (Done p) = m
-      refusal (Refused v p) = refused (whyNumber v) p
+      refusal (Refused v p) = refused (why_number v) p
 
   pub puts-as : {n : Outcome A} {k : Step} → n ≡ m → Puts bytes m l o l' k → Puts bytes n l o l' k
   puts-as e w =

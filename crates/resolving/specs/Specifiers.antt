@@ -9,12 +9,12 @@ use Rattle.resolving.specs.declared.specifiers.Specifier.{Specifier}
 use Rattle.resolving.specs.declared.specifiers.Specifier.TheVariants.{Named, Default, Namespace}
 
 -- 'byte 0, or 1 and I, or 2 and A (string name)'
-unfoldable pub outsideOf : ℕ → Outside
-outsideOf b = cond (eqb b 0) Nothing (cond (eqb b 2) Text Name)
+unfoldable pub outside_of : ℕ → Outside
+outside_of b = cond (eqb b 0) Nothing (cond (eqb b 2) Text Name)
 
 -- the specifier at `at`; a 20 has its kind byte behind its id
-unfoldable pub specifierAt : List ℕ → ℕ → Specifier
-specifierAt s at = cond (eqb (get_or s at 0) 0x20) (Named (outsideOf (get_or s (at + 9) 0))) (cond (eqb (get_or s at 0) 0x21) Default Namespace)
+unfoldable pub specifier_at : List ℕ → ℕ → Specifier
+specifier_at s at = cond (eqb (get_or s at 0) 0x20) (Named (outside_of (get_or s (at + 9) 0))) (cond (eqb (get_or s at 0) 0x21) Default Namespace)
 
 -- a named one with the fixed bytes x, resolved; 6: 'a string name in a resolved 20'
 abbrev pub named_by : Outside → List ℕ → ℕ → Outcome Field

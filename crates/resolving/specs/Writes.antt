@@ -6,7 +6,7 @@ use Rattle.inputs.specs.Outcome.{Outcome, done, refused, onto}
 use Rattle.resolving.specs.declared.specifiers.Why.{Why}
 use Rattle.resolving.specs.declared.specifiers.Step.{Step}
 use Rattle.resolving.specs.declared.specifiers.Step.TheVariants.{Done, Refused}
-use Rattle.resolving.specs.Answer.{whyNumber}
+use Rattle.resolving.specs.Answer.{why_number}
 
 -- the rules give a value, and its bytes were written at o
 pub record Put {A : Type 0} (bytes : A → List ℕ) (m : Outcome A) (l : List ℕ) (o : ℕ) (l' : List ℕ) (p : ℕ) : Type 0 where
@@ -18,7 +18,7 @@ pub record Put {A : Type 0} (bytes : A → List ℕ) (m : Outcome A) (l : List �
 pub record Puts {A : Type 0} (bytes : A → List ℕ) (m : Outcome A) (l : List ℕ) (o : ℕ) (l' : List ℕ) (k : Step) : Type 0 where
   pub size : length l' ≡ length l
   pub put : (p : ℕ) → k ≡ Done p → Put bytes m l o l' p
-  pub turned : (w : Why) (q : ℕ) → k ≡ Refused w q → m ≡ refused (whyNumber w) q
+  pub turned : (w : Why) (q : ℕ) → k ≡ Refused w q → m ≡ refused (why_number w) q
 
 -- with the fields n that are left, from here on, all of m are written
 pub record Onward (m n : Outcome Fields) (l : List ℕ) (o : ℕ) (l' : List ℕ) (p : ℕ) : Type 0 where
@@ -26,5 +26,5 @@ pub record Onward (m n : Outcome Fields) (l : List ℕ) (o : ℕ) (l' : List ℕ
   pub rest : {l'' : List ℕ} {k : Step} → Puts encodes n l' p l'' k → Puts encodes m l o l'' k
 
 -- the 03 with these 90s
-abbrev pub listWith : Outcome Fields → Outcome Field
-listWith m = onto m (λ gs. done (field 0x03 [] gs))
+abbrev pub list_with : Outcome Fields → Outcome Field
+list_with m = onto m (λ gs. done (field 0x03 [] gs))

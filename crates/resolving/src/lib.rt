@@ -1,18 +1,20 @@
 // Resolving of records: sources get their modules, specifiers their resolved form. Port of swc_bundler's `bundler/load.rs`,
 // `resolve_imports`.
+#![tactic(auto)]
+
 ghost use Rattle.std.specs.Prelude.{◌≡◌, length};
-ghost use Rattle.report.specs.Counts.{noCounts};
-ghost use Rattle.scope.specs.ScopeValue.{modulesOf};
+ghost use Rattle.report.specs.Counts.{no_counts};
+ghost use Rattle.scope.specs.ScopeValue.{modules_of};
 ghost use Rattle.tree.specs.declared.grammar.Set.TheVariants.{Records as records-set};
 ghost use Rattle.tree.specs.Read.{read};
-ghost use Rattle.inputs.specs.Table.{rowsIn};
+ghost use Rattle.inputs.specs.Table.{rows_in};
 ghost use Rattle.writer.specs.Finished.{zeroed};
 ghost use Rattle.resolving_rules.specs.Call.{resolving};
-ghost use Rattle.resolving_rules.specs.Resolve.{sourcesIn};
-ghost use Rattle.resolving.specs.Records.{RecordsRead, recordsIn};
+ghost use Rattle.resolving_rules.specs.Resolve.{sources_in};
+ghost use Rattle.resolving.specs.Records.{RecordsRead, records_in};
 ghost use Rattle.resolving.specs.Numbers.{NumbersAll};
 ghost use Rattle.resolving.specs.Answer.{lent_as, left, UnreadAs};
-ghost use Rattle.resolving.specs.Stages.{lists_of, leftIn, listAnswer, listedLeft};
+ghost use Rattle.resolving.specs.Stages.{lists_of, left_in, list_answer, listed_left};
 
 mod sources; // the records with a source, and their numbers
 pub mod specifiers; // specifiers, resolved
@@ -80,7 +82,7 @@ pub fn resolve_imports(
     records: &[u8],
     list: &mut [u8],
 ) -> Resolution
-    ensures { (left result list.new ≡ resolving (lent_as modes table.now records.now) (length list.old) (modulesOf scope))
+    ensures { (left result list.new ≡ resolving (lent_as modes table.now records.now) (length list.old) (modules_of scope))
         × UnreadAs result.answer (read records-set records.now) }
 {
     match lists(table, records) {
@@ -110,7 +112,7 @@ pub fn resolve_imports(
 
 // What a refused call gives whose scope is as it was: the buffer is zeroed.
 fn refuse(scope: Scope, answer: ResolveAnswer, list: &mut [u8]) -> Resolution
-    ensures { (result ≡ record { scope = scope; report = noCounts; answer = answer }) × (list.new ≡ zeroed list.old) }
+    ensures { (result ≡ record { scope = scope; report = no_counts; answer = answer }) × (list.new ≡ zeroed list.old) }
 {
     writer::clear(list);
     Resolution {
@@ -138,8 +140,8 @@ fn lists(table: &[u8], records: &[u8]) -> Tested
 
 // The list is made, and held to its buffer.
 fn listing(scope: Scope, table: &[u8], records: &[u8], list: &mut [u8]) -> Listed
-    requires { RecordsRead records.now × NumbersAll (rowsIn table.now) (modulesOf scope) (sourcesIn (recordsIn records.now)) }
-    ensures { leftIn result (modulesOf scope) list.new ≡ listedLeft table.now records.now (length list.old) (modulesOf scope) }
+    requires { RecordsRead records.now × NumbersAll (rows_in table.now) (modules_of scope) (sources_in (records_in records.now)) }
+    ensures { left_in result (modules_of scope) list.new ≡ listed_left table.now records.now (length list.old) (modules_of scope) }
 {
     match put_list(scope, table, records, list) {
         Step::Done(n) => if writer::finish(list, n) {
@@ -155,7 +157,7 @@ fn listing(scope: Scope, table: &[u8], records: &[u8], list: &mut [u8]) -> Liste
 }
 
 fn list_answer(r: Listed) -> ResolveAnswer
-    ensures { result ≡ listAnswer r }
+    ensures { result ≡ list_answer r }
 {
     match r {
         Listed::Fits => ResolveAnswer::Listed,

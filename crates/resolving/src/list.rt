@@ -2,16 +2,16 @@
 ghost use Rattle.std.specs.Prelude.{◌≡◌, ◌∷◌, ◌++◌, ◌+◌, ◌≤◌, length};
 ghost use Rattle.std.proofs.Math.Seq.{slice};
 ghost use Rattle.scope.specs.Id.{local, export};
-ghost use Rattle.scope.specs.ScopeValue.{modulesOf};
+ghost use Rattle.scope.specs.ScopeValue.{modules_of};
 ghost use Rattle.tree.specs.Layout.{two, four};
 ghost use Rattle.tree.specs.Tree.{encode, encodes};
-ghost use Rattle.tree.specs.Standing.{treeAt};
+ghost use Rattle.tree.specs.Standing.{tree_at};
 ghost use Rattle.writer.specs.Wrote.{Wrote};
-ghost use Rattle.inputs.specs.Table.{rowsIn, fileOf};
-ghost use Rattle.resolving_rules.specs.Resolve.{source_of, sourcesIn, forcedIn, kindByte, resolvedRecord, resolvedAll};
-ghost use Rattle.resolving.specs.Records.{RecordsRead, SourceRead, recordsIn};
+ghost use Rattle.inputs.specs.Table.{rows_in, file_of};
+ghost use Rattle.resolving_rules.specs.Resolve.{source_of, sources_in, forced_in, kind_byte, resolved_record, resolved_all};
+ghost use Rattle.resolving.specs.Records.{RecordsRead, SourceRead, records_in};
 ghost use Rattle.resolving.specs.Numbers.{Numbers, NumbersAll};
-ghost use Rattle.resolving.specs.Writes.{Puts, listWith};
+ghost use Rattle.resolving.specs.Writes.{Puts, list_with};
 
 use crate::sources::{START, is_forced, source_end};
 use crate::specifiers::{Step, Why, put_specifiers};
@@ -21,7 +21,7 @@ use tree::layout::{Reach, literal_value};
 
 // 'byte (3 collected, 1 lazy, 0 dynamic)'
 fn kind_of(tag: u8) -> u8
-    ensures { result ≡ kindByte tag }
+    ensures { result ≡ kind_byte tag }
 {
     match tag {
         0x80 => 3,
@@ -64,10 +64,10 @@ fn put_record(
     list: &mut [u8],
     o: usize,
 ) -> Step
-    requires { RecordsRead records.now × SourceRead records.now at stop × Numbers (rowsIn table.now) (modulesOf scope) (treeAt records.now at stop) }
+    requires { RecordsRead records.now × SourceRead records.now at stop × Numbers (rows_in table.now) (modules_of scope) (tree_at records.now at stop) }
     ensures { Puts encode
-        (resolvedRecord (fileOf (source_of (treeAt records.now at stop)) (rowsIn table.now))
-        (forcedIn (recordsIn records.now)) (modulesOf scope) (treeAt records.now at stop) at) list.old o
+        (resolved_record (file_of (source_of (tree_at records.now at stop)) (rows_in table.now))
+        (forced_in (records_in records.now)) (modules_of scope) (tree_at records.now at stop) at) list.old o
         list.new result }
 {
     let source = Atom(literal_value(records, at + 3));
@@ -90,10 +90,10 @@ fn put_record(
 
 // All records with a source, in order.
 fn put_records(scope: Scope, table: &[u8], records: &[u8], list: &mut [u8], o: usize) -> Step
-    requires { RecordsRead records.now × NumbersAll (rowsIn table.now) (modulesOf scope) (sourcesIn (recordsIn records.now)) }
+    requires { RecordsRead records.now × NumbersAll (rows_in table.now) (modules_of scope) (sources_in (records_in records.now)) }
     ensures { Puts encodes
-        (resolvedAll (rowsIn table.now) (forcedIn (recordsIn records.now)) (modulesOf scope)
-        (sourcesIn (recordsIn records.now)) 3) list.old o list.new result }
+        (resolved_all (rows_in table.now) (forced_in (records_in records.now)) (modules_of scope)
+        (sources_in (records_in records.now)) 3) list.old o list.new result }
 {
     let mut at = START;
     let mut to = o;
@@ -113,11 +113,11 @@ fn put_records(scope: Scope, table: &[u8], records: &[u8], list: &mut [u8], o: u
 
 // Writes the list at 0.
 pub fn put_list(scope: Scope, table: &[u8], records: &[u8], list: &mut [u8]) -> Step
-    requires { RecordsRead records.now × NumbersAll (rowsIn table.now) (modulesOf scope) (sourcesIn (recordsIn records.now)) }
+    requires { RecordsRead records.now × NumbersAll (rows_in table.now) (modules_of scope) (sources_in (records_in records.now)) }
     ensures { Puts encode
-        (listWith
-        (resolvedAll (rowsIn table.now) (forcedIn (recordsIn records.now)) (modulesOf scope)
-        (sourcesIn (recordsIn records.now)) 3)) list.old 0 list.new result }
+        (list_with
+        (resolved_all (rows_in table.now) (forced_in (records_in records.now)) (modules_of scope)
+        (sources_in (records_in records.now)) 3)) list.old 0 list.new result }
 {
     let content = writer::open_field(list, 0, 0x03);
     match put_records(scope, table, records, list, content) {

@@ -1,12 +1,12 @@
 // The records with a source, one by one, and the numbers that they get; the forced sources behind them.
 ghost use Rattle.std.specs.Prelude.{◌≡◌, ◌+◌, ◌≤◌, length};
-ghost use Rattle.scope.specs.ScopeValue.{modulesOf};
+ghost use Rattle.scope.specs.ScopeValue.{modules_of};
 ghost use Rattle.tree.specs.Layout.{two};
 ghost use Rattle.inputs.specs.Lists.{among};
-ghost use Rattle.inputs.specs.Table.{rowsIn, fileOf};
-ghost use Rattle.resolving_rules.specs.Resolve.{sourcesIn, forcedIn, numberOne, numberAll};
-ghost use Rattle.resolving.specs.Records.{RecordsRead, recordsIn, source_end, forcesAt};
-ghost use Rattle.resolving.specs.Numbers.{numberBy};
+ghost use Rattle.inputs.specs.Table.{rows_in, file_of};
+ghost use Rattle.resolving_rules.specs.Resolve.{sources_in, forced_in, number_one, number_all};
+ghost use Rattle.resolving.specs.Records.{RecordsRead, records_in, source_end, forces_at};
+ghost use Rattle.resolving.specs.Numbers.{number_by};
 
 use scope::id::Atom;
 use scope::{FileAnswer, Scope};
@@ -47,7 +47,7 @@ pub fn source_end(records: &[u8], at: usize) -> Reach
 
 // Gives a source its number, if it resolves; the record stands at place.
 fn number_source(scope: Scope, table: &[u8], source: Atom, place: usize) -> Numbering
-    ensures { numberBy result ≡ numberOne (fileOf (two source.0) (rowsIn table.now)) (modulesOf scope) place }
+    ensures { number_by result ≡ number_one (file_of (two source.0) (rows_in table.now)) (modules_of scope) place }
 {
     match inputs::resolve(table, source) {
         inputs::Resolved::File(file) => {
@@ -75,7 +75,7 @@ fn number_source(scope: Scope, table: &[u8], source: Atom, place: usize) -> Numb
 // 'Resolving numbers every resolvable source in that order.'
 pub fn number_sources(mut scope: Scope, table: &[u8], records: &[u8]) -> Numbering
     requires { RecordsRead records.now }
-    ensures { numberBy result ≡ numberAll (rowsIn table.now) (sourcesIn (recordsIn records.now)) (modulesOf scope) 3 }
+    ensures { number_by result ≡ number_all (rows_in table.now) (sources_in (records_in records.now)) (modules_of scope) 3 }
 {
     let mut at = START;
     loop {
@@ -103,7 +103,7 @@ pub fn number_sources(mut scope: Scope, table: &[u8], records: &[u8]) -> Numberi
 // Whether the record at `at` forces a source.
 fn forces_at(records: &[u8], at: usize, source: Atom) -> bool
     requires { at + 5 ≤ length records.now }
-    ensures { result ≡ forcesAt records.now at source.0 }
+    ensures { result ≡ forces_at records.now at source.0 }
 {
     if records[at] == 0x83 {
         source.0 == atom_at(records, at + 3)
@@ -115,7 +115,7 @@ fn forces_at(records: &[u8], at: usize, source: Atom) -> bool
 // Whether a source is forced.
 pub fn is_forced(records: &[u8], source: Atom) -> bool
     requires { RecordsRead records.now }
-    ensures { result ≡ among (two source.0) (forcedIn (recordsIn records.now)) }
+    ensures { result ≡ among (two source.0) (forced_in (records_in records.now)) }
 {
     let mut at = START;
     loop {

@@ -2,11 +2,11 @@
 ghost use Rattle.std.specs.Prelude.{◌≡◌, cond, ◌+◌, ◌≤◌, ◌<◌, length, get_or};
 ghost use Rattle.std.proofs.Math.Seq.{slice};
 ghost use Rattle.tree.specs.Tree.{field, none, encode, encodes};
-ghost use Rattle.tree.specs.Standing.{treeAt, row_at};
+ghost use Rattle.tree.specs.Standing.{tree_at, row_at};
 ghost use Rattle.writer.specs.Wrote.{Wrote};
-ghost use Rattle.resolving_rules.specs.Resolve.{resolvedDefault, resolvedNamespace, resolvedSpecifier, resolvedSpecifiers};
+ghost use Rattle.resolving_rules.specs.Resolve.{resolved_default, resolved_namespace, resolved_specifier, resolved_specifiers};
 ghost use Rattle.resolving.specs.Records.{FieldRead, FieldsRead};
-ghost use Rattle.resolving.specs.Specifiers.{outsideOf, specifierAt, named_by};
+ghost use Rattle.resolving.specs.Specifiers.{outside_of, specifier_at, named_by};
 ghost use Rattle.resolving.specs.Writes.{Puts};
 
 use scope::id::Atom;
@@ -60,7 +60,7 @@ fn put_plain(s: &[u8], from: usize, end: usize, list: &mut [u8], o: usize) -> us
 // The id from `from` up to `end` as a 91: 'Default's alias is (default, 0).'
 fn put_default(s: &[u8], from: usize, end: usize, list: &mut [u8], o: usize) -> usize
     requires { end ≤ length s.now }
-    ensures { Wrote list.old o (encode (resolvedDefault (slice from end s.now))) list.new result }
+    ensures { Wrote list.old o (encode (resolved_default (slice from end s.now))) list.new result }
 {
     let content = writer::open_field(list, o, 0x91);
     let alias = writer::copy(list, content, s, from, end);
@@ -81,7 +81,7 @@ fn all_byte(all: bool) -> u8
 // The id from `from` up to `end` as a 92, with the all byte.
 fn put_namespace(s: &[u8], from: usize, end: usize, all: bool, list: &mut [u8], o: usize) -> usize
     requires { end ≤ length s.now }
-    ensures { Wrote list.old o (encode (resolvedNamespace all (slice from end s.now))) list.new result }
+    ensures { Wrote list.old o (encode (resolved_namespace all (slice from end s.now))) list.new result }
 {
     let content = writer::open_field(list, o, 0x92);
     let byte = writer::copy(list, content, s, from, end);
@@ -93,7 +93,7 @@ fn put_namespace(s: &[u8], from: usize, end: usize, all: bool, list: &mut [u8], 
 // The outside name whose kind byte stands at `at`.
 fn outside_at(s: &[u8], at: usize) -> Outside
     requires { at < length s.now }
-    ensures { result ≡ outsideOf (get_or s.now at 0) }
+    ensures { result ≡ outside_of (get_or s.now at 0) }
 {
     match s[at] {
         0 => Outside::Nothing,
@@ -105,7 +105,7 @@ fn outside_at(s: &[u8], at: usize) -> Outside
 // The specifier at `at`, whose fixed bytes end at `end`.
 fn specifier_at(s: &[u8], at: usize, end: usize) -> Specifier
     requires { (at < end) × (get_or s.now at 0 ≡ 0x20 → at + 9 < end) × (end ≤ length s.now) }
-    ensures { result ≡ specifierAt s.now at }
+    ensures { result ≡ specifier_at s.now at }
 {
     match s[at] {
         0x20 => Specifier::Named(outside_at(s, at + 9)),
@@ -137,7 +137,7 @@ fn put_named(
 // The specifier at `at` up to stop.
 fn put_specifier(s: &[u8], at: usize, stop: usize, all: bool, list: &mut [u8], o: usize) -> Step
     requires { FieldRead s.now at stop }
-    ensures { Puts encode (resolvedSpecifier all (treeAt s.now at stop) at) list.old o list.new result }
+    ensures { Puts encode (resolved_specifier all (tree_at s.now at stop) at) list.old o list.new result }
 {
     let Reach::Upto(end) = fixed(s, s[at], at + 3, stop) else {
         return Step::Done(o);
@@ -159,7 +159,7 @@ pub fn put_specifiers(
     o: usize,
 ) -> Step
     requires { FieldsRead s.now from end }
-    ensures { Puts encodes (resolvedSpecifiers all (row_at s.now from end) from) list.old o list.new result }
+    ensures { Puts encodes (resolved_specifiers all (row_at s.now from end) from) list.old o list.new result }
 {
     let mut at = from;
     let mut to = o;

@@ -12,29 +12,29 @@ use Rattle.tree.specs.Tree.{Field, field, Fields, none, more, fixed_of, parts_of
 use Rattle.inputs.specs.Outcome.{done, refused}
 use Rattle.inputs.specs.Lists.{among}
 use Rattle.inputs.specs.Fields.{inside}
-use Rattle.inputs.specs.Table.{Row, fileOf}
+use Rattle.inputs.specs.Table.{Row, file_of}
 use Rattle.inputs.proofs.AcceptedLaws.{done_inj, done_refused, onto-done}
-use Rattle.resolving_rules.specs.Resolve.{source_of, requested, numberOne, numberAll, resolvedNamed, resolvedNamespace, resolvedSpecifier}
-use Rattle.resolving_rules.specs.Resolve.{resolvedSpecifiers, module_of, heading, resolvedRecord, resolvedAll}
+use Rattle.resolving_rules.specs.Resolve.{source_of, requested, number_one, number_all, resolved_named, resolved_namespace, resolved_specifier}
+use Rattle.resolving_rules.specs.Resolve.{resolved_specifiers, module_of, heading, resolved_record, resolved_all}
 
 -- ---- 'Resolving numbers every resolvable source': a number once given stays
 
 module _ (rows : List Row) (g k : ℕ) where
-  numberOne-keeps : (o : Option ℕ) (ms new : Modules) (p : ℕ) → numberOne o ms p ≡ done new → number_of g ms ≡ some k → number_of g new ≡ some k
-  unfolding numberOne
-  numberOne-keeps nothing ms new p e h = subst (λ (m : Modules). number_of g m ≡ some k) (done_inj e) h
-  numberOne-keeps (some file) ms new p e h = go (request file ms) refl e
+  number_one-keeps : (o : Option ℕ) (ms new : Modules) (p : ℕ) → number_one o ms p ≡ done new → number_of g ms ≡ some k → number_of g new ≡ some k
+  unfolding number_one
+  number_one-keeps nothing ms new p e h = subst (λ (m : Modules). number_of g m ≡ some k) (done_inj e) h
+  number_one-keeps (some file) ms new p e h = go (request file ms) refl e
     where
       go : (r : Option (ℕ × Modules)) → request file ms ≡ r → requested r p ≡ done new → number_of g new ≡ some k
       go nothing w e = done_refused e
       go (some r) w e = subst (λ (m : Modules). number_of g m ≡ some k) (done_inj e) (request-keeps-numbers file ms w g k h)
 
-  pub numberAll-keeps : (fs : Fields) (ms new : Modules) (p : ℕ) → numberAll rows fs ms p ≡ done new → number_of g ms ≡ some k → number_of g new ≡ some k
-  unfolding numberAll
-  numberAll-keeps none ms new p e h = subst (λ (m : Modules). number_of g m ≡ some k) (done_inj e) h
-  numberAll-keeps (more f fs) ms new p e h =
-      let w = onto-done (numberOne (fileOf (source_of f) rows) ms p) _ new e in
-      numberAll-keeps fs w.0 new (p + size f) w.2 (numberOne-keeps (fileOf (source_of f) rows) ms w.0 p w.1 h)
+  pub number_all-keeps : (fs : Fields) (ms new : Modules) (p : ℕ) → number_all rows fs ms p ≡ done new → number_of g ms ≡ some k → number_of g new ≡ some k
+  unfolding number_all
+  number_all-keeps none ms new p e h = subst (λ (m : Modules). number_of g m ≡ some k) (done_inj e) h
+  number_all-keeps (more f fs) ms new p e h =
+      let w = onto-done (number_one (file_of (source_of f) rows) ms p) _ new e in
+      number_all-keeps fs w.0 new (p + size f) w.2 (number_one-keeps (file_of (source_of f) rows) ms w.0 p w.1 h)
 
 -- ---- '03: 90*'
 
@@ -43,33 +43,33 @@ pub record Made (o : Option ℕ) (forced : List (List ℕ)) (ms : Modules) (f : 
   pub file : ℕ
   pub resolves : o ≡ some file
   pub parts : Fields
-  pub specifiers : resolvedSpecifiers (among (source_of f) forced) (parts_of f) (inside p (fixed_of f)) ≡ done parts
+  pub specifiers : resolved_specifiers (among (source_of f) forced) (parts_of f) (inside p (fixed_of f)) ≡ done parts
   pub made : g ≡ field 0x90 (heading f (module_of file ms) file) parts
 
 pub record-made : (o : Option ℕ) (forced : List (List ℕ)) (ms : Modules) (f : Field) (p : ℕ) (g : Field) →
-    resolvedRecord o forced ms f p ≡ done g → Made o forced ms f p g
-unfolding resolvedRecord
+    resolved_record o forced ms f p ≡ done g → Made o forced ms f p g
+unfolding resolved_record
 record-made nothing forced ms f p g e = done_refused e
 record-made (some file) forced ms f p g e =
-    let w = onto-done (resolvedSpecifiers (among (source_of f) forced) (parts_of f) (inside p (fixed_of f))) _ g e in
+    let w = onto-done (resolved_specifiers (among (source_of f) forced) (parts_of f) (inside p (fixed_of f))) _ g e in
     record { file = file; resolves = refl; parts = w.0; specifiers = w.1; made = sym (done_inj w.2) }
 
 -- an accepted row: its first 90, and the rest
 pub all_made : (rows : List Row) (forced : List (List ℕ)) (ms : Modules) (f : Field) (fs : Fields) (p : ℕ) (gs : Fields) →
-    resolvedAll rows forced ms (more f fs) p ≡ done gs →
-    (g : Field) × (rest : Fields) × (gs ≡ more g rest) × Made (fileOf (source_of f) rows) forced ms f p g
-    × (resolvedAll rows forced ms fs (p + size f) ≡ done rest)
-unfolding resolvedAll
+    resolved_all rows forced ms (more f fs) p ≡ done gs →
+    (g : Field) × (rest : Fields) × (gs ≡ more g rest) × Made (file_of (source_of f) rows) forced ms f p g
+    × (resolved_all rows forced ms fs (p + size f) ≡ done rest)
+unfolding resolved_all
 all_made rows forced ms f fs p gs e =
-    let w = onto-done (resolvedRecord (fileOf (source_of f) rows) forced ms f p) _ gs e in
-    let v = onto-done (resolvedAll rows forced ms fs (p + size f)) _ gs w.2 in
-    (w.0, v.0, sym (done_inj v.2), record-made (fileOf (source_of f) rows) forced ms f p w.0 w.1, v.1)
+    let w = onto-done (resolved_record (file_of (source_of f) rows) forced ms f p) _ gs e in
+    let v = onto-done (resolved_all rows forced ms fs (p + size f)) _ gs w.2 in
+    (w.0, v.0, sym (done_inj v.2), record-made (file_of (source_of f) rows) forced ms f p w.0 w.1, v.1)
 
 -- ---- Specifiers
 
 -- an accepted 20 without parts becomes a 91 of the same bytes
-named-made : (all : Bool) (x : List ℕ) (p : ℕ) (g : Field) → resolvedSpecifier all (field 0x20 x none) p ≡ done g → g ≡ field 0x91 x none
-unfolding resolvedSpecifier resolvedNamed
+named-made : (all : Bool) (x : List ℕ) (p : ℕ) (g : Field) → resolved_specifier all (field 0x20 x none) p ≡ done g → g ≡ field 0x91 x none
+unfolding resolved_specifier resolved_named
 named-made all x p g e = go (eqb (get_or x 6 0) 2) e
   where
     go : (b : Bool) → cond b (refused 6 p) (done (field 0x91 x none)) ≡ done g → g ≡ field 0x91 x none
@@ -82,18 +82,18 @@ leaves t [] = none
 leaves t (x ∷ l) = more (field t x none) (leaves t l)
 
 -- accepted 20s become 91s, in order
-pub nameds-made : (all : Bool) (l : List (List ℕ)) (p : ℕ) (gs : Fields) → resolvedSpecifiers all (leaves 0x20 l) p ≡ done gs → gs ≡ leaves 0x91 l
-unfolding resolvedSpecifiers
+pub nameds-made : (all : Bool) (l : List (List ℕ)) (p : ℕ) (gs : Fields) → resolved_specifiers all (leaves 0x20 l) p ≡ done gs → gs ≡ leaves 0x91 l
+unfolding resolved_specifiers
 nameds-made all [] p gs e = sym (done_inj e)
 nameds-made all (x ∷ l) p gs e =
-    let w = onto-done (resolvedSpecifier all (field 0x20 x none) p) _ gs e in
-    let v = onto-done (resolvedSpecifiers all (leaves 0x20 l) (p + size (field 0x20 x none))) _ gs w.2 in
+    let w = onto-done (resolved_specifier all (field 0x20 x none) p) _ gs e in
+    let v = onto-done (resolved_specifiers all (leaves 0x20 l) (p + size (field 0x20 x none))) _ gs w.2 in
     let a = named-made all x p w.0 w.1 in
     let b = nameds-made all l (p + size (field 0x20 x none)) v.0 v.1 in
     sym (done_inj v.2) ∙ ap (λ (g : Field). more g v.0) a ∙ ap (more (field 0x91 x none)) b
 
 -- a sole 22 becomes a 92
-pub namespace-made : (all : Bool) (i : List ℕ) (p : ℕ) (gs : Fields) → resolvedSpecifiers all (more (field 0x22 i none) none) p ≡ done gs →
-    gs ≡ more (resolvedNamespace all i) none
-unfolding resolvedSpecifiers resolvedSpecifier
+pub namespace-made : (all : Bool) (i : List ℕ) (p : ℕ) (gs : Fields) → resolved_specifiers all (more (field 0x22 i none) none) p ≡ done gs →
+    gs ≡ more (resolved_namespace all i) none
+unfolding resolved_specifiers resolved_specifier
 namespace-made all i p gs e = sym (done_inj e)

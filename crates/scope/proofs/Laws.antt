@@ -17,9 +17,9 @@ use Rattle.scope.specs.declared.id.Id.{Id}
 use Rattle.scope.specs.declared.Mark.{Mark}
 use Rattle.scope.specs.declared.Mark.TheVariants.{Loaded, Stored, Cjs, Wrapping}
 use Rattle.scope.specs.Id.{local, export}
-use Rattle.scope.specs.Modules.{Module, Modules, next, place_of, number_of, unmarked, requestBy, request, too-many-files, generatedBy, gen, Left, goOn}
-use Rattle.scope.specs.Modules.{requestAll, marked, withMark, isMarked, setMark, given, not-given, marking, done, refused, readMark, esmId, wrappedEsmId}
-use Rattle.scope.specs.ScopeValue.{module_by, modulesIn, Rewrites}
+use Rattle.scope.specs.Modules.{Module, Modules, next, place_of, number_of, unmarked, request_by, request, too-many-files, generated_by, gen, Left, go_on}
+use Rattle.scope.specs.Modules.{request_all, marked, with_mark, is_marked, set_mark, given, not-given, marking, done, refused, read_mark, esm_id, wrapped_esm_id}
+use Rattle.scope.specs.ScopeValue.{module_by, modules_in, Rewrites}
 
 -- ---- Contexts: distinct modules have distinct contexts, and local and export contexts never meet each other or 0
 
@@ -93,12 +93,12 @@ unfolding number_of
 number-below f ms e = let h = place-below f (map (λ m. m.file) ms) e in let l = files-length ms in omega arith
 
 -- a request finds the file's number, or gives the next one, or is refused: whatever holds in these three cases holds of it
-requestBy-cases : (o : Option ℕ) (f : ℕ) (ms : Modules) (P : Option (ℕ × Modules) → Type 0) →
+request_by-cases : (o : Option ℕ) (f : ℕ) (ms : Modules) (P : Option (ℕ × Modules) → Type 0) →
     ((n : ℕ) → o ≡ some n → P (some (n, ms))) →
     (o ≡ none → length ms < 256 → P (some (length ms, ms ++ (unmarked f ∷ [])))) →
-    (o ≡ none → 256 ≤ length ms → P none) → P (requestBy o f ms)
-requestBy-cases (some n) f ms P found more full = found n refl
-requestBy-cases none f ms P found more full = room (ltb (length ms) 256) refl
+    (o ≡ none → 256 ≤ length ms → P none) → P (request_by o f ms)
+request_by-cases (some n) f ms P found more full = found n refl
+request_by-cases none f ms P found more full = room (ltb (length ms) 256) refl
   where
     room : (b : Bool) → ltb (length ms) 256 ≡ b → P (cond b (some (length ms, ms ++ (unmarked f ∷ []))) none)
     room true t = more refl (ltb-true (length ms) 256 t)
@@ -109,7 +109,7 @@ pub request-cases : (f : ℕ) (ms : Modules) (P : Option (ℕ × Modules) → Ty
     (number_of f ms ≡ none → length ms < 256 → P (some (length ms, ms ++ (unmarked f ∷ [])))) →
     (number_of f ms ≡ none → 256 ≤ length ms → P none) → P (request f ms)
 unfolding request
-request-cases f ms P found more full = requestBy-cases (number_of f ms) f ms P found more full
+request-cases f ms P found more full = request_by-cases (number_of f ms) f ms P found more full
 
 -- a law of an accepted request: it is shown for a file that has a number and for one that gets the next
 accepted : (f : ℕ) (ms : Modules) (Q : ℕ → Modules → Type 0) →
@@ -152,8 +152,8 @@ request-again f ms e = rw e
 
 -- ---- Marks
 
-pub marks-append : (k : Mark) (n : ℕ) (ms : Modules) (f : ℕ) → isMarked k n (ms ++ (unmarked f ∷ [])) ≡ isMarked k n ms
-unfolding isMarked
+pub marks-append : (k : Mark) (n : ℕ) (ms : Modules) (f : ℕ) → is_marked k n (ms ++ (unmarked f ∷ [])) ≡ is_marked k n ms
+unfolding is_marked
 marks-append Loaded zero [] f = refl
 marks-append Stored zero [] f = refl
 marks-append Cjs zero [] f = refl
@@ -163,53 +163,53 @@ marks-append k zero (m ∷ ms) f = refl
 marks-append k (suc n) (m ∷ ms) f = marks-append k n ms f
 
 -- a request keeps marks
-pub request-keeps-marks : (f : ℕ) (ms : Modules) {n : ℕ} {ms' : Modules} → request f ms ≡ some (n, ms') → (k : Mark) (m : ℕ) → isMarked k m ms' ≡ isMarked k m ms
+pub request-keeps-marks : (f : ℕ) (ms : Modules) {n : ℕ} {ms' : Modules} → request f ms ≡ some (n, ms') → (k : Mark) (m : ℕ) → is_marked k m ms' ≡ is_marked k m ms
 request-keeps-marks f ms =
-    accepted f ms (λ n ms'. (k : Mark) (m : ℕ) → isMarked k m ms' ≡ isMarked k m ms) (λ n e k m. refl) (λ e h k m. marks-append k m ms f)
+    accepted f ms (λ n ms'. (k : Mark) (m : ℕ) → is_marked k m ms' ≡ is_marked k m ms) (λ n e k m. refl) (λ e h k m. marks-append k m ms f)
 
 -- marks keep files, and so numbers and their count
-mark-keeps-file : (k : Mark) (m : Module) → (withMark k m).file ≡ m.file
+mark-keeps-file : (k : Mark) (m : Module) → (with_mark k m).file ≡ m.file
 mark-keeps-file Loaded m = refl
 mark-keeps-file Stored m = refl
 mark-keeps-file Cjs m = refl
 mark-keeps-file Wrapping m = refl
 
-mark-keeps-files : (k : Mark) (n : ℕ) (ms : Modules) → map (λ m. m.file) (setMark k n ms) ≡ map (λ m. m.file) ms
-unfolding setMark
+mark-keeps-files : (k : Mark) (n : ℕ) (ms : Modules) → map (λ m. m.file) (set_mark k n ms) ≡ map (λ m. m.file) ms
+unfolding set_mark
 mark-keeps-files k n [] = refl
 mark-keeps-files k zero (m ∷ ms) = ap (λ (f : ℕ). f ∷ map (λ m. m.file) ms) (mark-keeps-file k m)
 mark-keeps-files k (suc n) (m ∷ ms) = ap (λ (l : List ℕ). m.file ∷ l) (mark-keeps-files k n ms)
 
-pub mark-keeps-numbers : (k : Mark) (n : ℕ) (ms : Modules) (f : ℕ) → number_of f (setMark k n ms) ≡ number_of f ms
+pub mark-keeps-numbers : (k : Mark) (n : ℕ) (ms : Modules) (f : ℕ) → number_of f (set_mark k n ms) ≡ number_of f ms
 unfolding number_of
 mark-keeps-numbers k n ms f = ap (place_of f) (mark-keeps-files k n ms)
 
-pub mark-keeps-count : (k : Mark) (n : ℕ) (ms : Modules) → length (setMark k n ms) ≡ length ms
-mark-keeps-count k n ms = sym (files-length (setMark k n ms)) ∙ ap length (mark-keeps-files k n ms) ∙ files-length ms
+pub mark-keeps-count : (k : Mark) (n : ℕ) (ms : Modules) → length (set_mark k n ms) ≡ length ms
+mark-keeps-count k n ms = sym (files-length (set_mark k n ms)) ∙ ap length (mark-keeps-files k n ms) ∙ files-length ms
 
 -- the mark that was set is read back
-withMark-marked : (k : Mark) (m : Module) → marked k (withMark k m) ≡ true
-withMark-marked Loaded m = refl
-withMark-marked Stored m = refl
-withMark-marked Cjs m = refl
-withMark-marked Wrapping m = refl
+with_mark-marked : (k : Mark) (m : Module) → marked k (with_mark k m) ≡ true
+with_mark-marked Loaded m = refl
+with_mark-marked Stored m = refl
+with_mark-marked Cjs m = refl
+with_mark-marked Wrapping m = refl
 
-pub mark-marks : (k : Mark) (n : ℕ) (ms : Modules) → n < length ms → isMarked k n (setMark k n ms) ≡ true
-unfolding isMarked setMark
+pub mark-marks : (k : Mark) (n : ℕ) (ms : Modules) → n < length ms → is_marked k n (set_mark k n ms) ≡ true
+unfolding is_marked set_mark
 mark-marks k n [] h = absurd (omega arith)
-mark-marks k zero (m ∷ ms) h = withMark-marked k m
+mark-marks k zero (m ∷ ms) h = with_mark-marked k m
 mark-marks k (suc n) (m ∷ ms) h = mark-marks k n ms (omega arith)
 
 -- no other mark changes: none of another module, and none of another kind
-pub mark-keeps-modules : (k j : Mark) (n i : ℕ) (ms : Modules) → (i ≡ n → ⊥) → isMarked j i (setMark k n ms) ≡ isMarked j i ms
-unfolding isMarked setMark
+pub mark-keeps-modules : (k j : Mark) (n i : ℕ) (ms : Modules) → (i ≡ n → ⊥) → is_marked j i (set_mark k n ms) ≡ is_marked j i ms
+unfolding is_marked set_mark
 mark-keeps-modules k j n i [] d = refl
 mark-keeps-modules k j zero zero (m ∷ ms) d = absurd (d refl)
 mark-keeps-modules k j zero (suc i) (m ∷ ms) d = refl
 mark-keeps-modules k j (suc n) zero (m ∷ ms) d = refl
 mark-keeps-modules k j (suc n) (suc i) (m ∷ ms) d = mark-keeps-modules k j n i ms (λ e. d (ap suc e))
 
-marked_other : (k j : Mark) (m : Module) → (j ≡ k → ⊥) → marked j (withMark k m) ≡ marked j m
+marked_other : (k j : Mark) (m : Module) → (j ≡ k → ⊥) → marked j (with_mark k m) ≡ marked j m
 marked_other Loaded Loaded m d = absurd (d refl)
 marked_other Loaded Stored m d = refl
 marked_other Loaded Cjs m d = refl
@@ -227,8 +227,8 @@ marked_other Wrapping Stored m d = refl
 marked_other Wrapping Cjs m d = refl
 marked_other Wrapping Wrapping m d = absurd (d refl)
 
-pub mark-keeps-kinds : (k j : Mark) (n i : ℕ) (ms : Modules) → (j ≡ k → ⊥) → isMarked j i (setMark k n ms) ≡ isMarked j i ms
-unfolding isMarked setMark
+pub mark-keeps-kinds : (k j : Mark) (n i : ℕ) (ms : Modules) → (j ≡ k → ⊥) → is_marked j i (set_mark k n ms) ≡ is_marked j i ms
+unfolding is_marked set_mark
 mark-keeps-kinds k j n i [] d = refl
 mark-keeps-kinds k j zero zero (m ∷ ms) d = marked_other k j m d
 mark-keeps-kinds k j zero (suc i) (m ∷ ms) d = refl
@@ -237,38 +237,38 @@ mark-keeps-kinds k j (suc n) (suc i) (m ∷ ms) d = mark-keeps-kinds k j n i ms 
 
 -- ---- The calls, case by case
 
-pub gen-known : (f : FileName) (ms : Modules) {n : ℕ} → number_of f.0 ms ≡ some n → gen f ms ≡ generatedBy (some (n, ms)) ms
+pub gen-known : (f : FileName) (ms : Modules) {n : ℕ} → number_of f.0 ms ≡ some n → gen f ms ≡ generated_by (some (n, ms)) ms
 unfolding gen request
 gen-known f ms e = rw e
 
-pub gen-added : (f : FileName) (ms : Modules) → number_of f.0 ms ≡ none → length ms < 256 → gen f ms ≡ generatedBy (some (length ms, ms ++ (unmarked f.0 ∷ []))) ms
+pub gen-added : (f : FileName) (ms : Modules) → number_of f.0 ms ≡ none → length ms < 256 → gen f ms ≡ generated_by (some (length ms, ms ++ (unmarked f.0 ∷ []))) ms
 unfolding gen request
 gen-added f ms e h = rw (e, lt-ltb (length ms) 256 h)
 
-pub gen-refused : (f : FileName) (ms : Modules) → number_of f.0 ms ≡ none → 256 ≤ length ms → gen f ms ≡ generatedBy none ms
+pub gen-refused : (f : FileName) (ms : Modules) → number_of f.0 ms ≡ none → 256 ≤ length ms → gen f ms ≡ generated_by none ms
 unfolding gen request
 gen-refused f ms e h = rw (e, le-ltb (length ms) 256 h)
 
 -- a list of files goes on behind a file that is given, and ends at one that is refused
-onward : (o : Option (ℕ × Modules)) (rest : Modules → Left) (ms : Modules) → (generatedBy o ms).refusal ≡ none → goOn o rest ms ≡ rest (generatedBy o ms).modules
+onward : (o : Option (ℕ × Modules)) (rest : Modules → Left) (ms : Modules) → (generated_by o ms).refusal ≡ none → go_on o rest ms ≡ rest (generated_by o ms).modules
 onward (some r) rest ms e = refl
 onward none rest ms e = absurd (let z : ◌≡◌ {A = ℕ} 0 1 = cc in omega arith)
 
-pub request-all-more : (f : FileName) (fs : List ℕ) (ms : Modules) → (gen f ms).refusal ≡ none → requestAll (f.0 ∷ fs) ms ≡ requestAll fs (gen f ms).modules
-unfolding requestAll gen
-request-all-more f fs ms e = onward (request f.0 ms) (λ r. requestAll fs r) ms e
+pub request-all-more : (f : FileName) (fs : List ℕ) (ms : Modules) → (gen f ms).refusal ≡ none → request_all (f.0 ∷ fs) ms ≡ request_all fs (gen f ms).modules
+unfolding request_all gen
+request-all-more f fs ms e = onward (request f.0 ms) (λ r. request_all fs r) ms e
 
-stopped : (o : Option (ℕ × Modules)) (rest : Modules → Left) (ms : Modules) → (generatedBy o ms).refusal ≡ some too-many-files →
-    goOn o rest ms ≡ record { modules = (generatedBy o ms).modules; refusal = some too-many-files }
+stopped : (o : Option (ℕ × Modules)) (rest : Modules → Left) (ms : Modules) → (generated_by o ms).refusal ≡ some too-many-files →
+    go_on o rest ms ≡ record { modules = (generated_by o ms).modules; refusal = some too-many-files }
 stopped (some r) rest ms e = absurd (let z : ◌≡◌ {A = ℕ} 0 1 = cc in omega arith)
 stopped none rest ms e = refl
 
 pub request-all-stops : (f : FileName) (fs : List ℕ) (ms : Modules) → (gen f ms).refusal ≡ some too-many-files →
-    requestAll (f.0 ∷ fs) ms ≡ record { modules = (gen f ms).modules; refusal = some too-many-files }
-unfolding requestAll gen
-request-all-stops f fs ms e = stopped (request f.0 ms) (λ r. requestAll fs r) ms e
+    request_all (f.0 ∷ fs) ms ≡ record { modules = (gen f ms).modules; refusal = some too-many-files }
+unfolding request_all gen
+request-all-stops f fs ms e = stopped (request f.0 ms) (λ r. request_all fs r) ms e
 
-pub marking-given : (k : Mark) (m : ModuleId) (ms : Modules) → m.0 < length ms → marking k m ms ≡ record { modules = setMark k m.0 ms; refusal = none }
+pub marking-given : (k : Mark) (m : ModuleId) (ms : Modules) → m.0 < length ms → marking k m ms ≡ record { modules = set_mark k m.0 ms; refusal = none }
 unfolding marking
 marking-given k m ms h = rw (lt-ltb m.0 (length ms) h)
 
@@ -276,37 +276,37 @@ pub marking-refused : (k : Mark) (m : ModuleId) (ms : Modules) → length ms ≤
 unfolding marking
 marking-refused k m ms h = rw (le-ltb m.0 (length ms) h)
 
-pub read-given : (k : Mark) (m : ModuleId) (ms : Modules) → m.0 < length ms → readMark k m ms ≡ done (isMarked k m.0 ms)
-unfolding readMark
+pub read-given : (k : Mark) (m : ModuleId) (ms : Modules) → m.0 < length ms → read_mark k m ms ≡ done (is_marked k m.0 ms)
+unfolding read_mark
 read-given k m ms h = rw (lt-ltb m.0 (length ms) h)
 
-pub read-refused : (k : Mark) (m : ModuleId) (ms : Modules) → length ms ≤ m.0 → readMark k m ms ≡ refused not-given
-unfolding readMark
+pub read-refused : (k : Mark) (m : ModuleId) (ms : Modules) → length ms ≤ m.0 → read_mark k m ms ≡ refused not-given
+unfolding read_mark
 read-refused k m ms h = rw (le-ltb m.0 (length ms) h)
 
 -- the id of a wrapped module is what reading its two marks says
 esm-by : (b x y w v : Bool) (m : ModuleId) → cond b (done x) (refused not-given) ≡ done w → cond b (done y) (refused not-given) ≡ done v →
-    cond b (done (esmId x y m)) (refused not-given) ≡ done (esmId w v m)
+    cond b (done (esm_id x y m)) (refused not-given) ≡ done (esm_id w v m)
 esm-by true x y w v m p q = let a : x ≡ w = cc in let c : y ≡ v = cc in rw (a, c)
 esm-by false x y w v m p q = absurd (let z : ◌≡◌ {A = ℕ} 0 1 = cc in omega arith)
 
-pub esm-read : (m : ModuleId) (ms : Modules) (w v : Bool) → readMark Wrapping m ms ≡ done w → readMark Stored m ms ≡ done v → wrappedEsmId m ms ≡ done (esmId w v m)
-unfolding readMark wrappedEsmId
-esm-read m ms w v p q = esm-by (given m ms) (isMarked Wrapping m.0 ms) (isMarked Stored m.0 ms) w v m p q
+pub esm-read : (m : ModuleId) (ms : Modules) (w v : Bool) → read_mark Wrapping m ms ≡ done w → read_mark Stored m ms ≡ done v → wrapped_esm_id m ms ≡ done (esm_id w v m)
+unfolding read_mark wrapped_esm_id
+esm-read m ms w v p q = esm-by (given m ms) (is_marked Wrapping m.0 ms) (is_marked Stored m.0 ms) w v m p q
 
 esm-none : (b x : Bool) (o : Option Id) → cond b (done x) (refused not-given) ≡ refused not-given → cond b (done o) (refused not-given) ≡ refused not-given
 esm-none true x o e = absurd (let z : ◌≡◌ {A = ℕ} 0 1 = cc in omega arith)
 esm-none false x o e = refl
 
-pub esm-refused : (k : Mark) (m : ModuleId) (ms : Modules) → readMark k m ms ≡ refused not-given → wrappedEsmId m ms ≡ refused not-given
-unfolding readMark wrappedEsmId
-esm-refused k m ms e = esm-none (given m ms) (isMarked k m.0 ms) (esmId (isMarked Wrapping m.0 ms) (isMarked Stored m.0 ms) m) e
+pub esm-refused : (k : Mark) (m : ModuleId) (ms : Modules) → read_mark k m ms ≡ refused not-given → wrapped_esm_id m ms ≡ refused not-given
+unfolding read_mark wrapped_esm_id
+esm-refused k m ms e = esm-none (given m ms) (is_marked k m.0 ms) (esm_id (is_marked Wrapping m.0 ms) (is_marked Stored m.0 ms) m) e
 
 -- ---- Modules in cells
 
 -- cells that agree on the modules stand for the same
-pub cells_agree : (k at : ℕ) (t t' : List ℕ) → ((i : ℕ) → at ≤ i → i < at + 2 * k → get_or t' i 0 ≡ get_or t i 0) → modulesIn k at t' ≡ modulesIn k at t
-unfolding modulesIn
+pub cells_agree : (k at : ℕ) (t t' : List ℕ) → ((i : ℕ) → at ≤ i → i < at + 2 * k → get_or t' i 0 ≡ get_or t i 0) → modules_in k at t' ≡ modules_in k at t
+unfolding modules_in
 cells_agree zero at t t' h = refl
 cells_agree (suc k) at t t' h =
     let f = h at (omega arith) (omega arith) in
@@ -315,8 +315,8 @@ cells_agree (suc k) at t t' h =
     cc
 
 -- one module more
-pub cells-more : (k at : ℕ) (t : List ℕ) → modulesIn (suc k) at t ≡ modulesIn k at t ++ (module_by (get_or t (at + 2 * k) 0) (get_or t (at + 2 * k + 1) 0) ∷ [])
-unfolding modulesIn
+pub cells-more : (k at : ℕ) (t : List ℕ) → modules_in (suc k) at t ≡ modules_in k at t ++ (module_by (get_or t (at + 2 * k) 0) (get_or t (at + 2 * k + 1) 0) ∷ [])
+unfolding modules_in
 cells-more zero at t = rw add-zero
 cells-more (suc k) at t =
     let e = cells-more k (at + 2) t in

@@ -13,24 +13,24 @@ use native.Mathlib.Numerals.{add-one}
 use lib.Seq.{get_or-set_same, get_or-set_other, get_or-take, drop-cons}
 use Rattle.scope.specs.declared.Mark.{Mark}
 use Rattle.scope.specs.declared.Mark.TheVariants.{Loaded, Stored, Cjs, Wrapping}
-use Rattle.scope.specs.Modules.{Modules, next, place_of, number_of, too-many-files, Generated, generatedBy, gen, filesIn, requestAll, unmarked, withMark, marked, setMark, isMarked}
+use Rattle.scope.specs.Modules.{Modules, next, place_of, number_of, too-many-files, Generated, generated_by, gen, files_in, request_all, unmarked, with_mark, marked, set_mark, is_marked}
 use Rattle.scope.proofs.Laws.{gen-added, request-all-more, request-all-stops, cells_agree, cells-more}
-use Rattle.scope.specs.ScopeValue.{rank_of, slot_of, moduleAt, stored, modulesFrom, modulesOf, modulesIn, placeBy, generated, fileRefusal}
+use Rattle.scope.specs.ScopeValue.{rank_of, slot_of, module_at, stored, modules_from, modules_of, modules_in, place_by, generated, file_refusal}
 use Rattle.scope.specs.declared.id.FileName.{FileName}
 use Rattle.scope.specs.declared.Scope.{Scope}
 use Rattle.scope.specs.declared.Place.{Place}
 use Rattle.scope.specs.declared.Gen.{Gen}
 use Rattle.scope.specs.declared.FileAnswer.TheVariants.{Given, TooManyFiles}
 
-pub from-length : (k n : ℕ) (fs : List ℕ) (ms : List Bool) → length (modulesFrom k n fs ms) ≡ k
-unfolding modulesFrom
+pub from-length : (k n : ℕ) (fs : List ℕ) (ms : List Bool) → length (modules_from k n fs ms) ≡ k
+unfolding modules_from
 from-length zero n fs ms = refl
 from-length (suc k) n fs ms = ap suc (from-length k (suc n) fs ms)
 
 -- arrays that agree on the modules stand for the same
-pub from-agree : (k n : ℕ) (fs fs' : List ℕ) (ms ms' : List Bool) → ((j : ℕ) → n ≤ j → j < n + k → moduleAt fs' ms' j ≡ moduleAt fs ms j) →
-    modulesFrom k n fs' ms' ≡ modulesFrom k n fs ms
-unfolding modulesFrom
+pub from-agree : (k n : ℕ) (fs fs' : List ℕ) (ms ms' : List Bool) → ((j : ℕ) → n ≤ j → j < n + k → module_at fs' ms' j ≡ module_at fs ms j) →
+    modules_from k n fs' ms' ≡ modules_from k n fs ms
+unfolding modules_from
 from-agree zero n fs fs' ms ms' h = refl
 from-agree (suc k) n fs fs' ms ms' h =
     let e = h n (omega arith) (omega arith) in
@@ -38,21 +38,21 @@ from-agree (suc k) n fs fs' ms ms' h =
     cc
 
 -- one module more
-pub from_more : (k n : ℕ) (fs : List ℕ) (ms : List Bool) → modulesFrom (suc k) n fs ms ≡ modulesFrom k n fs ms ++ (moduleAt fs ms (n + k) ∷ [])
-unfolding modulesFrom
+pub from_more : (k n : ℕ) (fs : List ℕ) (ms : List Bool) → modules_from (suc k) n fs ms ≡ modules_from k n fs ms ++ (module_at fs ms (n + k) ∷ [])
+unfolding modules_from
 from_more zero n fs ms = rw add-zero
-from_more (suc k) n fs ms = ap (λ (l : Modules). moduleAt fs ms n ∷ l) (from_more k (suc n) fs ms ∙ ap (λ (i : ℕ). modulesFrom k (suc n) fs ms ++ (moduleAt fs ms i ∷ [])) (omega arith))
+from_more (suc k) n fs ms = ap (λ (l : Modules). module_at fs ms n ∷ l) (from_more k (suc n) fs ms ∙ ap (λ (i : ℕ). modules_from k (suc n) fs ms ++ (module_at fs ms i ∷ [])) (omega arith))
 
-pub from-files : (k n : ℕ) (fs : List ℕ) (ms : List Bool) → n + k ≤ length fs → map (λ m. m.file) (modulesFrom k n fs ms) ≡ take k (drop n fs)
-unfolding modulesFrom
+pub from-files : (k n : ℕ) (fs : List ℕ) (ms : List Bool) → n + k ≤ length fs → map (λ m. m.file) (modules_from k n fs ms) ≡ take k (drop n fs)
+unfolding modules_from
 from-files zero n fs ms h = refl
 from-files (suc k) n fs ms h = rw (drop-cons fs n 0 (omega arith)) (ap (λ (l : List ℕ). get_or fs n 0 ∷ l) (from-files k (suc n) fs ms (omega arith)))
 
-pub from-marked : (c : Mark) (k n i : ℕ) (fs : List ℕ) (ms : List Bool) → i < k → isMarked c i (modulesFrom k n fs ms) ≡ marked c (moduleAt fs ms (n + i))
-unfolding modulesFrom isMarked
+pub from-marked : (c : Mark) (k n i : ℕ) (fs : List ℕ) (ms : List Bool) → i < k → is_marked c i (modules_from k n fs ms) ≡ marked c (module_at fs ms (n + i))
+unfolding modules_from is_marked
 from-marked c zero n i fs ms h = absurd (omega arith)
 from-marked c (suc k) n zero fs ms h = rw add-zero
-from-marked c (suc k) n (suc i) fs ms h = from-marked c k (suc n) i fs ms (omega arith) ∙ ap (λ (j : ℕ). marked c (moduleAt fs ms j)) (omega arith)
+from-marked c (suc k) n (suc i) fs ms h = from-marked c k (suc n) i fs ms (omega arith) ∙ ap (λ (j : ℕ). marked c (module_at fs ms j)) (omega arith)
 
 -- ---- A store of a mark
 
@@ -64,11 +64,11 @@ slot-other : (ms : List Bool) (c d : Mark) (n j : ℕ) (v : Bool) → n < 256 �
 slot-other ms c d n j v a b h = get_or-set_other ms (slot_of c n) (slot_of d j) v false (λ e. h (omega arith) (omega arith))
 
 module-other : (fs : List ℕ) (ms : List Bool) (c : Mark) (n j : ℕ) (v : Bool) → n < 256 → j < 256 → (j ≡ n → ⊥) →
-    moduleAt fs (set ms (slot_of c n) v) j ≡ moduleAt fs ms j
+    module_at fs (set ms (slot_of c n) v) j ≡ module_at fs ms j
 module-other fs ms c n j v a b h =
     cc (slot-other ms c Loaded n j v a b (λ _. h), slot-other ms c Stored n j v a b (λ _. h), slot-other ms c Cjs n j v a b (λ _. h), slot-other ms c Wrapping n j v a b (λ _. h))
 
-module-marked : (fs : List ℕ) (ms : List Bool) (c : Mark) (n : ℕ) → length ms ≡ 1024 → n < 256 → moduleAt fs (set ms (slot_of c n) true) n ≡ withMark c (moduleAt fs ms n)
+module-marked : (fs : List ℕ) (ms : List Bool) (c : Mark) (n : ℕ) → length ms ≡ 1024 → n < 256 → module_at fs (set ms (slot_of c n) true) n ≡ with_mark c (module_at fs ms n)
 module-marked fs ms Loaded n l a =
     cc (
       slot_same ms Loaded n true l a (omega arith),
@@ -103,8 +103,8 @@ module-marked fs ms Wrapping n l a =
     )
 
 pub from-set : (c : Mark) (k n i : ℕ) (fs : List ℕ) (ms : List Bool) → length ms ≡ 1024 → i < k → n + k ≤ 256 →
-    modulesFrom k n fs (set ms (slot_of c (n + i)) true) ≡ setMark c i (modulesFrom k n fs ms)
-unfolding modulesFrom setMark
+    modules_from k n fs (set ms (slot_of c (n + i)) true) ≡ set_mark c i (modules_from k n fs ms)
+unfolding modules_from set_mark
 from-set c zero n i fs ms l h b = absurd (omega arith)
 from-set c (suc k) n zero fs ms l h b =
     let e = module-marked fs ms c n l (omega arith) in
@@ -151,10 +151,10 @@ module _ (ms : List Bool) (n : ℕ) (a b c d : Bool) (l : length ms ≡ 1024) (h
       slot-other one Stored Loaded n n b h h (λ e _. omega arith) ∙
       slot_same ms Loaded n a l h (omega arith)
 
-  module-put : (fs : List ℕ) (f : ℕ) → n < length fs → moduleAt (set fs n f) four n ≡ record { file = f; loaded = a; stored = b; cjs = c; wrapping = d }
+  module-put : (fs : List ℕ) (f : ℕ) → n < length fs → module_at (set fs n f) four n ≡ record { file = f; loaded = a; stored = b; cjs = c; wrapping = d }
   module-put fs f k = cc (get_or-set_same fs n f 0 k, mark-loaded, mark-stored, mark-cjs, slot_same three Wrapping n d (simp length-set l) h (omega arith))
 
-  module-kept : (fs : List ℕ) (f j : ℕ) → j < n → moduleAt (set fs n f) four j ≡ moduleAt fs ms j
+  module-kept : (fs : List ℕ) (f j : ℕ) → j < n → module_at (set fs n f) four j ≡ module_at fs ms j
   module-kept fs f j k =
       let e : j ≡ n → ⊥ = λ z. omega arith in
       let g = get_or-set_other fs n j f 0 e in
@@ -172,7 +172,7 @@ module _ (ms : List Bool) (n : ℕ) (a b c d : Bool) (l : length ms ≡ 1024) (h
       }) g ∙ w ∙ r ∙ q ∙ p
 
   pub from-put : (fs : List ℕ) (f : ℕ) → n < length fs →
-      modulesFrom (suc n) 0 (set fs n f) four ≡ modulesFrom n 0 fs ms ++ (record { file = f; loaded = a; stored = b; cjs = c; wrapping = d } ∷ [])
+      modules_from (suc n) 0 (set fs n f) four ≡ modules_from n 0 fs ms ++ (record { file = f; loaded = a; stored = b; cjs = c; wrapping = d } ∷ [])
   from-put fs f k =
       let m = from_more n 0 (set fs n f) four in
       let o = from-agree n 0 fs (set fs n f) ms four (λ j p q. module-kept fs f j (omega arith)) in
@@ -181,7 +181,7 @@ module _ (ms : List Bool) (n : ℕ) (a b c d : Bool) (l : length ms ≡ 1024) (h
       cc
 
 pub from-added : (ms : List Bool) (n : ℕ) → length ms ≡ 1024 → n < 256 → (fs : List ℕ) (f : ℕ) → n < length fs →
-    modulesFrom (min (n + 1) 256) 0 (set fs n f) (remarked ms n false false false false) ≡ modulesFrom n 0 fs ms ++ (unmarked f ∷ [])
+    modules_from (min (n + 1) 256) 0 (set fs n f) (remarked ms n false false false false) ≡ modules_from n 0 fs ms ++ (unmarked f ∷ [])
 from-added ms n l h fs f k =
     let e : min (n + 1) 256 ≡ suc n = omega arith in
     let m = from-put ms n false false false false l h fs f k in
@@ -197,8 +197,8 @@ pub cells-taken : (t fs : List ℕ) (ms : List Bool) (base n f p q r s : ℕ) (a
     c ≡ eqb (get_or t (base + 2 * n + 1) 0 / 4 % 2) 1 →
     d ≡ eqb (get_or t (base + 2 * n + 1) 0 / 8 % 2) 1 →
     p ≡ slot_of Loaded n → q ≡ slot_of Stored n → r ≡ slot_of Cjs n → s ≡ slot_of Wrapping n →
-    modulesFrom n 0 fs ms ≡ modulesIn n base t →
-    modulesFrom (n + 1) 0 (set fs n f) (set (set (set (set ms p a) q b) r c) s d) ≡ modulesIn (n + 1) base t
+    modules_from n 0 fs ms ≡ modules_in n base t →
+    modules_from (n + 1) 0 (set fs n f) (set (set (set (set ms p a) q b) r c) s d) ≡ modules_in (n + 1) base t
 cells-taken t fs ms base n f p q r s a b c d lf lm h ef ea eb ec ed ep eq er es e =
     let m = from-put ms n a b c d lm h fs f (omega arith) in
     let o = cells-more n base t in
@@ -212,8 +212,8 @@ pub cells-put : (t fs : List ℕ) (ms : List Bool) (base n f m p q r s : ℕ) �
     eqb (m / 4 % 2) 1 ≡ get_or ms r false →
     eqb (m / 8 % 2) 1 ≡ get_or ms s false →
     p ≡ slot_of Loaded n → q ≡ slot_of Stored n → r ≡ slot_of Cjs n → s ≡ slot_of Wrapping n →
-    modulesIn n base t ≡ modulesFrom n 0 fs ms →
-    modulesIn (n + 1) base (set (set t (base + 2 * n) f) (base + 2 * n + 1) m) ≡ modulesFrom (n + 1) 0 fs ms
+    modules_in n base t ≡ modules_from n 0 fs ms →
+    modules_in (n + 1) base (set (set t (base + 2 * n) f) (base + 2 * n + 1) m) ≡ modules_from (n + 1) 0 fs ms
 cells-put t fs ms base n f m p q r s h ef hf ea eb ec ed ep eq er es e =
     let t' = set t (base + 2 * n) f in
     let o = cells-more n base (set t' (base + 2 * n + 1) m) in
@@ -281,54 +281,54 @@ place_end f n i l h = rw (drop_all i (take n l) (simp length-take (omega arith))
 
 -- ---- A whole scope
 
-pub modules-length : (s : Scope) → length (modulesOf s) ≡ min s.count 256
-unfolding modulesOf
+pub modules-length : (s : Scope) → length (modules_of s) ≡ min s.count 256
+unfolding modules_of
 modules-length s = from-length (min s.count 256) 0 s.files s.marks
 
-modules-number : (s : Scope) (f : ℕ) → length s.files ≡ 256 → number_of f (modulesOf s) ≡ place_of f (take (min s.count 256) s.files)
-unfolding modulesOf number_of
+modules-number : (s : Scope) (f : ℕ) → length s.files ≡ 256 → number_of f (modules_of s) ≡ place_of f (take (min s.count 256) s.files)
+unfolding modules_of number_of
 modules-number s f l = ap (place_of f) (from-files (min s.count 256) 0 s.files s.marks (omega arith))
 
 -- what the search among the files found is the file's number
-pub found_number : (s : Scope) (f n : ℕ) (p : Place) → length s.files ≡ 256 → n ≡ min s.count 256 → placeBy p ≡ place_of f (take n s.files) →
-    number_of f (modulesOf s) ≡ placeBy p
+pub found_number : (s : Scope) (f n : ℕ) (p : Place) → length s.files ≡ 256 → n ≡ min s.count 256 → place_by p ≡ place_of f (take n s.files) →
+    number_of f (modules_of s) ≡ place_by p
 found_number s f n p l e h = modules-number s f l ∙ ap (λ (k : ℕ). place_of f (take k s.files)) (sym e) ∙ sym h
 
-kept-mark : (k : Mark) (fs : List ℕ) (ms : List Bool) (n : ℕ) → marked k (moduleAt fs ms n) ≡ get_or ms (slot_of k n) false
+kept-mark : (k : Mark) (fs : List ℕ) (ms : List Bool) (n : ℕ) → marked k (module_at fs ms n) ≡ get_or ms (slot_of k n) false
 kept-mark Loaded fs ms n = refl
 kept-mark Stored fs ms n = refl
 kept-mark Cjs fs ms n = refl
 kept-mark Wrapping fs ms n = refl
 
-pub modules-marked : (s : Scope) (k : Mark) (n : ℕ) → n < min s.count 256 → isMarked k n (modulesOf s) ≡ get_or s.marks (slot_of k n) false
-unfolding modulesOf
+pub modules-marked : (s : Scope) (k : Mark) (n : ℕ) → n < min s.count 256 → is_marked k n (modules_of s) ≡ get_or s.marks (slot_of k n) false
+unfolding modules_of
 modules-marked s k n h =
     from-marked k (min s.count 256) 0 n s.files s.marks h ∙
     kept-mark k s.files s.marks (0 + n) ∙
     ap (λ (i : ℕ). get_or s.marks (slot_of k i) false) (omega arith)
 
-pub modules-set : (s : Scope) (k : Mark) (n : ℕ) → length s.marks ≡ 1024 → n < min s.count 256 → modulesOf (stored s k n true) ≡ setMark k n (modulesOf s)
-unfolding modulesOf
+pub modules-set : (s : Scope) (k : Mark) (n : ℕ) → length s.marks ≡ 1024 → n < min s.count 256 → modules_of (stored s k n true) ≡ set_mark k n (modules_of s)
+unfolding modules_of
 modules-set s k n l h =
-    ap (λ (i : ℕ). modulesFrom (min s.count 256) 0 s.files (set s.marks (slot_of k i) true)) (omega arith) ∙
+    ap (λ (i : ℕ). modules_from (min s.count 256) 0 s.files (set s.marks (slot_of k i) true)) (omega arith) ∙
     from-set k (min s.count 256) 0 n s.files s.marks l h (omega arith)
 
-pub modules-first : (s : Scope) (n : ℕ) → n ≡ min s.count 256 → modulesFrom n 0 s.files s.marks ≡ modulesOf s
-unfolding modulesOf
-modules-first s n e = ap (λ (k : ℕ). modulesFrom k 0 s.files s.marks) e
+pub modules-first : (s : Scope) (n : ℕ) → n ≡ min s.count 256 → modules_from n 0 s.files s.marks ≡ modules_of s
+unfolding modules_of
+modules-first s n e = ap (λ (k : ℕ). modules_from k 0 s.files s.marks) e
 
-pub modules-added : (s a : Scope) (f : FileName) (n : ℕ) → n ≡ min s.count 256 → n < 256 → number_of f.0 (modulesOf s) ≡ none →
-    modulesOf a ≡ modulesFrom n 0 s.files s.marks ++ (unmarked f.0 ∷ []) → generatedBy (some (n, modulesOf a)) [] ≡ gen f (modulesOf s)
+pub modules-added : (s a : Scope) (f : FileName) (n : ℕ) → n ≡ min s.count 256 → n < 256 → number_of f.0 (modules_of s) ≡ none →
+    modules_of a ≡ modules_from n 0 s.files s.marks ++ (unmarked f.0 ∷ []) → generated_by (some (n, modules_of a)) [] ≡ gen f (modules_of s)
 modules-added s a f n e h o m =
     let l = modules-length s in
-    let w : modulesFrom n 0 s.files s.marks ≡ modulesOf s = modules-first s n e in
-    let g = gen-added f (modulesOf s) o (omega arith) in
+    let w : modules_from n 0 s.files s.marks ≡ modules_of s = modules-first s n e in
+    let g = gen-added f (modules_of s) o (omega arith) in
     cc
 
 -- ---- Files of a list
 
-pub files-two : (l : List ℕ) (i : ℕ) → i + 2 ≤ length l → filesIn (drop i l) ≡ (get_or l i 0 * 256 + get_or l (i + 1) 0) ∷ filesIn (drop (i + 2) l)
-unfolding filesIn
+pub files-two : (l : List ℕ) (i : ℕ) → i + 2 ≤ length l → files_in (drop i l) ≡ (get_or l i 0 * 256 + get_or l (i + 1) 0) ∷ files_in (drop (i + 2) l)
+unfolding files_in
 files-two l i h =
     let one = drop-cons l i 0 (omega arith) in
     let two = drop-cons l (suc i) 0 (omega arith) in
@@ -336,31 +336,31 @@ files-two l i h =
     let b : suc (suc i) ≡ i + 2 = omega arith in
     rw (one, two) (cc)
 
-short_none : (l : List ℕ) → length l < 2 → filesIn l ≡ []
-unfolding filesIn
+short_none : (l : List ℕ) → length l < 2 → files_in l ≡ []
+unfolding files_in
 short_none [] h = refl
 short_none (a ∷ []) h = refl
 short_none (a ∷ (b ∷ l)) h = absurd (omega arith)
 
-pub files-none : (l : List ℕ) (i : ℕ) → length l < i + 2 → filesIn (drop i l) ≡ []
+pub files-none : (l : List ℕ) (i : ℕ) → length l < i + 2 → files_in (drop i l) ≡ []
 files-none l i h = short_none (drop i l) (simp length-drop (omega arith))
 
 module _ (l : List ℕ) (i : ℕ) (f : FileName) (ms : Modules) (g : Gen) (h : i + 2 ≤ length l) (w : f.0 ≡ get_or l i 0 * 256 + get_or l (i + 1) 0) (e : generated g ≡ gen f ms) where
-  here : requestAll (filesIn (drop i l)) ms ≡ requestAll (f.0 ∷ filesIn (drop (i + 2) l)) ms
+  here : request_all (files_in (drop i l)) ms ≡ request_all (f.0 ∷ files_in (drop (i + 2) l)) ms
   here = rw (files-two l i h, ← w)
 
-  pub list-goes-on : g.answer ≡ Given → requestAll (filesIn (drop i l)) ms ≡ requestAll (filesIn (drop (i + 2) l)) (modulesOf g.scope)
+  pub list-goes-on : g.answer ≡ Given → request_all (files_in (drop i l)) ms ≡ request_all (files_in (drop (i + 2) l)) (modules_of g.scope)
   list-goes-on a =
-      let r : (gen f ms).refusal ≡ none = ap (λ (x : Generated). x.refusal) (sym e) ∙ ap fileRefusal a in
-      let m : (gen f ms).modules ≡ modulesOf g.scope = ap (λ (x : Generated). x.modules) (sym e) in
-      here ∙ request-all-more f (filesIn (drop (i + 2) l)) ms r ∙ ap (requestAll (filesIn (drop (i + 2) l))) m
+      let r : (gen f ms).refusal ≡ none = ap (λ (x : Generated). x.refusal) (sym e) ∙ ap file_refusal a in
+      let m : (gen f ms).modules ≡ modules_of g.scope = ap (λ (x : Generated). x.modules) (sym e) in
+      here ∙ request-all-more f (files_in (drop (i + 2) l)) ms r ∙ ap (request_all (files_in (drop (i + 2) l))) m
 
-  pub list-stops : g.answer ≡ TooManyFiles → requestAll (filesIn (drop i l)) ms ≡ record { modules = modulesOf g.scope; refusal = some too-many-files }
+  pub list-stops : g.answer ≡ TooManyFiles → request_all (files_in (drop i l)) ms ≡ record { modules = modules_of g.scope; refusal = some too-many-files }
   list-stops a =
-      let r : (gen f ms).refusal ≡ some too-many-files = ap (λ (x : Generated). x.refusal) (sym e) ∙ ap fileRefusal a in
-      let m : (gen f ms).modules ≡ modulesOf g.scope = ap (λ (x : Generated). x.modules) (sym e) in
-      here ∙ request-all-stops f (filesIn (drop (i + 2) l)) ms r ∙ ap (λ (x : Modules). record { modules = x; refusal = some too-many-files }) m
+      let r : (gen f ms).refusal ≡ some too-many-files = ap (λ (x : Generated). x.refusal) (sym e) ∙ ap file_refusal a in
+      let m : (gen f ms).modules ≡ modules_of g.scope = ap (λ (x : Generated). x.modules) (sym e) in
+      here ∙ request-all-stops f (files_in (drop (i + 2) l)) ms r ∙ ap (λ (x : Modules). record { modules = x; refusal = some too-many-files }) m
 
-pub list-ends : (l : List ℕ) (i : ℕ) (ms : Modules) → length l < i + 2 → requestAll (filesIn (drop i l)) ms ≡ record { modules = ms; refusal = none }
-unfolding requestAll
+pub list-ends : (l : List ℕ) (i : ℕ) (ms : Modules) → length l < i + 2 → request_all (files_in (drop i l)) ms ≡ record { modules = ms; refusal = none }
+unfolding request_all
 list-ends l i ms h = rw (files-none l i h)

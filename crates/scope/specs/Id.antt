@@ -38,11 +38,11 @@ atom n = record { 0 = n }
 abbrev pub context : ℕ → SyntaxContext
 context n = record { 0 = n }
 
-abbrev pub moduleId : ℕ → ModuleId
-moduleId n = record { 0 = n }
+abbrev pub module_id : ℕ → ModuleId
+module_id n = record { 0 = n }
 
-abbrev pub localCtxt : ModuleId → SyntaxContext
-localCtxt m = context (local m.0)
+abbrev pub local_ctxt : ModuleId → SyntaxContext
+local_ctxt m = context (local m.0)
 
-abbrev pub exportCtxt : ModuleId → SyntaxContext
-exportCtxt m = context (export m.0)
+abbrev pub export_ctxt : ModuleId → SyntaxContext
+export_ctxt m = context (export m.0)

@@ -2,7 +2,7 @@
 -- Document 01, 'Scope', and the rows 5 and 12 of 'Where a call turns back': place 0 for both.
 use Rattle.std.specs.Prelude.{ℕ, zero, suc, ◌+◌, ◌*◌, Bool, true, false, cond, ◌&&◌, List, [], ◌∷◌, ◌++◌, map, ltb, eqb, length}
 use Rattle.std.proofs.Math.Option.{Option, none, some}
-use Rattle.scope.specs.Id.{empty, mod-atom, atom, context, moduleId, localCtxt, exportCtxt}
+use Rattle.scope.specs.Id.{empty, mod-atom, atom, context, module_id, local_ctxt, export_ctxt}
 use Rattle.scope.specs.declared.id.SyntaxContext.{SyntaxContext}
 use Rattle.scope.specs.declared.id.ModuleId.{ModuleId}
 use Rattle.scope.specs.declared.id.FileName.{FileName}
@@ -42,12 +42,12 @@ abbrev pub unmarked : ℕ → Module
 unmarked f = record { file = f; loaded = false; stored = false; cjs = false; wrapping = false }
 
 -- 'The first request for a file gives it the next module number n from 0; later ones give the same.' None: a 257th file
-abbrev pub requestBy : Option ℕ → ℕ → Modules → Option (ℕ × Modules)
-requestBy (some n) f ms = some (n, ms)
-requestBy none f ms = cond (ltb (length ms) 256) (some (length ms, ms ++ (unmarked f ∷ []))) none
+abbrev pub request_by : Option ℕ → ℕ → Modules → Option (ℕ × Modules)
+request_by (some n) f ms = some (n, ms)
+request_by none f ms = cond (ltb (length ms) 256) (some (length ms, ms ++ (unmarked f ∷ []))) none
 
 unfoldable pub request : ℕ → Modules → Option (ℕ × Modules)
-request f ms = requestBy (number_of f ms) f ms
+request f ms = request_by (number_of f ms) f ms
 
 -- a refusal's number and its place; none where the call is accepted
 abbrev pub Refusal : Type 0
@@ -65,19 +65,19 @@ pub record Generated : Type 0 where
   pub export-ctxt : SyntaxContext
   pub refusal : Refusal
 
-abbrev pub generatedBy : Option (ℕ × Modules) → Modules → Generated
-generatedBy (some r) ms =
-    record { modules = r.1; id = moduleId r.0; local-ctxt = localCtxt (moduleId r.0); export-ctxt = exportCtxt (moduleId r.0); refusal = none }
-generatedBy none ms = record { modules = ms; id = moduleId 0; local-ctxt = context empty; export-ctxt = context empty; refusal = some too-many-files }
+abbrev pub generated_by : Option (ℕ × Modules) → Modules → Generated
+generated_by (some r) ms =
+    record { modules = r.1; id = module_id r.0; local-ctxt = local_ctxt (module_id r.0); export-ctxt = export_ctxt (module_id r.0); refusal = none }
+generated_by none ms = record { modules = ms; id = module_id 0; local-ctxt = context empty; export-ctxt = context empty; refusal = some too-many-files }
 
 unfoldable pub gen : FileName → Modules → Generated
-gen f ms = generatedBy (request f.0 ms) ms
+gen f ms = generated_by (request f.0 ms) ms
 
 -- 'a lent list of files (2 bytes each, an odd last byte unread)'
-unfoldable pub filesIn : List ℕ → List ℕ
-filesIn [] = []
-filesIn (a ∷ []) = []
-filesIn (a ∷ (b ∷ l)) = (a * 256 + b) ∷ filesIn l
+unfoldable pub files_in : List ℕ → List ℕ
+files_in [] = []
+files_in (a ∷ []) = []
+files_in (a ∷ (b ∷ l)) = (a * 256 + b) ∷ files_in l
 
 -- what a call leaves
 pub record Left : Type 0 where
@@ -85,13 +85,13 @@ pub record Left : Type 0 where
   pub refusal : Refusal
 
 -- the files in order, up to the first that is refused
-abbrev pub goOn : Option (ℕ × Modules) → (Modules → Left) → Modules → Left
-goOn (some r) rest ms = rest r.1
-goOn none rest ms = record { modules = ms; refusal = some too-many-files }
+abbrev pub go_on : Option (ℕ × Modules) → (Modules → Left) → Modules → Left
+go_on (some r) rest ms = rest r.1
+go_on none rest ms = record { modules = ms; refusal = some too-many-files }
 
-unfoldable pub requestAll : List ℕ → Modules → Left
-requestAll [] ms = record { modules = ms; refusal = none }
-requestAll (f ∷ fs) ms = goOn (request f ms) (λ r. requestAll fs r) ms
+unfoldable pub request_all : List ℕ → Modules → Left
+request_all [] ms = record { modules = ms; refusal = none }
+request_all (f ∷ fs) ms = go_on (request f ms) (λ r. request_all fs r) ms
 
 -- ---- Marks
 
@@ -102,23 +102,23 @@ marked Cjs m = m.cjs
 marked Wrapping m = m.wrapping
 
 -- marks 'are only set'
-abbrev pub withMark : Mark → Module → Module
-withMark Loaded m = record { file = m.file; loaded = true; stored = m.stored; cjs = m.cjs; wrapping = m.wrapping }
-withMark Stored m = record { file = m.file; loaded = m.loaded; stored = true; cjs = m.cjs; wrapping = m.wrapping }
-withMark Cjs m = record { file = m.file; loaded = m.loaded; stored = m.stored; cjs = true; wrapping = m.wrapping }
-withMark Wrapping m = record { file = m.file; loaded = m.loaded; stored = m.stored; cjs = m.cjs; wrapping = true }
+abbrev pub with_mark : Mark → Module → Module
+with_mark Loaded m = record { file = m.file; loaded = true; stored = m.stored; cjs = m.cjs; wrapping = m.wrapping }
+with_mark Stored m = record { file = m.file; loaded = m.loaded; stored = true; cjs = m.cjs; wrapping = m.wrapping }
+with_mark Cjs m = record { file = m.file; loaded = m.loaded; stored = m.stored; cjs = true; wrapping = m.wrapping }
+with_mark Wrapping m = record { file = m.file; loaded = m.loaded; stored = m.stored; cjs = m.cjs; wrapping = true }
 
 -- module n has mark k; a number not given has none
-unfoldable pub isMarked : Mark → ℕ → Modules → Bool
-isMarked k n [] = false
-isMarked k zero (m ∷ ms) = marked k m
-isMarked k (suc n) (m ∷ ms) = isMarked k n ms
+unfoldable pub is_marked : Mark → ℕ → Modules → Bool
+is_marked k n [] = false
+is_marked k zero (m ∷ ms) = marked k m
+is_marked k (suc n) (m ∷ ms) = is_marked k n ms
 
 -- module n gets mark k; a number not given changes nothing
-unfoldable pub setMark : Mark → ℕ → Modules → Modules
-setMark k n [] = []
-setMark k zero (m ∷ ms) = withMark k m ∷ ms
-setMark k (suc n) (m ∷ ms) = m ∷ setMark k n ms
+unfoldable pub set_mark : Mark → ℕ → Modules → Modules
+set_mark k n [] = []
+set_mark k zero (m ∷ ms) = with_mark k m ∷ ms
+set_mark k (suc n) (m ∷ ms) = m ∷ set_mark k n ms
 
 -- 12: 'module number not given', place 0
 abbrev pub not-given : ℕ × ℕ
@@ -129,7 +129,7 @@ given m ms = ltb m.0 (length ms)
 
 -- a mark is set
 unfoldable pub marking : Mark → ModuleId → Modules → Left
-marking k m ms = cond (given m ms) (record { modules = setMark k m.0 ms; refusal = none }) (record { modules = ms; refusal = some not-given })
+marking k m ms = cond (given m ms) (record { modules = set_mark k m.0 ms; refusal = none }) (record { modules = ms; refusal = some not-given })
 
 -- what a reading call answers: a value, or a refusal's number and place
 pub data Outcome (A : Type 0) : Type 0 where
@@ -137,12 +137,12 @@ pub data Outcome (A : Type 0) : Type 0 where
   refused : ℕ × ℕ → Outcome A
 
 -- a mark is read
-unfoldable pub readMark : Mark → ModuleId → Modules → Outcome Bool
-readMark k m ms = cond (given m ms) (done (isMarked k m.0 ms)) (refused not-given)
+unfoldable pub read_mark : Mark → ModuleId → Modules → Outcome Bool
+read_mark k m ms = cond (given m ms) (done (is_marked k m.0 ms)) (refused not-given)
 
 -- '`wrapped_esm_id` gives (mod, export context) for wrapped stored modules, else none.'
-abbrev pub esmId : Bool → Bool → ModuleId → Option Id
-esmId wrapping stored m = cond (wrapping && stored) (some (record { 0 = atom mod-atom; 1 = exportCtxt m })) none
+abbrev pub esm_id : Bool → Bool → ModuleId → Option Id
+esm_id wrapping stored m = cond (wrapping && stored) (some (record { 0 = atom mod-atom; 1 = export_ctxt m })) none
 
-unfoldable pub wrappedEsmId : ModuleId → Modules → Outcome (Option Id)
-wrappedEsmId m ms = cond (given m ms) (done (esmId (isMarked Wrapping m.0 ms) (isMarked Stored m.0 ms) m)) (refused not-given)
+unfoldable pub wrapped_esm_id : ModuleId → Modules → Outcome (Option Id)
+wrapped_esm_id m ms = cond (given m ms) (done (esm_id (is_marked Wrapping m.0 ms) (is_marked Stored m.0 ms) m)) (refused not-given)

@@ -30,8 +30,8 @@ rank_of Wrapping = 3
 abbrev pub slot_of : Mark → ℕ → ℕ
 slot_of k n = 256 * rank_of k + n
 
-abbrev pub moduleAt : List ℕ → List Bool → ℕ → Module
-moduleAt files marks n =
+abbrev pub module_at : List ℕ → List Bool → ℕ → Module
+module_at files marks n =
     record {
       file = get_or files n 0;
       loaded = get_or marks (slot_of Loaded n) false;
@@ -45,22 +45,22 @@ abbrev pub stored : Scope → Mark → ℕ → Bool → Scope
 stored s k n on = record { count = s.count; files = s.files; marks = set s.marks (slot_of k n) on }
 
 -- k modules from number n on
-unfoldable pub modulesFrom : ℕ → ℕ → List ℕ → List Bool → Modules
-modulesFrom zero n files marks = []
-modulesFrom (suc k) n files marks = moduleAt files marks n ∷ modulesFrom k (suc n) files marks
+unfoldable pub modules_from : ℕ → ℕ → List ℕ → List Bool → Modules
+modules_from zero n files marks = []
+modules_from (suc k) n files marks = module_at files marks n ∷ modules_from k (suc n) files marks
 
 -- the modules of a scope; a count over 256 stands for 256
-unfoldable pub modulesOf : Scope → Modules
-modulesOf s = modulesFrom (min s.count 256) 0 s.files s.marks
+unfoldable pub modules_of : Scope → Modules
+modules_of s = modules_from (min s.count 256) 0 s.files s.marks
 
 -- the module that two numbers stand for: its file, and its marks (1 for loaded, 2 stored, 4 cjs, 8 wrapping, added up)
 abbrev pub module_by : ℕ → ℕ → Module
 module_by f m = record { file = f % 65536; loaded = eqb (m % 2) 1; stored = eqb (m / 2 % 2) 1; cjs = eqb (m / 4 % 2) 1; wrapping = eqb (m / 8 % 2) 1 }
 
 -- k modules in cells, two cells each, from cell `at` on
-unfoldable pub modulesIn : ℕ → ℕ → List ℕ → Modules
-modulesIn zero at t = []
-modulesIn (suc k) at t = module_by (get_or t at 0) (get_or t (at + 1) 0) ∷ modulesIn k (at + 2) t
+unfoldable pub modules_in : ℕ → ℕ → List ℕ → Modules
+modules_in zero at t = []
+modules_in (suc k) at t = module_by (get_or t at 0) (get_or t (at + 1) 0) ∷ modules_in k (at + 2) t
 
 -- cells t' are cells t but for those from lo up to hi
 pub record Rewrites (lo hi : ℕ) (t t' : List ℕ) : Type 0 where
@@ -68,34 +68,34 @@ pub record Rewrites (lo hi : ℕ) (t t' : List ℕ) : Type 0 where
   pub below : (i : ℕ) → i < lo → get_or t' i 0 ≡ get_or t i 0
   pub above : (i : ℕ) → hi ≤ i → get_or t' i 0 ≡ get_or t i 0
 
-abbrev pub placeBy : Place → Option ℕ
-placeBy (At i) = some i
-placeBy Nowhere = none
+abbrev pub place_by : Place → Option ℕ
+place_by (At i) = some i
+place_by Nowhere = none
 
 -- numbers and places of the refusals
-abbrev pub fileRefusal : FileAnswer → Refusal
-fileRefusal Given = none
-fileRefusal TooManyFiles = some too-many-files
+abbrev pub file_refusal : FileAnswer → Refusal
+file_refusal Given = none
+file_refusal TooManyFiles = some too-many-files
 
-abbrev pub setRefusal : SetAnswer → Refusal
-setRefusal Set = none
-setRefusal NoSuchModule = some not-given
+abbrev pub set_refusal : SetAnswer → Refusal
+set_refusal Set = none
+set_refusal NoSuchModule = some not-given
 
 -- what the answers stand for
 abbrev pub generated : Gen → Generated
-generated r = record { modules = modulesOf r.scope; id = r.id; local-ctxt = r.local_ctxt; export-ctxt = r.export_ctxt; refusal = fileRefusal r.answer }
+generated r = record { modules = modules_of r.scope; id = r.id; local-ctxt = r.local_ctxt; export-ctxt = r.export_ctxt; refusal = file_refusal r.answer }
 
 abbrev pub requested : Requested → Left
-requested r = record { modules = modulesOf r.scope; refusal = fileRefusal r.answer }
+requested r = record { modules = modules_of r.scope; refusal = file_refusal r.answer }
 
-abbrev pub markedBy : Marked → Left
-markedBy r = record { modules = modulesOf r.scope; refusal = setRefusal r.answer }
+abbrev pub marked_by : Marked → Left
+marked_by r = record { modules = modules_of r.scope; refusal = set_refusal r.answer }
 
 abbrev pub read_by : ReadAnswer → Outcome Bool
 read_by (Is b) = done b
 read_by NotRead = refused not-given
 
-abbrev pub esmBy : EsmAnswer → Outcome (Option Id)
-esmBy (Wrapped i) = done (some i)
-esmBy NotWrapped = done none
-esmBy NotKnown = refused not-given
+abbrev pub esm_by : EsmAnswer → Outcome (Option Id)
+esm_by (Wrapped i) = done (some i)
+esm_by NotWrapped = done none
+esm_by NotKnown = refused not-given

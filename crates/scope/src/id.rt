@@ -1,7 +1,7 @@
 // Numbers of different kinds: an atom, a context, a module number and a file are types of their own, so that no call accepts one for another.
 // Port of swc_bundler's `id.rs`.
 ghost use Rattle.std.specs.Prelude.{◌≡◌};
-ghost use Rattle.scope.specs.Id.{empty, context, localCtxt, exportCtxt};
+ghost use Rattle.scope.specs.Id.{empty, context, local_ctxt, export_ctxt};
 
 // A name; equal names have equal atoms.
 #[derive(Clone, Copy)]
@@ -47,14 +47,14 @@ impl SyntaxContext {
 impl ModuleId {
     // The context of what a module declares for itself.
     pub fn local_ctxt(self) -> SyntaxContext
-        ensures { result ≡ localCtxt self }
+        ensures { result ≡ local_ctxt self }
     {
         SyntaxContext(2 + 2 * (self.0 as u32))
     }
 
     // The context of what a module exports.
     pub fn export_ctxt(self) -> SyntaxContext
-        ensures { result ≡ exportCtxt self }
+        ensures { result ≡ export_ctxt self }
     {
         SyntaxContext(3 + 2 * (self.0 as u32))
     }

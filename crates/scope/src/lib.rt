@@ -1,13 +1,15 @@
 // A scope: the modules that were asked for, in the order of their numbers, with their files and marks. Port of swc_bundler's `scope.rs`
 // and of the generator in `id.rs`. A scope goes in by value and comes back in the answer. A refused call gives back the scope it was given;
 // a list of files, the scope with those before the refused one.
+#![tactic(auto)]
+
 pub mod id;
 
 ghost use Rattle.std.specs.Prelude.{◌≡◌, [], ◌∷◌, ◌++◌, ℕ, ◌+◌, ◌*◌, ◌/◌, ◌%◌, ◌<◌, ◌≤◌, min, eqb, length, take, get_or, false, cond};
 ghost use Rattle.std.proofs.Math.Option.{some};
 ghost use Rattle.scope.specs.declared.Mark.TheVariants.{Loaded, Stored, Cjs, Wrapping};
-ghost use Rattle.scope.specs.Modules.{place_of, unmarked, generatedBy, gen, filesIn, requestAll, marking, readMark, wrappedEsmId};
-ghost use Rattle.scope.specs.ScopeValue.{rank_of, slot_of, modulesFrom, modulesOf, stored, generated, requested, markedBy, read_by, esmBy, placeBy, modulesIn, Rewrites};
+ghost use Rattle.scope.specs.Modules.{place_of, unmarked, generated_by, gen, files_in, request_all, marking, read_mark, wrapped_esm_id};
+ghost use Rattle.scope.specs.ScopeValue.{rank_of, slot_of, modules_from, modules_of, stored, generated, requested, marked_by, read_by, esm_by, place_by, modules_in, Rewrites};
 
 use id::{Atom, FileName, Id, ModuleId, SyntaxContext};
 
@@ -101,7 +103,7 @@ fn counted(count: usize) -> usize
 // Where a file first stands among the first n.
 fn find_file(files: &[u16; 256], n: usize, file: u16) -> Place
     requires { (n ≤ 256) × (n ≤ length files.now) }
-    ensures { placeBy result ≡ place_of file (take n files.now) }
+    ensures { place_by result ≡ place_of file (take n files.now) }
 {
     let mut i = 0;
     while i < n {
@@ -168,7 +170,7 @@ fn four_bits(a: bool, b: bool, c: bool, d: bool) -> u64
 // The answer to a request that module n meets.
 fn numbered(scope: Scope, n: usize) -> Gen
     requires { n < 256 }
-    ensures { generated result ≡ generatedBy (some (n, modulesOf scope)) [] }
+    ensures { generated result ≡ generated_by (some (n, modules_of scope)) [] }
 {
     let id = ModuleId(n as u16);
     Gen {
@@ -183,7 +185,7 @@ fn numbered(scope: Scope, n: usize) -> Gen
 impl Scope {
     // A scope without modules.
     pub fn new() -> Scope
-        ensures { modulesOf result ≡ [] }
+        ensures { modules_of result ≡ [] }
     {
         Scope {
             count: 0,
@@ -196,7 +198,7 @@ impl Scope {
     // 8 wrapping, added up).
     pub fn from_cells(cells: &[u64], base: usize, n: usize) -> Scope
         requires { (n ≤ 256) × (base + 2 * n ≤ length cells.now) }
-        ensures { modulesOf result ≡ modulesIn n base cells.now }
+        ensures { modules_of result ≡ modules_in n base cells.now }
     {
         let mut files = [0u16; 256];
         let mut marks = [false; 1024];
@@ -225,7 +227,7 @@ impl Scope {
     // Puts the modules into cells in that form, and answers how many they are.
     pub fn to_cells(self, cells: &mut [u64], base: usize) -> usize
         requires { base + 512 ≤ length cells.old }
-        ensures { (result ≡ length (modulesOf self)) × (result ≤ 256) × (modulesIn result base cells.new ≡ modulesOf self)
+        ensures { (result ≡ length (modules_of self)) × (result ≤ 256) × (modules_in result base cells.new ≡ modules_of self)
             × Rewrites base (base + 512) cells.old cells.new
             × ((i : ℕ) → i < result →
             (get_or cells.new (base + 2 * i) 0 < 65536) × (get_or cells.new (base + 2 * i + 1) 0 < 16)) }
@@ -272,7 +274,7 @@ impl Scope {
     // The first n modules, and one more, of this file, without marks.
     fn add(mut self, n: usize, file: FileName) -> Scope
         requires { n < 256 }
-        ensures { modulesOf result ≡ modulesFrom n 0 self.files self.marks ++ (unmarked file.0 ∷ []) }
+        ensures { modules_of result ≡ modules_from n 0 self.files self.marks ++ (unmarked file.0 ∷ []) }
     {
         self = self.put_mark(Mark::Loaded, n, false);
         self = self.put_mark(Mark::Stored, n, false);
@@ -285,7 +287,7 @@ impl Scope {
 
     // The module of a file: the next one where the file was never asked for, else the one that it has.
     pub fn gen_id(mut self, file: FileName) -> Gen
-        ensures { generated result ≡ gen file (modulesOf self) }
+        ensures { generated result ≡ gen file (modules_of self) }
     {
         let n = counted(self.count);
         match find_file(&self.files, n, file.0) {
@@ -306,7 +308,7 @@ impl Scope {
 
     // The files of a list, two bytes each, in order, up to the first that is refused.
     pub fn gen_ids(mut self, files: &[u8]) -> Requested
-        ensures { requested result ≡ requestAll (filesIn files.now) (modulesOf self) }
+        ensures { requested result ≡ request_all (files_in files.now) (modules_of self) }
     {
         let mut i = 0;
         while 2 <= files.len() - i {
@@ -331,7 +333,7 @@ impl Scope {
     }
 
     fn set_mark(mut self, kind: Mark, id: ModuleId) -> Marked
-        ensures { markedBy result ≡ marking kind id (modulesOf self) }
+        ensures { marked_by result ≡ marking kind id (modules_of self) }
     {
         let n = id.0 as usize;
         if n < counted(self.count) {
@@ -348,7 +350,7 @@ impl Scope {
     }
 
     fn has_mark(self, kind: Mark, id: ModuleId) -> ReadAnswer
-        ensures { read_by result ≡ readMark kind id (modulesOf self) }
+        ensures { read_by result ≡ read_mark kind id (modules_of self) }
     {
         let n = id.0 as usize;
         if n < counted(self.count) {
@@ -359,57 +361,57 @@ impl Scope {
     }
 
     pub fn mark_as_loaded(mut self, id: ModuleId) -> Marked
-        ensures { markedBy result ≡ marking Loaded id (modulesOf self) }
+        ensures { marked_by result ≡ marking Loaded id (modules_of self) }
     {
         self.set_mark(Mark::Loaded, id)
     }
 
     // Marks a module as stored.
     pub fn store_module(mut self, id: ModuleId) -> Marked
-        ensures { markedBy result ≡ marking Stored id (modulesOf self) }
+        ensures { marked_by result ≡ marking Stored id (modules_of self) }
     {
         self.set_mark(Mark::Stored, id)
     }
 
     pub fn mark_as_cjs(mut self, id: ModuleId) -> Marked
-        ensures { markedBy result ≡ marking Cjs id (modulesOf self) }
+        ensures { marked_by result ≡ marking Cjs id (modules_of self) }
     {
         self.set_mark(Mark::Cjs, id)
     }
 
     pub fn mark_as_wrapping_required(mut self, id: ModuleId) -> Marked
-        ensures { markedBy result ≡ marking Wrapping id (modulesOf self) }
+        ensures { marked_by result ≡ marking Wrapping id (modules_of self) }
     {
         self.set_mark(Mark::Wrapping, id)
     }
 
     pub fn is_loaded(self, id: ModuleId) -> ReadAnswer
-        ensures { read_by result ≡ readMark Loaded id (modulesOf self) }
+        ensures { read_by result ≡ read_mark Loaded id (modules_of self) }
     {
         self.has_mark(Mark::Loaded, id)
     }
 
     pub fn is_stored(self, id: ModuleId) -> ReadAnswer
-        ensures { read_by result ≡ readMark Stored id (modulesOf self) }
+        ensures { read_by result ≡ read_mark Stored id (modules_of self) }
     {
         self.has_mark(Mark::Stored, id)
     }
 
     pub fn is_cjs(self, id: ModuleId) -> ReadAnswer
-        ensures { read_by result ≡ readMark Cjs id (modulesOf self) }
+        ensures { read_by result ≡ read_mark Cjs id (modules_of self) }
     {
         self.has_mark(Mark::Cjs, id)
     }
 
     pub fn should_be_wrapped_with_a_fn(self, id: ModuleId) -> ReadAnswer
-        ensures { read_by result ≡ readMark Wrapping id (modulesOf self) }
+        ensures { read_by result ≡ read_mark Wrapping id (modules_of self) }
     {
         self.has_mark(Mark::Wrapping, id)
     }
 
     // The id of a module that is wrapped with a function and stored.
     pub fn wrapped_esm_id(self, id: ModuleId) -> EsmAnswer
-        ensures { esmBy result ≡ wrappedEsmId id (modulesOf self) }
+        ensures { esm_by result ≡ wrapped_esm_id id (modules_of self) }
     {
         let ReadAnswer::Is(wrapping) = self.should_be_wrapped_with_a_fn(id) else {
             return EsmAnswer::NoSuchModule;

@@ -16,18 +16,18 @@ pub fn is_zero(s: &[u8], from: usize) -> bool {
 }
 
 // Shows the field at the front, and says where it is cut off or not only zeros stand behind it.
-pub fn show_front(s: &[u8]) {
+pub fn show_front(rt: &impl Print, s: &[u8]) {
     if s.len() < 3 {
-        say(b"  no field\n");
+        say(rt, b"  no field\n");
         return;
     }
     let end = 3 + wide(s[1]) * 256 + wide(s[2]);
     if s.len() < end {
-        say(b"  a field cut off\n");
+        say(rt, b"  a field cut off\n");
         return;
     }
-    show(&s[0..end]);
+    show(rt, &s[0..end]);
     if !is_zero(s, end) {
-        say(b"  and other bytes than zeros behind it\n");
+        say(rt, b"  and other bytes than zeros behind it\n");
     }
 }

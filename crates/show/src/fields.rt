@@ -46,7 +46,7 @@ fn open_at(ends: &[usize; 66], depth: usize, at: usize) -> usize
 }
 
 // Shows one field.
-fn show_field(s: &[u8], at: usize, from: usize, depth: usize)
+fn show_field(rt: &impl Print, s: &[u8], at: usize, from: usize, depth: usize)
     requires { (at + 3 ≤ from) × (from ≤ length s.now) }
 {
     let mut line = [0u8; 4096];
@@ -55,12 +55,12 @@ fn show_field(s: &[u8], at: usize, from: usize, depth: usize)
     let o = indent(&mut line, depth);
     let named = put_name(&mut line, o, tag);
     let n = put_fixed(&mut line, named, tag, &s[start..from]);
-    say(&line[0..n]);
-    say(b"\n");
+    say(rt, &line[0..n]);
+    say(rt, b"\n");
 }
 
 // Shows all the fields of s, which is a tree or a resolved list.
-pub fn show(s: &[u8]) {
+pub fn show(rt: &impl Print, s: &[u8]) {
     let len = s.len();
     let mut ends = [0usize; 66];
     let mut depth: usize = 0;
@@ -77,7 +77,7 @@ pub fn show(s: &[u8]) {
         let Spot::Whole(from, stop) = spot_of(s, at, end) else {
             return;
         };
-        show_field(s, at, from, depth);
+        show_field(rt, s, at, from, depth);
         if depth < 65 {
             depth += 1;
             ends[depth] = stop;

@@ -11,11 +11,11 @@ use lib.Seq.{get_or-set_same, get_or-set_other}
 use lib.Dec.{eqb}
 use borrow.Author.Tests.{leb-true, eqb-true, eqb-false}
 use Rattle.tree.proofs.Table.{both_true}
-use Rattle.tables.specs.Rows.{Row, rows, between, firstIn, NoneBefore, without, withoutRow, withValue}
+use Rattle.tables.specs.Rows.{Row, rows, between, first_in, NoneBefore, without, without_row, with_value}
 use Rattle.tables.specs.Only.{Only}
 use Rattle.inputs.specs.Lists.{is_some}
 use Rattle.state.specs.Cells.{id-limit, Kind, imports, uses, records, namespaces, modules, table_of, top-cell, pass-cell, own-cell, require-cell, InLimits, held, Good}
-use Rattle.state.specs.Cells.{cell_at, hintAt, importHint, namespaceHint, useHint, named_in, sourceIn, nameCell, rowHint, moduleHint, Covered, Hinted}
+use Rattle.state.specs.Cells.{cell_at, hint_at, import_hint, namespace_hint, use_hint, named_in, source_in, name_cell, row_hint, module_hint, Covered, Hinted}
 use Rattle.state.specs.Does.{CellsKept, Others, Changes, Aside, Behind, HintsModules, Grows, Starts}
 use Rattle.state.proofs.ListLaws.{below-append, below-value, below-without, length_more, length-value, length_without, row_of}
 use Rattle.state.proofs.HintLaws.{none_out, distinct_append, distinct_without, covered-append, covered-without, covered_none}
@@ -52,18 +52,18 @@ cell_set {t} h v g b k =
     )
 
 -- a hint behind the setting grows
-module _ {t : List ℕ} (h v : ℕ) (g : Good t) (b : h < 1280) (k : rowHint t h ≤ v) where
-  raised-same : rowHint (set t (21074 + h) v) h ≡ v
+module _ {t : List ℕ} (h v : ℕ) (g : Good t) (b : h < 1280) (k : row_hint t h ≤ v) where
+  raised-same : row_hint (set t (21074 + h) v) h ≡ v
   raised-same = let size = g.size in get_or-set_same t (21074 + h) v 0 (omega arith)
 
-  raised : (i : ℕ) → i < 1280 → rowHint t i ≤ rowHint (set t (21074 + h) v) i
+  raised : (i : ℕ) → i < 1280 → row_hint t i ≤ row_hint (set t (21074 + h) v) i
   raised i d = by (eqb i h) refl
     where
-      by : (x : Bool) → eqb i h ≡ x → rowHint t i ≤ rowHint (set t (21074 + h) v) i
-      by true e = let s = raised-same in subst (λ (j : ℕ). rowHint t j ≤ rowHint (set t (21074 + h) v) j) (sym (eqb-true i h e)) (omega arith)
+      by : (x : Bool) → eqb i h ≡ x → row_hint t i ≤ row_hint (set t (21074 + h) v) i
+      by true e = let s = raised-same in subst (λ (j : ℕ). row_hint t j ≤ row_hint (set t (21074 + h) v) j) (sym (eqb-true i h e)) (omega arith)
       by false e = let z = eqb-false i h e in let y = get_or-set_other t (21074 + h) (21074 + i) v 0 (λ q. z (omega arith)) in omega arith
 
-  pub raise-set : Aside t (set t (21074 + h) v) × Behind t (set t (21074 + h) v) × (v ≤ rowHint (set t (21074 + h) v) h)
+  pub raise-set : Aside t (set t (21074 + h) v) × Behind t (set t (21074 + h) v) × (v ≤ row_hint (set t (21074 + h) v) h)
   raise-set =
       let f = beside-set (21074 + h) (omega arith) (omega arith) in
       let c = cells-beside t (21074 + h) v (λ z. omega arith) (λ j p q z. omega arith) in (
@@ -89,7 +89,7 @@ behind-stays t = record { same = λ i d. refl; grown = λ h d. omega arith }
 pub hints-none : {t : List ℕ} → Good t → HintsModules 0 t t
 hints-none g = record { aside = cell_stays g; behind = behind-stays _; hinted = λ i h. absurd (omega arith) }
 
-pub hints-more : {i file : ℕ} {t m t' : List ℕ} → HintsModules i t m → i < 256 → file ≡ get_or m (15482 + 2 * i) 0 → Aside m t' → Behind m t' → 256 ≤ i + moduleHint t' (file % 256) →
+pub hints-more : {i file : ℕ} {t m t' : List ℕ} → HintsModules i t m → i < 256 → file ≡ get_or m (15482 + 2 * i) 0 → Aside m t' → Behind m t' → 256 ≤ i + module_hint t' (file % 256) →
     HintsModules (i + 1) t t'
 hints-more {i} {file} {t} {m} {t'} w b e a d h =
     record {
@@ -107,10 +107,10 @@ hints-more {i} {file} {t} {m} {t'} w b e a d h =
       hinted = λ j c. by j c (eqb j i) refl;
     }
   where
-    by : (j : ℕ) → j < i + 1 → (x : Bool) → eqb j i ≡ x → 256 ≤ j + moduleHint t' (get_or t (15482 + 2 * j) 0 % 256)
+    by : (j : ℕ) → j < i + 1 → (x : Bool) → eqb j i ≡ x → 256 ≤ j + module_hint t' (get_or t (15482 + 2 * j) 0 % 256)
     by j c true z =
-        subst (λ (n : ℕ). 256 ≤ n + moduleHint t' (get_or t (15482 + 2 * n) 0 % 256)) (sym (eqb-true j i z))
-        (subst (λ (n : ℕ). 256 ≤ i + moduleHint t' (n % 256)) (e ∙ w.behind.same (15482 + 2 * i) (omega arith)) h)
+        subst (λ (n : ℕ). 256 ≤ n + module_hint t' (get_or t (15482 + 2 * n) 0 % 256)) (sym (eqb-true j i z))
+        (subst (λ (n : ℕ). 256 ≤ i + module_hint t' (n % 256)) (e ∙ w.behind.same (15482 + 2 * i) (omega arith)) h)
     by j c false z =
         let y = eqb-false j i z in
         let o = w.hinted j (omega (arith, y)) in
@@ -148,19 +148,19 @@ module _ (v h : ℕ) (b : h < 512) where
   resourced-tag : resourced / 2199023255552 ≡ v / 2199023255552
   resourced-tag = omega arith
 
-  resourced-now : sourceIn resourced ≡ h
+  resourced-now : source_in resourced ≡ h
   resourced-now = omega arith
 
   resourced-name : named_in resourced ≡ named_in v
   resourced-name = omega arith
 
-  pub source-grows : (c : ℕ) → v ≡ c → sourceIn v ≤ h → Grows c resourced
+  pub source-grows : (c : ℕ) → v ≡ c → source_in v ≤ h → Grows c resourced
   source-grows c e l =
       subst (λ (x : ℕ). Grows x resourced) e
       (grows_same resourced-tag resourced-low (let n = resourced-name in omega arith) (let n = resourced-now in omega arith))
 
 -- the first record whose first namespace has a name stands at the hint or behind; so does the first whose literal has it
-pub starts : {t : List ℕ} {from id : ℕ} → Good t → from ≤ 256 - named_in (cell_at t (nameCell id)) → Starts from id t
+pub starts : {t : List ℕ} {from id : ℕ} → Good t → from ≤ 256 - named_in (cell_at t (name_cell id)) → Starts from id t
 starts {t} {from} {id} g h =
     record {
       none_named = λ i n p q e f.
@@ -169,7 +169,7 @@ starts {t} {from} {id} g h =
           omega arith;
     }
 
-pub opens : {t : List ℕ} {from : ℕ} (id : ℕ) → Good t → from ≤ 256 - sourceIn (cell_at t (nameCell id)) →
+pub opens : {t : List ℕ} {from : ℕ} (id : ℕ) → Good t → from ≤ 256 - source_in (cell_at t (name_cell id)) →
     NoneBefore from (id - id % 4294967296) (id - id % 4294967296 + 4294967295) (rows (table_of records) t)
 opens {t} {from} id g h = record { passed = λ i p q. by i p q (between (id - id % 4294967296) (id - id % 4294967296 + 4294967295) (row_of (rows (table_of records) t) i).0) refl }
   where
@@ -182,7 +182,7 @@ opens {t} {from} id g h = record { passed = λ i p q. by i p q (between (id - id
         let u = leb-true n (id - id % 4294967296 + 4294967295) k.1 in
         let z : n / 4294967296 ≡ id / 4294967296 = omega arith in
         let a = source-at 0 t (rows (table_of records) t) i (g.hinted records) q in
-        let b = ap (λ (x : ℕ). sourceIn (cell_at t (x % 1024))) z in
+        let b = ap (λ (x : ℕ). source_in (cell_at t (x % 1024))) z in
         absurd (omega arith)
     by i p q false e = refl
 
@@ -196,35 +196,35 @@ after : (k : Kind) {t m t' : List ℕ} {l : List Row} → Aside t m → Only (ta
 after k a o e n b h = let c = changed k a.good o e n b h in record { good = c.good; now-rows = e; others = others-after a c.others }
 
 module _ {t m t' : List ℕ} (g : Good t) (a : Aside t m) where
-  pub import-added : {id c : ℕ} → id < id-limit → c < 4294967296 → held imports t < 512 → firstIn id id (rows (table_of imports) t) ≡ nothing →
-      0 < importHint (hintAt m id) → rows (table_of imports) t' ≡ rows (table_of imports) m ++ ((id, c) ∷ []) → Only (table_of imports) m t' →
+  pub import-added : {id c : ℕ} → id < id-limit → c < 4294967296 → held imports t < 512 → first_in id id (rows (table_of imports) t) ≡ nothing →
+      0 < import_hint (hint_at m id) → rows (table_of imports) t' ≡ rows (table_of imports) m ++ ((id, c) ∷ []) → Only (table_of imports) m t' →
       Changes imports (rows (table_of imports) t ++ ((id, c) ∷ [])) t t'
   import-added {id} {c} h b n f z e o =
       let l = rows (table_of imports) t in
       let k = length_more l (id, c) in
       after imports a o (e ∙ ap (λ (x : List Row). x ++ ((id, c) ∷ [])) (a.same_rows imports)) (omega arith) (below-append _ _ l (id, c) (g.below imports) h b) (
-        covered-append importHint m l (id, c) (subst (Covered importHint m) (a.same_rows imports) (a.good.hinted imports).0) z,
+        covered-append import_hint m l (id, c) (subst (Covered import_hint m) (a.same_rows imports) (a.good.hinted imports).0) z,
         distinct_append l (id, c) (g.hinted imports).1 f,
       )
 
-  pub use-added : {id q : ℕ} → id < id-limit → q < id-limit → held uses t < 2048 → 0 < useHint (hintAt m id) →
+  pub use-added : {id q : ℕ} → id < id-limit → q < id-limit → held uses t < 2048 → 0 < use_hint (hint_at m id) →
       rows (table_of uses) t' ≡ rows (table_of uses) m ++ ((id, q) ∷ []) → Only (table_of uses) m t' → Changes uses (rows (table_of uses) t ++ ((id, q) ∷ [])) t t'
   use-added {id} {q} h b n z e o =
       let l = rows (table_of uses) t in
       let k = length_more l (id, q) in
       after uses a o (e ∙ ap (λ (x : List Row). x ++ ((id, q) ∷ [])) (a.same_rows uses)) (omega arith) (below-append _ _ l (id, q) (g.below uses) h b)
-      (covered-append useHint m l (id, q) (subst (Covered useHint m) (a.same_rows uses) (a.good.hinted uses)) z)
+      (covered-append use_hint m l (id, q) (subst (Covered use_hint m) (a.same_rows uses) (a.good.hinted uses)) z)
 
-  pub held-added : {id i : ℕ} → id < id-limit → i < 256 → held namespaces t < 3641 → 0 < namespaceHint (hintAt m id) →
+  pub held-added : {id i : ℕ} → id < id-limit → i < 256 → held namespaces t < 3641 → 0 < namespace_hint (hint_at m id) →
       rows (table_of namespaces) t' ≡ rows (table_of namespaces) m ++ ((id, i) ∷ []) → Only (table_of namespaces) m t' →
       Changes namespaces (rows (table_of namespaces) t ++ ((id, i) ∷ [])) t t'
   held-added {id} {i} h b n z e o =
       let l = rows (table_of namespaces) t in
       let k = length_more l (id, i) in
       after namespaces a o (e ∙ ap (λ (x : List Row). x ++ ((id, i) ∷ [])) (a.same_rows namespaces)) (omega arith) (below-append _ _ l (id, i) (g.below namespaces) h b)
-      (covered-append namespaceHint m l (id, i) (subst (Covered namespaceHint m) (a.same_rows namespaces) (a.good.hinted namespaces)) z)
+      (covered-append namespace_hint m l (id, i) (subst (Covered namespace_hint m) (a.same_rows namespaces) (a.good.hinted namespaces)) z)
 
-  pub record-added : {x : ℕ} → x < id-limit → held records t < 256 → 256 ≤ held records t + sourceIn (cell_at m (nameCell x)) →
+  pub record-added : {x : ℕ} → x < id-limit → held records t < 256 → 256 ≤ held records t + source_in (cell_at m (name_cell x)) →
       rows (table_of records) t' ≡ rows (table_of records) m ++ ((x, 0) ∷ []) → Only (table_of records) m t' → Changes records (rows (table_of records) t ++ ((x, 0) ∷ [])) t t'
   record-added {x} h n z e o =
       let l = rows (table_of records) t in
@@ -232,45 +232,45 @@ module _ {t m t' : List ℕ} (g : Good t) (a : Aside t m) where
       after records a o (e ∙ ap (λ (y : List Row). y ++ ((x, 0) ∷ [])) (a.same_rows records)) (omega arith) (below-append _ _ l (x, 0) (g.below records) h (omega arith))
       (named-append 0 m l (x, 0) (subst (λ (y : List Row). Hinted records m y) (a.same_rows records) (a.good.hinted records)) refl (omega arith))
 
-  pub module-added : {f : ℕ} → f < 65536 → held modules t < 256 → 256 ≤ held modules t + moduleHint m (f % 256) →
+  pub module-added : {f : ℕ} → f < 65536 → held modules t < 256 → 256 ≤ held modules t + module_hint m (f % 256) →
       rows (table_of modules) t' ≡ rows (table_of modules) m ++ ((f, 0) ∷ []) → Only (table_of modules) m t' → Changes modules (rows (table_of modules) t ++ ((f, 0) ∷ [])) t t'
   module-added {f} h n z e o =
       let l = rows (table_of modules) t in
       let k = length_more l (f, 0) in
       after modules a o (e ∙ ap (λ (y : List Row). y ++ ((f, 0) ∷ [])) (a.same_rows modules)) (omega arith) (below-append _ _ l (f, 0) (g.below modules) h (omega arith))
-      (reached-append 256 (λ c. moduleHint m (c % 256)) 0 l (f, 0) (subst (λ (y : List Row). Hinted modules m y) (a.same_rows modules) (a.good.hinted modules)) (omega arith))
+      (reached-append 256 (λ c. module_hint m (c % 256)) 0 l (f, 0) (subst (λ (y : List Row). Hinted modules m y) (a.same_rows modules) (a.good.hinted modules)) (omega arith))
 
   -- a record's first namespace
-  pub first-set : {id : ℕ} (i : ℕ) → id < id-limit → 256 ≤ i + named_in (cell_at m (nameCell id)) → rows (table_of records) t' ≡ withValue i (id + 1) (rows (table_of records) m) →
-      Only (table_of records) m t' → Changes records (withValue i (id + 1) (rows (table_of records) t)) t t'
+  pub first-set : {id : ℕ} (i : ℕ) → id < id-limit → 256 ≤ i + named_in (cell_at m (name_cell id)) → rows (table_of records) t' ≡ with_value i (id + 1) (rows (table_of records) m) →
+      Only (table_of records) m t' → Changes records (with_value i (id + 1) (rows (table_of records) t)) t t'
   first-set {id} i h n e o =
       let l = rows (table_of records) t in
       let k = length-value l i (id + 1) in
       let r = room-for records g in
-      after records a o (e ∙ ap (withValue i (id + 1)) (a.same_rows records)) (omega arith) (below-value _ _ l i (id + 1) (g.below records) (omega arith))
+      after records a o (e ∙ ap (with_value i (id + 1)) (a.same_rows records)) (omega arith) (below-value _ _ l i (id + 1) (g.below records) (omega arith))
       (named_value 0 i m l id (subst (λ (x : List Row). Hinted records m x) (a.same_rows records) (a.good.hinted records)) (omega arith))
 
 -- ---- Rows are taken out
 
 module _ (id : ℕ) {t t' : List ℕ} (g : Good t) where
-  pub import-dropped : {i : ℕ} → some i ≡ firstIn id id (rows (table_of imports) t) → rows (table_of imports) t' ≡ withoutRow i (rows (table_of imports) t) →
+  pub import-dropped : {i : ℕ} → some i ≡ first_in id id (rows (table_of imports) t) → rows (table_of imports) t' ≡ without_row i (rows (table_of imports) t) →
       Only (table_of imports) t t' → Changes imports (without id (rows (table_of imports) t)) t t'
   import-dropped {i} f e o =
       let l = rows (table_of imports) t in
       let n = length_without id l in
       let r = room-for imports g in
       changed imports g o (e ∙ row_out id l i (g.hinted imports).1 (sym f)) (omega arith) (below-without _ _ id l (g.below imports))
-      (covered-without importHint t id l (g.hinted imports).0, distinct_without id l (g.hinted imports).1)
+      (covered-without import_hint t id l (g.hinted imports).0, distinct_without id l (g.hinted imports).1)
 
   pub uses-dropped : rows (table_of uses) t' ≡ without id (rows (table_of uses) t) → Only (table_of uses) t t' → Changes uses (without id (rows (table_of uses) t)) t t'
   uses-dropped e o =
       let l = rows (table_of uses) t in
       let n = length_without id l in
       let r = room-for uses g in
-      changed uses g o e (omega arith) (below-without _ _ id l (g.below uses)) (covered-without useHint t id l (g.hinted uses))
+      changed uses g o e (omega arith) (below-without _ _ id l (g.below uses)) (covered-without use_hint t id l (g.hinted uses))
 
 -- none are there
-pub absent : (k : Kind) (id : ℕ) {t : List ℕ} → Good t → firstIn id id (rows (table_of k) t) ≡ nothing → Changes k (without id (rows (table_of k) t)) t t
+pub absent : (k : Kind) (id : ℕ) {t : List ℕ} → Good t → first_in id id (rows (table_of k) t) ≡ nothing → Changes k (without id (rows (table_of k) t)) t t
 absent k id {t} g e =
     record { good = g; now-rows = sym (none_out id (rows (table_of k) t) e); others = record { rows-kept = λ m h. refl; cells-kept = cells_same _ } }
 
@@ -279,11 +279,11 @@ some-none nothing e = refl
 some-none (some n) e = absurd (let z : ◌≡◌ {A = ℕ} 0 1 = cc in omega arith)
 
 -- a hint of 0
-pub not-imported : {t : List ℕ} (id : ℕ) → Good t → importHint (hintAt t id) ≡ 0 → firstIn id id (rows (table_of imports) t) ≡ nothing
-not-imported {t} id g e = covered_none importHint t id (rows (table_of imports) t) (g.hinted imports).0 e
+pub not-imported : {t : List ℕ} (id : ℕ) → Good t → import_hint (hint_at t id) ≡ 0 → first_in id id (rows (table_of imports) t) ≡ nothing
+not-imported {t} id g e = covered_none import_hint t id (rows (table_of imports) t) (g.hinted imports).0 e
 
-pub not-used : {t : List ℕ} (id : ℕ) → Good t → useHint (hintAt t id) ≡ 0 → firstIn id id (rows (table_of uses) t) ≡ nothing
-not-used {t} id g e = covered_none useHint t id (rows (table_of uses) t) (g.hinted uses) e
+pub not-used : {t : List ℕ} (id : ℕ) → Good t → use_hint (hint_at t id) ≡ 0 → first_in id id (rows (table_of uses) t) ≡ nothing
+not-used {t} id g e = covered_none use_hint t id (rows (table_of uses) t) (g.hinted uses) e
 
-pub not-held : {t : List ℕ} (id : ℕ) → Good t → namespaceHint (hintAt t id) ≡ 0 → firstIn id id (rows (table_of namespaces) t) ≡ nothing
-not-held {t} id g e = covered_none namespaceHint t id (rows (table_of namespaces) t) (g.hinted namespaces) e
+pub not-held : {t : List ℕ} (id : ℕ) → Good t → namespace_hint (hint_at t id) ≡ 0 → first_in id id (rows (table_of namespaces) t) ≡ nothing
+not-held {t} id g e = covered_none namespace_hint t id (rows (table_of namespaces) t) (g.hinted namespaces) e

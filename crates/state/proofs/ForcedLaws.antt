@@ -6,16 +6,16 @@ use mathlib.Core.Bool.{Bool, true, false, cond, ◌||◌}
 use mathlib.Core.List.{List, [], ◌∷◌, ◌++◌, map, map-append}
 use mathlib.Core.Option.{Option, none as nothing, some}
 use lib.ListN.{length, length-map}
-use Rattle.tables.specs.Rows.{Row, rows, next, between, firstIn}
+use Rattle.tables.specs.Rows.{Row, rows, next, between, first_in}
 use Rattle.tables.specs.Only.{Only}
 use Rattle.tree.specs.Layout.{two, same, value_of}
 use Rattle.tree.proofs.LayoutLaws.{same_refl, same-equal, same-two}
 use Rattle.tree.proofs.FixedLaws.{or_right}
 use Rattle.inputs.specs.Lists.{find, is_some, among}
-use Rattle.extraction_rules.specs.State.{Record, State, setForced}
-use Rattle.extraction_rules.specs.First.{holdsNamespace, forceSource, forceHolder, forget, forceId}
-use Rattle.state.specs.Cells.{imports, uses, hintAt, importHint, namespaceHint, useHint}
-use Rattle.state.specs.Cells.{Env, id-limit, id_of, records, forces, table_of, Below, held, Good, atomOf, sourcesIn, Once, Sourced, Shows}
+use Rattle.extraction_rules.specs.State.{Record, State, set_forced}
+use Rattle.extraction_rules.specs.First.{holds_namespace, force_source, force_holder, forget, force_id}
+use Rattle.state.specs.Cells.{imports, uses, hint_at, import_hint, namespace_hint, use_hint}
+use Rattle.state.specs.Cells.{Env, id-limit, id_of, records, forces, table_of, Below, held, Good, atom_of, sources_in, Once, Sourced, Shows}
 use Rattle.state.specs.Does.{Tells, Turns, Forces, source_of}
 use Rattle.state.proofs.IdLaws.{between-one, eqb_swap}
 use Rattle.state.proofs.ListLaws.{below-append, length_more}
@@ -31,17 +31,17 @@ use Rattle.state.proofs.SourcedLaws.{find-among, sourced-force}
 same-atom : (a n : ℕ) → a < 65536 → n < 65536 → same (two a) (two n) ≡ between a a n
 same-atom a n h k = same-two a n h k ∙ eqb_swap a n ∙ sym (between-one a n)
 
-pub among-rows : (a v : ℕ) (l : List Row) → a < 65536 → Below 65536 v l → among (two a) (map atomOf l) ≡ is_some (firstIn a a l)
-unfolding among firstIn Below
+pub among-rows : (a v : ℕ) (l : List Row) → a < 65536 → Below 65536 v l → among (two a) (map atom_of l) ≡ is_some (first_in a a l)
+unfolding among first_in Below
 among-rows a v [] h b = refl
-among-rows a v (r ∷ l) h b = ap (λ (x : Bool). x || among (two a) (map atomOf l)) (same-atom a r.0 h b.0) ∙ by (between a a r.0) (firstIn a a l) (among-rows a v l h b.2)
+among-rows a v (r ∷ l) h b = ap (λ (x : Bool). x || among (two a) (map atom_of l)) (same-atom a r.0 h b.0) ∙ by (between a a r.0) (first_in a a l) (among-rows a v l h b.2)
   where
-    by : (x : Bool) (o : Option ℕ) → among (two a) (map atomOf l) ≡ is_some o → (x || among (two a) (map atomOf l)) ≡ is_some (cond x (some zero) (next o))
+    by : (x : Bool) (o : Option ℕ) → among (two a) (map atom_of l) ≡ is_some o → (x || among (two a) (map atom_of l)) ≡ is_some (cond x (some zero) (next o))
     by true o e = refl
     by false nothing e = e
     by false (some i) e = e
 
-pub forced-told : {t : List ℕ} {a : ℕ} {o : Option ℕ} → Good t → a < 65536 → o ≡ firstIn a a (rows (table_of forces) t) →
+pub forced-told : {t : List ℕ} {a : ℕ} {o : Option ℕ} → Good t → a < 65536 → o ≡ first_in a a (rows (table_of forces) t) →
     Tells (λ s. among (two a) s.forced) t (is_some o)
 forced-told {t} {a} {o} g h e =
     record {
@@ -97,41 +97,41 @@ once-fits (a ∷ l) m o h =
         by false p = refl
 
 -- so there is room for one more
-room-to-force : {y : Env} {t : List ℕ} {s : State} (a : List ℕ) → Good t → Shows y t s → among a (sourcesIn s.collected) ≡ true → among a s.forced ≡ false →
+room-to-force : {y : Env} {t : List ℕ} {s : State} (a : List ℕ) → Good t → Shows y t s → among a (sources_in s.collected) ≡ true → among a s.forced ≡ false →
     held forces t < 256
 unfolding Once among
 room-to-force {t = t} {s} a g w f n =
     let r = room-for records g in
     let c = held-shown w in
     let k = length-map s.collected (λ (q : Record). value_of q.literal) in
-    let j : held forces t ≡ length s.forced = sym (length-map (rows (table_of forces) t) atomOf) ∙ ap length w.forced in
-    let fit = once-fits (a ∷ s.forced) (sourcesIn s.collected) (n, w.sourced.once) (λ b e. by b (same b a) refl e) in
+    let j : held forces t ≡ length s.forced = sym (length-map (rows (table_of forces) t) atom_of) ∙ ap length w.forced in
+    let fit = once-fits (a ∷ s.forced) (sources_in s.collected) (n, w.sourced.once) (λ b e. by b (same b a) refl e) in
     omega arith
   where
-    by : (b : List ℕ) (x : Bool) → same b a ≡ x → (x || among b s.forced) ≡ true → among b (sourcesIn s.collected) ≡ true
-    by b true p e = ap (λ (y : List ℕ). among y (sourcesIn s.collected)) (same-equal b a p) ∙ f
+    by : (b : List ℕ) (x : Bool) → same b a ≡ x → (x || among b s.forced) ≡ true → among b (sources_in s.collected) ≡ true
+    by b true p e = ap (λ (y : List ℕ). among y (sources_in s.collected)) (same-equal b a p) ∙ f
     by b false p e = w.sourced.from b e
 
 -- ---- A source is forced
 
 module _ {t : List ℕ} (a : ℕ) (g : Good t) where
   pub force-again : Tells (λ s. among (two a) s.forced) t true → Forces (two a) t t
-  unfolding forceSource
+  unfolding force_source
   force-again n =
-      record { good = g; shows = λ {x = y} s f w. subst (λ (b : Bool). Shows y t (cond b s (setForced (s.forced ++ (two a ∷ [])) s))) (n.is s w) w }
+      record { good = g; shows = λ {x = y} s f w. subst (λ (b : Bool). Shows y t (cond b s (set_forced (s.forced ++ (two a ∷ [])) s))) (n.is s w) w }
 
   pub force-new : {t' : List ℕ} → a < 65536 → Tells (λ s. among (two a) s.forced) t false → held forces t < 256 →
       rows (table_of forces) t' ≡ rows (table_of forces) t ++ ((a, 0) ∷ []) → Only (table_of forces) t t' → Forces (two a) t t'
-  unfolding forceSource
+  unfolding force_source
   force-new {t'} h n k e o =
       let m = length_more (rows (table_of forces) t) (a, 0) in
       record {
         good = good-kept forces g o e (omega arith) (below-append _ _ (rows (table_of forces) t) (a, 0) (g.below forces) h (omega arith)) tt;
         shows = λ {x = y} s f w.
-            subst (λ (b : Bool). Shows y t' (cond b s (setForced (s.forced ++ (two a ∷ [])) s))) (n.is s w)
+            subst (λ (b : Bool). Shows y t' (cond b s (set_forced (s.forced ++ (two a ∷ [])) s))) (n.is s w)
             (shows-forced w (others-kept forces g o)
-            (ap (map atomOf) e ∙ map-append atomOf (rows (table_of forces) t) ((a, 0) ∷ []) ∙ ap (λ (l : List (List ℕ)). l ++ (two a ∷ [])) w.forced)
-            (subst (λ (b : Bool). Sourced (cond b s (setForced (s.forced ++ (two a ∷ [])) s))) (sym (n.is s w)) (sourced-force (two a) w.sourced f)));
+            (ap (map atom_of) e ∙ map-append atom_of (rows (table_of forces) t) ((a, 0) ∷ []) ∙ ap (λ (l : List (List ℕ)). l ++ (two a ∷ [])) w.forced)
+            (subst (λ (b : Bool). Sourced (cond b s (set_forced (s.forced ++ (two a ∷ [])) s))) (sym (n.is s w)) (sourced-force (two a) w.sourced f)));
       }
 
   pub force-full : Tells (λ s. among (two a) s.forced) t false → 256 ≤ held forces t → Forces (two a) t t
@@ -139,40 +139,40 @@ module _ {t : List ℕ} (a : ℕ) (g : Good t) where
 
 -- ---- An id is forced
 
-holder-none : (o : Option Record) (s : State) → nothing ≡ source_of o → forceHolder o s ≡ s
+holder-none : (o : Option Record) (s : State) → nothing ≡ source_of o → force_holder o s ≡ s
 holder-none nothing s e = refl
 holder-none (some r) s e = absurd (let z : ◌≡◌ {A = ℕ} 0 1 = cc in omega arith)
 
-holder-some : (o : Option Record) (s : State) (x : List ℕ) → some x ≡ source_of o → forceHolder o s ≡ forceSource x s
+holder-some : (o : Option Record) (s : State) (x : List ℕ) → some x ≡ source_of o → force_holder o s ≡ force_source x s
 holder-some nothing s x e = absurd (let z : ◌≡◌ {A = ℕ} 0 1 = cc in omega arith)
-holder-some (some r) s x e = let z : value_of r.literal ≡ x = cc in ap (λ (y : List ℕ). forceSource y s) z
+holder-some (some r) s x e = let z : value_of r.literal ≡ x = cc in ap (λ (y : List ℕ). force_source y s) z
 
 module _ {t m : List ℕ} (i : List ℕ) (u : Turns (forget i) t m) where
-  pub forced-none : Tells (λ s. source_of (find (holdsNamespace i) s.collected)) m nothing → Turns (forceId i) t m
-  unfolding forceId forget
+  pub forced-none : Tells (λ s. source_of (find (holds_namespace i) s.collected)) m nothing → Turns (force_id i) t m
+  unfolding force_id forget
   forced-none n =
       record {
         good = u.good;
         shows = λ s w.
             let v = u.shows s w in
-            subst (Shows _ m) (sym (holder-none (find (holdsNamespace i) s.collected) (forget i s) (n.is (forget i s) v))) v;
+            subst (Shows _ m) (sym (holder-none (find (holds_namespace i) s.collected) (forget i s) (n.is (forget i s) v))) v;
       }
 
-  pub forced-some : {t' x : List ℕ} → Tells (λ s. source_of (find (holdsNamespace i) s.collected)) m (some x) → Forces x m t' → Turns (forceId i) t t'
-  unfolding forceId forget
+  pub forced-some : {t' x : List ℕ} → Tells (λ s. source_of (find (holds_namespace i) s.collected)) m (some x) → Forces x m t' → Turns (force_id i) t t'
+  unfolding force_id forget
   forced-some {t'} {x} n f =
       record {
         good = f.good;
         shows = λ s w.
             let v = u.shows s w in
             let e = n.is (forget i s) v in
-            subst (Shows _ t') (sym (holder-some (find (holdsNamespace i) s.collected) (forget i s) x e))
-            (f.shows (forget i s) (find-among (holdsNamespace i) s.collected x e) v);
+            subst (Shows _ t') (sym (holder-some (find (holds_namespace i) s.collected) (forget i s) x e))
+            (f.shows (forget i s) (find-among (holds_namespace i) s.collected x e) v);
       }
 
 -- an id that no hint names is nowhere
-pub forced-nowhere : {t x : List ℕ} (id : ℕ) → Good t → id_of id ≡ x → id < id-limit → hintAt t id ≡ 0 → Turns (forceId x) t t
+pub forced-nowhere : {t x : List ℕ} (id : ℕ) → Good t → id_of id ≡ x → id < id-limit → hint_at t id ≡ 0 → Turns (force_id x) t t
 forced-nowhere id g n h e =
     forced-none _
-    (forgotten g n h (absent uses id g (not-used id g (ap useHint e))) (absent imports id g (not-imported id g (ap importHint e))))
-    (holder-told n h (sym (none-least id _ (not-held id g (ap namespaceHint e)))))
+    (forgotten g n h (absent uses id g (not-used id g (ap use_hint e))) (absent imports id g (not-imported id g (ap import_hint e))))
+    (holder-told n h (sym (none-least id _ (not-held id g (ap namespace_hint e)))))

@@ -10,18 +10,18 @@ use borrow.Author.Tests.{leb-true, ltb-true, eqb-true}
 use Rattle.tree.proofs.Table.{both_true}
 use Rattle.scope.specs.Modules.{Modules}
 use Rattle.tables.specs.declared.Table.{Table}
-use Rattle.tables.specs.Rows.{Row, rows, Lies, leastOf}
+use Rattle.tables.specs.Rows.{Row, rows, Lies, least_of}
 use Rattle.tables.specs.Only.{Outside, Only, Apart}
 use Rattle.tables.proofs.RowLaws.{rows-length}
 use Rattle.tables.proofs.OnlyLaws.{apart-rows, apart-lies, store-count}
-use Rattle.extraction_rules.specs.State.{Record, Imported, Usage, State, Setting, setImported, setUsages, setCollected, setLazy, setForced, setModules, setTop}
+use Rattle.extraction_rules.specs.State.{Record, Imported, Usage, State, Setting, set_imported, set_usages, set_collected, set_lazy, set_forced, set_modules, set_top}
 use Rattle.inputs.specs.Lists.{among}
-use Rattle.extraction_rules.specs.First.{holdsNamespace}
+use Rattle.extraction_rules.specs.First.{holds_namespace}
 use Rattle.state.specs.Cells.{Kind, imports, uses, records, namespaces, lazies, forces, modules, externals, table, table_of, InLimits, Good, Env}
 use Rattle.state.specs.Cells.{top-cell, pass-cell, own-cell, require-cell, cells}
-use Rattle.state.specs.Cells.{Sourced, Sets, Shows, id_of, importedOf, usageOf, brief, briefOf, index_of, namespacesIn, sourcesIn, lazyOf, atomOf, lent_of}
+use Rattle.state.specs.Cells.{Sourced, Sets, Shows, id_of, imported_of, usage_of, brief, brief_of, index_of, namespaces_in, sources_in, lazy_of, atom_of, lent_of}
 use Rattle.state.specs.Cells.{module_of, flag, Hinted}
-use Rattle.state.specs.Does.{one?, CellsKept, Others, Changes, withSetting}
+use Rattle.state.specs.Does.{one?, CellsKept, Others, Changes, with_setting}
 use Rattle.state.proofs.HintLaws.{Agrees, hinted-agree, grows-stays}
 
 -- ---- Tables apart
@@ -232,7 +232,7 @@ pub sets-kept : {e : Setting} {t t' : List ℕ} → rows (table_of externals) t'
     CellsKept t t' → Sets e t → Sets e t'
 sets-kept a b c w =
     record {
-      externals = ap (map atomOf) a ∙ w.externals;
+      externals = ap (map atom_of) a ∙ w.externals;
       table = ap (map lent_of) b ∙ w.table;
       pass = c.pass_kept ∙ w.pass;
       own = c.own-kept ∙ w.own;
@@ -240,65 +240,65 @@ sets-kept a b c w =
     }
 
 module _ {x : Env} {t t' : List ℕ} {s : State} (w : Shows x t s) where
-  pub shows-imported : {y : List Imported} → Others imports t t' → map importedOf (rows (table_of imports) t') ≡ y → Shows x t' (setImported y s)
+  pub shows-imported : {y : List Imported} → Others imports t t' → map imported_of (rows (table_of imports) t') ≡ y → Shows x t' (set_imported y s)
   shows-imported o e =
       record {
         imported = e;
-        usages = ap (map usageOf) (o.rows-kept uses refl) ∙ w.usages;
-        collected = ap (map (briefOf x)) (o.rows-kept records refl) ∙ w.collected;
-        holders = λ n h. ap (leastOf n) (o.rows-kept namespaces refl) ∙ w.holders n h;
+        usages = ap (map usage_of) (o.rows-kept uses refl) ∙ w.usages;
+        collected = ap (map (brief_of x)) (o.rows-kept records refl) ∙ w.collected;
+        holders = λ n h. ap (least_of n) (o.rows-kept namespaces refl) ∙ w.holders n h;
         met = ap length (o.rows-kept namespaces refl) ∙ w.met;
-        lazy = ap (map (lazyOf x)) (o.rows-kept lazies refl) ∙ w.lazy;
-        forced = ap (map atomOf) (o.rows-kept forces refl) ∙ w.forced;
+        lazy = ap (map (lazy_of x)) (o.rows-kept lazies refl) ∙ w.lazy;
+        forced = ap (map atom_of) (o.rows-kept forces refl) ∙ w.forced;
         top = o.cells-kept.top_kept ∙ w.top;
         modules = ap (map module_of) (o.rows-kept modules refl) ∙ w.modules;
         sourced = record { once = w.sourced.once; from = w.sourced.from };
         sets = sets-kept (o.rows-kept externals refl) (o.rows-kept table refl) o.cells-kept w.sets;
       }
 
-  pub shows-usages : {y : List Usage} → Others uses t t' → map usageOf (rows (table_of uses) t') ≡ y → Shows x t' (setUsages y s)
+  pub shows-usages : {y : List Usage} → Others uses t t' → map usage_of (rows (table_of uses) t') ≡ y → Shows x t' (set_usages y s)
   shows-usages o e =
       record {
-        imported = ap (map importedOf) (o.rows-kept imports refl) ∙ w.imported;
+        imported = ap (map imported_of) (o.rows-kept imports refl) ∙ w.imported;
         usages = e;
-        collected = ap (map (briefOf x)) (o.rows-kept records refl) ∙ w.collected;
-        holders = λ n h. ap (leastOf n) (o.rows-kept namespaces refl) ∙ w.holders n h;
+        collected = ap (map (brief_of x)) (o.rows-kept records refl) ∙ w.collected;
+        holders = λ n h. ap (least_of n) (o.rows-kept namespaces refl) ∙ w.holders n h;
         met = ap length (o.rows-kept namespaces refl) ∙ w.met;
-        lazy = ap (map (lazyOf x)) (o.rows-kept lazies refl) ∙ w.lazy;
-        forced = ap (map atomOf) (o.rows-kept forces refl) ∙ w.forced;
+        lazy = ap (map (lazy_of x)) (o.rows-kept lazies refl) ∙ w.lazy;
+        forced = ap (map atom_of) (o.rows-kept forces refl) ∙ w.forced;
         top = o.cells-kept.top_kept ∙ w.top;
         modules = ap (map module_of) (o.rows-kept modules refl) ∙ w.modules;
         sourced = record { once = w.sourced.once; from = w.sourced.from };
         sets = sets-kept (o.rows-kept externals refl) (o.rows-kept table refl) o.cells-kept w.sets;
       }
 
-  pub shows-collected : {y : List Record} → Others records t t' → map (briefOf x) (rows (table_of records) t') ≡ map brief y →
-      ((n : ℕ) → index_of (holdsNamespace (id_of n)) y ≡ index_of (holdsNamespace (id_of n)) s.collected) → namespacesIn y ≡ namespacesIn s.collected →
-      ((a : List ℕ) → among a (sourcesIn s.collected) ≡ true → among a (sourcesIn y) ≡ true) → Shows x t' (setCollected y s)
+  pub shows-collected : {y : List Record} → Others records t t' → map (brief_of x) (rows (table_of records) t') ≡ map brief y →
+      ((n : ℕ) → index_of (holds_namespace (id_of n)) y ≡ index_of (holds_namespace (id_of n)) s.collected) → namespaces_in y ≡ namespaces_in s.collected →
+      ((a : List ℕ) → among a (sources_in s.collected) ≡ true → among a (sources_in y) ≡ true) → Shows x t' (set_collected y s)
   shows-collected o e f n h =
       record {
-        imported = ap (map importedOf) (o.rows-kept imports refl) ∙ w.imported;
-        usages = ap (map usageOf) (o.rows-kept uses refl) ∙ w.usages;
+        imported = ap (map imported_of) (o.rows-kept imports refl) ∙ w.imported;
+        usages = ap (map usage_of) (o.rows-kept uses refl) ∙ w.usages;
         collected = e;
-        holders = λ i h. ap (leastOf i) (o.rows-kept namespaces refl) ∙ w.holders i h ∙ sym (f i);
+        holders = λ i h. ap (least_of i) (o.rows-kept namespaces refl) ∙ w.holders i h ∙ sym (f i);
         met = ap length (o.rows-kept namespaces refl) ∙ w.met ∙ sym n;
-        lazy = ap (map (lazyOf x)) (o.rows-kept lazies refl) ∙ w.lazy;
-        forced = ap (map atomOf) (o.rows-kept forces refl) ∙ w.forced;
+        lazy = ap (map (lazy_of x)) (o.rows-kept lazies refl) ∙ w.lazy;
+        forced = ap (map atom_of) (o.rows-kept forces refl) ∙ w.forced;
         top = o.cells-kept.top_kept ∙ w.top;
         modules = ap (map module_of) (o.rows-kept modules refl) ∙ w.modules;
         sourced = record { once = w.sourced.once; from = λ a k. h a (w.sourced.from a k) };
         sets = sets-kept (o.rows-kept externals refl) (o.rows-kept table refl) o.cells-kept w.sets;
       }
 
-  pub shows-forced : {y : List (List ℕ)} → Others forces t t' → map atomOf (rows (table_of forces) t') ≡ y → Sourced (setForced y s) → Shows x t' (setForced y s)
+  pub shows-forced : {y : List (List ℕ)} → Others forces t t' → map atom_of (rows (table_of forces) t') ≡ y → Sourced (set_forced y s) → Shows x t' (set_forced y s)
   shows-forced o e h =
       record {
-        imported = ap (map importedOf) (o.rows-kept imports refl) ∙ w.imported;
-        usages = ap (map usageOf) (o.rows-kept uses refl) ∙ w.usages;
-        collected = ap (map (briefOf x)) (o.rows-kept records refl) ∙ w.collected;
-        holders = λ n h. ap (leastOf n) (o.rows-kept namespaces refl) ∙ w.holders n h;
+        imported = ap (map imported_of) (o.rows-kept imports refl) ∙ w.imported;
+        usages = ap (map usage_of) (o.rows-kept uses refl) ∙ w.usages;
+        collected = ap (map (brief_of x)) (o.rows-kept records refl) ∙ w.collected;
+        holders = λ n h. ap (least_of n) (o.rows-kept namespaces refl) ∙ w.holders n h;
         met = ap length (o.rows-kept namespaces refl) ∙ w.met;
-        lazy = ap (map (lazyOf x)) (o.rows-kept lazies refl) ∙ w.lazy;
+        lazy = ap (map (lazy_of x)) (o.rows-kept lazies refl) ∙ w.lazy;
         forced = e;
         top = o.cells-kept.top_kept ∙ w.top;
         modules = ap (map module_of) (o.rows-kept modules refl) ∙ w.modules;
@@ -306,32 +306,32 @@ module _ {x : Env} {t t' : List ℕ} {s : State} (w : Shows x t s) where
         sets = sets-kept (o.rows-kept externals refl) (o.rows-kept table refl) o.cells-kept w.sets;
       }
 
-  pub shows-lazy : {y : List Record} → Others lazies t t' → map (lazyOf x) (rows (table_of lazies) t') ≡ y → Shows x t' (setLazy y s)
+  pub shows-lazy : {y : List Record} → Others lazies t t' → map (lazy_of x) (rows (table_of lazies) t') ≡ y → Shows x t' (set_lazy y s)
   shows-lazy o e =
       record {
-        imported = ap (map importedOf) (o.rows-kept imports refl) ∙ w.imported;
-        usages = ap (map usageOf) (o.rows-kept uses refl) ∙ w.usages;
-        collected = ap (map (briefOf x)) (o.rows-kept records refl) ∙ w.collected;
-        holders = λ n h. ap (leastOf n) (o.rows-kept namespaces refl) ∙ w.holders n h;
+        imported = ap (map imported_of) (o.rows-kept imports refl) ∙ w.imported;
+        usages = ap (map usage_of) (o.rows-kept uses refl) ∙ w.usages;
+        collected = ap (map (brief_of x)) (o.rows-kept records refl) ∙ w.collected;
+        holders = λ n h. ap (least_of n) (o.rows-kept namespaces refl) ∙ w.holders n h;
         met = ap length (o.rows-kept namespaces refl) ∙ w.met;
         lazy = e;
-        forced = ap (map atomOf) (o.rows-kept forces refl) ∙ w.forced;
+        forced = ap (map atom_of) (o.rows-kept forces refl) ∙ w.forced;
         top = o.cells-kept.top_kept ∙ w.top;
         modules = ap (map module_of) (o.rows-kept modules refl) ∙ w.modules;
         sourced = record { once = w.sourced.once; from = w.sourced.from };
         sets = sets-kept (o.rows-kept externals refl) (o.rows-kept table refl) o.cells-kept w.sets;
       }
 
-  pub shows-modules : {y : Modules} → Others modules t t' → map module_of (rows (table_of modules) t') ≡ y → Shows x t' (setModules y s)
+  pub shows-modules : {y : Modules} → Others modules t t' → map module_of (rows (table_of modules) t') ≡ y → Shows x t' (set_modules y s)
   shows-modules o e =
       record {
-        imported = ap (map importedOf) (o.rows-kept imports refl) ∙ w.imported;
-        usages = ap (map usageOf) (o.rows-kept uses refl) ∙ w.usages;
-        collected = ap (map (briefOf x)) (o.rows-kept records refl) ∙ w.collected;
-        holders = λ n h. ap (leastOf n) (o.rows-kept namespaces refl) ∙ w.holders n h;
+        imported = ap (map imported_of) (o.rows-kept imports refl) ∙ w.imported;
+        usages = ap (map usage_of) (o.rows-kept uses refl) ∙ w.usages;
+        collected = ap (map (brief_of x)) (o.rows-kept records refl) ∙ w.collected;
+        holders = λ n h. ap (least_of n) (o.rows-kept namespaces refl) ∙ w.holders n h;
         met = ap length (o.rows-kept namespaces refl) ∙ w.met;
-        lazy = ap (map (lazyOf x)) (o.rows-kept lazies refl) ∙ w.lazy;
-        forced = ap (map atomOf) (o.rows-kept forces refl) ∙ w.forced;
+        lazy = ap (map (lazy_of x)) (o.rows-kept lazies refl) ∙ w.lazy;
+        forced = ap (map atom_of) (o.rows-kept forces refl) ∙ w.forced;
         top = o.cells-kept.top_kept ∙ w.top;
         modules = e;
         sourced = record { once = w.sourced.once; from = w.sourced.from };
@@ -340,33 +340,33 @@ module _ {x : Env} {t t' : List ℕ} {s : State} (w : Shows x t s) where
 
   -- with other settings: the tables of the state are kept
   pub shows-set : (f : Setting → Setting) → ((m : Kind) → one? externals m ≡ false → one? table m ≡ false → rows (table_of m) t' ≡ rows (table_of m) t) →
-      get_or t' top-cell 0 ≡ get_or t top-cell 0 → Sets (f x.setting) t' → Shows (withSetting f x) t' s
-  unfolding briefOf
+      get_or t' top-cell 0 ≡ get_or t top-cell 0 → Sets (f x.setting) t' → Shows (with_setting f x) t' s
+  unfolding brief_of
   shows-set f o c e =
       record {
-        imported = ap (map importedOf) (o imports refl refl) ∙ w.imported;
-        usages = ap (map usageOf) (o uses refl refl) ∙ w.usages;
-        collected = ap (map (briefOf x)) (o records refl refl) ∙ w.collected;
-        holders = λ n h. ap (leastOf n) (o namespaces refl refl) ∙ w.holders n h;
+        imported = ap (map imported_of) (o imports refl refl) ∙ w.imported;
+        usages = ap (map usage_of) (o uses refl refl) ∙ w.usages;
+        collected = ap (map (brief_of x)) (o records refl refl) ∙ w.collected;
+        holders = λ n h. ap (least_of n) (o namespaces refl refl) ∙ w.holders n h;
         met = ap length (o namespaces refl refl) ∙ w.met;
-        lazy = ap (map (lazyOf x)) (o lazies refl refl) ∙ w.lazy;
-        forced = ap (map atomOf) (o forces refl refl) ∙ w.forced;
+        lazy = ap (map (lazy_of x)) (o lazies refl refl) ∙ w.lazy;
+        forced = ap (map atom_of) (o forces refl refl) ∙ w.forced;
         top = c ∙ w.top;
         modules = ap (map module_of) (o modules refl refl) ∙ w.modules;
         sourced = record { once = w.sourced.once; from = w.sourced.from };
         sets = e;
       }
 
-  pub shows-top : {b : Bool} → ((m : Kind) → rows (table_of m) t' ≡ rows (table_of m) t) → get_or t' top-cell 0 ≡ flag b → Sets x.setting t' → Shows x t' (setTop b s)
+  pub shows-top : {b : Bool} → ((m : Kind) → rows (table_of m) t' ≡ rows (table_of m) t) → get_or t' top-cell 0 ≡ flag b → Sets x.setting t' → Shows x t' (set_top b s)
   shows-top o c e =
       record {
-        imported = ap (map importedOf) (o imports) ∙ w.imported;
-        usages = ap (map usageOf) (o uses) ∙ w.usages;
-        collected = ap (map (briefOf x)) (o records) ∙ w.collected;
-        holders = λ n h. ap (leastOf n) (o namespaces) ∙ w.holders n h;
+        imported = ap (map imported_of) (o imports) ∙ w.imported;
+        usages = ap (map usage_of) (o uses) ∙ w.usages;
+        collected = ap (map (brief_of x)) (o records) ∙ w.collected;
+        holders = λ n h. ap (least_of n) (o namespaces) ∙ w.holders n h;
         met = ap length (o namespaces) ∙ w.met;
-        lazy = ap (map (lazyOf x)) (o lazies) ∙ w.lazy;
-        forced = ap (map atomOf) (o forces) ∙ w.forced;
+        lazy = ap (map (lazy_of x)) (o lazies) ∙ w.lazy;
+        forced = ap (map atom_of) (o forces) ∙ w.forced;
         top = c;
         modules = ap (map module_of) (o modules) ∙ w.modules;
         sourced = record { once = w.sourced.once; from = w.sourced.from };

@@ -12,68 +12,68 @@ use lib.Seq.{get_or-set_same, get_or-set_other}
 use borrow.Author.Tests.{leb-true, lt-leb, eqb-true, eqb-false, eq-eqb, ne_eqb}
 use Rattle.tree.proofs.Table.{both_true}
 use Rattle.scope.proofs.Laws.{none-some}
-use Rattle.tables.specs.Rows.{Row, rows_from, next, between, flip, firstIn, NoneBefore, leastOf, lesser, without, withoutRow, withValue}
+use Rattle.tables.specs.Rows.{Row, rows_from, next, between, flip, first_in, NoneBefore, least_of, lesser, without, without_row, with_value}
 use Rattle.tables.proofs.RowLaws.{get_d_map}
 use Rattle.inputs.specs.Lists.{is_some}
-use Rattle.state.specs.Cells.{Kind, imports, uses, records, namespaces, lazies, forces, modules, externals, table, hintAt, importHint, namespaceHint, useHint}
-use Rattle.state.specs.Cells.{cell_at, tag_of, tagged, hintIn, named_in, sourceIn, nameCell, rowHint, moduleHint, Covered, Distinct, Named, Reached, Hinted}
-use Rattle.state.specs.Does.{Keeps, Grows, tagFor}
+use Rattle.state.specs.Cells.{Kind, imports, uses, records, namespaces, lazies, forces, modules, externals, table, hint_at, import_hint, namespace_hint, use_hint}
+use Rattle.state.specs.Cells.{cell_at, tag_of, tagged, hint_in, named_in, source_in, name_cell, row_hint, module_hint, Covered, Distinct, Named, Reached, Hinted}
+use Rattle.state.specs.Does.{Keeps, Grows, tag_for}
 use Rattle.state.proofs.IdLaws.{between-one}
 use Rattle.state.proofs.ListLaws.{row_of}
 
 -- ---- The search for a key that is first, and for one that is not
 
 -- behind a row with another key
-first-other : (k : ℕ) (r : Row) (l : List Row) → (r.0 ≡ k → ⊥) → firstIn k k (r ∷ l) ≡ next (firstIn k k l)
-unfolding firstIn
-first-other k r l h = ap (λ (b : Bool). cond b (some zero) (next (firstIn k k l))) (between-one k r.0 ∙ ne_eqb r.0 k h)
+first-other : (k : ℕ) (r : Row) (l : List Row) → (r.0 ≡ k → ⊥) → first_in k k (r ∷ l) ≡ next (first_in k k l)
+unfolding first_in
+first-other k r l h = ap (λ (b : Bool). cond b (some zero) (next (first_in k k l))) (between-one k r.0 ∙ ne_eqb r.0 k h)
 
-first-here : (k : ℕ) (r : Row) (l : List Row) → r.0 ≡ k → firstIn k k (r ∷ l) ≡ some zero
-unfolding firstIn
-first-here k r l e = ap (λ (b : Bool). cond b (some zero) (next (firstIn k k l))) (between-one k r.0 ∙ eq-eqb r.0 k e)
+first-here : (k : ℕ) (r : Row) (l : List Row) → r.0 ≡ k → first_in k k (r ∷ l) ≡ some zero
+unfolding first_in
+first-here k r l e = ap (λ (b : Bool). cond b (some zero) (next (first_in k k l))) (between-one k r.0 ∙ eq-eqb r.0 k e)
 
 next-none : (o : Option ℕ) → next o ≡ nothing → o ≡ nothing
 next-none nothing e = refl
 next-none (some n) e = none-some (sym e)
 
 -- where nothing is found, neither is it in the first row nor behind it
-none_first : (k : ℕ) (r : Row) (l : List Row) → firstIn k k (r ∷ l) ≡ nothing → r.0 ≡ k → ⊥
+none_first : (k : ℕ) (r : Row) (l : List Row) → first_in k k (r ∷ l) ≡ nothing → r.0 ≡ k → ⊥
 none_first k r l e h = none-some (sym e ∙ first-here k r l h)
 
-none_rest : (k : ℕ) (r : Row) (l : List Row) → firstIn k k (r ∷ l) ≡ nothing → firstIn k k l ≡ nothing
-none_rest k r l e = next-none (firstIn k k l) (sym (first-other k r l (none_first k r l e)) ∙ e)
+none_rest : (k : ℕ) (r : Row) (l : List Row) → first_in k k (r ∷ l) ≡ nothing → first_in k k l ≡ nothing
+none_rest k r l e = next-none (first_in k k l) (sym (first-other k r l (none_first k r l e)) ∙ e)
 
-none_more : (k : ℕ) (r : Row) (l : List Row) → (r.0 ≡ k → ⊥) → firstIn k k l ≡ nothing → firstIn k k (r ∷ l) ≡ nothing
+none_more : (k : ℕ) (r : Row) (l : List Row) → (r.0 ≡ k → ⊥) → first_in k k l ≡ nothing → first_in k k (r ∷ l) ≡ nothing
 none_more k r l h e = first-other k r l h ∙ ap next e
 
-none-append : (k : ℕ) (l : List Row) (r : Row) → firstIn k k l ≡ nothing → (r.0 ≡ k → ⊥) → firstIn k k (l ++ (r ∷ [])) ≡ nothing
-unfolding firstIn
+none-append : (k : ℕ) (l : List Row) (r : Row) → first_in k k l ≡ nothing → (r.0 ≡ k → ⊥) → first_in k k (l ++ (r ∷ [])) ≡ nothing
+unfolding first_in
 none-append k [] r e h = none_more k r [] h refl
 none-append k (q ∷ l) r e h = none_more k q (l ++ (r ∷ [])) (none_first k q l e) (none-append k l r (none_rest k q l e) h)
 
-none-value : (k i x : ℕ) (l : List Row) → firstIn k k l ≡ nothing → firstIn k k (withValue i x l) ≡ nothing
-unfolding withValue
+none-value : (k i x : ℕ) (l : List Row) → first_in k k l ≡ nothing → first_in k k (with_value i x l) ≡ nothing
+unfolding with_value
 none-value k i x [] e = e
 none-value k zero x (r ∷ l) e = none_more k (r.0, x) l (none_first k r l e) (none_rest k r l e)
-none-value k (suc i) x (r ∷ l) e = none_more k r (withValue i x l) (none_first k r l e) (none-value k i x l (none_rest k r l e))
+none-value k (suc i) x (r ∷ l) e = none_more k r (with_value i x l) (none_first k r l e) (none-value k i x l (none_rest k r l e))
 
-none-without : (k a : ℕ) (l : List Row) → firstIn k k l ≡ nothing → firstIn k k (without a l) ≡ nothing
+none-without : (k a : ℕ) (l : List Row) → first_in k k l ≡ nothing → first_in k k (without a l) ≡ nothing
 unfolding without
 none-without k a [] e = e
 none-without k a (r ∷ l) e = by (eqb r.0 a) (none-without k a l (none_rest k r l e))
   where
-    by : (b : Bool) → firstIn k k (without a l) ≡ nothing → firstIn k k (cond b (without a l) (r ∷ without a l)) ≡ nothing
+    by : (b : Bool) → first_in k k (without a l) ≡ nothing → first_in k k (cond b (without a l) (r ∷ without a l)) ≡ nothing
     by true f = f
     by false f = none_more k r (without a l) (none_first k r l e) f
 
 -- a key that is not there has no least value, and its rows need not be taken out
-pub none-least : (k : ℕ) (l : List Row) → firstIn k k l ≡ nothing → leastOf k l ≡ nothing
-unfolding leastOf
+pub none-least : (k : ℕ) (l : List Row) → first_in k k l ≡ nothing → least_of k l ≡ nothing
+unfolding least_of
 none-least k [] e = refl
 none-least k (r ∷ l) e =
-    ap (λ (b : Bool). cond b (lesser r.1 (leastOf k l)) (leastOf k l)) (ne_eqb r.0 k (none_first k r l e)) ∙ none-least k l (none_rest k r l e)
+    ap (λ (b : Bool). cond b (lesser r.1 (least_of k l)) (least_of k l)) (ne_eqb r.0 k (none_first k r l e)) ∙ none-least k l (none_rest k r l e)
 
-pub none_out : (k : ℕ) (l : List Row) → firstIn k k l ≡ nothing → without k l ≡ l
+pub none_out : (k : ℕ) (l : List Row) → first_in k k l ≡ nothing → without k l ≡ l
 unfolding without
 none_out k [] e = refl
 none_out k (r ∷ l) e =
@@ -93,17 +93,17 @@ some_next : (o : Option ℕ) → is_some (next o) ≡ is_some o
 some_next nothing = refl
 some_next (some n) = refl
 
-pub some_at : (k : ℕ) (l : List Row) (i : ℕ) → i < length l → (row_of l i).0 ≡ k → is_some (firstIn k k l) ≡ true
+pub some_at : (k : ℕ) (l : List Row) (i : ℕ) → i < length l → (row_of l i).0 ≡ k → is_some (first_in k k l) ≡ true
 some_at k [] i h e = absurd (omega arith)
 some_at k (r ∷ l) zero h e = ap (λ (o : Option ℕ). is_some o) (first-here k r l e)
 some_at k (r ∷ l) (suc i) h e = by (eqb r.0 k) refl (some_at k l i (omega arith) e)
   where
-    by : (b : Bool) → eqb r.0 k ≡ b → is_some (firstIn k k l) ≡ true → is_some (firstIn k k (r ∷ l)) ≡ true
+    by : (b : Bool) → eqb r.0 k ≡ b → is_some (first_in k k l) ≡ true → is_some (first_in k k (r ∷ l)) ≡ true
     by true p f = ap (λ (o : Option ℕ). is_some o) (first-here k r l (eqb-true r.0 k p))
-    by false p f = ap (λ (o : Option ℕ). is_some o) (first-other k r l (eqb-false r.0 k p)) ∙ some_next (firstIn k k l) ∙ f
+    by false p f = ap (λ (o : Option ℕ). is_some o) (first-other k r l (eqb-false r.0 k p)) ∙ some_next (first_in k k l) ∙ f
 
 -- keys stand once: a row with the key is the first
-pub distinct-at : (k : ℕ) (l : List Row) (i : ℕ) → Distinct l → i < length l → (row_of l i).0 ≡ k → firstIn k k l ≡ some i
+pub distinct-at : (k : ℕ) (l : List Row) (i : ℕ) → Distinct l → i < length l → (row_of l i).0 ≡ k → first_in k k l ≡ some i
 unfolding Distinct
 distinct-at k [] i d h e = absurd (omega arith)
 distinct-at k (r ∷ l) zero d h e = first-here k r l e
@@ -111,14 +111,14 @@ distinct-at k (r ∷ l) (suc i) d h e =
     first-other k r l (λ z. none-some (sym d.0 ∙ distinct-at r.0 l i d.1 (omega arith) (e ∙ sym z)))
     ∙ ap next (distinct-at k l i d.1 (omega arith) e)
 
-pub distinct_append : (l : List Row) (r : Row) → Distinct l → firstIn r.0 r.0 l ≡ nothing → Distinct (l ++ (r ∷ []))
-unfolding Distinct firstIn
+pub distinct_append : (l : List Row) (r : Row) → Distinct l → first_in r.0 r.0 l ≡ nothing → Distinct (l ++ (r ∷ []))
+unfolding Distinct first_in
 distinct_append [] r d e = (refl, tt)
 distinct_append (q ∷ l) r d e =
     (none-append q.0 l r d.0 (λ z. none_first r.0 q l e (sym z)), distinct_append l r d.1 (none_rest r.0 q l e))
 
-pub distinct-value : (l : List Row) (i x : ℕ) → Distinct l → Distinct (withValue i x l)
-unfolding Distinct withValue
+pub distinct-value : (l : List Row) (i x : ℕ) → Distinct l → Distinct (with_value i x l)
+unfolding Distinct with_value
 distinct-value [] i x d = tt
 distinct-value (r ∷ l) zero x d = d
 distinct-value (r ∷ l) (suc i) x d = (none-value r.0 i x l d.0, distinct-value l i x d.1)
@@ -133,30 +133,30 @@ distinct_without k (r ∷ l) d = by (eqb r.0 k) (distinct_without k l d.1)
     by false f = (none-without r.0 k l d.0, f)
 
 -- keys stand once: taking out the row that the search gives takes out all of the key
-pub row_out : (k : ℕ) (l : List Row) (i : ℕ) → Distinct l → firstIn k k l ≡ some i → withoutRow i l ≡ without k l
-unfolding Distinct without withoutRow
+pub row_out : (k : ℕ) (l : List Row) (i : ℕ) → Distinct l → first_in k k l ≡ some i → without_row i l ≡ without k l
+unfolding Distinct without without_row
 row_out k [] i d e = refl
 row_out k (r ∷ l) zero d e = by (eqb r.0 k) refl
   where
     by : (b : Bool) → eqb r.0 k ≡ b → l ≡ cond b (without k l) (r ∷ without k l)
-    by true p = sym (none_out k l (subst (λ (x : ℕ). firstIn x x l ≡ nothing) (eqb-true r.0 k p) d.0))
-    by false p = not-next (firstIn k k l) (sym (first-other k r l (eqb-false r.0 k p)) ∙ e)
+    by true p = sym (none_out k l (subst (λ (x : ℕ). first_in x x l ≡ nothing) (eqb-true r.0 k p) d.0))
+    by false p = not-next (first_in k k l) (sym (first-other k r l (eqb-false r.0 k p)) ∙ e)
 row_out k (r ∷ l) (suc i) d e = by (eqb r.0 k) refl (row_out k l i d.1)
   where
-    by : (b : Bool) → eqb r.0 k ≡ b → (firstIn k k l ≡ some i → withoutRow i l ≡ without k l) → r ∷ withoutRow i l ≡ cond b (without k l) (r ∷ without k l)
+    by : (b : Bool) → eqb r.0 k ≡ b → (first_in k k l ≡ some i → without_row i l ≡ without k l) → r ∷ without_row i l ≡ cond b (without k l) (r ∷ without k l)
     by true p h = absurd (let z : zero ≡ suc i = cc (sym (first-here k r l (eqb-true r.0 k p)) ∙ e) in omega arith)
-    by false p h = ap (λ (m : List Row). r ∷ m) (h (next-some (firstIn k k l) i (sym (first-other k r l (eqb-false r.0 k p)) ∙ e)))
+    by false p h = ap (λ (m : List Row). r ∷ m) (h (next-some (first_in k k l) i (sym (first-other k r l (eqb-false r.0 k p)) ∙ e)))
 
 -- ---- Keys with hints
 
 module _ (p : ℕ → ℕ) (t : List ℕ) where
-  pub covered-append : (l : List Row) (r : Row) → Covered p t l → 0 < p (hintAt t r.0) → Covered p t (l ++ (r ∷ []))
+  pub covered-append : (l : List Row) (r : Row) → Covered p t l → 0 < p (hint_at t r.0) → Covered p t (l ++ (r ∷ []))
   unfolding Covered
   covered-append [] r c h = (h, tt)
   covered-append (q ∷ l) r c h = (c.0, covered-append l r c.1 h)
 
-  pub covered-value : (l : List Row) (i x : ℕ) → Covered p t l → Covered p t (withValue i x l)
-  unfolding Covered withValue
+  pub covered-value : (l : List Row) (i x : ℕ) → Covered p t l → Covered p t (with_value i x l)
+  unfolding Covered with_value
   covered-value [] i x c = tt
   covered-value (r ∷ l) zero x c = c
   covered-value (r ∷ l) (suc i) x c = (c.0, covered-value l i x c.1)
@@ -171,34 +171,34 @@ module _ (p : ℕ → ℕ) (t : List ℕ) where
       by false f = (c.0, f)
 
   -- a hint of 0: the key is not there
-  pub covered_none : (k : ℕ) (l : List Row) → Covered p t l → p (hintAt t k) ≡ 0 → firstIn k k l ≡ nothing
-  unfolding Covered firstIn
+  pub covered_none : (k : ℕ) (l : List Row) → Covered p t l → p (hint_at t k) ≡ 0 → first_in k k l ≡ nothing
+  unfolding Covered first_in
   covered_none k [] c e = refl
   covered_none k (r ∷ l) c e =
-      none_more k r l (λ z. let h = c.0 in let f : p (hintAt t r.0) ≡ 0 = ap (λ (n : ℕ). p (hintAt t n)) z ∙ e in omega arith) (covered_none k l c.1 e)
+      none_more k r l (λ z. let h = c.0 in let f : p (hint_at t r.0) ≡ 0 = ap (λ (n : ℕ). p (hint_at t n)) z ∙ e in omega arith) (covered_none k l c.1 e)
 
 -- ---- Records with hints
 
-pub named-append : (i : ℕ) (t : List ℕ) (l : List Row) (r : Row) → Named i t l → r.1 ≡ 0 → 256 ≤ i + length l + sourceIn (cell_at t (nameCell r.0)) →
+pub named-append : (i : ℕ) (t : List ℕ) (l : List Row) (r : Row) → Named i t l → r.1 ≡ 0 → 256 ≤ i + length l + source_in (cell_at t (name_cell r.0)) →
     Named i t (l ++ (r ∷ []))
 unfolding Named
 named-append i t [] r n e h = (λ m f. absurd (omega arith), omega arith, tt)
 named-append i t (q ∷ l) r n e h = (n.0, n.1, named-append (suc i) t l r n.2 e (omega arith))
 
-pub named_value : (j i : ℕ) (t : List ℕ) (l : List Row) (k : ℕ) → Named j t l → 256 ≤ j + i + named_in (cell_at t (nameCell k)) → Named j t (withValue i (k + 1) l)
-unfolding Named withValue
+pub named_value : (j i : ℕ) (t : List ℕ) (l : List Row) (k : ℕ) → Named j t l → 256 ≤ j + i + named_in (cell_at t (name_cell k)) → Named j t (with_value i (k + 1) l)
+unfolding Named with_value
 named_value j i t [] k n h = tt
 named_value j zero t (r ∷ l) k n h =
-    (λ m e. let z : k ≡ m = omega arith in let f = ap (λ (x : ℕ). named_in (cell_at t (nameCell x))) z in omega arith, n.1, n.2)
+    (λ m e. let z : k ≡ m = omega arith in let f = ap (λ (x : ℕ). named_in (cell_at t (name_cell x))) z in omega arith, n.1, n.2)
 named_value j (suc i) t (r ∷ l) k n h = (n.0, n.1, named_value (suc j) i t l k n.2 (omega arith))
 
-pub named-at : (j : ℕ) (t : List ℕ) (l : List Row) (i n : ℕ) → Named j t l → i < length l → (row_of l i).1 ≡ suc n → 256 ≤ j + i + named_in (cell_at t (nameCell n))
+pub named-at : (j : ℕ) (t : List ℕ) (l : List Row) (i n : ℕ) → Named j t l → i < length l → (row_of l i).1 ≡ suc n → 256 ≤ j + i + named_in (cell_at t (name_cell n))
 unfolding Named
 named-at j t [] i n d h e = absurd (omega arith)
 named-at j t (r ∷ l) zero n d h e = let a = d.0 n e in omega arith
 named-at j t (r ∷ l) (suc i) n d h e = let a = named-at (suc j) t l i n d.2 (omega arith) e in omega arith
 
-pub source-at : (j : ℕ) (t : List ℕ) (l : List Row) (i : ℕ) → Named j t l → i < length l → 256 ≤ j + i + sourceIn (cell_at t (nameCell (row_of l i).0))
+pub source-at : (j : ℕ) (t : List ℕ) (l : List Row) (i : ℕ) → Named j t l → i < length l → 256 ≤ j + i + source_in (cell_at t (name_cell (row_of l i).0))
 unfolding Named
 source-at j t [] i d h = absurd (omega arith)
 source-at j t (r ∷ l) zero d h = let a = d.1 in omega arith
@@ -212,8 +212,8 @@ module _ (n : ℕ) (p : ℕ → ℕ) where
   reached-append i [] r c h = (omega arith, tt)
   reached-append i (q ∷ l) r c h = (c.0, reached-append (suc i) l r c.1 (omega arith))
 
-  pub reached-value : (j i v : ℕ) (l : List Row) → Reached n p j l → Reached n p j (withValue i v l)
-  unfolding Reached withValue
+  pub reached-value : (j i v : ℕ) (l : List Row) → Reached n p j l → Reached n p j (with_value i v l)
+  unfolding Reached with_value
   reached-value j i v [] c = tt
   reached-value j zero v (r ∷ l) c = c
   reached-value j (suc i) v (r ∷ l) c = (c.0, reached-value (suc j) i v l c.1)
@@ -263,7 +263,7 @@ none_from lo hi id from l none z name =
 
 -- ---- Arrays with other hints
 
-covered-agree : (p : ℕ → ℕ) (t t' : List ℕ) → ((n : ℕ) → 0 < p (hintAt t n) → 0 < p (hintAt t' n)) → (l : List Row) → Covered p t l → Covered p t' l
+covered-agree : (p : ℕ → ℕ) (t t' : List ℕ) → ((n : ℕ) → 0 < p (hint_at t n) → 0 < p (hint_at t' n)) → (l : List Row) → Covered p t l → Covered p t' l
 unfolding Covered
 covered-agree p t t' h [] c = tt
 covered-agree p t t' h (r ∷ l) c = (h r.0 c.0, covered-agree p t t' h l c.1)
@@ -272,8 +272,8 @@ named-agree : (t t' : List ℕ) → ((h : ℕ) → h < 2003 → Grows (cell_at t
 unfolding Named
 named-agree t t' h i [] n = tt
 named-agree t t' h i (r ∷ l) n = (
-  λ m e. let a = n.0 m e in let b = (h (nameCell m) (omega arith)).named-kept in omega arith,
-  let a = n.1 in let b = (h (nameCell r.0) (omega arith)).source-kept in omega arith,
+  λ m e. let a = n.0 m e in let b = (h (name_cell m) (omega arith)).named-kept in omega arith,
+  let a = n.1 in let b = (h (name_cell r.0) (omega arith)).source-kept in omega arith,
   named-agree t t' h (suc i) l n.2,
 )
 
@@ -285,27 +285,27 @@ reached-agree n p q h i (r ∷ l) c = (let a = c.0 in let b = h r.0 in omega ari
 -- cells that leave out nothing
 pub record Agrees (t t' : List ℕ) : Type 0 where
   pub grown : (h : ℕ) → h < 2003 → Grows (cell_at t h) (cell_at t' h)
-  pub reaching : (h : ℕ) → h < 1280 → rowHint t h ≤ rowHint t' h
+  pub reaching : (h : ℕ) → h < 1280 → row_hint t h ≤ row_hint t' h
 
 pub hinted-agree : (t t' : List ℕ) → Agrees t t' → (k : Kind) (l : List Row) → Hinted k t l → Hinted k t' l
-hinted-agree t t' a imports l h = (covered-agree importHint t t' (λ n. ((a.grown (n % 2003) (omega arith)).hints-kept n).import-kept) l h.0, h.1)
-hinted-agree t t' a uses l h = covered-agree useHint t t' (λ n. ((a.grown (n % 2003) (omega arith)).hints-kept n).use_kept) l h
+hinted-agree t t' a imports l h = (covered-agree import_hint t t' (λ n. ((a.grown (n % 2003) (omega arith)).hints-kept n).import-kept) l h.0, h.1)
+hinted-agree t t' a uses l h = covered-agree use_hint t t' (λ n. ((a.grown (n % 2003) (omega arith)).hints-kept n).use_kept) l h
 hinted-agree t t' a records l h = named-agree t t' a.grown 0 l h
-hinted-agree t t' a namespaces l h = covered-agree namespaceHint t t' (λ n. ((a.grown (n % 2003) (omega arith)).hints-kept n).namespace-kept) l h
+hinted-agree t t' a namespaces l h = covered-agree namespace_hint t t' (λ n. ((a.grown (n % 2003) (omega arith)).hints-kept n).namespace-kept) l h
 hinted-agree t t' a lazies l h = tt
 hinted-agree t t' a forces l h = tt
 hinted-agree t t' a modules l h =
-    reached-agree 256 (λ f. moduleHint t (f % 256)) (λ f. moduleHint t' (f % 256)) (λ k. a.reaching (1024 + k % 256) (omega arith)) 0 l h
+    reached-agree 256 (λ f. module_hint t (f % 256)) (λ f. module_hint t' (f % 256)) (λ k. a.reaching (1024 + k % 256) (omega arith)) 0 l h
 hinted-agree t t' a externals l h = tt
 hinted-agree t t' a table l h =
-    reached-agree 1024 (λ k. rowHint t (k % 1024)) (λ k. rowHint t' (k % 1024)) (λ k. a.reaching (k % 1024) (omega arith)) 0 l h
+    reached-agree 1024 (λ k. row_hint t (k % 1024)) (λ k. row_hint t' (k % 1024)) (λ k. a.reaching (k % 1024) (omega arith)) 0 l h
 
 keeps_same : {v w : ℕ} → w ≡ v → Keeps v w
 keeps_same e =
     record {
-      import-kept = subst (λ (x : ℕ). 0 < importHint x) (sym e);
-      namespace-kept = subst (λ (x : ℕ). 0 < namespaceHint x) (sym e);
-      use_kept = subst (λ (x : ℕ). 0 < useHint x) (sym e);
+      import-kept = subst (λ (x : ℕ). 0 < import_hint x) (sym e);
+      namespace-kept = subst (λ (x : ℕ). 0 < namespace_hint x) (sym e);
+      use_kept = subst (λ (x : ℕ). 0 < use_hint x) (sym e);
     }
 
 -- a hint of 0 names nothing
@@ -313,8 +313,8 @@ keeps-none : (w : ℕ) → Keeps 0 w
 keeps-none w = record { import-kept = λ h. absurd (omega arith); namespace-kept = λ h. absurd (omega arith); use_kept = λ h. absurd (omega arith) }
 
 -- a cell with the same hint and tag
-pub grows_same : {v w : ℕ} → w / 2199023255552 ≡ v / 2199023255552 → w % 8388608 ≡ v % 8388608 → named_in v ≤ named_in w → sourceIn v ≤ sourceIn w → Grows v w
-unfolding hintIn
+pub grows_same : {v w : ℕ} → w / 2199023255552 ≡ v / 2199023255552 → w % 8388608 ≡ v % 8388608 → named_in v ≤ named_in w → source_in v ≤ source_in w → Grows v w
+unfolding hint_in
 grows_same e f p q =
     record {
       hints-kept = λ n. keeps_same (ap₂ (λ (x y : ℕ). cond (eqb x 0 || eqb x (tag_of n)) y 0) e f);
@@ -324,7 +324,7 @@ grows_same e f p q =
 
 pub grows-stays : {v w : ℕ} → w ≡ v → Grows v w
 grows-stays {v} {w} e =
-    grows_same (ap (λ (x : ℕ). x / 2199023255552) e) (ap (λ (x : ℕ). x % 8388608) e) (let f = ap named_in e in omega arith) (let f = ap sourceIn e in omega arith)
+    grows_same (ap (λ (x : ℕ). x / 2199023255552) e) (ap (λ (x : ℕ). x % 8388608) e) (let f = ap named_in e in omega arith) (let f = ap source_in e in omega arith)
 
 -- a cell that is no hint is stored
 pub agrees-set : (t : List ℕ) (i v : ℕ) → ((h : ℕ) → h < 2003 → 15994 + h ≡ i → ⊥) → ((h : ℕ) → h < 1280 → 21074 + h ≡ i → ⊥) → Agrees t (set t i v)
@@ -359,7 +359,7 @@ module _ (v tag hint : ℕ) (h : hint < 8388608) where
   entered-named : named_in (entered v tag hint) ≡ named_in v
   entered-named = let q : entered v tag hint / 8388608 ≡ tag * 262144 + v / 8388608 % 262144 = omega arith in rw q (omega arith)
 
-  entered-source : sourceIn (entered v tag hint) ≡ sourceIn v
+  entered-source : source_in (entered v tag hint) ≡ source_in v
   entered-source = omega arith
 
 either_true : (a b : Bool) → a ≡ true → (a || b) ≡ true
@@ -383,15 +383,15 @@ module _ (v id hint : ℕ) (h : hint < 8388608) (k : Keeps (v % 8388608) hint) w
   new tag = entered v tag hint
 
   -- the tag is none, or stays
-  keeps-entered : (tag n : ℕ) → (tagged v n ≡ true → tagged (new tag) n ≡ true) → Keeps (hintIn v n) (hintIn (new tag) n)
-  unfolding hintIn
+  keeps-entered : (tag n : ℕ) → (tagged v n ≡ true → tagged (new tag) n ≡ true) → Keeps (hint_in v n) (hint_in (new tag) n)
+  unfolding hint_in
   keeps-entered tag n f = keeps-cond (tagged v n) (tagged (new tag) n) f (subst (Keeps (v % 8388608)) (sym (entered-hint v tag hint h)) k)
 
   -- no id had entered
-  keeps-fresh : (tag n : ℕ) → v % 8388608 ≡ 0 → Keeps (hintIn v n) (hintIn (new tag) n)
-  unfolding hintIn
+  keeps-fresh : (tag n : ℕ) → v % 8388608 ≡ 0 → Keeps (hint_in v n) (hint_in (new tag) n)
+  unfolding hint_in
   keeps-fresh tag n e =
-      subst (λ (x : ℕ). Keeps x (hintIn (new tag) n)) (sym (ap (λ (x : ℕ). cond (tagged v n) x 0) e ∙ cond-none (tagged v n))) (keeps-none (hintIn (new tag) n))
+      subst (λ (x : ℕ). Keeps x (hint_in (new tag) n)) (sym (ap (λ (x : ℕ). cond (tagged v n) x 0) e ∙ cond-none (tagged v n))) (keeps-none (hint_in (new tag) n))
 
   tag_open : (n : ℕ) → tagged (new 0) n ≡ true
   tag_open n = either_true (eqb (new 0 / 2199023255552) 0) (eqb (new 0 / 2199023255552) (tag_of n)) (eq-eqb (new 0 / 2199023255552) 0 (entered-tag v 0 hint h))
@@ -400,17 +400,17 @@ module _ (v id hint : ℕ) (h : hint < 8388608) (k : Keeps (v % 8388608) hint) w
   tag_stays n e f = ap (λ (x : ℕ). eqb x 0 || eqb x (tag_of n)) (entered-tag v (tag_of id) hint h ∙ sym e) ∙ f
 
   keeps-tagged : (x y : Bool) → eqb (v % 8388608) 0 ≡ x → eqb (v / 2199023255552) (tag_of id) ≡ y → (n : ℕ) →
-      Keeps (hintIn v n) (hintIn (new (cond x (tag_of id) (cond y (tag_of id) 0))) n)
+      Keeps (hint_in v n) (hint_in (new (cond x (tag_of id) (cond y (tag_of id) 0))) n)
   keeps-tagged true y p q n = keeps-fresh (tag_of id) n (eqb-true (v % 8388608) 0 p)
   keeps-tagged false true p q n = keeps-entered (tag_of id) n (tag_stays n (eqb-true (v / 2199023255552) (tag_of id) q))
   keeps-tagged false false p q n = keeps-entered 0 n (λ f. tag_open n)
 
-  grows-entered : Grows v (new (tagFor v id))
+  grows-entered : Grows v (new (tag_for v id))
   grows-entered =
       record {
         hints-kept = keeps-tagged (eqb (v % 8388608) 0) (eqb (v / 2199023255552) (tag_of id)) refl refl;
-        named-kept = let e = entered-named v (tagFor v id) hint h in omega arith;
-        source-kept = let e = entered-source v (tagFor v id) hint h in omega arith;
+        named-kept = let e = entered-named v (tag_for v id) hint h in omega arith;
+        source-kept = let e = entered-source v (tag_for v id) hint h in omega arith;
       }
 
   -- the id itself has the hint
@@ -422,44 +422,44 @@ module _ (v id hint : ℕ) (h : hint < 8388608) (k : Keeps (v % 8388608) hint) w
   hint-by false true = own-tag
   hint-by false false = tag_open id
 
-  hint-entered : hintIn (new (tagFor v id)) id ≡ hint
-  unfolding hintIn
+  hint-entered : hint_in (new (tag_for v id)) id ≡ hint
+  unfolding hint_in
   hint-entered =
-      ap (λ (b : Bool). cond b (new (tagFor v id) % 8388608) 0) (hint-by (eqb (v % 8388608) 0) (eqb (v / 2199023255552) (tag_of id)))
-      ∙ entered-hint v (tagFor v id) hint h
+      ap (λ (b : Bool). cond b (new (tag_for v id) % 8388608) 0) (hint-by (eqb (v % 8388608) 0) (eqb (v / 2199023255552) (tag_of id)))
+      ∙ entered-hint v (tag_for v id) hint h
 
 -- ---- The hint and the tag of a cell, case by case
 
 module _ (v c n : ℕ) (e : v ≡ c) where
-  hint-by-tag : (b : Bool) → tagged v n ≡ b → cond b (v % 8388608) 0 ≡ hintIn c n
-  unfolding hintIn
+  hint-by-tag : (b : Bool) → tagged v n ≡ b → cond b (v % 8388608) 0 ≡ hint_in c n
+  unfolding hint_in
   hint-by-tag b f = ap (λ (x : Bool). cond x (v % 8388608) 0) (sym f) ∙ ap (λ (x : ℕ). cond (tagged x n) (x % 8388608) 0) e
 
-  pub hint-open : v / 2199023255552 ≡ 0 → v % 8388608 ≡ hintIn c n
+  pub hint-open : v / 2199023255552 ≡ 0 → v % 8388608 ≡ hint_in c n
   hint-open f = hint-by-tag true (either_true (eqb (v / 2199023255552) 0) (eqb (v / 2199023255552) (tag_of n)) (eq-eqb (v / 2199023255552) 0 f))
 
-  pub hint-own : v / 2199023255552 ≡ tag_of n → v % 8388608 ≡ hintIn c n
+  pub hint-own : v / 2199023255552 ≡ tag_of n → v % 8388608 ≡ hint_in c n
   hint-own f = hint-by-tag true (or-second (eqb (v / 2199023255552) 0) (eqb (v / 2199023255552) (tag_of n)) (eq-eqb (v / 2199023255552) (tag_of n) f))
 
-  pub hint-other : (v / 2199023255552 ≡ 0 → ⊥) → (v / 2199023255552 ≡ tag_of n → ⊥) → 0 ≡ hintIn c n
+  pub hint-other : (v / 2199023255552 ≡ 0 → ⊥) → (v / 2199023255552 ≡ tag_of n → ⊥) → 0 ≡ hint_in c n
   hint-other f g =
       hint-by-tag false (ap₂ (λ (x y : Bool). x || y) (ne_eqb (v / 2199023255552) 0 f) (ne_eqb (v / 2199023255552) (tag_of n) g))
 
 module _ (v n : ℕ) where
-  tag-by : (x y : Bool) → eqb (v % 8388608) 0 ≡ x → eqb (v / 2199023255552) (tag_of n) ≡ y → cond x (tag_of n) (cond y (tag_of n) 0) ≡ tagFor v n
+  tag-by : (x y : Bool) → eqb (v % 8388608) 0 ≡ x → eqb (v / 2199023255552) (tag_of n) ≡ y → cond x (tag_of n) (cond y (tag_of n) 0) ≡ tag_for v n
   tag-by x y e f = ap₂ (λ (a b : Bool). cond a (tag_of n) (cond b (tag_of n) 0)) (sym e) (sym f)
 
-  pub tag-fresh : v % 8388608 ≡ 0 → tag_of n ≡ tagFor v n
+  pub tag-fresh : v % 8388608 ≡ 0 → tag_of n ≡ tag_for v n
   tag-fresh e = tag-by true (eqb (v / 2199023255552) (tag_of n)) (eq-eqb (v % 8388608) 0 e) refl
 
-  pub tag-own : (v % 8388608 ≡ 0 → ⊥) → v / 2199023255552 ≡ tag_of n → tag_of n ≡ tagFor v n
+  pub tag-own : (v % 8388608 ≡ 0 → ⊥) → v / 2199023255552 ≡ tag_of n → tag_of n ≡ tag_for v n
   tag-own e f = tag-by false true (ne_eqb (v % 8388608) 0 e) (eq-eqb (v / 2199023255552) (tag_of n) f)
 
-  pub tag-several : (v % 8388608 ≡ 0 → ⊥) → (v / 2199023255552 ≡ tag_of n → ⊥) → 0 ≡ tagFor v n
+  pub tag-several : (v % 8388608 ≡ 0 → ⊥) → (v / 2199023255552 ≡ tag_of n → ⊥) → 0 ≡ tag_for v n
   tag-several e f = tag-by false false (ne_eqb (v % 8388608) 0 e) (ne_eqb (v / 2199023255552) (tag_of n) f)
 
 -- an id enters its cell
-module _ (v c id tag hint : ℕ) (e : v ≡ c) (f : tag ≡ tagFor v id) (h : hint < 8388608) (k : Keeps (c % 8388608) hint) where
+module _ (v c id tag hint : ℕ) (e : v ≡ c) (f : tag ≡ tag_for v id) (h : hint < 8388608) (k : Keeps (c % 8388608) hint) where
   keeps_here : Keeps (v % 8388608) hint
   keeps_here = subst (λ (x : ℕ). Keeps (x % 8388608) hint) (sym e) k
 
@@ -468,5 +468,5 @@ module _ (v c id tag hint : ℕ) (e : v ≡ c) (f : tag ≡ tagFor v id) (h : hi
       subst (λ (x : ℕ). Grows x (tag * 2199023255552 + v / 8388608 % 262144 * 8388608 + hint)) e
       (subst (λ (x : ℕ). Grows v (x * 2199023255552 + v / 8388608 % 262144 * 8388608 + hint)) (sym f) (grows-entered v id hint h keeps_here))
 
-  pub cell-hint : hintIn (tag * 2199023255552 + v / 8388608 % 262144 * 8388608 + hint) id ≡ hint
-  cell-hint = ap (λ (x : ℕ). hintIn (x * 2199023255552 + v / 8388608 % 262144 * 8388608 + hint) id) f ∙ hint-entered v id hint h keeps_here
+  pub cell-hint : hint_in (tag * 2199023255552 + v / 8388608 % 262144 * 8388608 + hint) id ≡ hint
+  cell-hint = ap (λ (x : ℕ). hint_in (x * 2199023255552 + v / 8388608 % 262144 * 8388608 + hint) id) f ∙ hint-entered v id hint h keeps_here

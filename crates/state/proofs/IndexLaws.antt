@@ -6,7 +6,7 @@ use mathlib.Core.Bool.{Bool, true, false, cond}
 use mathlib.Core.List.{List, [], ◌∷◌, ◌++◌, map}
 use mathlib.Core.Option.{Option, none, some}
 use lib.ListN.{length, get_or, length-map}
-use Rattle.tables.specs.Rows.{Row, next, between, flip, firstIn}
+use Rattle.tables.specs.Rows.{Row, next, between, flip, first_in}
 use Rattle.inputs.specs.Lists.{find, mapped}
 use Rattle.state.specs.Cells.{Below, index_of}
 use Rattle.state.proofs.ListLaws.{first_below, here-below}
@@ -24,8 +24,8 @@ index_same p q h (a ∷ l) =
     ap (λ (x : Bool). cond x (some zero) (next (index_of p l))) (h a) ∙ ap (λ (o : Option ℕ). cond (q a) (some zero) (next o)) (index_same p q h l)
 
 -- a test that asks for a range of keys
-pub index-row : (q : Row → Bool) (lo hi k v : ℕ) → ((r : Row) → r.0 < k → q r ≡ between lo hi r.0) → (l : List Row) → Below k v l → index_of q l ≡ firstIn lo hi l
-unfolding index_of firstIn Below
+pub index-row : (q : Row → Bool) (lo hi k v : ℕ) → ((r : Row) → r.0 < k → q r ≡ between lo hi r.0) → (l : List Row) → Below k v l → index_of q l ≡ first_in lo hi l
+unfolding index_of first_in Below
 index-row q lo hi k v h [] b = refl
 index-row q lo hi k v h (r ∷ l) b =
     ap (λ (x : Bool). cond x (some zero) (next (index_of q l))) (h r b.0) ∙ ap (λ (o : Option ℕ). cond (between lo hi r.0) (some zero) (next o)) (index-row q lo hi k v h l b.2)
@@ -37,11 +37,11 @@ below_flip k v (r ∷ l) b = (b.1, b.0, below_flip k v l b.2)
 
 -- a test that asks for a range of values
 pub index-value : (q : ℕ → Bool) (lo hi k v : ℕ) → ((n : ℕ) → n < v → q n ≡ between lo hi n) → (l : List Row) → Below k v l →
-    index_of (λ (r : Row). q r.1) l ≡ firstIn lo hi (map flip l)
+    index_of (λ (r : Row). q r.1) l ≡ first_in lo hi (map flip l)
 index-value q lo hi k v h l b = index-map (λ (r : Row). q r.0) flip l ∙ index-row (λ (r : Row). q r.0) lo hi v k (λ r n. h r.0 n) (map flip l) (below_flip k v l b)
 
 -- a row that is found by its value stands among the rows
-pub first-value-below : (lo hi : ℕ) (l : List Row) (i : ℕ) → firstIn lo hi (map flip l) ≡ some i → i < length l
+pub first-value-below : (lo hi : ℕ) (l : List Row) (i : ℕ) → first_in lo hi (map flip l) ≡ some i → i < length l
 first-value-below lo hi l i e = let n = length-map l flip in let h = first_below lo hi (map flip l) i e in omega arith
 
 next-at : {B : Type 0} (b : B) (d : B) (l : List B) (o : Option ℕ) → mapped (λ i. get_or (b ∷ l) i d) (next o) ≡ mapped (λ i. get_or l i d) o

@@ -7,7 +7,7 @@ use mathlib.Core.List.{List, [], ◌∷◌, ◌++◌, map}
 use mathlib.Core.Option.{Option, none, some}
 use lib.Dec.{eqb}
 use lib.ListN.{length, get_or}
-use Rattle.tables.specs.Rows.{Row, next, between, firstIn, without, withValue}
+use Rattle.tables.specs.Rows.{Row, next, between, first_in, without, with_value}
 use Rattle.inputs.specs.Lists.{find, filter, is_some, mapped}
 use Rattle.state.specs.Cells.{Below}
 use Rattle.state.specs.Does.{any}
@@ -20,8 +20,8 @@ unfolding Below
 below-append k v [] r b p q = (p, q, tt)
 below-append k v (s ∷ l) r b p q = (b.0, b.1, below-append k v l r b.2 p q)
 
-pub below-value : (k v : ℕ) (l : List Row) (i x : ℕ) → Below k v l → x < v → Below k v (withValue i x l)
-unfolding Below withValue
+pub below-value : (k v : ℕ) (l : List Row) (i x : ℕ) → Below k v l → x < v → Below k v (with_value i x l)
+unfolding Below with_value
 below-value k v [] i x b p = tt
 below-value k v (s ∷ l) zero x b p = (b.0, p, b.2)
 below-value k v (s ∷ l) (suc i) x b p = (b.0, b.1, below-value k v l i x b.2 p)
@@ -43,8 +43,8 @@ below_row k v (s ∷ l) (suc i) b h = below_row k v l i b.2 (omega arith)
 
 -- ---- Lengths
 
-pub length-value : (l : List Row) (i x : ℕ) → length (withValue i x l) ≡ length l
-unfolding withValue
+pub length-value : (l : List Row) (i x : ℕ) → length (with_value i x l) ≡ length l
+unfolding with_value
 length-value [] i x = refl
 length-value (s ∷ l) zero x = refl
 length-value (s ∷ l) (suc i) x = ap suc (length-value l i x)
@@ -78,28 +78,28 @@ here-below false none h p = none-some p
 here-below {i = i} false (some j) h p = let z : suc j ≡ i = cc in let w = h j refl in omega arith
 
 -- a row that is found stands among the rows
-pub first_below : (lo hi : ℕ) (l : List Row) (i : ℕ) → firstIn lo hi l ≡ some i → i < length l
-unfolding firstIn
+pub first_below : (lo hi : ℕ) (l : List Row) (i : ℕ) → first_in lo hi l ≡ some i → i < length l
+unfolding first_in
 first_below lo hi [] i e = none-some e
-first_below lo hi (r ∷ l) i e = here-below (between lo hi r.0) (firstIn lo hi l) (first_below lo hi l) e
+first_below lo hi (r ∷ l) i e = here-below (between lo hi r.0) (first_in lo hi l) (first_below lo hi l) e
 
 module _ {A : Type 0} (p : A → Bool) (f : Row → A) (lo hi k v : ℕ) (h : (r : Row) → r.0 < k → p (f r) ≡ between lo hi r.0) where
   -- the first of a list that meets a test is the row that the search gives
-  pub find-row : (l : List Row) → Below k v l → find p (map f l) ≡ mapped (λ i. f (row_of l i)) (firstIn lo hi l)
-  unfolding find firstIn Below
+  pub find-row : (l : List Row) → Below k v l → find p (map f l) ≡ mapped (λ i. f (row_of l i)) (first_in lo hi l)
+  unfolding find first_in Below
   find-row [] b = refl
   find-row (r ∷ l) b = ap (λ (x : Bool). cond x (some (f r)) (find p (map f l))) (h r b.0) ∙ by (between lo hi r.0) (find-row l b.2)
     where
-      by : (x : Bool) → find p (map f l) ≡ mapped (λ i. f (row_of l i)) (firstIn lo hi l) →
-          cond x (some (f r)) (find p (map f l)) ≡ mapped (λ i. f (row_of (r ∷ l) i)) (cond x (some zero) (next (firstIn lo hi l)))
+      by : (x : Bool) → find p (map f l) ≡ mapped (λ i. f (row_of l i)) (first_in lo hi l) →
+          cond x (some (f r)) (find p (map f l)) ≡ mapped (λ i. f (row_of (r ∷ l) i)) (cond x (some zero) (next (first_in lo hi l)))
       by true e = refl
-      by false e = e ∙ sym (next_row f r l (firstIn lo hi l))
+      by false e = e ∙ sym (next_row f r l (first_in lo hi l))
 
   -- there is one just where the search finds one
-  pub any-row : (l : List Row) → Below k v l → any (filter p (map f l)) ≡ is_some (firstIn lo hi l)
-  unfolding filter firstIn Below
+  pub any-row : (l : List Row) → Below k v l → any (filter p (map f l)) ≡ is_some (first_in lo hi l)
+  unfolding filter first_in Below
   any-row [] b = refl
-  any-row (r ∷ l) b = ap (λ (x : Bool). any (cond x (f r ∷ filter p (map f l)) (filter p (map f l)))) (h r b.0) ∙ by (between lo hi r.0) (firstIn lo hi l) (any-row l b.2)
+  any-row (r ∷ l) b = ap (λ (x : Bool). any (cond x (f r ∷ filter p (map f l)) (filter p (map f l)))) (h r b.0) ∙ by (between lo hi r.0) (first_in lo hi l) (any-row l b.2)
     where
       by : (x : Bool) (o : Option ℕ) → any (filter p (map f l)) ≡ is_some o →
           any (cond x (f r ∷ filter p (map f l)) (filter p (map f l))) ≡ is_some (cond x (some zero) (next o))

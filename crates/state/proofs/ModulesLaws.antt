@@ -9,20 +9,20 @@ use lib.Dec.{leb, ltb, eqb}
 use lib.ListN.{length, length-map, get_or, set}
 use lib.Seq.{get_or-set_same, get_or-set_other}
 use borrow.Author.Tests.{leb-true, leb-false, ltb-true, ltb-false, lt-ltb, le-ltb}
-use Rattle.scope.specs.Modules.{Module, Modules, next as following, unmarked, place_of, number_of, requestBy, request, withMark, setMark}
-use Rattle.scope.specs.ScopeValue.{module_by, modulesIn, Rewrites}
+use Rattle.scope.specs.Modules.{Module, Modules, next as following, unmarked, place_of, number_of, request_by, request, with_mark, set_mark}
+use Rattle.scope.specs.ScopeValue.{module_by, modules_in, Rewrites}
 use Rattle.scope.specs.declared.id.ModuleId.{ModuleId}
 use Rattle.scope.specs.declared.Mark.{Mark}
 use Rattle.scope.specs.declared.Mark.TheVariants.{Loaded, Stored, Cjs, Wrapping}
-use Rattle.tables.specs.Rows.{Row, rows_from, rows, next, between, firstIn, withValue}
+use Rattle.tables.specs.Rows.{Row, rows_from, rows, next, between, first_in, with_value}
 use Rattle.tables.specs.Only.{Outside, Only}
 use Rattle.tables.proofs.RowLaws.{from-agree, rows-length}
 use Rattle.tables.proofs.OnlyLaws.{only_then, store-count}
 use Rattle.inputs.specs.Outcome.{done}
-use Rattle.inputs.specs.Table.{fileOf}
-use Rattle.extraction_rules.specs.State.{State, setModules}
-use Rattle.extraction_rules.specs.First.{requested, module_of as resolvedBy, moduleFor}
-use Rattle.state.specs.Cells.{Env, modules, table_of, Below, held, Good, Reached, moduleHint, Shows, module_of}
+use Rattle.inputs.specs.Table.{file_of}
+use Rattle.extraction_rules.specs.State.{State, set_modules}
+use Rattle.extraction_rules.specs.First.{requested, module_of as resolved_by, module_for}
+use Rattle.state.specs.Cells.{Env, modules, table_of, Below, held, Good, Reached, module_hint, Shows, module_of}
 use Rattle.state.specs.Does.{Changes, HintsModules, Tells, Says, Turns, Resolves, bit_of}
 use Rattle.state.specs.declared.Module.{Module as Found}
 use Rattle.state.specs.declared.Module.TheVariants.{Is, Unresolved, TooMany}
@@ -33,15 +33,15 @@ use Rattle.state.proofs.FrameLaws.{cells-then, others-kept, good-kept, room-for,
 
 -- ---- The rows are a scope's cells
 
-cells-rows : (k at : ℕ) (t : List ℕ) → map module_of (rows_from k at t) ≡ modulesIn k at t
-unfolding rows_from modulesIn
+cells-rows : (k at : ℕ) (t : List ℕ) → map module_of (rows_from k at t) ≡ modules_in k at t
+unfolding rows_from modules_in
 cells-rows zero at t = refl
 cells-rows (suc k) at t = ap (λ (l : Modules). module_of (get_or t at 0, get_or t (at + 1) 0) ∷ l) (cells-rows k (at + 2) t)
 
-pub modules-told : {t : List ℕ} {n : ℕ} {ms : Modules} → n ≡ length (rows (table_of modules) t) → ms ≡ modulesIn n 15482 t → Tells (λ s. s.modules) t ms
+pub modules-told : {t : List ℕ} {n : ℕ} {ms : Modules} → n ≡ length (rows (table_of modules) t) → ms ≡ modules_in n 15482 t → Tells (λ s. s.modules) t ms
 unfolding rows
 modules-told {t} {n} {ms} e f =
-    record { is = λ s w. f ∙ ap (λ (k : ℕ). modulesIn k 15482 t) (e ∙ rows-length (table_of modules) t) ∙ sym (cells-rows (get_or t 6 0) 15482 t) ∙ w.modules }
+    record { is = λ s w. f ∙ ap (λ (k : ℕ). modules_in k 15482 t) (e ∙ rows-length (table_of modules) t) ∙ sym (cells-rows (get_or t 6 0) 15482 t) ∙ w.modules }
 
 -- ---- A scope is loaded
 
@@ -80,8 +80,8 @@ module _ {t m : List ℕ} (g : Good t) (r : Rewrites 15482 (15482 + 512) (set t 
   unfolding Below Reached
   loading-good = good-kept modules g loading-only loading-rows (omega arith) tt tt
 
-  pub modules-loaded : {k : List ℕ} {n : ℕ} {ms : Modules} → n ≤ 256 → modulesIn n 15482 m ≡ ms →
-      ((i : ℕ) → i < n → (get_or m (15482 + 2 * i) 0 < 65536) × (get_or m (15482 + 2 * i + 1) 0 < 16)) → HintsModules n m k → Turns (setModules ms) t (set k 6 n)
+  pub modules-loaded : {k : List ℕ} {n : ℕ} {ms : Modules} → n ≤ 256 → modules_in n 15482 m ≡ ms →
+      ((i : ℕ) → i < n → (get_or m (15482 + 2 * i) 0 < 65536) × (get_or m (15482 + 2 * i + 1) 0 < 16)) → HintsModules n m k → Turns (set_modules ms) t (set k 6 n)
   modules-loaded {k} {n} {ms} h e b w =
       let only = store-count (table_of modules) k n in
       let size = w.aside.good.size in
@@ -95,7 +95,7 @@ module _ {t m : List ℕ} (g : Good t) (r : Rewrites 15482 (15482 + 512) (set t 
       record {
         good =
             good-kept modules w.aside.good only f (omega arith) (cells-below n 15482 m b)
-            (reached-from 256 (λ y. moduleHint k (y % 256)) n 0 15482 m (λ i q. let x = w.hinted i q in omega arith));
+            (reached-from 256 (λ y. module_hint k (y % 256)) n 0 15482 m (λ i q. let x = w.hinted i q in omega arith));
         shows = λ s v.
             shows-modules v
             (record {
@@ -114,22 +114,22 @@ same-file : (f n : ℕ) → n < 65536 → eqb f (n % 65536) ≡ between f f n
 same-file f n h = let e : n % 65536 ≡ n = omega arith in ap (eqb f) e ∙ eqb_swap f n ∙ sym (between-one f n)
 
 -- the number of a file is the row that the search gives
-number-found : (f v : ℕ) (l : List Row) → Below 65536 v l → number_of f (map module_of l) ≡ firstIn f f l
-unfolding number_of place_of firstIn Below
+number-found : (f v : ℕ) (l : List Row) → Below 65536 v l → number_of f (map module_of l) ≡ first_in f f l
+unfolding number_of place_of first_in Below
 number-found f v [] b = refl
 number-found f v (r ∷ l) b =
     ap₂ (λ (x : Bool) (o : Option ℕ). cond x (some zero) o) (same-file f r.0 b.0)
     (next-same (number_of f (map module_of l)) ∙ ap next (number-found f v l b.2))
 
 module _ (f : ℕ) {t : List ℕ} (g : Good t) where
-  number-shown : {x : Env} (s : State) → Shows x t s → number_of f s.modules ≡ firstIn f f (rows (table_of modules) t)
+  number-shown : {x : Env} (s : State) → Shows x t s → number_of f s.modules ≡ first_in f f (rows (table_of modules) t)
   number-shown s w = ap (number_of f) (sym w.modules) ∙ number-found f _ (rows (table_of modules) t) (g.below modules)
 
   modules-held : {x : Env} (s : State) → Shows x t s → length s.modules ≡ held modules t
   modules-held s w = sym (ap length w.modules) ∙ length-map (rows (table_of modules) t) module_of
 
   -- a file that has a number
-  pub request-known : {i : ℕ} (n : ModuleId) → n.0 ≡ i → some i ≡ firstIn f f (rows (table_of modules) t) → Resolves (λ _. resolvedBy (some f)) t t (Is n)
+  pub request-known : {i : ℕ} (n : ModuleId) → n.0 ≡ i → some i ≡ first_in f f (rows (table_of modules) t) → Resolves (λ _. resolved_by (some f)) t t (Is n)
   unfolding request
   request-known {i} n j e =
       record {
@@ -139,7 +139,7 @@ module _ (f : ℕ) {t : List ℕ} (g : Good t) where
             record {
               state = s;
               is =
-                  ap (λ (o : Option ℕ). requested (requestBy o f s.modules) p s) (number-shown s w ∙ sym e)
+                  ap (λ (o : Option ℕ). requested (request_by o f s.modules) p s) (number-shown s w ∙ sym e)
                   ∙ ap (λ (k : ℕ). done (some k, s)) (sym j ∙ z);
               shows = w;
             };
@@ -148,8 +148,8 @@ module _ (f : ℕ) {t : List ℕ} (g : Good t) where
       }
 
   -- a new file
-  pub request-new : {t' : List ℕ} (n : ModuleId) → n.0 ≡ held modules t → f < 65536 → nothing ≡ firstIn f f (rows (table_of modules) t) → held modules t < 256 →
-      Changes modules (rows (table_of modules) t ++ ((f, 0) ∷ [])) t t' → Resolves (λ _. resolvedBy (some f)) t t' (Is n)
+  pub request-new : {t' : List ℕ} (n : ModuleId) → n.0 ≡ held modules t → f < 65536 → nothing ≡ first_in f f (rows (table_of modules) t) → held modules t < 256 →
+      Changes modules (rows (table_of modules) t ++ ((f, 0) ∷ [])) t t' → Resolves (λ _. resolved_by (some f)) t t' (Is n)
   unfolding request
   request-new {t'} n j h e r d =
       let l = rows (table_of modules) t in
@@ -161,11 +161,11 @@ module _ (f : ℕ) {t : List ℕ} (g : Good t) where
             let u : f % 65536 ≡ f = omega arith in
             let ms = s.modules ++ (unmarked f ∷ []) in
             record {
-              state = setModules ms s;
+              state = set_modules ms s;
               is =
-                  ap (λ (o : Option ℕ). requested (requestBy o f s.modules) p s) (number-shown s w ∙ sym e)
+                  ap (λ (o : Option ℕ). requested (request_by o f s.modules) p s) (number-shown s w ∙ sym e)
                   ∙ ap (λ (b : Bool). requested (cond b (some (length s.modules, ms)) nothing) p s) (lt-ltb (length s.modules) 256 (omega arith))
-                  ∙ ap (λ (k : ℕ). done (some k, setModules ms s)) (c ∙ sym j ∙ z);
+                  ∙ ap (λ (k : ℕ). done (some k, set_modules ms s)) (c ∙ sym j ∙ z);
               shows =
                   shows-modules w d.others
                   (ap (map module_of) d.now-rows ∙ map-append module_of l ((f, 0) ∷ []) ∙ ap (λ (x : Modules). x ++ (module_of (f, 0) ∷ [])) w.modules
@@ -176,7 +176,7 @@ module _ (f : ℕ) {t : List ℕ} (g : Good t) where
       }
 
   -- a 257th file
-  pub request-full : nothing ≡ firstIn f f (rows (table_of modules) t) → 256 ≤ held modules t → Resolves (λ _. resolvedBy (some f)) t t TooMany
+  pub request-full : nothing ≡ first_in f f (rows (table_of modules) t) → 256 ≤ held modules t → Resolves (λ _. resolved_by (some f)) t t TooMany
   unfolding request
   request-full e r =
       record {
@@ -185,7 +185,7 @@ module _ (f : ℕ) {t : List ℕ} (g : Good t) where
         unresolved = λ q s p w. absurd (let z : ◌≡◌ {A = ℕ} 0 1 = cc in omega arith);
         full = λ q s p w.
             let c = modules-held s w in
-            ap (λ (o : Option ℕ). requested (requestBy o f s.modules) p s) (number-shown s w ∙ sym e)
+            ap (λ (o : Option ℕ). requested (request_by o f s.modules) p s) (number-shown s w ∙ sym e)
             ∙
             ap (λ (b : Bool). requested (cond b (some (length s.modules, s.modules ++ (unmarked f ∷ []))) nothing) p s)
             (le-ltb (length s.modules) 256 (omega arith));
@@ -193,12 +193,12 @@ module _ (f : ℕ) {t : List ℕ} (g : Good t) where
 
 -- a source for which the table names a file, and one for which it names none
 module _ (a : List ℕ) {t : List ℕ} where
-  named : (o : Option ℕ) {x : Env} (s : State) (p : ℕ) → Says (λ e. fileOf a e.table) t o → Shows x t s → resolvedBy o p s ≡ moduleFor x.setting a p s
-  unfolding moduleFor
-  named o s p n w = ap (λ (f : Option ℕ). resolvedBy f p s) (n.is s w)
+  named : (o : Option ℕ) {x : Env} (s : State) (p : ℕ) → Says (λ e. file_of a e.table) t o → Shows x t s → resolved_by o p s ≡ module_for x.setting a p s
+  unfolding module_for
+  named o s p n w = ap (λ (f : Option ℕ). resolved_by f p s) (n.is s w)
 
-  pub source-resolved : {f : ℕ} {t' : List ℕ} {r : Found} → Says (λ e. fileOf a e.table) t (some f) → Resolves (λ _. resolvedBy (some f)) t t' r →
-      Resolves (λ e. moduleFor e a) t t' r
+  pub source-resolved : {f : ℕ} {t' : List ℕ} {r : Found} → Says (λ e. file_of a e.table) t (some f) → Resolves (λ _. resolved_by (some f)) t t' r →
+      Resolves (λ e. module_for e a) t t' r
   source-resolved {f} n u =
       record {
         good = u.good;
@@ -207,7 +207,7 @@ module _ (a : List ℕ) {t : List ℕ} where
         full = λ q s p w. sym (named (some f) s p n w) ∙ u.full q s p w;
       }
 
-  pub source-unresolved : Good t → Says (λ e. fileOf a e.table) t nothing → Resolves (λ e. moduleFor e a) t t Unresolved
+  pub source-unresolved : Good t → Says (λ e. file_of a e.table) t nothing → Resolves (λ e. module_for e a) t t Unresolved
   source-unresolved g n =
       record {
         good = g;
@@ -219,53 +219,53 @@ module _ (a : List ℕ) {t : List ℕ} where
 -- ---- A module is marked
 
 -- a number that was not given changes nothing
-mark-past : (k : Mark) (i : ℕ) (ms : Modules) → length ms ≤ i → setMark k i ms ≡ ms
-unfolding setMark
+mark-past : (k : Mark) (i : ℕ) (ms : Modules) → length ms ≤ i → set_mark k i ms ≡ ms
+unfolding set_mark
 mark-past k i [] h = refl
 mark-past k zero (m ∷ ms) h = absurd (omega arith)
 mark-past k (suc i) (m ∷ ms) h = ap (λ (l : Modules). m ∷ l) (mark-past k i ms (omega arith))
 
-mark-rows : (k : Mark) (i v : ℕ) (l : List Row) → module_by (row_of l i).0 v ≡ withMark k (module_of (row_of l i)) →
-    map module_of (withValue i v l) ≡ setMark k i (map module_of l)
-unfolding withValue setMark
+mark-rows : (k : Mark) (i v : ℕ) (l : List Row) → module_by (row_of l i).0 v ≡ with_mark k (module_of (row_of l i)) →
+    map module_of (with_value i v l) ≡ set_mark k i (map module_of l)
+unfolding with_value set_mark
 mark-rows k i v [] e = refl
 mark-rows k zero v (r ∷ l) e = ap (λ (m : Module). m ∷ map module_of l) e
 mark-rows k (suc i) v (r ∷ l) e = ap (λ (ms : Modules). module_of r ∷ ms) (mark-rows k i v l e)
 
-mark-kept : (k : Mark) (i : ℕ) (l : List Row) → module_of (row_of l i) ≡ withMark k (module_of (row_of l i)) → setMark k i (map module_of l) ≡ map module_of l
-unfolding setMark
+mark-kept : (k : Mark) (i : ℕ) (l : List Row) → module_of (row_of l i) ≡ with_mark k (module_of (row_of l i)) → set_mark k i (map module_of l) ≡ map module_of l
+unfolding set_mark
 mark-kept k i [] e = refl
 mark-kept k zero (r ∷ l) e = ap (λ (m : Module). m ∷ map module_of l) (sym e)
 mark-kept k (suc i) (r ∷ l) e = ap (λ (ms : Modules). module_of r ∷ ms) (mark-kept k i l e)
 
 module _ (k : Mark) (i : ℕ) {t : List ℕ} (g : Good t) where
-  unchanged : setMark k i (map module_of (rows (table_of modules) t)) ≡ map module_of (rows (table_of modules) t) →
-      Turns (λ s. setModules (setMark k i s.modules) s) t t
+  unchanged : set_mark k i (map module_of (rows (table_of modules) t)) ≡ map module_of (rows (table_of modules) t) →
+      Turns (λ s. set_modules (set_mark k i s.modules) s) t t
   unchanged e =
       record {
         good = g;
-        shows = λ {x = y} s w. subst (λ (ms : Modules). Shows y t (setModules ms s)) (sym w.modules ∙ sym e ∙ ap (setMark k i) w.modules) w;
+        shows = λ {x = y} s w. subst (λ (ms : Modules). Shows y t (set_modules ms s)) (sym w.modules ∙ sym e ∙ ap (set_mark k i) w.modules) w;
       }
 
   -- a number that was not given
-  pub marked-none : held modules t ≤ i → Turns (λ s. setModules (setMark k i s.modules) s) t t
+  pub marked-none : held modules t ≤ i → Turns (λ s. set_modules (set_mark k i s.modules) s) t t
   marked-none h = let n = length-map (rows (table_of modules) t) module_of in unchanged (mark-past k i (map module_of (rows (table_of modules) t)) (omega arith))
 
   -- a module that has the mark
-  marked-again : module_of (row_of (rows (table_of modules) t) i) ≡ withMark k (module_of (row_of (rows (table_of modules) t) i)) →
-      Turns (λ s. setModules (setMark k i s.modules) s) t t
+  marked-again : module_of (row_of (rows (table_of modules) t) i) ≡ with_mark k (module_of (row_of (rows (table_of modules) t) i)) →
+      Turns (λ s. set_modules (set_mark k i s.modules) s) t t
   marked-again e = unchanged (mark-kept k i (rows (table_of modules) t) e)
 
-  marked-new : {t' : List ℕ} {v : ℕ} → module_by (row_of (rows (table_of modules) t) i).0 v ≡ withMark k (module_of (row_of (rows (table_of modules) t) i)) → v < 16 →
-      rows (table_of modules) t' ≡ withValue i v (rows (table_of modules) t) → Only (table_of modules) t t' → Turns (λ s. setModules (setMark k i s.modules) s) t t'
+  marked-new : {t' : List ℕ} {v : ℕ} → module_by (row_of (rows (table_of modules) t) i).0 v ≡ with_mark k (module_of (row_of (rows (table_of modules) t) i)) → v < 16 →
+      rows (table_of modules) t' ≡ with_value i v (rows (table_of modules) t) → Only (table_of modules) t t' → Turns (λ s. set_modules (set_mark k i s.modules) s) t t'
   marked-new {t'} {v} e h f o =
       let l = rows (table_of modules) t in
       let n = length-value l i v in
       let r = room-for modules g in
       record {
         good =
-            good-kept modules g o f (omega arith) (below-value _ _ l i v (g.below modules) h) (reached-value 256 (λ y. moduleHint t (y % 256)) 0 i v l (g.hinted modules));
-        shows = λ s w. shows-modules w (others-kept modules g o) (ap (map module_of) f ∙ mark-rows k i v l e ∙ ap (setMark k i) w.modules);
+            good-kept modules g o f (omega arith) (below-value _ _ l i v (g.below modules) h) (reached-value 256 (λ y. module_hint t (y % 256)) 0 i v l (g.hinted modules));
+        shows = λ s w. shows-modules w (others-kept modules g o) (ap (map module_of) f ∙ mark-rows k i v l e ∙ ap (set_mark k i) w.modules);
       }
 
 -- a bit that is added changes no other
@@ -284,7 +284,7 @@ halves n = omega arith
 quarters : (n : ℕ) → n / 8 ≡ n / 4 / 2
 quarters n = omega arith
 
-bit_added : (k : Mark) (f v : ℕ) → v / bit_of k % 2 ≡ 0 → module_by f (v + bit_of k) ≡ withMark k (module_by f v)
+bit_added : (k : Mark) (f v : ℕ) → v / bit_of k % 2 ≡ 0 → module_by f (v + bit_of k) ≡ with_mark k (module_by f v)
 bit_added Loaded f v h =
     let z : v % 2 ≡ 0 = let y : v / 1 ≡ v = omega arith in omega arith in
     let a = added-bit (v + 1) v refl z in
@@ -313,7 +313,7 @@ bit_added Wrapping f v h =
     let d = added-bit ((v + 8) / 8) (v / 8) (omega arith) h in
     rw (a, b, c, d)
 
-bit-there : (k : Mark) (f v : ℕ) → (v / bit_of k % 2 ≡ 0 → ⊥) → module_by f v ≡ withMark k (module_by f v)
+bit-there : (k : Mark) (f v : ℕ) → (v / bit_of k % 2 ≡ 0 → ⊥) → module_by f v ≡ with_mark k (module_by f v)
 bit-there Loaded f v h = let c : v % 2 ≡ 1 = let z : v / 1 ≡ v = omega arith in omega arith in rw c
 bit-there Stored f v h = let c : v / 2 % 2 ≡ 1 = omega arith in rw c
 bit-there Cjs f v h = let c : v / 4 % 2 ≡ 1 = omega arith in rw c
@@ -333,15 +333,15 @@ bit-fits Cjs v h e = omega arith
 bit-fits Wrapping v h e = omega arith
 
 module _ (k : Mark) (i : ℕ) {t : List ℕ} {b v : ℕ} (g : Good t) (n : i < held modules t) (c : b ≡ bit_of k) (e : v ≡ (row_of (rows (table_of modules) t) i).1) where
-  pub mark-there : (v / b % 2 ≡ 0 → ⊥) → Turns (λ s. setModules (setMark k i s.modules) s) t t
+  pub mark-there : (v / b % 2 ≡ 0 → ⊥) → Turns (λ s. set_modules (set_mark k i s.modules) s) t t
   mark-there h =
       let r = row_of (rows (table_of modules) t) i in
       marked-again k i g (bit-there k r.0 r.1 (λ z. h (ap₂ (λ (x y : ℕ). x / y % 2) e c ∙ z)))
 
-  pub mark_set : {t' : List ℕ} → v / b % 2 ≡ 0 → rows (table_of modules) t' ≡ withValue i (v + b) (rows (table_of modules) t) → Only (table_of modules) t t' →
-      Turns (λ s. setModules (setMark k i s.modules) s) t t'
+  pub mark_set : {t' : List ℕ} → v / b % 2 ≡ 0 → rows (table_of modules) t' ≡ with_value i (v + b) (rows (table_of modules) t) → Only (table_of modules) t t' →
+      Turns (λ s. set_modules (set_mark k i s.modules) s) t t'
   mark_set h f o =
       let r = row_of (rows (table_of modules) t) i in
       let z : r.1 / bit_of k % 2 ≡ 0 = sym (ap₂ (λ (x y : ℕ). x / y % 2) e c) ∙ h in
       let q = bit-fits k r.1 (below_row _ _ (rows (table_of modules) t) i (g.below modules) n).1 z in
-      marked-new k i g (bit_added k r.0 r.1 z) q (f ∙ ap₂ (λ (x y : ℕ). withValue i (x + y) (rows (table_of modules) t)) e c) o
+      marked-new k i g (bit_added k r.0 r.1 z) q (f ∙ ap₂ (λ (x y : ℕ). with_value i (x + y) (rows (table_of modules) t)) e c) o

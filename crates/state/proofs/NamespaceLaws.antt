@@ -9,17 +9,17 @@ use mathlib.Core.Option.{Option, none as nothing, some}
 use lib.Dec.{ltb, eqb}
 use lib.ListN.{length}
 use borrow.Author.Tests.{ltb-true, ltb-false, lt-ltb, le-ltb}
-use Rattle.tables.specs.Rows.{Row, next, lesser, leastOf, withValue}
+use Rattle.tables.specs.Rows.{Row, next, lesser, least_of, with_value}
 use Rattle.tree.specs.Layout.{same, value_of}
 use Rattle.tree.specs.Tree.{Field, Fields, none, more, fixed_of}
 use Rattle.metadata.specs.Metadata.{append}
 use Rattle.metadata.proofs.EncodeLaws.{append-none, append-rows}
 use Rattle.inputs.specs.Lists.{is_some, mapped}
-use Rattle.inputs.specs.Fields.{has, findField}
+use Rattle.inputs.specs.Fields.{has, find_field}
 use Rattle.extraction_rules.specs.State.{Record}
-use Rattle.extraction_rules.specs.First.{holdsNamespace}
-use Rattle.state.specs.Cells.{Env, id-limit, id_of, Brief, brief, briefOf, namespaceOf, index_of, flag, countNamespaces, namespacesIn}
-use Rattle.state.specs.Does.{extendAt}
+use Rattle.extraction_rules.specs.First.{holds_namespace}
+use Rattle.state.specs.Cells.{Env, id-limit, id_of, Brief, brief, brief_of, namespace_of, index_of, flag, count_namespaces, namespaces_in}
+use Rattle.state.specs.Does.{extend_at}
 use Rattle.state.proofs.IdLaws.{same_id}
 use Rattle.state.proofs.ListLaws.{row_of}
 
@@ -29,18 +29,18 @@ either : {A : Type 0} → Option A → Option A → Option A
 either nothing o = o
 either (some a) o = some a
 
-find-append : (p : Field → Bool) (fs : Fields) (f : Field) → findField p (append fs (more f none)) ≡ either (findField p fs) (cond (p f) (some f) nothing)
-unfolding findField append either
+find-append : (p : Field → Bool) (fs : Fields) (f : Field) → find_field p (append fs (more f none)) ≡ either (find_field p fs) (cond (p f) (some f) nothing)
+unfolding find_field append either
 find-append p none f = refl
 find-append p (more g gs) f = by (p g) (find-append p gs f)
   where
-    by : (b : Bool) → findField p (append gs (more f none)) ≡ either (findField p gs) (cond (p f) (some f) nothing) →
-        cond b (some g) (findField p (append gs (more f none))) ≡ either (cond b (some g) (findField p gs)) (cond (p f) (some f) nothing)
+    by : (b : Bool) → find_field p (append gs (more f none)) ≡ either (find_field p gs) (cond (p f) (some f) nothing) →
+        cond b (some g) (find_field p (append gs (more f none))) ≡ either (cond b (some g) (find_field p gs)) (cond (p f) (some f) nothing)
     by true e = refl
     by false e = e
 
-count-append : (fs : Fields) (f : Field) → countNamespaces (append fs (more f none)) ≡ countNamespaces fs + flag (has 0x22 f)
-unfolding countNamespaces append
+count-append : (fs : Fields) (f : Field) → count_namespaces (append fs (more f none)) ≡ count_namespaces fs + flag (has 0x22 f)
+unfolding count_namespaces append
 count-append none f = omega arith
 count-append (more g gs) f = let e = count-append gs f in omega arith
 
@@ -56,23 +56,23 @@ some-cond : (b : Bool) (f : Field) → is_some (cond b (some f) nothing) ≡ b
 some-cond true f = refl
 some-cond false f = refl
 
-holds-with : (x : List ℕ) (f : Field) (r : Record) → holdsNamespace x (with f r) ≡ (holdsNamespace x r || (has 0x22 f && same (fixed_of f) x))
-unfolding holdsNamespace
+holds-with : (x : List ℕ) (f : Field) (r : Record) → holds_namespace x (with f r) ≡ (holds_namespace x r || (has 0x22 f && same (fixed_of f) x))
+unfolding holds_namespace
 holds-with x f r =
     let p : Field → Bool = λ g. has 0x22 g && same (fixed_of g) x in
-    ap (λ (o : Option Field). is_some o) (find-append p r.specifiers f) ∙ some-either (findField p r.specifiers) (cond (p f) (some f) nothing)
-    ∙ ap (λ (b : Bool). is_some (findField p r.specifiers) || b) (some-cond (p f) f)
+    ap (λ (o : Option Field). is_some o) (find-append p r.specifiers f) ∙ some-either (find_field p r.specifiers) (cond (p f) (some f) nothing)
+    ∙ ap (λ (b : Bool). is_some (find_field p r.specifiers) || b) (some-cond (p f) f)
 
 -- ---- The records with one extended
 
-pub namespaces-extended : (i : ℕ) (f : Field) (l : List Record) → i < length l → namespacesIn (extendAt i (more f none) l) ≡ namespacesIn l + flag (has 0x22 f)
-unfolding namespacesIn extendAt
+pub namespaces-extended : (i : ℕ) (f : Field) (l : List Record) → i < length l → namespaces_in (extend_at i (more f none) l) ≡ namespaces_in l + flag (has 0x22 f)
+unfolding namespaces_in extend_at
 namespaces-extended i f [] h = absurd (omega arith)
 namespaces-extended zero f (r ∷ l) h = let e = count-append r.specifiers f in omega arith
 namespaces-extended (suc i) f (r ∷ l) h = let e = namespaces-extended i f l (omega arith) in omega arith
 
-index_kept : (p : Record → Bool) (i : ℕ) (f : Field) (l : List Record) → ((r : Record) → p (with f r) ≡ p r) → index_of p (extendAt i (more f none) l) ≡ index_of p l
-unfolding index_of extendAt
+index_kept : (p : Record → Bool) (i : ℕ) (f : Field) (l : List Record) → ((r : Record) → p (with f r) ≡ p r) → index_of p (extend_at i (more f none) l) ≡ index_of p l
+unfolding index_of extend_at
 index_kept p i f [] h = refl
 index_kept p zero f (r ∷ l) h = ap (λ (b : Bool). cond b (some zero) (next (index_of p l))) (h r)
 index_kept p (suc i) f (r ∷ l) h = ap (λ (o : Option ℕ). cond (p r) (some zero) (next o)) (index_kept p i f l h)
@@ -95,14 +95,14 @@ lesser-next i (some n) = by (ltb i n) refl
 
 -- a test that the extended record meets: the first is that record, or one before it
 index-lesser : (p : Record → Bool) (i : ℕ) (f : Field) (l : List Record) → i < length l → ((r : Record) → p (with f r) ≡ true) →
-    index_of p (extendAt i (more f none) l) ≡ lesser i (index_of p l)
-unfolding index_of extendAt
+    index_of p (extend_at i (more f none) l) ≡ lesser i (index_of p l)
+unfolding index_of extend_at
 index-lesser p i f [] k h = absurd (omega arith)
 index-lesser p zero f (r ∷ l) k h = ap (λ (b : Bool). cond b (some zero) (next (index_of p l))) (h r) ∙ sym (lesser-zero (cond (p r) (some zero) (next (index_of p l))))
 index-lesser p (suc i) f (r ∷ l) k h = by (p r) (index-lesser p i f l (omega arith) h)
   where
-    by : (b : Bool) → index_of p (extendAt i (more f none) l) ≡ lesser i (index_of p l) →
-        cond b (some zero) (next (index_of p (extendAt i (more f none) l))) ≡ lesser (suc i) (cond b (some zero) (next (index_of p l)))
+    by : (b : Bool) → index_of p (extend_at i (more f none) l) ≡ lesser i (index_of p l) →
+        cond b (some zero) (next (index_of p (extend_at i (more f none) l))) ≡ lesser (suc i) (cond b (some zero) (next (index_of p l)))
     by true e = sym (rw (le-ltb (suc i) zero (omega arith)))
     by false e = ap next e ∙ lesser-next i (index_of p l)
 
@@ -141,31 +141,31 @@ lesser-swap v w (some u) =
     let d = least-high (least w (least v u)) v (least w u) (omega arith) (least-high _ w u b.0 (omega arith)) in
     ap some (let e : least v (least w u) ≡ least w (least v u) = omega arith in e)
 
-pub least_more : (n k v : ℕ) (l : List Row) → leastOf n (l ++ ((k, v) ∷ [])) ≡ cond (eqb k n) (lesser v (leastOf n l)) (leastOf n l)
-unfolding leastOf
+pub least_more : (n k v : ℕ) (l : List Row) → least_of n (l ++ ((k, v) ∷ [])) ≡ cond (eqb k n) (lesser v (least_of n l)) (least_of n l)
+unfolding least_of
 least_more n k v [] = refl
 least_more n k v (r ∷ l) = ap (λ (o : Option ℕ). cond (eqb r.0 n) (lesser r.1 o) o) (least_more n k v l) ∙ by (eqb r.0 n) (eqb k n)
   where
     by : (a b : Bool) →
-        cond a (lesser r.1 (cond b (lesser v (leastOf n l)) (leastOf n l))) (cond b (lesser v (leastOf n l)) (leastOf n l)) ≡
-        cond b (lesser v (cond a (lesser r.1 (leastOf n l)) (leastOf n l))) (cond a (lesser r.1 (leastOf n l)) (leastOf n l))
-    by true true = lesser-swap r.1 v (leastOf n l)
+        cond a (lesser r.1 (cond b (lesser v (least_of n l)) (least_of n l))) (cond b (lesser v (least_of n l)) (least_of n l)) ≡
+        cond b (lesser v (cond a (lesser r.1 (least_of n l)) (least_of n l))) (cond a (lesser r.1 (least_of n l)) (least_of n l))
+    by true true = lesser-swap r.1 v (least_of n l)
     by true false = refl
     by false b = refl
 
 -- which record is the first to hold a namespace, once record i holds the id k too
 pub holders-extended : (n k i : ℕ) (f : Field) (N : List Row) (l : List Record) → n < id-limit → k < id-limit → i < length l →
-    has 0x22 f ≡ true → fixed_of f ≡ id_of k → leastOf n N ≡ index_of (holdsNamespace (id_of n)) l →
-    leastOf n (N ++ ((k, i) ∷ [])) ≡ index_of (holdsNamespace (id_of n)) (extendAt i (more f none) l)
+    has 0x22 f ≡ true → fixed_of f ≡ id_of k → least_of n N ≡ index_of (holds_namespace (id_of n)) l →
+    least_of n (N ++ ((k, i) ∷ [])) ≡ index_of (holds_namespace (id_of n)) (extend_at i (more f none) l)
 holders-extended n k i f N l hn hk hi tag x e = least_more n k i N ∙ by (eqb k n) (same_id k n hk hn)
   where
-    meets : (b : Bool) → same (id_of k) (id_of n) ≡ b → (r : Record) → holdsNamespace (id_of n) (with f r) ≡ (holdsNamespace (id_of n) r || b)
+    meets : (b : Bool) → same (id_of k) (id_of n) ≡ b → (r : Record) → holds_namespace (id_of n) (with f r) ≡ (holds_namespace (id_of n) r || b)
     meets b s r =
-        holds-with (id_of n) f r ∙ ap₂ (λ (u v : Bool). holdsNamespace (id_of n) r || (u && v)) tag (ap (λ (y : List ℕ). same y (id_of n)) x ∙ s)
+        holds-with (id_of n) f r ∙ ap₂ (λ (u v : Bool). holds_namespace (id_of n) r || (u && v)) tag (ap (λ (y : List ℕ). same y (id_of n)) x ∙ s)
 
-    by : (b : Bool) → same (id_of k) (id_of n) ≡ b → cond b (lesser i (leastOf n N)) (leastOf n N) ≡ index_of (holdsNamespace (id_of n)) (extendAt i (more f none) l)
-    by true s = ap (lesser i) e ∙ sym (index-lesser (holdsNamespace (id_of n)) i f l hi (λ r. meets true s r ∙ or-true (holdsNamespace (id_of n) r)))
-    by false s = e ∙ sym (index_kept (holdsNamespace (id_of n)) i f l (λ r. meets false s r ∙ or-false (holdsNamespace (id_of n) r)))
+    by : (b : Bool) → same (id_of k) (id_of n) ≡ b → cond b (lesser i (least_of n N)) (least_of n N) ≡ index_of (holds_namespace (id_of n)) (extend_at i (more f none) l)
+    by true s = ap (lesser i) e ∙ sym (index-lesser (holds_namespace (id_of n)) i f l hi (λ r. meets true s r ∙ or-true (holds_namespace (id_of n) r)))
+    by false s = e ∙ sym (index_kept (holds_namespace (id_of n)) i f l (λ r. meets false s r ∙ or-false (holds_namespace (id_of n) r)))
 
 -- ---- What is seen of the extended record
 
@@ -179,7 +179,7 @@ brief-with : (f : Field) (r : Record) →
 unfolding brief
 brief-with f r =
     ap (λ (o : Option (List ℕ)). record { value = value_of r.literal; literal = r.literal; namespace = o })
-    (ap (mapped fixed_of) (find-append (has 0x22) r.specifiers f) ∙ first_either (findField (has 0x22) r.specifiers) (cond (has 0x22 f) (some f) nothing))
+    (ap (mapped fixed_of) (find-append (has 0x22) r.specifiers f) ∙ first_either (find_field (has 0x22) r.specifiers) (cond (has 0x22 f) (some f) nothing))
 
 either-nothing : (o : Option (List ℕ)) → either o nothing ≡ o
 unfolding either
@@ -194,71 +194,71 @@ brief-other f r e =
     ∙ ap (λ (o : Option (List ℕ)). record { value = value_of r.literal; literal = r.literal; namespace = o }) (either-nothing (brief r).namespace)
 
 -- a namespace is seen where it is the first
-brief-first : (y : Env) (f : Field) (k : ℕ) (r : Row) (q : Record) → has 0x22 f ≡ true → fixed_of f ≡ id_of k → briefOf y r ≡ brief q → r.1 ≡ 0 → briefOf y (r.0, k + 1) ≡ brief (with f q)
-unfolding brief briefOf either
+brief-first : (y : Env) (f : Field) (k : ℕ) (r : Row) (q : Record) → has 0x22 f ≡ true → fixed_of f ≡ id_of k → brief_of y r ≡ brief q → r.1 ≡ 0 → brief_of y (r.0, k + 1) ≡ brief (with f q)
+unfolding brief brief_of either
 brief-first y f k r q tag x e z =
-    let n : (brief q).namespace ≡ nothing = sym (ap (λ (b : Brief). b.namespace) e) ∙ ap namespaceOf z in
+    let n : (brief q).namespace ≡ nothing = sym (ap (λ (b : Brief). b.namespace) e) ∙ ap namespace_of z in
     ap₂ (λ (a : Brief) (b : Option (List ℕ)). record { value = a.value; literal = a.literal; namespace = b }) e
-    (ap namespaceOf (add-one k) ∙ ap some (sym x) ∙ ap (λ (b : Bool). mapped fixed_of (cond b (some f) nothing)) (sym tag)
+    (ap namespace_of (add-one k) ∙ ap some (sym x) ∙ ap (λ (b : Bool). mapped fixed_of (cond b (some f) nothing)) (sym tag)
     ∙ ap (λ (o : Option (List ℕ)). either o (mapped fixed_of (cond (has 0x22 f) (some f) nothing))) (sym n)) ∙ sym (brief-with f q)
 
-either-some : (n : ℕ) (o : Option (List ℕ)) → (n ≡ 0 → ⊥) → either (namespaceOf n) o ≡ namespaceOf n
+either-some : (n : ℕ) (o : Option (List ℕ)) → (n ≡ 0 → ⊥) → either (namespace_of n) o ≡ namespace_of n
 unfolding either
 either-some zero o h = absurd (h refl)
 either-some (suc n) o h = refl
 
-pub brief-again : (y : Env) (f : Field) (r : Row) (q : Record) → briefOf y r ≡ brief q → (r.1 ≡ 0 → ⊥) → brief (with f q) ≡ brief q
-unfolding brief briefOf
+pub brief-again : (y : Env) (f : Field) (r : Row) (q : Record) → brief_of y r ≡ brief q → (r.1 ≡ 0 → ⊥) → brief (with f q) ≡ brief q
+unfolding brief brief_of
 brief-again y f r q e z =
-    let n : namespaceOf r.1 ≡ (brief q).namespace = ap (λ (b : Brief). b.namespace) e in
+    let n : namespace_of r.1 ≡ (brief q).namespace = ap (λ (b : Brief). b.namespace) e in
     brief-with f q
     ∙ ap (λ (o : Option (List ℕ)). record { value = value_of q.literal; literal = q.literal; namespace = o })
     (ap (λ (o : Option (List ℕ)). either o (mapped fixed_of (cond (has 0x22 f) (some f) nothing))) (sym n) ∙ either-some r.1 _ z ∙ n)
 
-pub briefs-first : (y : Env) (i k : ℕ) (f : Field) (R : List Row) (l : List Record) → has 0x22 f ≡ true → fixed_of f ≡ id_of k → map (briefOf y) R ≡ map brief l → (row_of R i).1 ≡ 0 →
-    map (briefOf y) (withValue i (k + 1) R) ≡ map brief (extendAt i (more f none) l)
-unfolding withValue extendAt
+pub briefs-first : (y : Env) (i k : ℕ) (f : Field) (R : List Row) (l : List Record) → has 0x22 f ≡ true → fixed_of f ≡ id_of k → map (brief_of y) R ≡ map brief l → (row_of R i).1 ≡ 0 →
+    map (brief_of y) (with_value i (k + 1) R) ≡ map brief (extend_at i (more f none) l)
+unfolding with_value extend_at
 briefs-first y i k f [] [] tag x e z = refl
 briefs-first y i k f [] (q ∷ l) tag x e z = absurd (let n : ◌≡◌ {A = ℕ} 0 1 = cc in omega arith)
 briefs-first y i k f (r ∷ R) [] tag x e z = absurd (let n : ◌≡◌ {A = ℕ} 0 1 = cc in omega arith)
 briefs-first y zero k f (r ∷ R) (q ∷ l) tag x e z =
-    let h : briefOf y r ≡ brief q = cc in
-    let m : map (briefOf y) R ≡ map brief l = cc in
+    let h : brief_of y r ≡ brief q = cc in
+    let m : map (brief_of y) R ≡ map brief l = cc in
     ap₂ ◌∷◌ (brief-first y f k r q tag x h z) m
 briefs-first y (suc i) k f (r ∷ R) (q ∷ l) tag x e z =
-    let h : briefOf y r ≡ brief q = cc in
-    let m : map (briefOf y) R ≡ map brief l = cc in
+    let h : brief_of y r ≡ brief q = cc in
+    let m : map (brief_of y) R ≡ map brief l = cc in
     ap₂ ◌∷◌ h (briefs-first y i k f R l tag x m z)
 
 -- where the extended record is seen as before
-pub briefs-kept : (y : Env) (i : ℕ) (f : Field) (R : List Row) (l : List Record) → ((q : Record) → briefOf y (row_of R i) ≡ brief q → brief (with f q) ≡ brief q) →
-    map (briefOf y) R ≡ map brief l → map (briefOf y) R ≡ map brief (extendAt i (more f none) l)
-unfolding extendAt
+pub briefs-kept : (y : Env) (i : ℕ) (f : Field) (R : List Row) (l : List Record) → ((q : Record) → brief_of y (row_of R i) ≡ brief q → brief (with f q) ≡ brief q) →
+    map (brief_of y) R ≡ map brief l → map (brief_of y) R ≡ map brief (extend_at i (more f none) l)
+unfolding extend_at
 briefs-kept y i f [] [] k e = refl
 briefs-kept y i f [] (q ∷ l) k e = absurd (let n : ◌≡◌ {A = ℕ} 0 1 = cc in omega arith)
 briefs-kept y i f (r ∷ R) [] k e = absurd (let n : ◌≡◌ {A = ℕ} 0 1 = cc in omega arith)
 briefs-kept y zero f (r ∷ R) (q ∷ l) k e =
-    let h : briefOf y r ≡ brief q = cc in
-    let m : map (briefOf y) R ≡ map brief l = cc in
+    let h : brief_of y r ≡ brief q = cc in
+    let m : map (brief_of y) R ≡ map brief l = cc in
     ap₂ ◌∷◌ (h ∙ sym (k q h)) m
 briefs-kept y (suc i) f (r ∷ R) (q ∷ l) k e =
-    let h : briefOf y r ≡ brief q = cc in
-    let m : map (briefOf y) R ≡ map brief l = cc in
+    let h : brief_of y r ≡ brief q = cc in
+    let m : map (brief_of y) R ≡ map brief l = cc in
     ap₂ ◌∷◌ h (briefs-kept y i f R l k m)
 
 -- a specifier that is no namespace changes no holder
-pub holders-other : (x : List ℕ) (i : ℕ) (f : Field) (l : List Record) → has 0x22 f ≡ false → index_of (holdsNamespace x) (extendAt i (more f none) l) ≡ index_of (holdsNamespace x) l
-holders-other x i f l e = index_kept (holdsNamespace x) i f l (λ r. holds-with x f r ∙ ap (λ (b : Bool). holdsNamespace x r || (b && same (fixed_of f) x)) e ∙ or-false (holdsNamespace x r))
+pub holders-other : (x : List ℕ) (i : ℕ) (f : Field) (l : List Record) → has 0x22 f ≡ false → index_of (holds_namespace x) (extend_at i (more f none) l) ≡ index_of (holds_namespace x) l
+holders-other x i f l e = index_kept (holds_namespace x) i f l (λ r. holds-with x f r ∙ ap (λ (b : Bool). holds_namespace x r || (b && same (fixed_of f) x)) e ∙ or-false (holds_namespace x r))
 
 -- specifiers one by one
-pub extend-more : (i : ℕ) (f : Field) (fs : Fields) (l : List Record) → extendAt i (more f fs) l ≡ extendAt i fs (extendAt i (more f none) l)
-unfolding extendAt append
+pub extend-more : (i : ℕ) (f : Field) (fs : Fields) (l : List Record) → extend_at i (more f fs) l ≡ extend_at i fs (extend_at i (more f none) l)
+unfolding extend_at append
 extend-more i f fs [] = refl
 extend-more zero f fs (r ∷ l) = ap (λ (x : Fields). record { literal = r.literal; specifiers = x } ∷ l) (sym (append-rows r.specifiers (more f none) fs))
 extend-more (suc i) f fs (r ∷ l) = ap (λ (m : List Record). r ∷ m) (extend-more i f fs l)
 
-pub extend-none : (i : ℕ) (l : List Record) → extendAt i none l ≡ l
-unfolding extendAt
+pub extend-none : (i : ℕ) (l : List Record) → extend_at i none l ≡ l
+unfolding extend_at
 extend-none i [] = refl
 extend-none zero (r ∷ l) = ap (λ (x : Fields). record { literal = r.literal; specifiers = x } ∷ l) (append-none r.specifiers)
 extend-none (suc i) (r ∷ l) = ap (λ (m : List Record). r ∷ m) (extend-none i l)

@@ -8,7 +8,7 @@ use lib.ListN.{length, length-map, drop}
 use Rattle.tables.specs.Rows.{Row, rows}
 use Rattle.tree.specs.Layout.{two, value_of}
 use Rattle.extraction_rules.specs.State.{Record}
-use Rattle.state.specs.Cells.{Env, records, lazies, forces, id-limit, table_of, held, Good, literalBy, Brief, brief, briefOf, lazyOf, atomOf}
+use Rattle.state.specs.Cells.{Env, records, lazies, forces, id-limit, table_of, held, Good, literal_by, Brief, brief, brief_of, lazy_of, atom_of}
 use Rattle.state.specs.declared.Literal.{Literal}
 use Rattle.state.specs.Does.{Tells, Holds}
 use Rattle.state.proofs.ListLaws.{below_row, row_of}
@@ -35,50 +35,50 @@ map_same (a ∷ m) = ap (λ (l : List _). a ∷ l) (map_same m)
 
 pub records-counted : {t : List ℕ} {n : ℕ} → n ≡ held records t → Tells (λ s. length s.collected) t n
 records-counted {t} e =
-    record { is = λ {x} s w. e ∙ sym (length-map (rows (table_of records) t) (briefOf x)) ∙ ap length w.collected ∙ length-map s.collected brief }
+    record { is = λ {x} s w. e ∙ sym (length-map (rows (table_of records) t) (brief_of x)) ∙ ap length w.collected ∙ length-map s.collected brief }
 
 pub record-small : {t : List ℕ} {i n : ℕ} → Good t → i < held records t → n ≡ (row_of (rows (table_of records) t) i).0 → n < id-limit
 record-small {t} {i} g h e = let b = (below_row _ _ (rows (table_of records) t) i (g.below records) h).0 in omega arith
 
-brief-literal : (x : Env) (q : Record) (r : Row) → brief q ≡ briefOf x r → q.literal ≡ x.literal (r.0 % 4294967296)
-unfolding brief briefOf
+brief-literal : (x : Env) (q : Record) (r : Row) → brief q ≡ brief_of x r → q.literal ≡ x.literal (r.0 % 4294967296)
+unfolding brief brief_of
 brief-literal x q r e = ap (λ (b : Brief). b.literal) e
 
-brief-value : (x : Env) (q : Record) (r : Row) → brief q ≡ briefOf x r → value_of q.literal ≡ two (r.0 / 4294967296)
-unfolding brief briefOf
+brief-value : (x : Env) (q : Record) (r : Row) → brief q ≡ brief_of x r → value_of q.literal ≡ two (r.0 / 4294967296)
+unfolding brief brief_of
 brief-value x q r e = ap (λ (b : Brief). b.value) e
 
 -- the literal of a number
 module _ {t : List ℕ} {i n : ℕ} {l : Literal} (v : l.value.0 ≡ n / 4294967296) (p : l.place ≡ n % 4294967296) where
   pub record-at : i < held records t → n ≡ (row_of (rows (table_of records) t) i).0 →
-      Holds (λ s. s.collected) (λ q. q.literal) i t (λ x. literalBy x l) × Holds (λ s. s.collected) (λ q. value_of q.literal) i t (λ _. two l.value.0)
+      Holds (λ s. s.collected) (λ q. q.literal) i t (λ x. literal_by x l) × Holds (λ s. s.collected) (λ q. value_of q.literal) i t (λ _. two l.value.0)
   record-at h e =
       let m = rows (table_of records) t in (
         record {
           is = λ {x} s w.
-              let k = place_in (briefOf x) brief m s.collected i w.collected h in
+              let k = place_in (brief_of x) brief m s.collected i w.collected h in
               (k.0, brief-literal x k.0 (row_of m i) k.1 ∙ ap (λ (j : ℕ). x.literal (j % 4294967296)) (sym e) ∙ ap x.literal (sym p), k.2);
         },
         record {
           is = λ {x} s w.
-              let k = place_in (briefOf x) brief m s.collected i w.collected h in
+              let k = place_in (brief_of x) brief m s.collected i w.collected h in
               (k.0, brief-value x k.0 (row_of m i) k.1 ∙ ap (λ (j : ℕ). two (j / 4294967296)) (sym e) ∙ ap two (sym v), k.2);
         },
       )
 
-  pub lazy-literal-at : i < held lazies t → n ≡ (row_of (rows (table_of lazies) t) i).0 → Holds (λ s. s.lazy) (λ q. q.literal) i t (λ x. literalBy x l)
+  pub lazy-literal-at : i < held lazies t → n ≡ (row_of (rows (table_of lazies) t) i).0 → Holds (λ s. s.lazy) (λ q. q.literal) i t (λ x. literal_by x l)
   lazy-literal-at h e =
       let m = rows (table_of lazies) t in
       record {
         is = λ {x} s w.
-            let k = place_in (lazyOf x) (λ q. q) m s.lazy i (w.lazy ∙ sym (map_same s.lazy)) h in
+            let k = place_in (lazy_of x) (λ q. q) m s.lazy i (w.lazy ∙ sym (map_same s.lazy)) h in
             (k.0, ap (λ (q : Record). q.literal) k.1 ∙ ap (λ (j : ℕ). x.literal (j % 4294967296)) (sym e) ∙ ap x.literal (sym p), k.2);
       }
 
 -- ---- Lazy records
 
 pub lazies-counted : {t : List ℕ} {n : ℕ} → n ≡ held lazies t → Tells (λ s. length s.lazy) t n
-lazies-counted {t} e = record { is = λ {x} s w. e ∙ sym (length-map (rows (table_of lazies) t) (lazyOf x)) ∙ ap length w.lazy }
+lazies-counted {t} e = record { is = λ {x} s w. e ∙ sym (length-map (rows (table_of lazies) t) (lazy_of x)) ∙ ap length w.lazy }
 
 -- numbers of its row
 pub lazy-small : {t : List ℕ} {i : ℕ} → Good t → i < held lazies t → ((row_of (rows (table_of lazies) t) i).0 < id-limit) × ((row_of (rows (table_of lazies) t) i).1 < 4294967296)
@@ -89,14 +89,14 @@ lazy-place-at {t} {i} {r} h e =
     let m = rows (table_of lazies) t in
     record {
       is = λ {x} s w.
-          let k = place_in (lazyOf x) (λ q. q) m s.lazy i (w.lazy ∙ sym (map_same s.lazy)) h in
+          let k = place_in (lazy_of x) (λ q. q) m s.lazy i (w.lazy ∙ sym (map_same s.lazy)) h in
           (k.0, ap (λ (q : Record). q.specifiers) k.1 ∙ ap x.bound (sym e), k.2);
     }
 
 -- ---- Forced sources
 
 pub forced-counted : {t : List ℕ} {n : ℕ} → n ≡ held forces t → Tells (λ s. length s.forced) t n
-forced-counted {t} e = record { is = λ s w. e ∙ sym (length-map (rows (table_of forces) t) atomOf) ∙ ap length w.forced }
+forced-counted {t} e = record { is = λ s w. e ∙ sym (length-map (rows (table_of forces) t) atom_of) ∙ ap length w.forced }
 
 -- a source's number fits two bytes
 pub forced-small : {t : List ℕ} {i r : ℕ} → Good t → i < held forces t → r ≡ (row_of (rows (table_of forces) t) i).0 → r < 65536
@@ -105,4 +105,4 @@ forced-small {t} {i} g h e = let b = (below_row _ _ (rows (table_of forces) t) i
 pub forced-source : {t : List ℕ} {i r : ℕ} → i < held forces t → r ≡ (row_of (rows (table_of forces) t) i).0 → Holds (λ s. s.forced) (λ a. a) i t (λ _. two r)
 forced-source {t} {i} {r} h e =
     let l = rows (table_of forces) t in
-    record { is = λ s w. let k = place_in atomOf (λ a. a) l s.forced i (w.forced ∙ sym (map_same s.forced)) h in (k.0, k.1 ∙ ap two (sym e), k.2) }
+    record { is = λ s w. let k = place_in atom_of (λ a. a) l s.forced i (w.forced ∙ sym (map_same s.forced)) h in (k.0, k.1 ∙ ap two (sym e), k.2) }

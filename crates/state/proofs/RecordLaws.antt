@@ -10,76 +10,76 @@ use lib.ListN.{length, get_or, length-map}
 use borrow.Author.Tests.{le-leb, lt-leb, leb-true, eqb-true, eq-eqb, ne_eqb}
 use Rattle.tree.proofs.Table.{both_true}
 use Rattle.scope.specs.Id.{local}
-use Rattle.tables.specs.Rows.{Row, rows, between, flip, firstIn, NoneBefore, leastOf}
+use Rattle.tables.specs.Rows.{Row, rows, between, flip, first_in, NoneBefore, least_of}
 use Rattle.tables.proofs.RowLaws.{get_d_map}
 use Rattle.tree.specs.Layout.{two, four, same, name_of, context_of, value_of}
 use Rattle.tree.specs.Tree.{Field, fixed_of}
 use Rattle.tree.proofs.LayoutLaws.{same-two, same-four}
 use Rattle.inputs.specs.Lists.{find, mapped}
-use Rattle.inputs.specs.Fields.{has, findField}
+use Rattle.inputs.specs.Fields.{has, find_field}
 use Rattle.extraction_rules.specs.State.{Record, State}
-use Rattle.extraction_rules.specs.First.{holdsNamespace, suits, usedRecord}
-use Rattle.state.specs.Cells.{Env, id-limit, records, namespaces, table_of, held, Good, id_of, Brief, brief, briefOf, namespaceOf, index_of, Shows}
-use Rattle.state.specs.Does.{Starts, Tells, source_of, sourceAt}
+use Rattle.extraction_rules.specs.First.{holds_namespace, suits, used_record}
+use Rattle.state.specs.Cells.{Env, id-limit, records, namespaces, table_of, held, Good, id_of, Brief, brief, brief_of, namespace_of, index_of, Shows}
+use Rattle.state.specs.Does.{Starts, Tells, source_of, source_at}
 use Rattle.state.proofs.IdLaws.{id-name, id-context, between-one}
 use Rattle.state.proofs.HintLaws.{none_from}
 use Rattle.state.proofs.IndexLaws.{index-map, index_same, index-value, find-index, index_below}
 
 -- ---- The source of the record at a place
 
-abbrev valueIn : Row → List ℕ
-valueIn r = two (r.0 / 4294967296)
+abbrev value_in : Row → List ℕ
+value_in r = two (r.0 / 4294967296)
 
 sources-shown : {y : Env} {t : List ℕ} {s : State} → Shows y t s →
-    map (λ (r : Record). value_of r.literal) s.collected ≡ map valueIn (rows (table_of records) t)
-unfolding brief briefOf
+    map (λ (r : Record). value_of r.literal) s.collected ≡ map value_in (rows (table_of records) t)
+unfolding brief brief_of
 sources-shown {y} {t} {s} w =
     sym (map-map (λ (b : Brief). b.value) brief s.collected) ∙ ap (map (λ (b : Brief). b.value)) (sym w.collected)
-    ∙ map-map (λ (b : Brief). b.value) (briefOf y) (rows (table_of records) t)
+    ∙ map-map (λ (b : Brief). b.value) (brief_of y) (rows (table_of records) t)
 
 placed : (t : List ℕ) (o : Option ℕ) →
-    mapped (λ i. get_or (map valueIn (rows (table_of records) t)) i (valueIn (0, 0))) o ≡ mapped (sourceAt t) o
-unfolding sourceAt
+    mapped (λ i. get_or (map value_in (rows (table_of records) t)) i (value_in (0, 0))) o ≡ mapped (source_at t) o
+unfolding source_at
 placed t nothing = refl
-placed t (some i) = ap some (get_d_map valueIn (rows (table_of records) t) i (0, 0))
+placed t (some i) = ap some (get_d_map value_in (rows (table_of records) t) i (0, 0))
 
 pub source-found : {y : Env} {t : List ℕ} {s : State} (p : Record → Bool) (o : Option ℕ) → Shows y t s → o ≡ index_of p s.collected →
-    mapped (sourceAt t) o ≡ source_of (find p s.collected)
+    mapped (source_at t) o ≡ source_of (find p s.collected)
 source-found {y} {t} {s} p o w e =
-    sym (placed t o) ∙ ap (mapped (λ i. get_or (map valueIn (rows (table_of records) t)) i (valueIn (0, 0)))) e
-    ∙ ap (λ (l : List (List ℕ)). mapped (λ i. get_or l i (valueIn (0, 0))) (index_of p s.collected)) (sym (sources-shown w))
-    ∙ sym (find-index p (λ (r : Record). value_of r.literal) (valueIn (0, 0)) s.collected)
+    sym (placed t o) ∙ ap (mapped (λ i. get_or (map value_in (rows (table_of records) t)) i (value_in (0, 0)))) e
+    ∙ ap (λ (l : List (List ℕ)). mapped (λ i. get_or l i (value_in (0, 0))) (index_of p s.collected)) (sym (sources-shown w))
+    ∙ sym (find-index p (λ (r : Record). value_of r.literal) (value_in (0, 0)) s.collected)
 
 -- as many records as rows
 pub held-shown : {y : Env} {t : List ℕ} {s : State} → Shows y t s → held records t ≡ length s.collected
-held-shown {y} {t} {s} w = sym (length-map (rows (table_of records) t) (briefOf y)) ∙ ap length w.collected ∙ length-map s.collected brief
+held-shown {y} {t} {s} w = sym (length-map (rows (table_of records) t) (brief_of y)) ∙ ap length w.collected ∙ length-map s.collected brief
 
 -- ---- The first that holds a namespace
 
-holder-below : {y : Env} {t : List ℕ} {s : State} {id i : ℕ} → Shows y t s → id < id-limit → some i ≡ leastOf id (rows (table_of namespaces) t) → i < held records t
+holder-below : {y : Env} {t : List ℕ} {s : State} {id i : ℕ} → Shows y t s → id < id-limit → some i ≡ least_of id (rows (table_of namespaces) t) → i < held records t
 holder-below {s = s} {id} {i} w h e =
-    let b = index_below (holdsNamespace (id_of id)) s.collected i (sym (e ∙ w.holders id h)) in
+    let b = index_below (holds_namespace (id_of id)) s.collected i (sym (e ∙ w.holders id h)) in
     let n = held-shown w in
     omega arith
 
 -- no place past the records is shown
-pub holder-past : (x : List ℕ) {t : List ℕ} {id i : ℕ} → id < id-limit → some i ≡ leastOf id (rows (table_of namespaces) t) → held records t ≤ i →
-    Tells (λ s. source_of (find (holdsNamespace x) s.collected)) t nothing
+pub holder-past : (x : List ℕ) {t : List ℕ} {id i : ℕ} → id < id-limit → some i ≡ least_of id (rows (table_of namespaces) t) → held records t ≤ i →
+    Tells (λ s. source_of (find (holds_namespace x) s.collected)) t nothing
 holder-past x h e p = record { is = λ s w. absurd (let b = holder-below w h e in omega arith) }
 
-pub holder-told : {t x : List ℕ} {id : ℕ} {o : Option ℕ} → id_of id ≡ x → id < id-limit → o ≡ leastOf id (rows (table_of namespaces) t) →
-    Tells (λ s. source_of (find (holdsNamespace x) s.collected)) t (mapped (sourceAt t) o)
+pub holder-told : {t x : List ℕ} {id : ℕ} {o : Option ℕ} → id_of id ≡ x → id < id-limit → o ≡ least_of id (rows (table_of namespaces) t) →
+    Tells (λ s. source_of (find (holds_namespace x) s.collected)) t (mapped (source_at t) o)
 holder-told {t} {x} {id} {o} n h e =
-    record { is = λ s w. source-found (holdsNamespace x) o w (e ∙ w.holders id h ∙ ap (λ (y : List ℕ). index_of (holdsNamespace y) s.collected) n) }
+    record { is = λ s w. source-found (holds_namespace x) o w (e ∙ w.holders id h ∙ ap (λ (y : List ℕ). index_of (holds_namespace y) s.collected) n) }
 
 -- ---- The first whose first namespace suits
 
-suitsFirst : ℕ → List ℕ → Option (List ℕ) → Bool
-suitsFirst own i nothing = false
-suitsFirst own i (some x) = same (name_of x) (name_of i) && (same (context_of i) (four (local own)) || same (context_of i) (context_of x))
+suits_first : ℕ → List ℕ → Option (List ℕ) → Bool
+suits_first own i nothing = false
+suits_first own i (some x) = same (name_of x) (name_of i) && (same (context_of i) (four (local own)) || same (context_of i) (context_of x))
 
-suits-first : (own : ℕ) (i : List ℕ) (o : Option Field) → suits own i o ≡ suitsFirst own i (mapped fixed_of o)
-unfolding suitsFirst
+suits-first : (own : ℕ) (i : List ℕ) (o : Option Field) → suits own i o ≡ suits_first own i (mapped fixed_of o)
+unfolding suits_first
 suits-first own i nothing = refl
 suits-first own i (some f) = refl
 
@@ -125,8 +125,8 @@ between-suc lo hi m =
 
 -- in the own local context: the name alone
 suits-name : (own id n : ℕ) → id < id-limit → n < 281474976710657 → id % 4294967296 ≡ local own →
-    suitsFirst own (id_of id) (namespaceOf n) ≡ between (id - id % 4294967296 + 1) (id - id % 4294967296 + 4294967296) n
-unfolding suitsFirst
+    suits_first own (id_of id) (namespace_of n) ≡ between (id - id % 4294967296 + 1) (id - id % 4294967296 + 4294967296) n
+unfolding suits_first
 suits-name own id zero a b e = sym (rw (lt-leb (id - id % 4294967296 + 1) zero (omega arith)))
 suits-name own id (suc m) a b e =
     let hi : id - id % 4294967296 + 4294967295 + 1 ≡ id - id % 4294967296 + 4294967296 = omega arith in
@@ -137,8 +137,8 @@ suits-name own id (suc m) a b e =
 
 -- else: the id itself
 suits-id : (own id n : ℕ) → own < 65536 → id < id-limit → n < 281474976710657 → (id % 4294967296 ≡ local own → ⊥) →
-    suitsFirst own (id_of id) (namespaceOf n) ≡ between (id + 1) (id + 1) n
-unfolding suitsFirst
+    suits_first own (id_of id) (namespace_of n) ≡ between (id + 1) (id + 1) n
+unfolding suits_first
 suits-id own id zero o a b e = sym (rw (lt-leb (id + 1) zero (omega arith)))
 suits-id own id (suc m) o a b e =
     ap₂ (λ (x y : Bool). x && (y || same (context_of (id_of id)) (context_of (id_of m)))) (same_name m id (omega arith) a)
@@ -156,31 +156,31 @@ suits-id own id (suc m) o a b e =
     ap₂ ◌&&◌ (eq-eqb (m / 4294967296) (id / 4294967296) (omega arith)) (eq-eqb (id % 4294967296) (m % 4294967296) (omega arith)))
     ∙ sym (between-one id m) ∙ between-suc id id m
 
-module _ {t : List ℕ} (g : Good t) (own id lo hi : ℕ) (h : (n : ℕ) → n < 281474976710657 → suitsFirst own (id_of id) (namespaceOf n) ≡ between lo hi n) where
+module _ {t : List ℕ} (g : Good t) (own id lo hi : ℕ) (h : (n : ℕ) → n < 281474976710657 → suits_first own (id_of id) (namespace_of n) ≡ between lo hi n) where
   used-index : {y : Env} (s : State) → Shows y t s →
-      firstIn lo hi (map flip (rows (table_of records) t)) ≡ index_of (λ r. suits own (id_of id) (findField (has 0x22) r.specifiers)) s.collected
-  unfolding brief briefOf
+      first_in lo hi (map flip (rows (table_of records) t)) ≡ index_of (λ r. suits own (id_of id) (find_field (has 0x22) r.specifiers)) s.collected
+  unfolding brief brief_of
   used-index {y} s w =
-      let q : Brief → Bool = λ b. suitsFirst own (id_of id) b.namespace in
-      sym (index-value (λ (n : ℕ). suitsFirst own (id_of id) (namespaceOf n)) lo hi _ _ h (rows (table_of records) t) (g.below records))
-      ∙ index-map q (briefOf y) (rows (table_of records) t) ∙ ap (index_of q) w.collected ∙ sym (index-map q brief s.collected)
-      ∙ index_same _ _ (λ (r : Record). sym (suits-first own (id_of id) (findField (has 0x22) r.specifiers))) s.collected
+      let q : Brief → Bool = λ b. suits_first own (id_of id) b.namespace in
+      sym (index-value (λ (n : ℕ). suits_first own (id_of id) (namespace_of n)) lo hi _ _ h (rows (table_of records) t) (g.below records))
+      ∙ index-map q (brief_of y) (rows (table_of records) t) ∙ ap (index_of q) w.collected ∙ sym (index-map q brief s.collected)
+      ∙ index_same _ _ (λ (r : Record). sym (suits-first own (id_of id) (find_field (has 0x22) r.specifiers))) s.collected
 
-  used-by : {o : Option ℕ} → o ≡ firstIn lo hi (map flip (rows (table_of records) t)) →
-      Tells (λ s. source_of (usedRecord own (id_of id) s.collected)) t (mapped (sourceAt t) o)
-  unfolding usedRecord
-  used-by {o} e = record { is = λ s w. source-found (λ r. suits own (id_of id) (findField (has 0x22) r.specifiers)) o w (e ∙ used-index s w) }
+  used-by : {o : Option ℕ} → o ≡ first_in lo hi (map flip (rows (table_of records) t)) →
+      Tells (λ s. source_of (used_record own (id_of id) s.collected)) t (mapped (source_at t) o)
+  unfolding used_record
+  used-by {o} e = record { is = λ s w. source-found (λ r. suits own (id_of id) (find_field (has 0x22) r.specifiers)) o w (e ∙ used-index s w) }
 
 pub used-name : (own id : ℕ) {t x : List ℕ} {o : Option ℕ} → Good t → id_of id ≡ x → id < id-limit → id % 4294967296 ≡ local own →
-    o ≡ firstIn (id - id % 4294967296 + 1) (id - id % 4294967296 + 4294967296) (map flip (rows (table_of records) t)) →
-    Tells (λ s. source_of (usedRecord own x s.collected)) t (mapped (sourceAt t) o)
+    o ≡ first_in (id - id % 4294967296 + 1) (id - id % 4294967296 + 4294967296) (map flip (rows (table_of records) t)) →
+    Tells (λ s. source_of (used_record own x s.collected)) t (mapped (source_at t) o)
 used-name own id {t} {o = p} g m h e f =
-    subst (λ (y : List ℕ). Tells (λ s. source_of (usedRecord own y s.collected)) t (mapped (sourceAt t) p)) m (used-by g own id _ _ (λ n b. suits-name own id n h b e) f)
+    subst (λ (y : List ℕ). Tells (λ s. source_of (used_record own y s.collected)) t (mapped (source_at t) p)) m (used-by g own id _ _ (λ n b. suits-name own id n h b e) f)
 
 pub used-id : (own id : ℕ) {t x : List ℕ} {o : Option ℕ} → Good t → own < 65536 → id_of id ≡ x → id < id-limit → (id % 4294967296 ≡ local own → ⊥) →
-    o ≡ firstIn (id + 1) (id + 1) (map flip (rows (table_of records) t)) → Tells (λ s. source_of (usedRecord own x s.collected)) t (mapped (sourceAt t) o)
+    o ≡ first_in (id + 1) (id + 1) (map flip (rows (table_of records) t)) → Tells (λ s. source_of (used_record own x s.collected)) t (mapped (source_at t) o)
 used-id own id {t} {o = p} g o m h e f =
-    subst (λ (y : List ℕ). Tells (λ s. source_of (usedRecord own y s.collected)) t (mapped (sourceAt t) p)) m (used-by g own id _ _ (λ n b. suits-id own id n o h b e) f)
+    subst (λ (y : List ℕ). Tells (λ s. source_of (used_record own y s.collected)) t (mapped (source_at t) p)) m (used-by g own id _ _ (λ n b. suits-id own id n o h b e) f)
 
 -- no first namespace before the hint of an id's name is in either range
 pub named_past : {t : List ℕ} {from id : ℕ} → Starts from id t →

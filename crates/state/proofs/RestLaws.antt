@@ -8,16 +8,16 @@ use lib.ListN.{length, get_or, set, length-map}
 use lib.Seq.{get_or-set_same, get_or-set_other}
 use lib.Dec.{eqb}
 use Rattle.tables.specs.declared.Table.{Table}
-use Rattle.tables.specs.Rows.{rows_from, rows, Lies, leastOf}
+use Rattle.tables.specs.Rows.{rows_from, rows, Lies, least_of}
 use Rattle.tables.specs.Only.{Only}
 use Rattle.tree.specs.Tree.{Fields}
 use Rattle.inputs.specs.Outcome.{refused}
-use Rattle.extraction_rules.specs.State.{Record, State, first, Act, start, setLazy, setTop}
-use Rattle.extraction_rules.specs.First.{addLazy}
+use Rattle.extraction_rules.specs.State.{Record, State, first, Act, start, set_lazy, set_top}
+use Rattle.extraction_rules.specs.First.{add_lazy}
 use Rattle.state.specs.Cells.{Env, id-limit, Kind, imports, uses, records, namespaces, lazies, forces, modules, externals, table, table_of}
 use Rattle.state.specs.Cells.{top-cell, pass-cell, own-cell, require-cell}
-use Rattle.state.specs.Cells.{cells, InLimits, Below, held, Good, literalBy, importedOf, usageOf, briefOf, lazyOf, atomOf, lent_of, module_of, index_of, flag}
-use Rattle.state.specs.Cells.{namespacesIn, Shows, Covered, Distinct, Named, Reached, Hinted}
+use Rattle.state.specs.Cells.{cells, InLimits, Below, held, Good, literal_by, imported_of, usage_of, brief_of, lazy_of, atom_of, lent_of, module_of, index_of, flag}
+use Rattle.state.specs.Cells.{namespaces_in, Shows, Covered, Distinct, Named, Reached, Hinted}
 use Rattle.state.specs.Does.{Tells, Turns, Did, Anyhow, Acts}
 use Rattle.state.specs.declared.Literal.{Literal}
 use Rattle.state.specs.declared.Room.TheVariants.{Made, Full}
@@ -30,30 +30,30 @@ use Rattle.state.proofs.SourcedLaws.{sourced-start}
 -- ---- Lazy records
 
 abbrev lazily : Literal → ℕ → Env → ℕ → Act (Unit {0})
-lazily a q y = addLazy (record { literal = literalBy y a; specifiers = y.bound q })
+lazily a q y = add_lazy (record { literal = literal_by y a; specifiers = y.bound q })
 
 lazy-length : {y : Env} {t : List ℕ} (s : State) → Shows y t s → length s.lazy ≡ held lazies t
-lazy-length {y} {t} s w = sym (ap length w.lazy) ∙ length-map (rows (table_of lazies) t) (lazyOf y)
+lazy-length {y} {t} s w = sym (ap length w.lazy) ∙ length-map (rows (table_of lazies) t) (lazy_of y)
 
 -- x is the number of a literal
 module _ (x : ℕ) (a : Literal) (q : ℕ) (v : x % 4294967296 ≡ a.place) {t : List ℕ} (g : Good t) where
-  one-lazy : (y : Env) → lazyOf y (x, q) ≡ record { literal = literalBy y a; specifiers = y.bound q }
+  one-lazy : (y : Env) → lazy_of y (x, q) ≡ record { literal = literal_by y a; specifiers = y.bound q }
   one-lazy y = ap (λ (n : ℕ). record { literal = y.literal n; specifiers = y.bound q }) v
 
   lazy-done : {t' : List ℕ} → rows (table_of lazies) t' ≡ rows (table_of lazies) t ++ ((x, q) ∷ []) → held lazies t < 1024 → Only (table_of lazies) t t' →
-      {y : Env} (s : State) (p : ℕ) → Shows y t s → Did y (addLazy (lazyOf y (x, q)) p s) t'
-  unfolding addLazy
+      {y : Env} (s : State) (p : ℕ) → Shows y t s → Did y (add_lazy (lazy_of y (x, q)) p s) t'
+  unfolding add_lazy
   lazy-done {t'} e n o {y} s p w =
-      let r : Record = lazyOf y (x, q) in
+      let r : Record = lazy_of y (x, q) in
       let l = s.lazy ++ (r ∷ []) in
       let size = length_more s.lazy r in
       let k = lazy-length s w in
       record {
-        state = setLazy l s;
-        is = room-made (length l) 1024 p (setLazy l) s (omega arith);
+        state = set_lazy l s;
+        is = room-made (length l) 1024 p (set_lazy l) s (omega arith);
         shows =
             shows-lazy w (others-kept lazies g o)
-            (ap (map (lazyOf y)) e ∙ map-append (lazyOf y) (rows (table_of lazies) t) ((x, q) ∷ []) ∙ ap (λ (m : List Record). m ++ (r ∷ [])) w.lazy);
+            (ap (map (lazy_of y)) e ∙ map-append (lazy_of y) (rows (table_of lazies) t) ((x, q) ∷ []) ∙ ap (λ (m : List Record). m ++ (r ∷ [])) w.lazy);
       }
 
   pub lazy-made : {t' : List ℕ} → x < id-limit → q < 4294967296 → rows (table_of lazies) t' ≡ rows (table_of lazies) t ++ ((x, q) ∷ []) →
@@ -62,17 +62,17 @@ module _ (x : ℕ) (a : Literal) (q : ℕ) (v : x % 4294967296 ≡ a.place) {t :
       let m = length_more (rows (table_of lazies) t) (x, q) in
       record {
         good = good-kept lazies g o e (omega arith) (below-append _ _ (rows (table_of lazies) t) (x, q) (g.below lazies) h b) tt;
-        made = λ r {x = y} s p w u. subst (λ (c : Record). Did y (addLazy c p s) t') (one-lazy y) (lazy-done e n o s p w);
+        made = λ r {x = y} s p w u. subst (λ (c : Record). Did y (add_lazy c p s) t') (one-lazy y) (lazy-done e n o s p w);
         full = λ r s p w u. absurd (let z : ◌≡◌ {A = ℕ} 0 1 = cc in omega arith);
       }
 
-lazy-refused : (r : Record) {y : Env} {t : List ℕ} (s : State) (p : ℕ) → Shows y t s → 1024 ≤ held lazies t → addLazy r p s ≡ refused 8 p
-unfolding addLazy
+lazy-refused : (r : Record) {y : Env} {t : List ℕ} (s : State) (p : ℕ) → Shows y t s → 1024 ≤ held lazies t → add_lazy r p s ≡ refused 8 p
+unfolding add_lazy
 lazy-refused r s p w n =
     let l = s.lazy ++ (r ∷ []) in
     let size = length_more s.lazy r in
     let k = lazy-length s w in
-    room-full (length l) 1024 p (setLazy l) s (omega arith)
+    room-full (length l) 1024 p (set_lazy l) s (omega arith)
 
 pub lazy-full : (a : Literal) (q : ℕ) {t : List ℕ} → Good t → 1024 ≤ held lazies t → Acts Anyhow (lazily a q) t t Full
 lazy-full a q g n =
@@ -87,7 +87,7 @@ flag-told false = refl
 pub top-told : (t : List ℕ) → Tells (λ s. s.top) t (eqb (get_or t top-cell 0) 1)
 top-told t = record { is = λ s w. ap (λ (n : ℕ). eqb n 1) w.top ∙ flag-told s.top }
 
-pub top_set : {t : List ℕ} (b : Bool) → Good t → Turns (setTop b) t (set t top-cell (flag b))
+pub top_set : {t : List ℕ} (b : Bool) → Good t → Turns (set_top b) t (set t top-cell (flag b))
 top_set {t} b g =
     let f = beside-rows top-cell (flag b) g beside-top in
     let size = g.size in
@@ -99,7 +99,7 @@ top_set {t} b g =
       shows = λ s w.
           shows-top w f (get_or-set_same t top-cell (flag b) 0 (omega arith))
           (record {
-            externals = ap (map atomOf) (f externals) ∙ w.sets.externals;
+            externals = ap (map atom_of) (f externals) ∙ w.sets.externals;
             table = ap (map lent_of) (f table) ∙ w.sets.table;
             pass = get_or-set_other t top-cell pass-cell (flag b) 0 (λ e. omega arith) ∙ w.sets.pass;
             own = c ∙ w.sets.own;
@@ -144,23 +144,23 @@ module _ (t : List ℕ) (n : length t ≡ cells) (z : (i : ℕ) → get_or t i 0
       }
 
   -- what it is set to: the first pass, module 0, no mode, no lent list
-  pub zero-shows : (literal : ℕ → List ℕ) (bound : ℕ → Fields) → Shows (unset literal bound) t (setTop false (start []))
-  unfolding leastOf index_of namespacesIn
+  pub zero-shows : (literal : ℕ → List ℕ) (bound : ℕ → Fields) → Shows (unset literal bound) t (set_top false (start []))
+  unfolding least_of index_of namespaces_in
   zero-shows literal bound =
       record {
-        imported = ap (map importedOf) (zero-rows imports);
-        usages = ap (map usageOf) (zero-rows uses);
-        collected = ap (map (briefOf (unset literal bound))) (zero-rows records);
-        holders = λ i h. ap (leastOf i) (zero-rows namespaces);
+        imported = ap (map imported_of) (zero-rows imports);
+        usages = ap (map usage_of) (zero-rows uses);
+        collected = ap (map (brief_of (unset literal bound))) (zero-rows records);
+        holders = λ i h. ap (least_of i) (zero-rows namespaces);
         met = ap length (zero-rows namespaces);
-        lazy = ap (map (lazyOf (unset literal bound))) (zero-rows lazies);
-        forced = ap (map atomOf) (zero-rows forces);
+        lazy = ap (map (lazy_of (unset literal bound))) (zero-rows lazies);
+        forced = ap (map atom_of) (zero-rows forces);
         top = z top-cell;
         modules = ap (map module_of) (zero-rows modules);
         sourced = record { once = (sourced-start []).once; from = (sourced-start []).from };
         sets =
             record {
-              externals = ap (map atomOf) (zero-rows externals);
+              externals = ap (map atom_of) (zero-rows externals);
               table = ap (map lent_of) (zero-rows table);
               pass = z pass-cell;
               own = z own-cell;

@@ -8,18 +8,18 @@ use mathlib.Core.Option.{Option, some}
 use lib.Dec.{eqb}
 use lib.ListN.{length, get_or, set, drop, length-drop}
 use lib.Seq.{get_or-set_same, get_or-set_other, drop-cons}
-use Rattle.tables.specs.Rows.{Row, rows, firstIn}
+use Rattle.tables.specs.Rows.{Row, rows, first_in}
 use Rattle.tables.specs.Only.{Only}
-use Rattle.tree.specs.Layout.{Bytes, two, twoAt, same}
+use Rattle.tree.specs.Layout.{Bytes, two, two_at, same}
 use Rattle.tree.proofs.LayoutLaws.{same-two}
 use Rattle.inputs.specs.Lists.{is_some, mapped, among}
-use Rattle.inputs.specs.Table.{Row as LentRow, atomsIn, rowsIn, row_of as rowFor, fileOf}
+use Rattle.inputs.specs.Table.{Row as LentRow, atoms_in, rows_in, row_of as row_for, file_of}
 use Rattle.inputs.proofs.TableLaws.{bytes-two, rows_step, rows_end}
 use Rattle.extraction_rules.specs.State.{Pass, first, second, Setting}
-use Rattle.state.specs.Cells.{Kind, passFlag, externals, table, table_of, InLimits, Below, held, Good, Hinted, rowHint, atomOf, lent_of, flag, Sets}
+use Rattle.state.specs.Cells.{Kind, pass_flag, externals, table, table_of, InLimits, Below, held, Good, Hinted, row_hint, atom_of, lent_of, flag, Sets}
 use Rattle.state.specs.Cells.{top-cell, pass-cell, own-cell, require-cell}
 use Rattle.modes.specs.declared.Modes.{Modes}
-use Rattle.state.specs.Does.{Aside, Others, Says, Resets, isSecond, place_in, withSetting, withSecond, withOwn, withModes, withExternals, withTable}
+use Rattle.state.specs.Does.{Aside, Others, Says, Resets, is_second, place_in, with_setting, with_second, with_own, with_modes, with_externals, with_table}
 use Rattle.state.proofs.IdLaws.{between-one}
 use Rattle.state.proofs.ListLaws.{length_more, below-append, find-row, row_of, below_row, first_below}
 use Rattle.state.proofs.HintLaws.{agrees-set, reached-append}
@@ -30,7 +30,7 @@ use Rattle.state.proofs.RestLaws.{flag-told}
 
 -- ---- What is read
 
-pub external-told : {t : List ℕ} {a : ℕ} {o : Option ℕ} → Good t → a < 65536 → o ≡ firstIn a a (rows (table_of externals) t) →
+pub external-told : {t : List ℕ} {a : ℕ} {o : Option ℕ} → Good t → a < 65536 → o ≡ first_in a a (rows (table_of externals) t) →
     Says (λ e. among (two a) e.externals) t (is_some o)
 external-told {t} {a} {o} g h e =
     record {
@@ -38,30 +38,30 @@ external-told {t} {a} {o} g h e =
           ap (λ (x : Option ℕ). is_some x) e ∙ sym (among-rows a _ (rows (table_of externals) t) h (g.below externals)) ∙ ap (among (two a)) w.sets.externals;
     }
 
-file-found : (a v : ℕ) (l : List Row) → a < 65536 → Below 65536 v l → fileOf (two a) (map lent_of l) ≡ mapped (λ i. (row_of l i).1) (firstIn a a l)
-unfolding fileOf rowFor
+file-found : (a v : ℕ) (l : List Row) → a < 65536 → Below 65536 v l → file_of (two a) (map lent_of l) ≡ mapped (λ i. (row_of l i).1) (first_in a a l)
+unfolding file_of row_for
 file-found a v l h b =
     ap (mapped (λ (r : LentRow). r.file))
     (find-row (λ (r : LentRow). same r.source (two a)) lent_of a a 65536 v (λ r k. same-two r.0 a k h ∙ sym (between-one a r.0)) l b)
-    ∙ mapped-mapped (λ (r : LentRow). r.file) (λ i. lent_of (row_of l i)) (firstIn a a l)
+    ∙ mapped-mapped (λ (r : LentRow). r.file) (λ i. lent_of (row_of l i)) (first_in a a l)
 
-pub file-told : {t : List ℕ} {a : ℕ} {o : Option ℕ} → Good t → a < 65536 → o ≡ firstIn a a (rows (table_of table) t) →
-    Says (λ e. fileOf (two a) e.table) t (mapped (λ i. (row_of (rows (table_of table) t) i).1) o)
+pub file-told : {t : List ℕ} {a : ℕ} {o : Option ℕ} → Good t → a < 65536 → o ≡ first_in a a (rows (table_of table) t) →
+    Says (λ e. file_of (two a) e.table) t (mapped (λ i. (row_of (rows (table_of table) t) i).1) o)
 file-told {t} {a} {o} g h e =
     record {
       is = λ s w.
           ap (mapped (λ i. (row_of (rows (table_of table) t) i).1)) e ∙ sym (file-found a _ (rows (table_of table) t) h (g.below table))
-          ∙ ap (fileOf (two a)) w.sets.table;
+          ∙ ap (file_of (two a)) w.sets.table;
     }
 
 -- a file's number fits two bytes
-pub file-small : (a : ℕ) {t : List ℕ} {i n : ℕ} → Good t → firstIn a a (rows (table_of table) t) ≡ some i → n ≡ (row_of (rows (table_of table) t) i).1 → n < 65536
+pub file-small : (a : ℕ) {t : List ℕ} {i n : ℕ} → Good t → first_in a a (rows (table_of table) t) ≡ some i → n ≡ (row_of (rows (table_of table) t) i).1 → n < 65536
 file-small a {t} {i} g f e = let b = (below_row _ _ (rows (table_of table) t) i (g.below table) (first_below a a (rows (table_of table) t) i f)).1 in omega arith
 
-pub pass-told : (t : List ℕ) → Says (λ e. isSecond e.pass) t (eqb (get_or t pass-cell 0) 1)
+pub pass-told : (t : List ℕ) → Says (λ e. is_second e.pass) t (eqb (get_or t pass-cell 0) 1)
 pass-told t = record { is = λ {x} s w. ap (λ (n : ℕ). eqb n 1) w.sets.pass ∙ by x.setting.pass }
   where
-    by : (p : Pass) → eqb (passFlag p) 1 ≡ isSecond p
+    by : (p : Pass) → eqb (pass_flag p) 1 ≡ is_second p
     by first = refl
     by second = refl
 
@@ -69,33 +69,33 @@ pub require-told : (t : List ℕ) → Says (λ e. e.config.require) t (eqb (get_
 require-told t = record { is = λ {x} s w. ap (λ (n : ℕ). eqb n 1) w.sets.require ∙ flag-told x.setting.config.require }
 
 -- the place in the tree that the pass walks
-pub place-second : {t : List ℕ} (at : ℕ) → Says (λ e. isSecond e.pass) t true → Says (λ e. place_in e.pass at) t (65536 + at % 65536)
+pub place-second : {t : List ℕ} (at : ℕ) → Says (λ e. is_second e.pass) t true → Says (λ e. place_in e.pass at) t (65536 + at % 65536)
 place-second at h = record { is = λ {x} s w. by x.setting.pass (h.is s w) }
   where
-    by : (p : Pass) → true ≡ isSecond p → 65536 + at % 65536 ≡ place_in p at
+    by : (p : Pass) → true ≡ is_second p → 65536 + at % 65536 ≡ place_in p at
     by first e = absurd (let z : ◌≡◌ {A = ℕ} 0 1 = cc in omega arith)
     by second e = refl
 
-pub place-first : {t : List ℕ} (at : ℕ) → Says (λ e. isSecond e.pass) t false → Says (λ e. place_in e.pass at) t (at % 65536)
+pub place-first : {t : List ℕ} (at : ℕ) → Says (λ e. is_second e.pass) t false → Says (λ e. place_in e.pass at) t (at % 65536)
 place-first at h = record { is = λ {x} s w. by x.setting.pass (h.is s w) }
   where
-    by : (p : Pass) → false ≡ isSecond p → at % 65536 ≡ place_in p at
+    by : (p : Pass) → false ≡ is_second p → at % 65536 ≡ place_in p at
     by first e = refl
     by second e = absurd (let z : ◌≡◌ {A = ℕ} 0 1 = cc in omega arith)
 
 -- ---- A cell is set
 
-abbrev toSecond : Setting → Setting
-toSecond e = record { pass = second; own = e.own; config = e.config; externals = e.externals; table = e.table }
+abbrev to_second : Setting → Setting
+to_second e = record { pass = second; own = e.own; config = e.config; externals = e.externals; table = e.table }
 
-abbrev toOwn : ℕ → Setting → Setting
-toOwn n e = record { pass = e.pass; own = n; config = e.config; externals = e.externals; table = e.table }
+abbrev to_own : ℕ → Setting → Setting
+to_own n e = record { pass = e.pass; own = n; config = e.config; externals = e.externals; table = e.table }
 
-abbrev toModes : Modes → Setting → Setting
-toModes m e = record { pass = e.pass; own = e.own; config = m; externals = e.externals; table = e.table }
+abbrev to_modes : Modes → Setting → Setting
+to_modes m e = record { pass = e.pass; own = e.own; config = m; externals = e.externals; table = e.table }
 
-abbrev toExternals : List (List ℕ) → Setting → Setting
-toExternals l e = record { pass = e.pass; own = e.own; config = e.config; externals = l; table = e.table }
+abbrev to_externals : List (List ℕ) → Setting → Setting
+to_externals l e = record { pass = e.pass; own = e.own; config = e.config; externals = l; table = e.table }
 
 abbrev to_table : List LentRow → Setting → Setting
 to_table l e = record { pass = e.pass; own = e.own; config = e.config; externals = e.externals; table = l }
@@ -108,46 +108,46 @@ module _ {t : List ℕ} (i v : ℕ) (g : Good t) (p : pass-cell ≤ i) (q : i < 
   set-rows = beside-rows i v g beside
 
   -- the lists are kept
-  cells-set : {e : Setting} (m : Pass) (o : ℕ) (c : Modes) → Sets e t → get_or (set t i v) pass-cell 0 ≡ passFlag m → get_or (set t i v) own-cell 0 ≡ o →
+  cells-set : {e : Setting} (m : Pass) (o : ℕ) (c : Modes) → Sets e t → get_or (set t i v) pass-cell 0 ≡ pass_flag m → get_or (set t i v) own-cell 0 ≡ o →
       get_or (set t i v) require-cell 0 ≡ flag c.require → Sets (record { pass = m; own = o; config = c; externals = e.externals; table = e.table }) (set t i v)
   cells-set m o c w x y z =
       record {
-        externals = ap (map atomOf) (set-rows externals) ∙ w.externals;
+        externals = ap (map atom_of) (set-rows externals) ∙ w.externals;
         table = ap (map lent_of) (set-rows table) ∙ w.table;
         pass = x;
         own = y;
         require = z;
       }
 
-  set-resets : (f : Setting → Setting) → get_or (set t i v) own-cell 0 < 65536 → ((e : Setting) → Sets e t → Sets (f e) (set t i v)) → Resets (withSetting f) t (set t i v)
+  set-resets : (f : Setting → Setting) → get_or (set t i v) own-cell 0 < 65536 → ((e : Setting) → Sets e t → Sets (f e) (set t i v)) → Resets (with_setting f) t (set t i v)
   set-resets f n k =
       record {
         good = beside-good i v g beside (agrees-set t i v (λ h b e. omega arith) (λ h b e. omega arith)) n;
         shows = λ {x} s w. shows-set w f (λ m a b. set-rows m) (get_or-set_other t i top-cell v 0 (λ e. omega arith)) (k x.setting w.sets);
       }
 
-pub second-set : {t : List ℕ} → Good t → Resets withSecond t (set t pass-cell 1)
+pub second-set : {t : List ℕ} → Good t → Resets with_second t (set t pass-cell 1)
 second-set {t} g =
     let size = g.size in
     let c = get_or-set_other t pass-cell own-cell 1 0 (λ e. omega arith) in
-    set-resets pass-cell 1 g (omega arith) (omega arith) toSecond (let n = g.own_below in omega arith) (λ e w.
+    set-resets pass-cell 1 g (omega arith) (omega arith) to_second (let n = g.own_below in omega arith) (λ e w.
     cells-set pass-cell 1 g (omega arith) (omega arith) second e.own e.config w (get_or-set_same t pass-cell 1 0 (omega arith)) (c ∙ w.own)
     (get_or-set_other t pass-cell require-cell 1 0 (λ z. omega arith) ∙ w.require))
 
-pub own-set : {t : List ℕ} (n : ℕ) → n < 65536 → Good t → Resets (withOwn n) t (set t own-cell n)
+pub own-set : {t : List ℕ} (n : ℕ) → n < 65536 → Good t → Resets (with_own n) t (set t own-cell n)
 own-set {t} n h g =
     let size = g.size in
     let c = get_or-set_same t own-cell n 0 (omega arith) in
-    set-resets own-cell n g (omega arith) (omega arith) (toOwn n) (omega arith) (λ e w.
+    set-resets own-cell n g (omega arith) (omega arith) (to_own n) (omega arith) (λ e w.
     cells-set own-cell n g (omega arith) (omega arith) e.pass n e.config w (get_or-set_other t own-cell pass-cell n 0 (λ z. omega arith) ∙ w.pass) c
     (get_or-set_other t own-cell require-cell n 0 (λ z. omega arith) ∙ w.require))
 
-pub modes-set : {t : List ℕ} (m : Modes) → Good t → Resets (withModes m) t (set t require-cell (flag m.require))
+pub modes-set : {t : List ℕ} (m : Modes) → Good t → Resets (with_modes m) t (set t require-cell (flag m.require))
 modes-set {t} m g =
     let size = g.size in
     let v = flag m.require in
     let c = get_or-set_other t require-cell own-cell v 0 (λ e. omega arith) in
-    set-resets require-cell v g (omega arith) (omega arith) (toModes m) (let n = g.own_below in omega arith) (λ e w.
+    set-resets require-cell v g (omega arith) (omega arith) (to_modes m) (let n = g.own_below in omega arith) (λ e w.
     cells-set require-cell v g (omega arith) (omega arith) e.pass e.own m w (get_or-set_other t require-cell pass-cell v 0 (λ z. omega arith) ∙ w.pass)
     (c ∙ w.own) (get_or-set_same t require-cell v 0 (omega arith)))
 
@@ -207,36 +207,36 @@ module _ {A : Type 0} {k : Kind} {f : Row → A} {said : List ℕ → List A} {s
 
 -- ---- Externals, two bytes each
 
-atoms-step : (s : List ℕ) (i : ℕ) → Bytes s → i + 2 ≤ length s → atomsIn (drop i s) ≡ two (twoAt s i) ∷ atomsIn (drop (i + 2) s)
-unfolding atomsIn
+atoms-step : (s : List ℕ) (i : ℕ) → Bytes s → i + 2 ≤ length s → atoms_in (drop i s) ≡ two (two_at s i) ∷ atoms_in (drop (i + 2) s)
+unfolding atoms_in
 atoms-step s i b h =
     let one = drop-cons s i 0 (omega arith) in
     let next = drop-cons s (suc i) 0 (omega arith) in
     let p : suc i ≡ i + 1 = omega arith in
     let q : suc (suc i) ≡ i + 2 = omega arith in
     let e : drop i s ≡ get_or s i 0 ∷ get_or s (i + 1) 0 ∷ drop (i + 2) s = cc in
-    ap atomsIn e ∙ ap (λ (a : List ℕ). a ∷ atomsIn (drop (i + 2) s)) (bytes-two (get_or s i 0) (get_or s (i + 1) 0) (b i) (b (i + 1)))
+    ap atoms_in e ∙ ap (λ (a : List ℕ). a ∷ atoms_in (drop (i + 2) s)) (bytes-two (get_or s i 0) (get_or s (i + 1) 0) (b i) (b (i + 1)))
 
-atoms-end : (l : List ℕ) → length l < 2 → atomsIn l ≡ []
-unfolding atomsIn
+atoms-end : (l : List ℕ) → length l < 2 → atoms_in l ≡ []
+unfolding atoms_in
 atoms-end [] h = refl
 atoms-end (a ∷ []) h = refl
 atoms-end (a ∷ (b ∷ l)) h = absurd (omega arith)
 
-module _ {s t₀ t : List ℕ} {i : ℕ} (l : Lending externals atomOf atomsIn s i t₀ t) where
-  pub external-more : {n : ℕ} {t' : List ℕ} → Bytes s → i + 2 ≤ length s → held externals t < 512 → n < 65536 → n ≡ twoAt s i →
-      rows (table_of externals) t' ≡ rows (table_of externals) t ++ ((n, 0) ∷ []) → Only (table_of externals) t t' → Lending externals atomOf atomsIn s (i + 2) t₀ t'
+module _ {s t₀ t : List ℕ} {i : ℕ} (l : Lending externals atom_of atoms_in s i t₀ t) where
+  pub external-more : {n : ℕ} {t' : List ℕ} → Bytes s → i + 2 ≤ length s → held externals t < 512 → n < 65536 → n ≡ two_at s i →
+      rows (table_of externals) t' ≡ rows (table_of externals) t ++ ((n, 0) ∷ []) → Only (table_of externals) t t' → Lending externals atom_of atoms_in s (i + 2) t₀ t'
   external-more {n} b h r k e =
       lend-more l (n, 0) r (below-append _ _ (rows (table_of externals) t) (n, 0) (l.good.below externals) k (omega arith)) tt
-      (atoms-step s i b h ∙ ap (λ (m : ℕ). two m ∷ atomsIn (drop (i + 2) s)) (sym e))
+      (atoms-step s i b h ∙ ap (λ (m : ℕ). two m ∷ atoms_in (drop (i + 2) s)) (sym e))
 
-  pub externals-lent : length s < i + 2 → Resets (withExternals (atomsIn s)) t₀ t
+  pub externals-lent : length s < i + 2 → Resets (with_externals (atoms_in s)) t₀ t
   externals-lent h =
       let c = l.others.cells-kept in
       record {
         good = l.good;
         shows = λ q w.
-            shows-set w (toExternals (atomsIn s)) (λ m a b. l.others.rows-kept m a) c.top_kept
+            shows-set w (to_externals (atoms_in s)) (λ m a b. l.others.rows-kept m a) c.top_kept
             (record {
               externals = lend-end l (atoms-end (drop i s) (simp length-drop (omega arith)));
               table = ap (map lent_of) (l.others.rows-kept table refl) ∙ w.sets.table;
@@ -248,28 +248,28 @@ module _ {s t₀ t : List ℕ} {i : ℕ} (l : Lending externals atomOf atomsIn s
 
 -- ---- The table, four bytes to a row
 
-module _ {s t₀ t : List ℕ} {i : ℕ} (l : Lending table lent_of rowsIn s i t₀ t) where
-  pub row_more : {n v : ℕ} {m t' : List ℕ} → Bytes s → i + 4 ≤ length s → held table t < 1024 → n < 65536 → v < 65536 → n ≡ twoAt s i → v ≡ twoAt s (i + 2) →
-      Aside t m → length m ≡ length t → 1024 ≤ held table t + rowHint m (n % 1024) →
-      rows (table_of table) t' ≡ rows (table_of table) m ++ ((n, v) ∷ []) → Only (table_of table) m t' → Lending table lent_of rowsIn s (i + 4) t₀ t'
+module _ {s t₀ t : List ℕ} {i : ℕ} (l : Lending table lent_of rows_in s i t₀ t) where
+  pub row_more : {n v : ℕ} {m t' : List ℕ} → Bytes s → i + 4 ≤ length s → held table t < 1024 → n < 65536 → v < 65536 → n ≡ two_at s i → v ≡ two_at s (i + 2) →
+      Aside t m → length m ≡ length t → 1024 ≤ held table t + row_hint m (n % 1024) →
+      rows (table_of table) t' ≡ rows (table_of table) m ++ ((n, v) ∷ []) → Only (table_of table) m t' → Lending table lent_of rows_in s (i + 4) t₀ t'
   row_more {n} {v} {m} b h r k j e f a z c =
       let q = lend-aside l a z in
       let x = ap length (a.same_rows table) in
       lend-more q (n, v) (omega arith) (below-append _ _ (rows (table_of table) m) (n, v) (q.good.below table) k j)
-      (reached-append 1024 (λ y. rowHint m (y % 1024)) 0 (rows (table_of table) m) (n, v) (q.good.hinted table) (omega arith))
+      (reached-append 1024 (λ y. row_hint m (y % 1024)) 0 (rows (table_of table) m) (n, v) (q.good.hinted table) (omega arith))
       (rows_step s i h
-      ∙ ap₂ (λ (y : List ℕ) (d : ℕ). record { source = y; file = d } ∷ rowsIn (drop (i + 4) s))
+      ∙ ap₂ (λ (y : List ℕ) (d : ℕ). record { source = y; file = d } ∷ rows_in (drop (i + 4) s))
       (bytes-two (get_or s i 0) (get_or s (i + 1) 0) (b i) (b (i + 1)) ∙ ap two (sym e)) (sym f))
 
-  pub table-lent : length s < i + 4 → Resets (withTable (rowsIn s)) t₀ t
+  pub table-lent : length s < i + 4 → Resets (with_table (rows_in s)) t₀ t
   table-lent h =
       let c = l.others.cells-kept in
       record {
         good = l.good;
         shows = λ q w.
-            shows-set w (to_table (rowsIn s)) (λ m a b. l.others.rows-kept m b) c.top_kept
+            shows-set w (to_table (rows_in s)) (λ m a b. l.others.rows-kept m b) c.top_kept
             (record {
-              externals = ap (map atomOf) (l.others.rows-kept externals refl) ∙ w.sets.externals;
+              externals = ap (map atom_of) (l.others.rows-kept externals refl) ∙ w.sets.externals;
               table = lend-end l (rows_end s i h);
               pass = c.pass_kept ∙ w.sets.pass;
               own = c.own-kept ∙ w.sets.own;

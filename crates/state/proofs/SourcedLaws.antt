@@ -11,29 +11,29 @@ use Rattle.tree.specs.Tree.{Fields}
 use Rattle.tree.proofs.LayoutLaws.{same_refl, same-equal}
 use Rattle.tree.proofs.FixedLaws.{or_right}
 use Rattle.inputs.specs.Lists.{find, among}
-use Rattle.extraction_rules.specs.State.{Record, State, start, setForced, setCollected}
-use Rattle.extraction_rules.specs.First.{forceSource}
+use Rattle.extraction_rules.specs.State.{Record, State, start, set_forced, set_collected}
+use Rattle.extraction_rules.specs.First.{force_source}
 use Rattle.extraction_rules.specs.Second.{extend}
 use Rattle.extraction_rules.proofs.TestLaws.{or-neither}
 use Rattle.extraction_rules.proofs.ListLaws.{among-last, same-swap}
 use Rattle.extraction_rules.proofs.FirstLaws.{map-sources, extend-literal}
-use Rattle.state.specs.Cells.{sourcesIn, Once, Sourced}
-use Rattle.state.specs.Does.{source_of, extendAt}
+use Rattle.state.specs.Cells.{sources_in, Once, Sourced}
+use Rattle.state.specs.Does.{source_of, extend_at}
 
 pub sourced-start : (ms : Modules) → Sourced (start ms)
 unfolding Once among
 sourced-start ms = record { once = tt; from = λ a e. absurd (let z : ◌≡◌ {A = ℕ} 0 1 = cc in omega arith) }
 
 -- the source of a record that is found is one of theirs
-pub find-among : (p : Record → Bool) (l : List Record) (x : List ℕ) → some x ≡ source_of (find p l) → among x (sourcesIn l) ≡ true
+pub find-among : (p : Record → Bool) (l : List Record) (x : List ℕ) → some x ≡ source_of (find p l) → among x (sources_in l) ≡ true
 unfolding find among
 find-among p [] x e = absurd (let z : ◌≡◌ {A = ℕ} 0 1 = cc in omega arith)
 find-among p (r ∷ l) x e = by (p r) (find-among p l x) e
   where
-    by : (b : Bool) → (some x ≡ source_of (find p l) → among x (sourcesIn l) ≡ true) → some x ≡ source_of (cond b (some r) (find p l)) →
-        (same x (value_of r.literal) || among x (sourcesIn l)) ≡ true
-    by true h f = let z : x ≡ value_of r.literal = cc in ap (λ (k : Bool). k || among x (sourcesIn l)) (ap (same x) (sym z) ∙ same_refl x)
-    by false h f = or_right (same x (value_of r.literal)) (among x (sourcesIn l)) (h f)
+    by : (b : Bool) → (some x ≡ source_of (find p l) → among x (sources_in l) ≡ true) → some x ≡ source_of (cond b (some r) (find p l)) →
+        (same x (value_of r.literal) || among x (sources_in l)) ≡ true
+    by true h f = let z : x ≡ value_of r.literal = cc in ap (λ (k : Bool). k || among x (sources_in l)) (ap (same x) (sym z) ∙ same_refl x)
+    by false h f = or_right (same x (value_of r.literal)) (among x (sources_in l)) (h f)
 
 -- ---- A source is forced
 
@@ -44,16 +44,16 @@ once_more a (b ∷ l) o e =
     let h = or-neither (same a b) (among a l) e in
     (among-last b a l ∙ ap (λ (x : Bool). x || same b a) o.0 ∙ same-swap b a ∙ h.0, once_more a l o.1 h.1)
 
-pub sourced-force : (a : List ℕ) {s : State} → Sourced s → among a (sourcesIn s.collected) ≡ true → Sourced (forceSource a s)
-unfolding forceSource
+pub sourced-force : (a : List ℕ) {s : State} → Sourced s → among a (sources_in s.collected) ≡ true → Sourced (force_source a s)
+unfolding force_source
 sourced-force a {s} k h = by (among a s.forced) refl
   where
-    from : (c : List ℕ) (x : Bool) → same c a ≡ x → (y : Bool) → among c s.forced ≡ y → (y || x) ≡ true → among c (sourcesIn s.collected) ≡ true
+    from : (c : List ℕ) (x : Bool) → same c a ≡ x → (y : Bool) → among c s.forced ≡ y → (y || x) ≡ true → among c (sources_in s.collected) ≡ true
     from c x p true q e = k.from c q
-    from c true p false q e = ap (λ (z : List ℕ). among z (sourcesIn s.collected)) (same-equal c a p) ∙ h
+    from c true p false q e = ap (λ (z : List ℕ). among z (sources_in s.collected)) (same-equal c a p) ∙ h
     from c false p false q e = absurd (let z : ◌≡◌ {A = ℕ} 0 1 = cc in omega arith)
 
-    by : (b : Bool) → among a s.forced ≡ b → Sourced (cond b s (setForced (s.forced ++ (a ∷ [])) s))
+    by : (b : Bool) → among a s.forced ≡ b → Sourced (cond b s (set_forced (s.forced ++ (a ∷ [])) s))
     by true e = k
     by false e =
         record {
@@ -63,15 +63,15 @@ sourced-force a {s} k h = by (among a s.forced) refl
 
 -- ---- Records that change keep their sources
 
-pub sourced-collected : {s : State} {x : List Record} → Sourced s → ((a : List ℕ) → among a (sourcesIn s.collected) ≡ true → among a (sourcesIn x) ≡ true) →
-    Sourced (setCollected x s)
+pub sourced-collected : {s : State} {x : List Record} → Sourced s → ((a : List ℕ) → among a (sources_in s.collected) ≡ true → among a (sources_in x) ≡ true) →
+    Sourced (set_collected x s)
 sourced-collected k h = record { once = k.once; from = λ a e. h a (k.from a e) }
 
-pub extend-sources : (x : List ℕ) (fs : Fields) (l : List Record) → sourcesIn (map (extend x fs) l) ≡ sourcesIn l
+pub extend-sources : (x : List ℕ) (fs : Fields) (l : List Record) → sources_in (map (extend x fs) l) ≡ sources_in l
 extend-sources x fs l = map-sources (extend x fs) l (extend-literal x fs)
 
-pub extendAt-sources : (i : ℕ) (fs : Fields) (l : List Record) → sourcesIn (extendAt i fs l) ≡ sourcesIn l
-unfolding extendAt
-extendAt-sources i fs [] = refl
-extendAt-sources zero fs (r ∷ l) = refl
-extendAt-sources (suc i) fs (r ∷ l) = ap (λ (m : List (List ℕ)). value_of r.literal ∷ m) (extendAt-sources i fs l)
+pub extend_at-sources : (i : ℕ) (fs : Fields) (l : List Record) → sources_in (extend_at i fs l) ≡ sources_in l
+unfolding extend_at
+extend_at-sources i fs [] = refl
+extend_at-sources zero fs (r ∷ l) = refl
+extend_at-sources (suc i) fs (r ∷ l) = ap (λ (m : List (List ℕ)). value_of r.literal ∷ m) (extend_at-sources i fs l)

@@ -10,14 +10,14 @@ use lib.Seq.{drop-cons}
 use borrow.Author.Tests.{eq-eqb, ne_eqb}
 use native.Mathlib.Numerals.{add-one}
 use Rattle.scope.specs.declared.id.Id.{Id}
-use Rattle.tables.specs.Rows.{Row, rows, firstIn, without}
+use Rattle.tables.specs.Rows.{Row, rows, first_in, without}
 use Rattle.tree.specs.Layout.{same}
 use Rattle.inputs.specs.Lists.{filter, is_some}
 use Rattle.inputs.specs.Outcome.{refused}
-use Rattle.extraction_rules.specs.State.{Imported, Usage, State, setUsages}
-use Rattle.extraction_rules.specs.First.{forget, addUsage}
-use Rattle.extraction_rules.specs.Second.{usagesOf}
-use Rattle.state.specs.Cells.{Env, id-limit, imports, uses, table_of, Below, held, Good, Shows, id_of, idBy, importedOf, usageOf}
+use Rattle.extraction_rules.specs.State.{Imported, Usage, State, set_usages}
+use Rattle.extraction_rules.specs.First.{forget, add_usage}
+use Rattle.extraction_rules.specs.Second.{usages_of}
+use Rattle.state.specs.Cells.{Env, id-limit, imports, uses, table_of, Below, held, Good, Shows, id_of, id_by, imported_of, usage_of}
 use Rattle.state.specs.Does.{Changes, Tells, Turns, Did, Anyhow, Acts, Lists, any}
 use Rattle.state.specs.declared.Room.TheVariants.{Made, Full}
 use Rattle.state.proofs.IdLaws.{same_id, same_key}
@@ -29,60 +29,60 @@ use Rattle.state.proofs.ImportedLaws.{room-made, room-full}
 
 -- ---- Whether there are some
 
-any_found : (id v : ℕ) (l : List Row) → id < id-limit → Below id-limit v l → any (usagesOf (id_of id) (map usageOf l)) ≡ is_some (firstIn id id l)
-unfolding usagesOf
-any_found id v l h b = any-row (λ (u : Usage). same u.id (id_of id)) usageOf id id id-limit v (λ r k. same_key id r.0 h k) l b
+any_found : (id v : ℕ) (l : List Row) → id < id-limit → Below id-limit v l → any (usages_of (id_of id) (map usage_of l)) ≡ is_some (first_in id id l)
+unfolding usages_of
+any_found id v l h b = any-row (λ (u : Usage). same u.id (id_of id)) usage_of id id id-limit v (λ r k. same_key id r.0 h k) l b
 
-pub usages-told : {t x : List ℕ} {id : ℕ} {b : Bool} → Good t → id_of id ≡ x → id < id-limit → b ≡ is_some (firstIn id id (rows (table_of uses) t)) →
-    Tells (λ s. any (usagesOf x s.usages)) t b
+pub usages-told : {t x : List ℕ} {id : ℕ} {b : Bool} → Good t → id_of id ≡ x → id < id-limit → b ≡ is_some (first_in id id (rows (table_of uses) t)) →
+    Tells (λ s. any (usages_of x s.usages)) t b
 usages-told {t} {x} {id} g n h e =
     record {
       is = λ s w.
           e ∙ sym (any_found id _ (rows (table_of uses) t) h (g.below uses))
-          ∙ ap (λ (l : List Usage). any (usagesOf (id_of id) l)) w.usages ∙ ap (λ (y : List ℕ). any (usagesOf y s.usages)) n;
+          ∙ ap (λ (l : List Usage). any (usages_of (id_of id) l)) w.usages ∙ ap (λ (y : List ℕ). any (usages_of y s.usages)) n;
     }
 
 -- ---- One more
 
 module _ (k q : ℕ) {t x v : List ℕ} (g : Good t) (i : id_of k ≡ x) (j : id_of q ≡ v) where
-  one-usage : usageOf (k, q) ≡ record { id = x; property = v }
+  one-usage : usage_of (k, q) ≡ record { id = x; property = v }
   one-usage = ap₂ (λ (a b : List ℕ). record { id = a; property = b }) i j
 
   usage-done : {t' : List ℕ} → length (rows (table_of uses) t) < 2048 → Changes uses (rows (table_of uses) t ++ ((k, q) ∷ [])) t t' →
-      {y : Env} (s : State) (p : ℕ) → Shows y t s → Did y (addUsage (usageOf (k, q)) p s) t'
-  unfolding addUsage
+      {y : Env} (s : State) (p : ℕ) → Shows y t s → Did y (add_usage (usage_of (k, q)) p s) t'
+  unfolding add_usage
   usage-done {t'} n d s p w =
       let l = rows (table_of uses) t in
-      let x = s.usages ++ (usageOf (k, q) ∷ []) in
-      let shown : map usageOf (rows (table_of uses) t') ≡ x =
-      ap (map usageOf) d.now-rows ∙ map-append usageOf l ((k, q) ∷ []) ∙ ap (λ (m : List Usage). m ++ (usageOf (k, q) ∷ [])) w.usages in
-      let size = length_more s.usages (usageOf (k, q)) in
-      let held : length s.usages ≡ length l = sym (ap length w.usages) ∙ length-map l usageOf in
+      let x = s.usages ++ (usage_of (k, q) ∷ []) in
+      let shown : map usage_of (rows (table_of uses) t') ≡ x =
+      ap (map usage_of) d.now-rows ∙ map-append usage_of l ((k, q) ∷ []) ∙ ap (λ (m : List Usage). m ++ (usage_of (k, q) ∷ [])) w.usages in
+      let size = length_more s.usages (usage_of (k, q)) in
+      let held : length s.usages ≡ length l = sym (ap length w.usages) ∙ length-map l usage_of in
       record {
-        state = setUsages x s;
-        is = room-made (length x) 2048 p (setUsages x) s (omega arith);
+        state = set_usages x s;
+        is = room-made (length x) 2048 p (set_usages x) s (omega arith);
         shows = shows-usages w d.others shown;
       }
 
   pub usage-made : {t' : List ℕ} → length (rows (table_of uses) t) < 2048 → Changes uses (rows (table_of uses) t ++ ((k, q) ∷ [])) t t' →
-      Acts Anyhow (λ _. addUsage (record { id = x; property = v })) t t' Made
+      Acts Anyhow (λ _. add_usage (record { id = x; property = v })) t t' Made
   usage-made {t'} n d =
       record {
         good = d.good;
-        made = λ r {x = y} s p w u. subst (λ (a : Usage). Did y (addUsage a p s) t') one-usage (usage-done n d s p w);
+        made = λ r {x = y} s p w u. subst (λ (a : Usage). Did y (add_usage a p s) t') one-usage (usage-done n d s p w);
         full = λ r s p w u. absurd (let z : ◌≡◌ {A = ℕ} 0 1 = cc in omega arith);
       }
 
-usage-refused : (u : Usage) {y : Env} {t : List ℕ} (s : State) (p : ℕ) → Shows y t s → 2048 ≤ held uses t → addUsage u p s ≡ refused 8 p
-unfolding addUsage
+usage-refused : (u : Usage) {y : Env} {t : List ℕ} (s : State) (p : ℕ) → Shows y t s → 2048 ≤ held uses t → add_usage u p s ≡ refused 8 p
+unfolding add_usage
 usage-refused u {t = t} s p w n =
     let l = rows (table_of uses) t in
     let x = s.usages ++ (u ∷ []) in
     let size = length_more s.usages u in
-    let held : length s.usages ≡ length l = sym (ap length w.usages) ∙ length-map l usageOf in
-    room-full (length x) 2048 p (setUsages x) s (omega arith)
+    let held : length s.usages ≡ length l = sym (ap length w.usages) ∙ length-map l usage_of in
+    room-full (length x) 2048 p (set_usages x) s (omega arith)
 
-pub usage-full : (u : Usage) {t : List ℕ} → Good t → 2048 ≤ held uses t → Acts Anyhow (λ _. addUsage u) t t Full
+pub usage-full : (u : Usage) {t : List ℕ} → Good t → 2048 ≤ held uses t → Acts Anyhow (λ _. add_usage u) t t Full
 usage-full u g n =
     record { good = g; made = λ r s p w a. absurd (let z : ◌≡◌ {A = ℕ} 0 1 = cc in omega arith); full = λ r s p w a. usage-refused u s p w n }
 
@@ -96,50 +96,50 @@ forgotten {t} {m} {t'} {x} {id} g n h d f =
       good = f.good;
       shows = λ s w.
           shows-imported (shows-usages w d.others
-          (ap (map usageOf) d.now-rows
+          (ap (map usage_of) d.now-rows
           ∙
-          sym (filter-rows (λ (u : Usage). not (same u.id (id_of id))) usageOf id id-limit _ (λ r k. ap not (same_id r.0 id k h))
+          sym (filter-rows (λ (u : Usage). not (same u.id (id_of id))) usage_of id id-limit _ (λ r k. ap not (same_id r.0 id k h))
           (rows (table_of uses) t) (g.below uses))
           ∙ ap (filter (λ (u : Usage). not (same u.id (id_of id)))) w.usages)) f.others
-          (ap (map importedOf) (f.now-rows ∙ ap (without id) (d.others.rows-kept imports refl))
-          ∙ sym (filter-rows (λ (u : Imported). not (same u.id (id_of id))) importedOf id id-limit _ (λ r k. ap not (same_id r.0 id k h)) (rows (table_of imports) t) (g.below imports))
+          (ap (map imported_of) (f.now-rows ∙ ap (without id) (d.others.rows-kept imports refl))
+          ∙ sym (filter-rows (λ (u : Imported). not (same u.id (id_of id))) imported_of id id-limit _ (λ r k. ap not (same_id r.0 id k h)) (rows (table_of imports) t) (g.below imports))
           ∙ ap (filter (λ (u : Imported). not (same u.id (id_of id)))) w.imported);
     })
 
 -- ---- The usages one by one
 
 pub usages-counted : {t : List ℕ} {n : ℕ} → n ≡ held uses t → Tells (λ s. length s.usages) t n
-usages-counted {t} e = record { is = λ s w. e ∙ sym (length-map (rows (table_of uses) t) usageOf) ∙ ap length w.usages }
+usages-counted {t} e = record { is = λ s w. e ∙ sym (length-map (rows (table_of uses) t) usage_of) ∙ ap length w.usages }
 
 -- the number of a property
 pub property-small : {t : List ℕ} {i n : ℕ} → Good t → i < held uses t → n ≡ (row_of (rows (table_of uses) t) i).1 → n < id-limit
 property-small {t} {i} g b e = let k = (below_row _ _ (rows (table_of uses) t) i (g.below uses) b).1 in omega arith
 
 module _ {id i : ℕ} {t x : List ℕ} (g : Good t) (a : id_of id ≡ x) (h : id < id-limit) (b : i < held uses t) where
-  usages-onward : {y : Env} (s : State) → Shows y t s → drop i s.usages ≡ usageOf (row_of (rows (table_of uses) t) i) ∷ drop (i + 1) s.usages
+  usages-onward : {y : Env} (s : State) → Shows y t s → drop i s.usages ≡ usage_of (row_of (rows (table_of uses) t) i) ∷ drop (i + 1) s.usages
   usages-onward s w =
       let l = rows (table_of uses) t in
-      let n : length s.usages ≡ length l = sym (ap length w.usages) ∙ length-map l usageOf in
-      drop-cons s.usages i (usageOf (0, 0)) (omega arith)
-      ∙ ap₂ (λ (u : Usage) (j : ℕ). u ∷ drop j s.usages) (ap (λ (m : List Usage). get_or m i (usageOf (0, 0))) (sym w.usages) ∙ get_d_map usageOf l i (0, 0)) (sym (add-one i))
+      let n : length s.usages ≡ length l = sym (ap length w.usages) ∙ length-map l usage_of in
+      drop-cons s.usages i (usage_of (0, 0)) (omega arith)
+      ∙ ap₂ (λ (u : Usage) (j : ℕ). u ∷ drop j s.usages) (ap (λ (m : List Usage). get_or m i (usage_of (0, 0))) (sym w.usages) ∙ get_d_map usage_of l i (0, 0)) (sym (add-one i))
 
   usage-step : (x : Bool) → same (id_of (row_of (rows (table_of uses) t) i).0) (id_of id) ≡ x → {y : Env} (s : State) → Shows y t s →
-      usagesOf (id_of id) (drop i s.usages) ≡
-      cond x (usageOf (row_of (rows (table_of uses) t) i) ∷ usagesOf (id_of id) (drop (i + 1) s.usages)) (usagesOf (id_of id) (drop (i + 1) s.usages))
-  unfolding usagesOf filter
+      usages_of (id_of id) (drop i s.usages) ≡
+      cond x (usage_of (row_of (rows (table_of uses) t) i) ∷ usages_of (id_of id) (drop (i + 1) s.usages)) (usages_of (id_of id) (drop (i + 1) s.usages))
+  unfolding usages_of filter
   usage-step x e s w =
-      ap (usagesOf (id_of id)) (usages-onward s w)
-      ∙ ap (λ (y : Bool). cond y (usageOf (row_of (rows (table_of uses) t) i) ∷ usagesOf (id_of id) (drop (i + 1) s.usages)) (usagesOf (id_of id) (drop (i + 1) s.usages))) e
+      ap (usages_of (id_of id)) (usages-onward s w)
+      ∙ ap (λ (y : Bool). cond y (usage_of (row_of (rows (table_of uses) t) i) ∷ usages_of (id_of id) (drop (i + 1) s.usages)) (usages_of (id_of id) (drop (i + 1) s.usages))) e
 
   key-test : (x : Bool) → eqb (row_of (rows (table_of uses) t) i).0 id ≡ x → same (id_of (row_of (rows (table_of uses) t) i).0) (id_of id) ≡ x
   key-test x e = same_id _ id (below_row _ _ (rows (table_of uses) t) i (g.below uses) b).0 h ∙ e
 
-  pub listed-is : {q : Id} → (row_of (rows (table_of uses) t) i).0 ≡ id → idBy q ≡ id_of (row_of (rows (table_of uses) t) i).1 → Lists x i t (Is q)
+  pub listed-is : {q : Id} → (row_of (rows (table_of uses) t) i).0 ≡ id → id_by q ≡ id_of (row_of (rows (table_of uses) t) i).1 → Lists x i t (Is q)
   listed-is {q} e f =
       subst (λ (y : List ℕ). Lists y i t (Is q)) a (record {
         is = λ s w.
             usage-step true (key-test true (eq-eqb _ _ e)) s w
-            ∙ ap₂ (λ (n : ℕ) (v : List ℕ). record { id = id_of n; property = v } ∷ usagesOf (id_of id) (drop (i + 1) s.usages)) e (sym f);
+            ∙ ap₂ (λ (n : ℕ) (v : List ℕ). record { id = id_of n; property = v } ∷ usages_of (id_of id) (drop (i + 1) s.usages)) e (sym f);
       })
 
   pub listed-other : ((row_of (rows (table_of uses) t) i).0 ≡ id → ⊥) → Lists x i t Other

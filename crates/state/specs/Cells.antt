@@ -2,18 +2,18 @@
 -- Document 01, 'Vec, maps, atomics, panics': "hash maps become arrays in insertion order".
 use Rattle.std.specs.Prelude.{ℕ, zero, suc, ◌+◌, ◌*◌, ◌/◌, ◌%◌, ◌<◌, ◌≤◌, ◌≡◌, Bool, true, false, cond, ◌||◌, List, [], ◌∷◌, ◌++◌, map, eqb, length, get_or}
 use Rattle.std.proofs.Math.Option.{Option, none as nothing, some}
-use Rattle.tables.specs.Rows.{Row, rows, Lies, next, firstIn, leastOf}
+use Rattle.tables.specs.Rows.{Row, rows, Lies, next, first_in, least_of}
 use Rattle.tables.specs.declared.Table.{Table}
 use Rattle.scope.specs.Modules.{Module}
 use Rattle.scope.specs.ScopeValue.{module_by}
 use Rattle.tree.specs.Layout.{two, four, value_of}
 use Rattle.tree.specs.Tree.{Fields, none, more, fixed_of}
 use Rattle.inputs.specs.Lists.{mapped, among}
-use Rattle.inputs.specs.Fields.{has, findField}
+use Rattle.inputs.specs.Fields.{has, find_field}
 use Rattle.inputs.specs.Table.{Row as LentRow}
 use Rattle.scope.specs.declared.id.Id.{Id}
 use Rattle.extraction_rules.specs.State.{Record, Imported, Usage, State, Pass, first, second, Setting}
-use Rattle.extraction_rules.specs.First.{holdsNamespace}
+use Rattle.extraction_rules.specs.First.{holds_namespace}
 use Rattle.state.specs.declared.Literal.{Literal}
 
 -- ---- The layout
@@ -78,14 +78,14 @@ cell_at t h = get_or t (15994 + h) 0
 
 -- ids of one remainder share a cell. Below 2^23 it has their hint: one more than the row of an imported one, or 0; 1,024 where a namespace may
 -- be one; 2,048 times one more than the row of a usage of one, or 0
-abbrev pub importHint : ℕ → ℕ
-importHint v = v % 1024
+abbrev pub import_hint : ℕ → ℕ
+import_hint v = v % 1024
 
-abbrev pub namespaceHint : ℕ → ℕ
-namespaceHint v = v / 1024 % 2
+abbrev pub namespace_hint : ℕ → ℕ
+namespace_hint v = v / 1024 % 2
 
-abbrev pub useHint : ℕ → ℕ
-useHint v = v / 2048
+abbrev pub use_hint : ℕ → ℕ
+use_hint v = v / 2048
 
 -- from 2^41 on it has a tag: of the id whose hint it is, its name and its context's remainder; 0 where it is the hint of several
 abbrev pub tag_of : ℕ → ℕ
@@ -94,46 +94,46 @@ tag_of n = n / 4294967296 * 32 + n % 32 + 1
 abbrev pub tagged : ℕ → ℕ → Bool
 tagged v n = eqb (v / 2199023255552) 0 || eqb (v / 2199023255552) (tag_of n)
 
-unfoldable pub hintIn : ℕ → ℕ → ℕ
-hintIn v n = cond (tagged v n) (v % 8388608) 0
+unfoldable pub hint_in : ℕ → ℕ → ℕ
+hint_in v n = cond (tagged v n) (v % 8388608) 0
 
-abbrev pub hintAt : List ℕ → ℕ → ℕ
-hintAt t n = hintIn (cell_at t (n % 2003)) n
+abbrev pub hint_at : List ℕ → ℕ → ℕ
+hint_at t n = hint_in (cell_at t (n % 2003)) n
 
 -- names of one remainder share a cell. Between, it has two numbers of nine bits: 256 less a record before which no first namespace has such a
 -- name, or 0; and 256 less a record before which no literal has it, or 0
 abbrev pub named_in : ℕ → ℕ
 named_in v = v / 8388608 % 512
 
-abbrev pub sourceIn : ℕ → ℕ
-sourceIn v = v / 4294967296 % 512
+abbrev pub source_in : ℕ → ℕ
+source_in v = v / 4294967296 % 512
 
-abbrev pub nameCell : ℕ → ℕ
-nameCell n = n / 4294967296 % 1024
+abbrev pub name_cell : ℕ → ℕ
+name_cell n = n / 4294967296 % 1024
 
 -- sources of one remainder share a cell behind the setting: 1,024 less a row of the lent table before which none of them stands, or 0
-abbrev pub rowHint : List ℕ → ℕ → ℕ
-rowHint t h = get_or t (21074 + h) 0
+abbrev pub row_hint : List ℕ → ℕ → ℕ
+row_hint t h = get_or t (21074 + h) 0
 
 -- files of one remainder share a cell behind those: 256 less a module before which none of them stands, or 0
-abbrev pub moduleHint : List ℕ → ℕ → ℕ
-moduleHint t h = rowHint t (1024 + h)
+abbrev pub module_hint : List ℕ → ℕ → ℕ
+module_hint t h = row_hint t (1024 + h)
 
 -- the hint of each key is not 0
 unfoldable pub Covered : (ℕ → ℕ) → List ℕ → List Row → Type 0
 Covered p t [] = Unit
-Covered p t (r ∷ l) = (0 < p (hintAt t r.0)) × Covered p t l
+Covered p t (r ∷ l) = (0 < p (hint_at t r.0)) × Covered p t l
 
 -- each key stands once
 unfoldable pub Distinct : List Row → Type 0
 Distinct [] = Unit
-Distinct (r ∷ l) = (firstIn r.0 r.0 l ≡ nothing) × Distinct l
+Distinct (r ∷ l) = (first_in r.0 r.0 l ≡ nothing) × Distinct l
 
 -- no record, from place i on, stands before the hints of its first namespace's name and of its literal's
 unfoldable pub Named : ℕ → List ℕ → List Row → Type 0
 Named i t [] = Unit
 Named i t (r ∷ l) =
-    ((n : ℕ) → r.1 ≡ suc n → 256 ≤ i + named_in (cell_at t (nameCell n))) × (256 ≤ i + sourceIn (cell_at t (nameCell r.0))) × Named (suc i) t l
+    ((n : ℕ) → r.1 ≡ suc n → 256 ≤ i + named_in (cell_at t (name_cell n))) × (256 ≤ i + source_in (cell_at t (name_cell r.0))) × Named (suc i) t l
 
 -- no row, from place i on, stands before the hint of its key: n less that row
 unfoldable pub Reached : ℕ → (ℕ → ℕ) → ℕ → List Row → Type 0
@@ -142,15 +142,15 @@ Reached n p i (r ∷ l) = (n ≤ i + p r.0) × Reached n p (suc i) l
 
 -- what hints say of the rows of a table: they leave out no row; and a hint that names a row of an imported id is right where its key is
 abbrev pub Hinted : Kind → List ℕ → List Row → Type 0
-Hinted imports t l = Covered importHint t l × Distinct l
-Hinted uses t l = Covered useHint t l
+Hinted imports t l = Covered import_hint t l × Distinct l
+Hinted uses t l = Covered use_hint t l
 Hinted records t l = Named 0 t l
-Hinted namespaces t l = Covered namespaceHint t l
+Hinted namespaces t l = Covered namespace_hint t l
 Hinted lazies t l = Unit
 Hinted forces t l = Unit
-Hinted modules t l = Reached 256 (λ f. moduleHint t (f % 256)) 0 l
+Hinted modules t l = Reached 256 (λ f. module_hint t (f % 256)) 0 l
 Hinted externals t l = Unit
-Hinted table t l = Reached 1024 (λ a. rowHint t (a % 1024)) 0 l
+Hinted table t l = Reached 1024 (λ a. row_hint t (a % 1024)) 0 l
 
 -- the tables lie in the array, with numbers inside their limits, and the hints hold; the own module is a number of two bytes
 pub record Good (t : List ℕ) : Type 0 where
@@ -173,8 +173,8 @@ pub record Env : Type 0 where
   pub bound : ℕ → Fields
 
 -- a literal is kept as its value and the place of its bytes
-abbrev pub literalBy : Env → Literal → List ℕ
-literalBy x l = x.literal l.place
+abbrev pub literal_by : Env → Literal → List ℕ
+literal_by x l = x.literal l.place
 
 -- and the value is that of the bytes there
 abbrev pub Valued : Env → Literal → Type 0
@@ -186,25 +186,25 @@ abbrev pub flag : Bool → ℕ
 flag false = 0
 flag true = 1
 
-abbrev pub passFlag : Pass → ℕ
-passFlag first = 0
-passFlag second = 1
+abbrev pub pass_flag : Pass → ℕ
+pass_flag first = 0
+pass_flag second = 1
 
 -- an id or a property: 'I is A then C'
-abbrev pub idBy : Id → List ℕ
-idBy i = two i.0.0 ++ four i.1.0
+abbrev pub id_by : Id → List ℕ
+id_by i = two i.0.0 ++ four i.1.0
 
 -- and from a number below 2^48
 unfoldable pub id_of : ℕ → List ℕ
 id_of n = two (n / 4294967296) ++ four (n % 4294967296)
 
 -- (id, context)
-abbrev pub importedOf : Row → Imported
-importedOf r = record { id = id_of r.0; context = four r.1 }
+abbrev pub imported_of : Row → Imported
+imported_of r = record { id = id_of r.0; context = four r.1 }
 
 -- (id, property)
-abbrev pub usageOf : Row → Usage
-usageOf r = record { id = id_of r.0; property = id_of r.1 }
+abbrev pub usage_of : Row → Usage
+usage_of r = record { id = id_of r.0; property = id_of r.1 }
 
 -- what the searches see of a record: its literal with its value, and the id of its first namespace
 pub record Brief : Type 0 where
@@ -213,15 +213,15 @@ pub record Brief : Type 0 where
   pub namespace : Option (List ℕ)
 
 unfoldable pub brief : Record → Brief
-brief r = record { value = value_of r.literal; literal = r.literal; namespace = mapped fixed_of (findField (has 0x22) r.specifiers) }
+brief r = record { value = value_of r.literal; literal = r.literal; namespace = mapped fixed_of (find_field (has 0x22) r.specifiers) }
 
 -- (value times 2^32 plus the place, 0 or one more than the first namespace)
-abbrev pub namespaceOf : ℕ → Option (List ℕ)
-namespaceOf zero = nothing
-namespaceOf (suc n) = some (id_of n)
+abbrev pub namespace_of : ℕ → Option (List ℕ)
+namespace_of zero = nothing
+namespace_of (suc n) = some (id_of n)
 
-unfoldable pub briefOf : Env → Row → Brief
-briefOf x r = record { value = two (r.0 / 4294967296); literal = x.literal (r.0 % 4294967296); namespace = namespaceOf r.1 }
+unfoldable pub brief_of : Env → Row → Brief
+brief_of x r = record { value = two (r.0 / 4294967296); literal = x.literal (r.0 % 4294967296); namespace = namespace_of r.1 }
 
 -- where the first stands that meets a test
 unfoldable pub index_of : {A : Type 0} → (A → Bool) → List A → Option ℕ
@@ -229,21 +229,21 @@ index_of p [] = nothing
 index_of p (a ∷ l) = cond (p a) (some zero) (next (index_of p l))
 
 -- how many namespaces the records hold
-unfoldable pub countNamespaces : Fields → ℕ
-countNamespaces none = 0
-countNamespaces (more f fs) = flag (has 0x22 f) + countNamespaces fs
+unfoldable pub count_namespaces : Fields → ℕ
+count_namespaces none = 0
+count_namespaces (more f fs) = flag (has 0x22 f) + count_namespaces fs
 
-unfoldable pub namespacesIn : List Record → ℕ
-namespacesIn [] = 0
-namespacesIn (r ∷ l) = countNamespaces r.specifiers + namespacesIn l
+unfoldable pub namespaces_in : List Record → ℕ
+namespaces_in [] = 0
+namespaces_in (r ∷ l) = count_namespaces r.specifiers + namespaces_in l
 
 -- (value times 2^32 plus the place, place of the pattern)
-abbrev pub lazyOf : Env → Row → Record
-lazyOf x r = record { literal = x.literal (r.0 % 4294967296); specifiers = x.bound r.1 }
+abbrev pub lazy_of : Env → Row → Record
+lazy_of x r = record { literal = x.literal (r.0 % 4294967296); specifiers = x.bound r.1 }
 
 -- (atom, 0)
-abbrev pub atomOf : Row → List ℕ
-atomOf r = two r.0
+abbrev pub atom_of : Row → List ℕ
+atom_of r = two r.0
 
 -- (file, marks)
 abbrev pub module_of : Row → Module
@@ -255,8 +255,8 @@ lent_of r = record { source = two r.0; file = r.1 }
 
 -- ---- Forced sources
 
-abbrev pub sourcesIn : List Record → List (List ℕ)
-sourcesIn l = map (λ r. value_of r.literal) l
+abbrev pub sources_in : List Record → List (List ℕ)
+sources_in l = map (λ r. value_of r.literal) l
 
 -- each stands once
 unfoldable pub Once : List (List ℕ) → Type 0
@@ -266,26 +266,26 @@ Once (a ∷ l) = (among a l ≡ false) × Once l
 -- forced sources are sources of collected records, each once: so their table has room for all
 pub record Sourced (s : State) : Type 0 where
   pub once : Once s.forced
-  pub from : (a : List ℕ) → among a s.forced ≡ true → among a (sourcesIn s.collected) ≡ true
+  pub from : (a : List ℕ) → among a s.forced ≡ true → among a (sources_in s.collected) ≡ true
 
 -- what a pass is set to
 pub record Sets (e : Setting) (t : List ℕ) : Type 0 where
-  pub externals : map atomOf (rows (table_of externals) t) ≡ e.externals
+  pub externals : map atom_of (rows (table_of externals) t) ≡ e.externals
   pub table : map lent_of (rows (table_of table) t) ≡ e.table
-  pub pass : get_or t pass-cell 0 ≡ passFlag e.pass
+  pub pass : get_or t pass-cell 0 ≡ pass_flag e.pass
   pub own : get_or t own-cell 0 ≡ e.own
   pub require : get_or t require-cell 0 ≡ flag e.config.require
 
 -- of a collected record the array shows its literal, its first namespace, and, with the namespaces met, which record is the first to hold
 -- one; of a lazy one, by what stands at its places, its literal and its specifiers
 pub record Shows (x : Env) (t : List ℕ) (s : State) : Type 0 where
-  pub imported : map importedOf (rows (table_of imports) t) ≡ s.imported
-  pub usages : map usageOf (rows (table_of uses) t) ≡ s.usages
-  pub collected : map (briefOf x) (rows (table_of records) t) ≡ map brief s.collected
-  pub holders : (n : ℕ) → n < id-limit → leastOf n (rows (table_of namespaces) t) ≡ index_of (holdsNamespace (id_of n)) s.collected
-  pub met : held namespaces t ≡ namespacesIn s.collected
-  pub lazy : map (lazyOf x) (rows (table_of lazies) t) ≡ s.lazy
-  pub forced : map atomOf (rows (table_of forces) t) ≡ s.forced
+  pub imported : map imported_of (rows (table_of imports) t) ≡ s.imported
+  pub usages : map usage_of (rows (table_of uses) t) ≡ s.usages
+  pub collected : map (brief_of x) (rows (table_of records) t) ≡ map brief s.collected
+  pub holders : (n : ℕ) → n < id-limit → least_of n (rows (table_of namespaces) t) ≡ index_of (holds_namespace (id_of n)) s.collected
+  pub met : held namespaces t ≡ namespaces_in s.collected
+  pub lazy : map (lazy_of x) (rows (table_of lazies) t) ≡ s.lazy
+  pub forced : map atom_of (rows (table_of forces) t) ≡ s.forced
   pub top : get_or t top-cell 0 ≡ flag s.top
   pub modules : map module_of (rows (table_of modules) t) ≡ s.modules
   pub sourced : Sourced s

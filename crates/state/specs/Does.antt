@@ -13,11 +13,11 @@ use Rattle.scope.specs.declared.Mark.{Mark}
 use Rattle.scope.specs.declared.Mark.TheVariants.{Loaded, Stored, Cjs, Wrapping}
 use Rattle.modes.specs.declared.Modes.{Modes}
 use Rattle.scope.specs.declared.id.ModuleId.{ModuleId}
-use Rattle.extraction_rules.specs.State.{Record, Usage, State, Pass, first, second, Setting, Act, setCollected}
-use Rattle.extraction_rules.specs.First.{collect, forceSource}
-use Rattle.extraction_rules.specs.Second.{usagesOf}
-use Rattle.state.specs.Cells.{Kind, importHint, namespaceHint, useHint, tag_of, hintIn, named_in, sourceIn, rowHint, moduleHint, top-cell}
-use Rattle.state.specs.Cells.{Env, records, table_of, held, pass-cell, own-cell, require-cell, Good, idBy, literalBy, Valued, namespacesIn, sourcesIn, Shows}
+use Rattle.extraction_rules.specs.State.{Record, Usage, State, Pass, first, second, Setting, Act, set_collected}
+use Rattle.extraction_rules.specs.First.{collect, force_source}
+use Rattle.extraction_rules.specs.Second.{usages_of}
+use Rattle.state.specs.Cells.{Kind, import_hint, namespace_hint, use_hint, tag_of, hint_in, named_in, source_in, row_hint, module_hint, top-cell}
+use Rattle.state.specs.Cells.{Env, records, table_of, held, pass-cell, own-cell, require-cell, Good, id_by, literal_by, Valued, namespaces_in, sources_in, Shows}
 use Rattle.state.specs.declared.Context.{Context}
 use Rattle.state.specs.declared.Context.TheVariants.{Of, Nowhere}
 use Rattle.state.specs.declared.Source.{Source}
@@ -64,29 +64,29 @@ pub record Aside (t t' : List ℕ) : Type 0 where
 -- only cells of hints behind the setting changed, and they leave out nothing that the old ones name
 pub record Behind (t t' : List ℕ) : Type 0 where
   pub same : (i : ℕ) → i < 21074 → get_or t' i 0 ≡ get_or t i 0
-  pub grown : (h : ℕ) → h < 1280 → rowHint t h ≤ rowHint t' h
+  pub grown : (h : ℕ) → h < 1280 → row_hint t h ≤ row_hint t' h
 
 -- the files of n modules, which stand in the cells of modules, have hints
 pub record HintsModules (n : ℕ) (t t' : List ℕ) : Type 0 where
   pub aside : Aside t t'
   pub behind : Behind t t'
-  pub hinted : (i : ℕ) → i < n → 256 ≤ i + moduleHint t' (get_or t (15482 + 2 * i) 0 % 256)
+  pub hinted : (i : ℕ) → i < n → 256 ≤ i + module_hint t' (get_or t (15482 + 2 * i) 0 % 256)
 
 -- a hint that leaves out no table that another names
 pub record Keeps (v w : ℕ) : Type 0 where
-  pub import-kept : 0 < importHint v → 0 < importHint w
-  pub namespace-kept : 0 < namespaceHint v → 0 < namespaceHint w
-  pub use_kept : 0 < useHint v → 0 < useHint w
+  pub import-kept : 0 < import_hint v → 0 < import_hint w
+  pub namespace-kept : 0 < namespace_hint v → 0 < namespace_hint w
+  pub use_kept : 0 < use_hint v → 0 < use_hint w
 
 -- a cell that leaves out nothing that another names
 pub record Grows (v w : ℕ) : Type 0 where
-  pub hints-kept : (n : ℕ) → Keeps (hintIn v n) (hintIn w n)
+  pub hints-kept : (n : ℕ) → Keeps (hint_in v n) (hint_in w n)
   pub named-kept : named_in v ≤ named_in w
-  pub source-kept : sourceIn v ≤ sourceIn w
+  pub source-kept : source_in v ≤ source_in w
 
 -- the tag of a cell once an id has entered
-abbrev pub tagFor : ℕ → ℕ → ℕ
-tagFor v n = cond (eqb (v % 8388608) 0) (tag_of n) (cond (eqb (v / 2199023255552) (tag_of n)) (tag_of n) 0)
+abbrev pub tag_for : ℕ → ℕ → ℕ
+tag_for v n = cond (eqb (v % 8388608) 0) (tag_of n) (cond (eqb (v / 2199023255552) (tag_of n)) (tag_of n) 0)
 
 -- no record before a place has a first namespace with the name of an id
 pub record Starts (from id : ℕ) (t : List ℕ) : Type 0 where
@@ -134,84 +134,84 @@ Anyhow x = Unit {0}
 
 -- ---- What a pass is set to
 
-abbrev pub isSecond : Pass → Bool
-isSecond first = false
-isSecond second = true
+abbrev pub is_second : Pass → Bool
+is_second first = false
+is_second second = true
 
 -- the place by which is known what stands at `at` of the tree that a pass walks: in the lent tree, or, from 2^16 on, in *work*
 abbrev pub place_in : Pass → ℕ → ℕ
 place_in first at = at % 65536
 place_in second at = 65536 + at % 65536
 
-abbrev pub withSetting : (Setting → Setting) → Env → Env
-withSetting f x = record { setting = f x.setting; literal = x.literal; bound = x.bound }
+abbrev pub with_setting : (Setting → Setting) → Env → Env
+with_setting f x = record { setting = f x.setting; literal = x.literal; bound = x.bound }
 
-abbrev pub withSecond : Env → Env
-withSecond = withSetting (λ e. record { pass = second; own = e.own; config = e.config; externals = e.externals; table = e.table })
+abbrev pub with_second : Env → Env
+with_second = with_setting (λ e. record { pass = second; own = e.own; config = e.config; externals = e.externals; table = e.table })
 
-abbrev pub withOwn : ℕ → Env → Env
-withOwn n = withSetting (λ e. record { pass = e.pass; own = n; config = e.config; externals = e.externals; table = e.table })
+abbrev pub with_own : ℕ → Env → Env
+with_own n = with_setting (λ e. record { pass = e.pass; own = n; config = e.config; externals = e.externals; table = e.table })
 
-abbrev pub withModes : Modes → Env → Env
-withModes m = withSetting (λ e. record { pass = e.pass; own = e.own; config = m; externals = e.externals; table = e.table })
+abbrev pub with_modes : Modes → Env → Env
+with_modes m = with_setting (λ e. record { pass = e.pass; own = e.own; config = m; externals = e.externals; table = e.table })
 
-abbrev pub withExternals : List (List ℕ) → Env → Env
-withExternals l = withSetting (λ e. record { pass = e.pass; own = e.own; config = e.config; externals = l; table = e.table })
+abbrev pub with_externals : List (List ℕ) → Env → Env
+with_externals l = with_setting (λ e. record { pass = e.pass; own = e.own; config = e.config; externals = l; table = e.table })
 
-abbrev pub withTable : List LentRow → Env → Env
-withTable l = withSetting (λ e. record { pass = e.pass; own = e.own; config = e.config; externals = e.externals; table = l })
+abbrev pub with_table : List LentRow → Env → Env
+with_table l = with_setting (λ e. record { pass = e.pass; own = e.own; config = e.config; externals = e.externals; table = l })
 
 -- ---- Usages
 
 abbrev pub listed : List ℕ → Property → List Usage → List Usage
-listed x (Is q) l = record { id = x; property = idBy q } ∷ l
+listed x (Is q) l = record { id = x; property = id_by q } ∷ l
 listed x Other l = l
 
 -- the usages of an id from a place on, by what stands at that place
 pub record Lists (x : List ℕ) (i : ℕ) (t : List ℕ) (r : Property) : Type 0 where
-  pub is : {y : Env} (s : State) → Shows y t s → usagesOf x (drop i s.usages) ≡ listed x r (usagesOf x (drop (i + 1) s.usages))
+  pub is : {y : Env} (s : State) → Shows y t s → usages_of x (drop i s.usages) ≡ listed x r (usages_of x (drop (i + 1) s.usages))
 
 -- ---- Records
 
 -- the record at a place gets specifiers
-unfoldable pub extendAt : ℕ → Fields → List Record → List Record
-extendAt i fs [] = []
-extendAt zero fs (r ∷ l) = record { literal = r.literal; specifiers = append r.specifiers fs } ∷ l
-extendAt (suc i) fs (r ∷ l) = r ∷ extendAt i fs l
+unfoldable pub extend_at : ℕ → Fields → List Record → List Record
+extend_at i fs [] = []
+extend_at zero fs (r ∷ l) = record { literal = r.literal; specifiers = append r.specifiers fs } ∷ l
+extend_at (suc i) fs (r ∷ l) = r ∷ extend_at i fs l
 
 -- the record of a literal stands at a place, before its specifiers come: collecting gives it these
 pub record Gathered (y : Env) (x : List ℕ) (i : ℕ) (s : State) (t : List ℕ) : Type 0 where
   pub list : List Record
-  pub shows : Shows y t (setCollected list s)
-  pub is : (fs : Fields) (p : ℕ) → collect (record { literal = x; specifiers = fs }) p s ≡ done (tt, setCollected (extendAt i fs list) s)
+  pub shows : Shows y t (set_collected list s)
+  pub is : (fs : Fields) (p : ℕ) → collect (record { literal = x; specifiers = fs }) p s ≡ done (tt, set_collected (extend_at i fs list) s)
 
 pub record Collects (l : Literal) (t t' : List ℕ) (r : Place) : Type 0 where
   pub good : Good t'
   pub below : (i : ℕ) → r ≡ Index i → i < held records t'
-  pub made : (i : ℕ) → r ≡ Index i → {y : Env} (s : State) → Shows y t s → Valued y l → Gathered y (literalBy y l) i s t'
+  pub made : (i : ℕ) → r ≡ Index i → {y : Env} (s : State) → Shows y t s → Valued y l → Gathered y (literal_by y l) i s t'
   pub full : r ≡ NoRoom → {y : Env} (s : State) → Shows y t s → Valued y l → (fs : Fields) (p : ℕ) →
-      collect (record { literal = literalBy y l; specifiers = fs }) p s ≡ refused 8 p
+      collect (record { literal = literal_by y l; specifiers = fs }) p s ≡ refused 8 p
 
 -- the record at a place gets a 22 more
 pub record Extends (i : ℕ) (x : List ℕ) (t t' : List ℕ) : Type 0 where
   pub good : Good t'
   pub kept : held records t' ≡ held records t
-  pub shows : {y : Env} (s : State) (f : Field) → has 0x22 f ≡ true → fixed_of f ≡ x → namespacesIn s.collected < 3641 → Shows y t s →
-      Shows y t' (setCollected (extendAt i (more f none) s.collected) s)
+  pub shows : {y : Env} (s : State) (f : Field) → has 0x22 f ≡ true → fixed_of f ≡ x → namespaces_in s.collected < 3641 → Shows y t s →
+      Shows y t' (set_collected (extend_at i (more f none) s.collected) s)
 
 -- the source of a record, and of the one at a place in the array
 abbrev pub source_of : Option Record → Option (List ℕ)
 source_of o = mapped (λ r. value_of r.literal) o
 
-unfoldable pub sourceAt : List ℕ → ℕ → List ℕ
-sourceAt t i = two ((get_or (rows (table_of records) t) i (0, 0)).0 / 4294967296)
+unfoldable pub source_at : List ℕ → ℕ → List ℕ
+source_at t i = two ((get_or (rows (table_of records) t) i (0, 0)).0 / 4294967296)
 
 -- ---- Forced sources
 
 -- where a source is that of a collected record, it is forced
 pub record Forces (a : List ℕ) (t t' : List ℕ) : Type 0 where
   pub good : Good t'
-  pub shows : {x : Env} (s : State) → among a (sourcesIn s.collected) ≡ true → Shows x t s → Shows x t' (forceSource a s)
+  pub shows : {x : Env} (s : State) → among a (sources_in s.collected) ≡ true → Shows x t s → Shows x t' (force_source a s)
 
 -- ---- Modules
 
@@ -237,13 +237,13 @@ bit_of Wrapping = 8
 
 -- ---- What answers stand for
 
-abbrev pub contextBy : Context → Option (List ℕ)
-contextBy (Of c) = some (four c.0)
-contextBy Nowhere = nothing
+abbrev pub context_by : Context → Option (List ℕ)
+context_by (Of c) = some (four c.0)
+context_by Nowhere = nothing
 
-abbrev pub sourceBy : Source → Option (List ℕ)
-sourceBy (From a) = some (two a.0)
-sourceBy Nothing = nothing
+abbrev pub source_by : Source → Option (List ℕ)
+source_by (From a) = some (two a.0)
+source_by Nothing = nothing
 
 abbrev pub any : {A : Type 0} → List A → Bool
 any [] = false

@@ -2,8 +2,8 @@
 ghost use Rattle.std.specs.Prelude.{◌≡◌, ◌<◌, length};
 ghost use Rattle.tree.specs.Layout.{two};
 ghost use Rattle.inputs.specs.Lists.{among};
-ghost use Rattle.extraction_rules.specs.First.{forceId};
-ghost use Rattle.state.specs.Cells.{Good, idBy, forces, held};
+ghost use Rattle.extraction_rules.specs.First.{force_id};
+ghost use Rattle.state.specs.Cells.{Good, id_by, forces, held};
 ghost use Rattle.state.specs.Does.{Tells, Holds, Turns, Forces};
 
 use crate::collected::holder;
@@ -43,7 +43,7 @@ pub fn force_source(t: &mut [u64], source: Atom)
 // An id is forced: it is forgotten, and the source of the first record that holds it as a namespace is forced.
 pub fn force_id(t: &mut [u64], id: Id)
     requires { Good t.old }
-    ensures { Turns (forceId (idBy id)) t.old t.new }
+    ensures { Turns (force_id (id_by id)) t.old t.new }
 {
     if hint_of(t, id_number(id)) == 0 {
         return;

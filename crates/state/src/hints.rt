@@ -2,10 +2,10 @@
 // table that holds an id is never left out.
 ghost use Rattle.std.specs.Prelude.{◌≡◌, [], ◌∷◌, ◌++◌, ◌+◌, ◌-◌, ◌%◌, ◌<◌, ◌≤◌};
 ghost use Rattle.std.proofs.Math.Option.{none};
-ghost use Rattle.tables.specs.Rows.{rows, placeBy, firstIn, NoneBefore, leastBy, leastOf, without, withValue};
+ghost use Rattle.tables.specs.Rows.{rows, place_by, first_in, NoneBefore, least_by, least_of, without, with_value};
 ghost use Rattle.inputs.specs.Lists.{is_some};
-ghost use Rattle.state.specs.Cells.{id-limit, imports, uses, records, namespaces, modules, table, table_of, held, cell_at, hintAt, rowHint, moduleHint, named_in, sourceIn, nameCell, Good};
-ghost use Rattle.state.specs.Does.{Changes, Aside, Behind, HintsModules, Keeps, Grows, tagFor, Starts};
+ghost use Rattle.state.specs.Cells.{id-limit, imports, uses, records, namespaces, modules, table, table_of, held, cell_at, hint_at, row_hint, module_hint, named_in, source_in, name_cell, Good};
+ghost use Rattle.state.specs.Does.{Changes, Aside, Behind, HintsModules, Keeps, Grows, tag_for, Starts};
 
 use crate::{IMPORTS, NAMESPACES, RECORDS, USES};
 use tables::{Found, Least};
@@ -29,7 +29,7 @@ fn set_cell(t: &mut [u64], h: usize, v: u64)
 // The hint of an id: 0 where its cell is another id's.
 pub fn hint_of(t: &[u64], id: u64) -> u64
     requires { Good t.now }
-    ensures { result ≡ hintAt t.now id }
+    ensures { result ≡ hint_at t.now id }
 {
     let v = cell_of(t, (id % 2003) as usize);
     let tag = v / 2199023255552;
@@ -45,7 +45,7 @@ pub fn hint_of(t: &[u64], id: u64) -> u64
 // The tag of a cell once an id has entered.
 fn tag_for(v: u64, id: u64) -> u64
     requires { id < id-limit }
-    ensures { (result ≡ tagFor v id) × (result ≤ 2097152) }
+    ensures { (result ≡ tag_for v id) × (result ≤ 2097152) }
 {
     let own = id / 4294967296 * 32 + id % 32 + 1;
     if v % 8388608 == 0 {
@@ -68,7 +68,7 @@ fn shared_hint(t: &[u64], id: u64) -> u64
 // An id enters its cell, with another hint.
 fn set_hint(t: &mut [u64], id: u64, hint: u64)
     requires { Good t.old × (id < id-limit) × (hint < 8388608) × Keeps (cell_at t.old (id % 2003) % 8388608) hint }
-    ensures { Aside t.old t.new × (hintAt t.new id ≡ hint) }
+    ensures { Aside t.old t.new × (hint_at t.new id ≡ hint) }
 {
     let h = (id % 2003) as usize;
     let v = cell_of(t, h);
@@ -82,7 +82,7 @@ fn set_hint(t: &mut [u64], id: u64, hint: u64)
 // The row of an imported id.
 pub fn import_row(t: &[u64], id: u64) -> Found
     requires { Good t.now }
-    ensures { placeBy result ≡ firstIn id id (rows (table_of imports) t.now) }
+    ensures { place_by result ≡ first_in id id (rows (table_of imports) t.now) }
 {
     let hint = (hint_of(t, id) % 1024) as usize;
     if hint == 0 {
@@ -98,7 +98,7 @@ pub fn import_row(t: &[u64], id: u64) -> Found
 
 // An id becomes an imported one, the last.
 pub fn add_import(t: &mut [u64], id: u64, context: u64)
-    requires { Good t.old × (id < id-limit) × (context < 4294967296) × (held imports t.old < 512) × (firstIn id id (rows (table_of imports) t.old) ≡ none) }
+    requires { Good t.old × (id < id-limit) × (context < 4294967296) × (held imports t.old < 512) × (first_in id id (rows (table_of imports) t.old) ≡ none) }
     ensures { Changes imports (rows (table_of imports) t.old ++ ((id, context) ∷ [])) t.old t.new }
 {
     let old = shared_hint(t, id);
@@ -124,7 +124,7 @@ pub fn drop_import(t: &mut [u64], id: u64)
 // Whether an id has usages.
 pub fn is_used(t: &[u64], id: u64) -> bool
     requires { Good t.now }
-    ensures { result ≡ is_some (firstIn id id (rows (table_of uses) t.now)) }
+    ensures { result ≡ is_some (first_in id id (rows (table_of uses) t.now)) }
 {
     let hint = (hint_of(t, id) / 2048) as usize;
     if hint == 0 {
@@ -168,7 +168,7 @@ pub fn drop_uses(t: &mut [u64], id: u64)
 // The first record that holds a namespace.
 pub fn least_holder(t: &[u64], id: u64) -> Least
     requires { Good t.now }
-    ensures { leastBy result ≡ leastOf id (rows (table_of namespaces) t.now) }
+    ensures { least_by result ≡ least_of id (rows (table_of namespaces) t.now) }
 {
     if hint_of(t, id) / 1024 % 2 == 0 {
         return Least::None;
@@ -222,7 +222,7 @@ pub fn add_record(t: &mut [u64], literal: u64)
 // The hint of a literal's value says that record i may be the first.
 fn hint_source(t: &mut [u64], literal: u64, i: usize)
     requires { Good t.old × (i < 256) }
-    ensures { Aside t.old t.new × (256 ≤ i + sourceIn (cell_at t.new (nameCell literal))) }
+    ensures { Aside t.old t.new × (256 ≤ i + source_in (cell_at t.new (name_cell literal))) }
 {
     let h = (literal / 4294967296 % 1024) as usize;
     let v = cell_of(t, h);
@@ -239,7 +239,7 @@ fn hint_source(t: &mut [u64], literal: u64, i: usize)
 // A record gets its first namespace.
 pub fn set_first(t: &mut [u64], id: u64, i: usize)
     requires { Good t.old × (i < held records t.old) × (id < id-limit) }
-    ensures { Changes records (withValue i (id + 1) (rows (table_of records) t.old)) t.old t.new }
+    ensures { Changes records (with_value i (id + 1) (rows (table_of records) t.old)) t.old t.new }
 {
     hint_name(t, id, i);
     tables::set_value(t, RECORDS, i, id + 1);
@@ -248,7 +248,7 @@ pub fn set_first(t: &mut [u64], id: u64, i: usize)
 // The hint of an id's name says that record i may be the first.
 fn hint_name(t: &mut [u64], id: u64, i: usize)
     requires { Good t.old × (i < 256) }
-    ensures { Aside t.old t.new × (256 ≤ i + named_in (cell_at t.new (nameCell id))) }
+    ensures { Aside t.old t.new × (256 ≤ i + named_in (cell_at t.new (name_cell id))) }
 {
     let h = (id / 4294967296 % 1024) as usize;
     let v = cell_of(t, h);
@@ -289,7 +289,7 @@ pub fn first_module(t: &[u64], file: u64) -> usize
 // A hint behind the setting is raised, unless it is as great already.
 fn raise(t: &mut [u64], h: usize, hint: u64)
     requires { Good t.old × (h < 1280) }
-    ensures { Aside t.old t.new × Behind t.old t.new × (hint ≤ rowHint t.new h) }
+    ensures { Aside t.old t.new × Behind t.old t.new × (hint ≤ row_hint t.new h) }
 {
     if t[21074 + h] < hint {
         t[21074 + h] = hint;
@@ -299,7 +299,7 @@ fn raise(t: &mut [u64], h: usize, hint: u64)
 // The hint of a source says that row i may be the first.
 pub fn hint_row(t: &mut [u64], source: u64, i: usize)
     requires { Good t.old × (i < 1024) }
-    ensures { Aside t.old t.new × (1024 ≤ i + rowHint t.new (source % 1024)) }
+    ensures { Aside t.old t.new × (1024 ≤ i + row_hint t.new (source % 1024)) }
 {
     raise(t, (source % 1024) as usize, (1024 - i) as u64);
 }
@@ -307,7 +307,7 @@ pub fn hint_row(t: &mut [u64], source: u64, i: usize)
 // The hint of a file says that module i may be the first.
 pub fn hint_module(t: &mut [u64], file: u64, i: usize)
     requires { Good t.old × (i < 256) }
-    ensures { Aside t.old t.new × Behind t.old t.new × (256 ≤ i + moduleHint t.new (file % 256)) }
+    ensures { Aside t.old t.new × Behind t.old t.new × (256 ≤ i + module_hint t.new (file % 256)) }
 {
     raise(t, 1024 + (file % 256) as usize, (256 - i) as u64);
 }

@@ -3,7 +3,7 @@ ghost use Rattle.std.specs.Prelude.{◌≡◌, [], ◌∷◌, ◌++◌, ◌+◌,
 ghost use Rattle.tree.specs.Layout.{two, id_at, value_of};
 ghost use Rattle.tree.specs.Tree.{encode, field, none};
 ghost use Rattle.writer.specs.Wrote.{Wrote};
-ghost use Rattle.state.specs.Cells.{id-limit, id_of, idBy};
+ghost use Rattle.state.specs.Cells.{id-limit, id_of, id_by};
 
 use crate::Literal;
 use scope::id::{Atom, Id, SyntaxContext};
@@ -11,7 +11,7 @@ use tree::layout::{atom_at, context_at};
 
 // An id as a number.
 pub fn id_number(id: Id) -> u64
-    ensures { (id_of result ≡ idBy id) × (result < id-limit) }
+    ensures { (id_of result ≡ id_by id) × (result < id-limit) }
 {
     let name = id.0;
     let c = id.1;
@@ -21,7 +21,7 @@ pub fn id_number(id: Id) -> u64
 // The id of a number.
 pub fn numbered_id(n: u64) -> Id
     requires { n < id-limit }
-    ensures { idBy result ≡ id_of n }
+    ensures { id_by result ≡ id_of n }
 {
     Id(
         Atom((n / 4294967296) as u16),
@@ -32,7 +32,7 @@ pub fn numbered_id(n: u64) -> Id
 // The id at `at`.
 pub fn id_at(s: &[u8], at: usize) -> Id
     requires { at + 6 ≤ length s.now }
-    ensures { idBy result ≡ id_at s.now at }
+    ensures { id_by result ≡ id_at s.now at }
 {
     Id(Atom(atom_at(s, at)), SyntaxContext(context_at(s, at + 2)))
 }
@@ -69,7 +69,7 @@ pub fn numbered_literal(n: u64) -> Literal
 
 // Writes an id.
 pub fn put_id(out: &mut [u8], o: usize, id: Id) -> usize
-    ensures { Wrote out.old o (idBy id) out.new result }
+    ensures { Wrote out.old o (id_by id) out.new result }
 {
     let name = id.0;
     let context = id.1;
@@ -79,7 +79,7 @@ pub fn put_id(out: &mut [u8], o: usize, id: Id) -> usize
 
 // Writes a 60.
 pub fn put_ident(out: &mut [u8], o: usize, id: Id) -> usize
-    ensures { Wrote out.old o (encode (field 0x60 (idBy id) none)) out.new result }
+    ensures { Wrote out.old o (encode (field 0x60 (id_by id) none)) out.new result }
 {
     let c = writer::open_field(out, o, 0x60);
     let p = put_id(out, c, id);
@@ -89,7 +89,7 @@ pub fn put_ident(out: &mut [u8], o: usize, id: Id) -> usize
 
 // Writes a 20 without outside name.
 pub fn put_named(out: &mut [u8], o: usize, id: Id) -> usize
-    ensures { Wrote out.old o (encode (field 0x20 (idBy id ++ 0 ∷ []) none)) out.new result }
+    ensures { Wrote out.old o (encode (field 0x20 (id_by id ++ 0 ∷ []) none)) out.new result }
 {
     let c = writer::open_field(out, o, 0x20);
     let k = put_id(out, c, id);

@@ -1,10 +1,10 @@
 // Imported ids and usages.
 ghost use Rattle.std.specs.Prelude.{◌≡◌, ◌<◌, length};
 ghost use Rattle.tree.specs.Layout.{four};
-ghost use Rattle.extraction_rules.specs.First.{importedAs, noteId, forget as forgotten, addUsage};
-ghost use Rattle.extraction_rules.specs.Second.{usagesOf};
-ghost use Rattle.state.specs.Cells.{Good, idBy, uses, held};
-ghost use Rattle.state.specs.Does.{Tells, Turns, Anyhow, Acts, Lists, contextBy, any};
+ghost use Rattle.extraction_rules.specs.First.{imported_as, note_id, forget as forgotten, add_usage};
+ghost use Rattle.extraction_rules.specs.Second.{usages_of};
+ghost use Rattle.state.specs.Cells.{Good, id_by, uses, held};
+ghost use Rattle.state.specs.Does.{Tells, Turns, Anyhow, Acts, Lists, context_by, any};
 
 use crate::hints::{add_import, add_use, drop_import, drop_uses, import_row, is_used};
 use crate::ident::{id_number, numbered_id};
@@ -15,7 +15,7 @@ use tables::Found;
 // The context of an imported id.
 pub fn imported_as(t: &[u64], id: Id) -> Context
     requires { Good t.now }
-    ensures { Tells (λ s. importedAs (idBy id) s.imported) t.now (contextBy result) }
+    ensures { Tells (λ s. imported_as (id_by id) s.imported) t.now (context_by result) }
 {
     let found = import_row(t, id_number(id));
     match found {
@@ -27,7 +27,7 @@ pub fn imported_as(t: &[u64], id: Id) -> Context
 // An id is noted as imported; noting it again takes no place.
 pub fn note_id(t: &mut [u64], id: Id, c: SyntaxContext) -> Room
     requires { Good t.old }
-    ensures { Acts Anyhow (λ _. noteId (record { id = idBy id; context = four c.0 })) t.old t.new result }
+    ensures { Acts Anyhow (λ _. note_id (record { id = id_by id; context = four c.0 })) t.old t.new result }
 {
     let n = id_number(id);
     let entry = import_row(t, n);
@@ -51,7 +51,7 @@ pub fn note_id(t: &mut [u64], id: Id, c: SyntaxContext) -> Room
 // An id's imported entry and its usages are dropped.
 pub fn forget(t: &mut [u64], id: Id)
     requires { Good t.old }
-    ensures { Turns (forgotten (idBy id)) t.old t.new }
+    ensures { Turns (forgotten (id_by id)) t.old t.new }
 {
     let n = id_number(id);
     drop_uses(t, n);
@@ -61,7 +61,7 @@ pub fn forget(t: &mut [u64], id: Id)
 // A usage of an id is appended.
 pub fn add_usage(t: &mut [u64], id: Id, property: Id) -> Room
     requires { Good t.old }
-    ensures { Acts Anyhow (λ _. addUsage (record { id = idBy id; property = idBy property })) t.old t.new result }
+    ensures { Acts Anyhow (λ _. add_usage (record { id = id_by id; property = id_by property })) t.old t.new result }
 {
     if tables::count_of(t, USES) < 2048 {
         add_use(t, id_number(id), id_number(property));
@@ -74,7 +74,7 @@ pub fn add_usage(t: &mut [u64], id: Id, property: Id) -> Room
 // Whether an id has usages.
 pub fn has_usages(t: &[u64], id: Id) -> bool
     requires { Good t.now }
-    ensures { Tells (λ s. any (usagesOf (idBy id) s.usages)) t.now result }
+    ensures { Tells (λ s. any (usages_of (id_by id) s.usages)) t.now result }
 {
     is_used(t, id_number(id))
 }
@@ -90,7 +90,7 @@ pub fn count_usages(t: &[u64]) -> usize
 // The usage at a place, if it is one of an id: so a loop over the places lists the usages of the id.
 pub fn usage_at(t: &[u64], i: usize, id: Id) -> Property
     requires { Good t.now × (i < held uses t.now) }
-    ensures { Lists (idBy id) i t.now result }
+    ensures { Lists (id_by id) i t.now result }
 {
     if tables::key_of(t, USES, i) == id_number(id) {
         Property::Is(numbered_id(tables::value_of(t, USES, i)))

@@ -1,4 +1,6 @@
 // What the walk keeps: its tables in one lent array, and the functions of which the rules are made. Callers see the rules' state alone.
+#![tactic(auto)]
+
 pub mod ident; // ids and literals
 pub mod setting; // what a pass is set to, and the lent lists
 pub mod imported; // imported ids and usages

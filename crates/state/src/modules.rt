@@ -2,11 +2,11 @@
 ghost use Rattle.std.specs.Prelude.{◌≡◌};
 ghost use Rattle.std.proofs.Math.Option.{some};
 ghost use Rattle.tree.specs.Layout.{two};
-ghost use Rattle.scope.specs.Modules.{setMark};
-ghost use Rattle.scope.specs.ScopeValue.{modulesOf};
+ghost use Rattle.scope.specs.Modules.{set_mark};
+ghost use Rattle.scope.specs.ScopeValue.{modules_of};
 ghost use Rattle.scope.specs.declared.Mark.TheVariants.{Cjs, Wrapping};
-ghost use Rattle.extraction_rules.specs.State.{setModules};
-ghost use Rattle.extraction_rules.specs.First.{module_of, moduleFor};
+ghost use Rattle.extraction_rules.specs.State.{set_modules};
+ghost use Rattle.extraction_rules.specs.First.{module_of, module_for};
 ghost use Rattle.state.specs.Cells.{Good};
 ghost use Rattle.state.specs.Does.{Tells, Turns, Resolves, bit_of};
 
@@ -21,7 +21,7 @@ use tables::Found;
 // The modules of the table as a scope.
 pub fn scope_of(t: &[u64]) -> Scope
     requires { Good t.now }
-    ensures { Tells (λ s. s.modules) t.now (modulesOf result) }
+    ensures { Tells (λ s. s.modules) t.now (modules_of result) }
 {
     Scope::from_cells(t, 15482, tables::count_of(t, MODULES))
 }
@@ -29,7 +29,7 @@ pub fn scope_of(t: &[u64]) -> Scope
 // The table shows the modules of a scope.
 pub fn load(t: &mut [u64], scope: Scope)
     requires { Good t.old }
-    ensures { Turns (setModules (modulesOf scope)) t.old t.new }
+    ensures { Turns (set_modules (modules_of scope)) t.old t.new }
 {
     t[6] = 0;
     let n = scope.to_cells(t, 15482);
@@ -62,7 +62,7 @@ pub fn request(t: &mut [u64], file: FileName) -> Module
 // The module of the file that the table names for a source.
 pub fn module_for(t: &mut [u64], source: Atom) -> Module
     requires { Good t.old }
-    ensures { Resolves (λ e. moduleFor e (two source.0)) t.old t.new result }
+    ensures { Resolves (λ e. module_for e (two source.0)) t.old t.new result }
 {
     let resolved = file_for(t, source);
     match resolved {
@@ -86,7 +86,7 @@ fn bit_of(kind: Mark) -> u64
 // A module gets a mark; a number that was not given changes nothing.
 fn set_mark(t: &mut [u64], id: ModuleId, kind: Mark)
     requires { Good t.old }
-    ensures { Turns (λ s. setModules (setMark kind id.0 s.modules) s) t.old t.new }
+    ensures { Turns (λ s. set_modules (set_mark kind id.0 s.modules) s) t.old t.new }
 {
     let i = id.0 as usize;
     if tables::count_of(t, MODULES) <= i {
@@ -102,7 +102,7 @@ fn set_mark(t: &mut [u64], id: ModuleId, kind: Mark)
 // A module is marked as one of CommonJS.
 pub fn mark_cjs(t: &mut [u64], id: ModuleId)
     requires { Good t.old }
-    ensures { Turns (λ s. setModules (setMark Cjs id.0 s.modules) s) t.old t.new }
+    ensures { Turns (λ s. set_modules (set_mark Cjs id.0 s.modules) s) t.old t.new }
 {
     set_mark(t, id, Mark::Cjs);
 }
@@ -110,7 +110,7 @@ pub fn mark_cjs(t: &mut [u64], id: ModuleId)
 // A module is marked as one to be wrapped.
 pub fn mark_wrapping(t: &mut [u64], id: ModuleId)
     requires { Good t.old }
-    ensures { Turns (λ s. setModules (setMark Wrapping id.0 s.modules) s) t.old t.new }
+    ensures { Turns (λ s. set_modules (set_mark Wrapping id.0 s.modules) s) t.old t.new }
 {
     set_mark(t, id, Mark::Wrapping);
 }

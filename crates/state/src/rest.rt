@@ -1,8 +1,8 @@
 // Lazy records, of which the literal and the place of the pattern are kept, and the flag top.
 ghost use Rattle.std.specs.Prelude.{◌≡◌, ◌<◌, length};
-ghost use Rattle.extraction_rules.specs.State.{setTop};
-ghost use Rattle.extraction_rules.specs.First.{addLazy};
-ghost use Rattle.state.specs.Cells.{Good, literalBy, lazies, held};
+ghost use Rattle.extraction_rules.specs.State.{set_top};
+ghost use Rattle.extraction_rules.specs.First.{add_lazy};
+ghost use Rattle.state.specs.Cells.{Good, literal_by, lazies, held};
 ghost use Rattle.state.specs.Does.{Tells, Holds, Turns, Anyhow, Acts};
 
 use crate::ident::{literal_number, numbered_literal};
@@ -11,7 +11,7 @@ use crate::{LAZIES, Literal, Room};
 // A lazy record is appended; its specifiers are read off its place at the end.
 pub fn add_lazy(t: &mut [u64], literal: Literal, place: u32) -> Room
     requires { Good t.old }
-    ensures { Acts Anyhow (λ x. addLazy (record { literal = literalBy x literal; specifiers = x.bound place })) t.old t.new result }
+    ensures { Acts Anyhow (λ x. add_lazy (record { literal = literal_by x literal; specifiers = x.bound place })) t.old t.new result }
 {
     if tables::count_of(t, LAZIES) < 1024 {
         tables::push(t, LAZIES, literal_number(literal), place as u64);
@@ -32,7 +32,7 @@ pub fn count_lazies(t: &[u64]) -> usize
 // The literal of the lazy record at a place.
 pub fn lazy_literal(t: &[u64], i: usize) -> Literal
     requires { Good t.now × (i < held lazies t.now) }
-    ensures { Holds (λ s. s.lazy) (λ q. q.literal) i t.now (λ x. literalBy x result) }
+    ensures { Holds (λ s. s.lazy) (λ q. q.literal) i t.now (λ x. literal_by x result) }
 {
     numbered_literal(tables::key_of(t, LAZIES, i))
 }
@@ -55,7 +55,7 @@ pub fn is_top(t: &[u64]) -> bool
 
 pub fn set_top(t: &mut [u64], top: bool)
     requires { Good t.old }
-    ensures { Turns (setTop top) t.old t.new }
+    ensures { Turns (set_top top) t.old t.new }
 {
     if top {
         t[7] = 1;

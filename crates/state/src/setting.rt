@@ -3,10 +3,10 @@ ghost use Rattle.std.specs.Prelude.{◌≡◌, [], ◌≤◌, length};
 ghost use Rattle.tables.specs.Rows.{rows};
 ghost use Rattle.tree.specs.Layout.{two};
 ghost use Rattle.inputs.specs.Lists.{among};
-ghost use Rattle.inputs.specs.Table.{atomsIn, rowsIn, fileOf};
-ghost use Rattle.inputs.specs.ResolvedValue.{fileBy};
+ghost use Rattle.inputs.specs.Table.{atoms_in, rows_in, file_of};
+ghost use Rattle.inputs.specs.ResolvedValue.{file_by};
 ghost use Rattle.state.specs.Cells.{externals as externals-kind, table as table-kind, table_of, Good};
-ghost use Rattle.state.specs.Does.{Says, Resets, isSecond, place_in, withExternals, withTable, withSecond, withOwn, withModes};
+ghost use Rattle.state.specs.Does.{Says, Resets, is_second, place_in, with_externals, with_table, with_second, with_own, with_modes};
 
 use crate::hints::{first_row, hint_row};
 use crate::{EXTERNALS, TABLE};
@@ -25,7 +25,7 @@ const REQUIRE: usize = 21073;
 // Puts the externals into their table.
 pub fn lend_externals(t: &mut [u64], externals: &[u8])
     requires { Good t.old × (length externals.now ≤ 1024) × (rows (table_of externals-kind) t.old ≡ []) }
-    ensures { Resets (withExternals (atomsIn externals.now)) t.old t.new }
+    ensures { Resets (with_externals (atoms_in externals.now)) t.old t.new }
 {
     let mut i = 0;
     while 2 <= externals.len() - i {
@@ -37,7 +37,7 @@ pub fn lend_externals(t: &mut [u64], externals: &[u8])
 // Puts the rows of the table of sources and files into theirs.
 pub fn lend_table(t: &mut [u64], table: &[u8])
     requires { Good t.old × (length table.now ≤ 4096) × (rows (table_of table-kind) t.old ≡ []) }
-    ensures { Resets (withTable (rowsIn table.now)) t.old t.new }
+    ensures { Resets (with_table (rows_in table.now)) t.old t.new }
 {
     let mut i = 0;
     while 4 <= table.len() - i {
@@ -63,7 +63,7 @@ pub fn is_external(t: &[u64], atom: Atom) -> bool
 // The file that the table names for a source.
 pub fn file_for(t: &[u64], source: Atom) -> Resolved
     requires { Good t.now }
-    ensures { Says (λ e. fileOf (two source.0) e.table) t.now (fileBy result) }
+    ensures { Says (λ e. file_of (two source.0) e.table) t.now (file_by result) }
 {
     let key = source.0 as u64;
     match tables::find_from(t, TABLE, first_row(t, key), key, key) {
@@ -75,14 +75,14 @@ pub fn file_for(t: &[u64], source: Atom) -> Resolved
 // Whether this is the second pass.
 pub fn is_second(t: &[u64]) -> bool
     requires { Good t.now }
-    ensures { Says (λ e. isSecond e.pass) t.now result }
+    ensures { Says (λ e. is_second e.pass) t.now result }
 {
     t[PASS] == 1
 }
 
 pub fn set_second(t: &mut [u64])
     requires { Good t.old }
-    ensures { Resets withSecond t.old t.new }
+    ensures { Resets with_second t.old t.new }
 {
     t[PASS] = 1;
 }
@@ -97,7 +97,7 @@ pub fn own_module(t: &[u64]) -> ModuleId
 
 pub fn set_own(t: &mut [u64], own: ModuleId)
     requires { Good t.old }
-    ensures { Resets (withOwn own.0) t.old t.new }
+    ensures { Resets (with_own own.0) t.old t.new }
 {
     t[OWN] = own.0 as u64;
 }
@@ -112,7 +112,7 @@ pub fn counts_require(t: &[u64]) -> bool
 
 pub fn set_modes(t: &mut [u64], modes: Modes)
     requires { Good t.old }
-    ensures { Resets (withModes modes) t.old t.new }
+    ensures { Resets (with_modes modes) t.old t.new }
 {
     if modes.require {
         t[REQUIRE] = 1;

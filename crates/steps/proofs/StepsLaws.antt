@@ -17,8 +17,8 @@ use Rattle.steps.specs.declared.Step.{Step}
 use Rattle.steps.specs.declared.Step.TheVariants.{Done, Refused}
 use Rattle.steps.specs.declared.Effect.{Effect}
 use Rattle.steps.specs.declared.Effect.TheVariants.{Fine, Refused as Turned}
-use Rattle.steps.specs.Step.{Steps, Effects, Begun, Ended, withParts, Made}
-use Rattle.steps.specs.Refusal.{refusalOf}
+use Rattle.steps.specs.Step.{Steps, Effects, Begun, Ended, with_parts, Made}
+use Rattle.steps.specs.Refusal.{refusal_of}
 
 -- ---- Answers
 
@@ -28,20 +28,20 @@ done_refused {p = p} {q} {w} e f = absurd (let z : ◌≡◌ {A = ℕ} 0 1 = cc 
 pub done-same : {p q : ℕ} → Done p ≡ Done q → p ≡ q
 done-same e = cc
 
-pub refused_as : {A : Type 0} {m : Outcome A} {w v : Why} {p q : ℕ} → m ≡ refused (refusalOf w) p → Refused w p ≡ Refused v q → m ≡ refused (refusalOf v) q
+pub refused_as : {A : Type 0} {m : Outcome A} {w v : Why} {p q : ℕ} → m ≡ refused (refusal_of w) p → Refused w p ≡ Refused v q → m ≡ refused (refusal_of v) q
 refused_as {w = w} {v} {p} {q} e f =
     let a : w ≡ v = cc in
     let b : p ≡ q = cc in
-    e ∙ ap₂ (λ (i : Why) (j : ℕ). refused (refusalOf i) j) a b
+    e ∙ ap₂ (λ (i : Why) (j : ℕ). refused (refusal_of i) j) a b
 
 pub fine-turned : {A : Type 0} {w : Why} {q : ℕ} → Fine ≡ Turned w q → A
 fine-turned {w = w} {q} e = absurd (let z : ◌≡◌ {A = ℕ} 0 1 = cc in omega arith)
 
-pub turned_as : {A : Type 0} {m : Outcome A} {w v : Why} {p q : ℕ} → m ≡ refused (refusalOf w) p → Turned w p ≡ Turned v q → m ≡ refused (refusalOf v) q
+pub turned_as : {A : Type 0} {m : Outcome A} {w v : Why} {p q : ℕ} → m ≡ refused (refusal_of w) p → Turned w p ≡ Turned v q → m ≡ refused (refusal_of v) q
 turned_as {w = w} {v} {p} {q} e f =
     let a : w ≡ v = cc in
     let b : p ≡ q = cc in
-    e ∙ ap₂ (λ (i : Why) (j : ℕ). refused (refusalOf i) j) a b
+    e ∙ ap₂ (λ (i : Why) (j : ℕ). refused (refusal_of i) j) a b
 
 -- ---- One step
 
@@ -56,7 +56,7 @@ module _ {A : Type 0} {bytes : A → List ℕ} {P : Env → State → Type 0} {a
         turned = λ v q e s w c. done_refused refl e;
       }
 
-  pub steps-refused : {v : Why} {q : ℕ} → ((x : Env) (s : State) → Shows x t s → P x s → act x s ≡ refused (refusalOf v) q) → Steps bytes P act t out o t' out' (Refused v q)
+  pub steps-refused : {v : Why} {q : ℕ} → ((x : Env) (s : State) → Shows x t s → P x s → act x s ≡ refused (refusal_of v) q) → Steps bytes P act t out o t' out' (Refused v q)
   steps-refused h =
       record { good = g; size = z; made = λ p e s w c. done_refused e refl; turned = λ u r e {x = x} s w c. refused_as (h x s w c) e }
 
@@ -91,11 +91,11 @@ pub steps-as : {A : Type 0} {bytes : A → List ℕ} {P Q : Env → State → Ty
 steps-as rule m h = steps-by rule m (λ x s w c. h x s c)
 
 -- a value made of the step's value, with the same bytes
-pub steps_map : {A B : Type 0} (bA : A → List ℕ) (bB : B → List ℕ) (h : A → B) {P : Env → State → Type 0} (R : Env → State → Type 0) {m : Env → Act A}
+pub steps_map : {A B : Type 0} (b_a : A → List ℕ) (b_b : B → List ℕ) (h : A → B) {P : Env → State → Type 0} (R : Env → State → Type 0) {m : Env → Act A}
     {t out t' out' : List ℕ} {o : ℕ} {k : Step} →
-    Steps bA P m t out o t' out' k → ((x : Env) (s : State) → R x s → P x s) → ((x : Env) (s : State) → R x s → (a : A) (s1 : State) → m x s ≡ done (a, s1) → bB (h a) ≡ bA a) →
-    Steps bB R (λ x s. onto (m x s) (λ r. done (h r.0, r.1))) t out o t' out' k
-steps_map {A} {B} bA bB h R m before bytes =
+    Steps b_a P m t out o t' out' k → ((x : Env) (s : State) → R x s → P x s) → ((x : Env) (s : State) → R x s → (a : A) (s1 : State) → m x s ≡ done (a, s1) → b_b (h a) ≡ b_a a) →
+    Steps b_b R (λ x s. onto (m x s) (λ r. done (h r.0, r.1))) t out o t' out' k
+steps_map {A} {B} b_a b_b h R m before bytes =
     record {
       good = m.good;
       size = m.size;
@@ -142,12 +142,12 @@ steps-never bytes P act k g h =
 abbrev pub pair_of : {A B C : Type 0} → (A → B → C) → (Env → Act A) → (A → Env → Act B) → Env → Act C
 pair_of h m n = λ x s. onto (m x s) (λ a. onto (n a.0 x a.1) (λ b. done (h a.0 b.0, b.1)))
 
-module _ {A B C : Type 0} (bA : A → List ℕ) (bB : B → List ℕ) (bC : C → List ℕ) (h : A → B → C) (bytes : (a : A) (b : B) → bC (h a b) ≡ bA a ++ bB b)
+module _ {A B C : Type 0} (b_a : A → List ℕ) (b_b : B → List ℕ) (b_c : C → List ℕ) (h : A → B → C) (bytes : (a : A) (b : B) → b_c (h a b) ≡ b_a a ++ b_b b)
     {P : Env → State → Type 0} (R : Env → State → Type 0) {m : Env → Act A} (n : A → Env → Act B) {t out : List ℕ} {o : ℕ} where
-  pub steps-pair : {Q : A → Env → State → Type 0} {t1 out1 : List ℕ} {p : ℕ} → Steps bA P m t out o t1 out1 (Done p) → {t2 out2 : List ℕ} {k : Step} →
-      ((a : A) → Steps bB (Q a) (n a) t1 out1 p t2 out2 k) → A →
+  pub steps-pair : {Q : A → Env → State → Type 0} {t1 out1 : List ℕ} {p : ℕ} → Steps b_a P m t out o t1 out1 (Done p) → {t2 out2 : List ℕ} {k : Step} →
+      ((a : A) → Steps b_b (Q a) (n a) t1 out1 p t2 out2 k) → A →
       ((x : Env) (s : State) → R x s → P x s) → ((x : Env) (s : State) → R x s → (a : A) (s1 : State) → m x s ≡ done (a, s1) → Q a x s1) →
-      Steps bC R (pair_of h m n) t out o t2 out2 k
+      Steps b_c R (pair_of h m n) t out o t2 out2 k
   steps-pair {p = p} first {t2} {out2} {k} second a₀ before between =
       record {
         good = (second a₀).good;
@@ -172,8 +172,8 @@ module _ {A B C : Type 0} (bA : A → List ℕ) (bB : B → List ℕ) (bC : C �
       }
 
   -- the first is refused
-  pub steps-turned : {t1 out1 : List ℕ} {v : Why} {q : ℕ} → Steps bA P m t out o t1 out1 (Refused v q) → ((x : Env) (s : State) → R x s → P x s) →
-      Steps bC R (pair_of h m n) t out o t1 out1 (Refused v q)
+  pub steps-turned : {t1 out1 : List ℕ} {v : Why} {q : ℕ} → Steps b_a P m t out o t1 out1 (Refused v q) → ((x : Env) (s : State) → R x s → P x s) →
+      Steps b_c R (pair_of h m n) t out o t1 out1 (Refused v q)
   steps-turned {v = v} {q} first before =
       steps-refused first.good first.size (λ x s w c.
       ap (λ (z : Outcome (A × State)). onto z (λ a. onto (n a.0 x a.1) (λ b. done (h a.0 b.0, b.1)))) (first.turned v q refl s w (before x s c)))
@@ -198,7 +198,7 @@ pub ended-refused : {l : List ℕ} {o q : ℕ} {w : Why} {r : Step} → r ≡ Re
 ended-refused e = record { size = refl; done = λ p f. done_refused f e; refused = λ v p f. sym e ∙ f }
 
 pub steps-field : {P : Env → State → Type 0} {act : Env → Act Fields} {t t' out out1 out2 out3 x : List ℕ} {o n c : ℕ} (r : Step) {k : Step} →
-    Begun out o n x out1 c → Steps encodes P act t out1 c t' out2 r → Ended o r out2 out3 k → Steps encode P (withParts n x act) t out o t' out3 k
+    Begun out o n x out1 c → Steps encodes P act t out1 c t' out2 r → Ended o r out2 out3 k → Steps encode P (with_parts n x act) t out o t' out3 k
 steps-field {out = out} {out3 = out3} {x} {o} {n} (Done p) b m e =
     let k = e.done p refl in
     record {
@@ -242,18 +242,18 @@ pub effects-turned : {P : Env → State → Type 0} {act : Env → Act (Unit {0}
 effects-turned {q = q} {v} m e = steps-refused m.good refl (λ x s w c. m.turned v q e s w c)
 
 -- a step, and then one that writes nothing
-abbrev pub thenOf : {A : Type 0} → (Env → Act A) → (Env → Act (Unit {0})) → Env → Act A
-thenOf m n = pair_of (λ a b. a) m (λ _. n)
+abbrev pub then_of : {A : Type 0} → (Env → Act A) → (Env → Act (Unit {0})) → Env → Act A
+then_of m n = pair_of (λ a b. a) m (λ _. n)
 
 pub steps_then : {A : Type 0} (bytes : A → List ℕ) (a₀ : A) {P Q : Env → State → Type 0} (R : Env → State → Type 0) {m : Env → Act A} {n : Env → Act (Unit {0})}
     {t out t1 out1 t2 : List ℕ} {o p : ℕ} {k : Step} →
     Steps bytes P m t out o t1 out1 (Done p) → Steps (λ _. []) Q n t1 out1 p t2 out1 k →
     ((x : Env) (s : State) → R x s → P x s) → ((x : Env) (s : State) → R x s → (a : A) (s1 : State) → m x s ≡ done (a, s1) → Q x s1) →
-    Steps bytes R (thenOf m n) t out o t2 out1 k
+    Steps bytes R (then_of m n) t out o t2 out1 k
 steps_then bytes a₀ R {n = n} first second before between =
     steps-pair bytes (λ _. []) bytes (λ a b. a) (λ a b. sym (append-nil (bytes a))) R (λ _. n) first (λ _. second) a₀ before between
 
 pub steps-then-turned : {A : Type 0} (bytes : A → List ℕ) {P : Env → State → Type 0} (R : Env → State → Type 0) {m : Env → Act A} (n : Env → Act (Unit {0}))
     {t out t1 out1 : List ℕ} {o q : ℕ} {v : Why} →
-    Steps bytes P m t out o t1 out1 (Refused v q) → ((x : Env) (s : State) → R x s → P x s) → Steps bytes R (thenOf m n) t out o t1 out1 (Refused v q)
+    Steps bytes P m t out o t1 out1 (Refused v q) → ((x : Env) (s : State) → R x s → P x s) → Steps bytes R (then_of m n) t out o t1 out1 (Refused v q)
 steps-then-turned bytes R n first before = steps-turned bytes (λ _. []) bytes (λ a b. a) (λ a b. sym (append-nil (bytes a))) R (λ _. n) first before

@@ -3,8 +3,8 @@ use Rattle.std.specs.Prelude.{ℕ}
 use Rattle.steps.specs.declared.Why.{Why}
 use Rattle.steps.specs.declared.Why.TheVariants.{TooManyFiles, StringName, PrivateName, TableFull}
 
-abbrev pub refusalOf : Why → ℕ
-refusalOf TooManyFiles = 5
-refusalOf StringName = 6
-refusalOf PrivateName = 7
-refusalOf TableFull = 8
+abbrev pub refusal_of : Why → ℕ
+refusal_of TooManyFiles = 5
+refusal_of StringName = 6
+refusal_of PrivateName = 7
+refusal_of TableFull = 8

@@ -3,8 +3,8 @@ use Rattle.std.specs.Prelude.{ℕ, ◌+◌, ◌≤◌, ◌<◌, ◌≡◌, List,
 use Rattle.std.proofs.Math.Option.{Option, none as nothing, some}
 use Rattle.writer.specs.Wrote.{Wrote, Opened, closed}
 use Rattle.tree.specs.declared.layout.Reach.TheVariants.{Upto}
-use Rattle.tree.specs.Access.{extentAt}
-use Rattle.tree.specs.Standing.{treeAt, row_at, Whole, Row}
+use Rattle.tree.specs.Access.{extent_at}
+use Rattle.tree.specs.Standing.{tree_at, row_at, Whole, Row}
 use Rattle.tree.specs.declared.grammar.Rule.{Rule}
 use Rattle.tree.specs.Layout.{id_at}
 use Rattle.tree.specs.Tree.{Field, field, Fields, none}
@@ -12,10 +12,10 @@ use Rattle.inputs.specs.Outcome.{Outcome, done, refused, onto}
 use Rattle.extraction_rules.specs.State.{State, Act}
 use Rattle.extraction_rules.specs.First.{bindings}
 use Rattle.extraction_rules.proofs.AlikeLaws.{Regular, RegularAll}
-use Rattle.state.specs.Cells.{Env, Good, idBy, Shows}
+use Rattle.state.specs.Cells.{Env, Good, id_by, Shows}
 use Rattle.state.specs.Does.{place_in, Did}
 use Rattle.steps.specs.declared.Why.{Why}
-use Rattle.steps.specs.Refusal.{refusalOf}
+use Rattle.steps.specs.Refusal.{refusal_of}
 use Rattle.steps.specs.declared.Step.{Step}
 use Rattle.steps.specs.declared.Step.TheVariants.{Done, Refused}
 use Rattle.steps.specs.declared.Effect.{Effect}
@@ -25,9 +25,9 @@ use Rattle.steps.specs.declared.Ident.TheVariants.{Is, Other}
 
 -- ---- What answers stand for
 
-abbrev pub identBy : Ident → Option (List ℕ)
-identBy (Is i) = some (idBy i)
-identBy Other = nothing
+abbrev pub ident_by : Ident → Option (List ℕ)
+ident_by (Is i) = some (id_by i)
+ident_by Other = nothing
 
 -- ---- Fields that were read
 
@@ -36,13 +36,13 @@ pub record ReadAt (s : List ℕ) (at stop : ℕ) : Type 0 where
   pub end : ℕ
   pub inside : at ≤ end
   pub fits : end ≤ length s
-  pub extent : extentAt s at end ≡ Upto stop
+  pub extent : extent_at s at end ≡ Upto stop
   pub whole : Whole s at stop
 
 -- and it may stand behind the imports
 pub record Sound (s : List ℕ) (at stop : ℕ) : Type 0 where
   pub read : ReadAt s at stop
-  pub regular : Regular (treeAt s at stop)
+  pub regular : Regular (tree_at s at stop)
 
 -- the same of the fields from `at` up to end
 pub record SoundAll (s : List ℕ) (at end : ℕ) : Type 0 where
@@ -55,7 +55,7 @@ pub record SoundAll (s : List ℕ) (at end : ℕ) : Type 0 where
 -- their bytes
 pub record Reads (x : Env) (s : List ℕ) : Type 0 where
   pub nothing_bound : x.bound 0 ≡ none
-  pub pattern : (at stop : ℕ) → 0 < at → ReadAt s at stop → x.bound (place_in x.setting.pass at) ≡ bindings (treeAt s at stop)
+  pub pattern : (at stop : ℕ) → 0 < at → ReadAt s at stop → x.bound (place_in x.setting.pass at) ≡ bindings (tree_at s at stop)
   pub literals : (at : ℕ) → at + 6 ≤ length s → x.literal (place_in x.setting.pass at) ≡ id_at s at
 
 -- ---- Steps
@@ -73,13 +73,13 @@ pub record Steps {A : Type 0} (bytes : A → List ℕ) (P : Env → State → Ty
   pub good : Good t'
   pub size : length out' ≡ length out
   pub made : (p : ℕ) → k ≡ Done p → {x : Env} (s : State) → Shows x t s → P x s → Made bytes x (act x s) out o t' out' p
-  pub turned : (w : Why) (q : ℕ) → k ≡ Refused w q → {x : Env} (s : State) → Shows x t s → P x s → act x s ≡ refused (refusalOf w) q
+  pub turned : (w : Why) (q : ℕ) → k ≡ Refused w q → {x : Env} (s : State) → Shows x t s → P x s → act x s ≡ refused (refusal_of w) q
 
 -- the same of a step that writes nothing
 pub record Effects (P : Env → State → Type 0) (act : Env → Act (Unit {0})) (t t' : List ℕ) (k : Effect) : Type 0 where
   pub good : Good t'
   pub fine : k ≡ Fine → {x : Env} (s : State) → Shows x t s → P x s → Did x (act x s) t'
-  pub turned : (w : Why) (q : ℕ) → k ≡ Turned w q → {x : Env} (s : State) → Shows x t s → P x s → act x s ≡ refused (refusalOf w) q
+  pub turned : (w : Why) (q : ℕ) → k ≡ Turned w q → {x : Env} (s : State) → Shows x t s → P x s → act x s ≡ refused (refusal_of w) q
 
 -- ---- A field whose parts are steps
 
@@ -97,5 +97,5 @@ pub record Ended (o : ℕ) (r : Step) (l l' : List ℕ) (k : Step) : Type 0 wher
   pub refused : (w : Why) (q : ℕ) → r ≡ Refused w q → k ≡ Refused w q
 
 -- the parts of a field, and then the field with them
-abbrev pub withParts : ℕ → List ℕ → (Env → Act Fields) → Env → Act Field
-withParts n x m = λ y s. onto (m y s) (λ r. done (field n x r.0, r.1))
+abbrev pub with_parts : ℕ → List ℕ → (Env → Act Fields) → Env → Act Field
+with_parts n x m = λ y s. onto (m y s) (λ r. done (field n x r.0, r.1))

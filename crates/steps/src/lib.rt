@@ -1,4 +1,6 @@
 // What the functions of the walk share: how a step ends.
+#![tactic(auto)]
+
 ghost use Rattle.std.specs.Prelude.{◌+◌, ◌≤◌, length, get_or};
 ghost use Rattle.std.proofs.Math.Seq.{slice};
 ghost use Rattle.steps.specs.Step.{Begun, Ended};

@@ -6,7 +6,7 @@ use mathlib.Core.List.{List, [], ◌∷◌, ◌++◌}
 use lib.ListN.{length, get_or, set, length-set}
 use lib.Seq.{get_or-set_same, get_or-set_other}
 use Rattle.tables.specs.declared.Table.{Table}
-use Rattle.tables.specs.Rows.{rows_from, RowPut, rows, Lies, without, withoutRow, withValue}
+use Rattle.tables.specs.Rows.{rows_from, RowPut, rows, Lies, without, without_row, with_value}
 use Rattle.tables.specs.Only.{Outside, Only, Apart}
 use Rattle.tables.proofs.RowLaws.{from-agree, rows-length, Dropping, Closing}
 
@@ -64,8 +64,8 @@ row_pushed b t n key value l e h two w =
 
 -- ---- Another value in a row
 
-value_set : (k at i : ℕ) (t : List ℕ) (v : ℕ) → i < k → at + 2 * k ≤ length t → rows_from k at (set t (at + 2 * i + 1) v) ≡ withValue i v (rows_from k at t)
-unfolding rows_from withValue
+value_set : (k at i : ℕ) (t : List ℕ) (v : ℕ) → i < k → at + 2 * k ≤ length t → rows_from k at (set t (at + 2 * i + 1) v) ≡ with_value i v (rows_from k at t)
+unfolding rows_from with_value
 value_set zero at i t v h l = absurd (omega arith)
 value_set (suc k) at zero t v h l =
     let e : at + 2 * 0 + 1 ≡ at + 1 = omega arith in
@@ -80,7 +80,7 @@ value_set (suc k) at (suc i) t v h l =
     let r = value_set k (at + 2) i t v (omega arith) (omega arith) in
     cc
 
-valued-rows : (b : Table) (t : List ℕ) (i v : ℕ) → Lies b t → i < get_or t b.count 0 → rows b (set t (b.base + 2 * i + 1) v) ≡ withValue i v (rows b t)
+valued-rows : (b : Table) (t : List ℕ) (i v : ℕ) → Lies b t → i < get_or t b.count 0 → rows b (set t (b.base + 2 * i + 1) v) ≡ with_value i v (rows b t)
 unfolding rows
 valued-rows b t i v l h =
     let ends = l.ends in
@@ -90,7 +90,7 @@ valued-rows b t i v l h =
     ap (λ (k : ℕ). rows_from k b.base (set t (b.base + 2 * i + 1) v)) c ∙ value_set (get_or t b.count 0) b.base i t v h (omega arith)
 
 pub row-valued : (b : Table) (t : List ℕ) (i v : ℕ) → Lies b t → i < length (rows b t) →
-    (rows b (set t (b.base + 2 * i + 1) v) ≡ withValue i v (rows b t)) × Only b t (set t (b.base + 2 * i + 1) v)
+    (rows b (set t (b.base + 2 * i + 1) v) ≡ with_value i v (rows b t)) × Only b t (set t (b.base + 2 * i + 1) v)
 row-valued b t i v l h =
     let c = rows-length b t in
     let held = l.held in
@@ -121,7 +121,7 @@ rows_dropped b key n kept t₀ t l e d =
     )
 
 closed-rows : (b : Table) (i n k : ℕ) (t₀ t : List ℕ) → Lies b t₀ → n ≡ length (rows b t₀) → n ≤ k + 1 → Closing i b.base n t₀ k t →
-    rows b (set t b.count k) ≡ withoutRow i (rows b t₀)
+    rows b (set t b.count k) ≡ without_row i (rows b t₀)
 unfolding rows
 closed-rows b i n k t₀ t l e h d =
     let c = rows-length b t₀ in
@@ -132,10 +132,10 @@ closed-rows b i n k t₀ t l e h d =
     let n' : k + 1 ≡ get_or t₀ b.count 0 = omega arith in
     let count = get_or-set_same t b.count k 0 (omega arith) in
     let same = from-agree k b.base t (set t b.count k) (λ j p q. get_or-set_other t b.count j k 0 (λ z. omega arith)) in
-    ap (λ (m : ℕ). rows_from m b.base (set t b.count k)) count ∙ same ∙ d.closed ∙ ap (λ (m : ℕ). withoutRow i (rows_from m b.base t₀)) n'
+    ap (λ (m : ℕ). rows_from m b.base (set t b.count k)) count ∙ same ∙ d.closed ∙ ap (λ (m : ℕ). without_row i (rows_from m b.base t₀)) n'
 
 pub row-dropped : (b : Table) (i n k : ℕ) (t₀ t : List ℕ) → Lies b t₀ → n ≡ length (rows b t₀) → n ≤ k + 1 → Closing i b.base n t₀ k t →
-    (rows b (set t b.count k) ≡ withoutRow i (rows b t₀)) × Only b t₀ (set t b.count k)
+    (rows b (set t b.count k) ≡ without_row i (rows b t₀)) × Only b t₀ (set t b.count k)
 row-dropped b i n k t₀ t l e h d =
     let c = rows-length b t₀ in
     let held = l.held in

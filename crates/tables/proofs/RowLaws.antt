@@ -11,7 +11,7 @@ use lib.ListN.{length, length-map, get_or, set, length-set}
 use lib.Seq.{get_or-set_same, get_or-set_other}
 use borrow.Author.Tests.{le-leb, lt-leb, ltb-true, ltb-false, eq-eqb, ne_eqb}
 use Rattle.tables.specs.declared.Table.{Table}
-use Rattle.tables.specs.Rows.{Row, rows_from, RowPut, rows, next, between, flip, firstIn, NoneBefore, lesser, leastOf, without, withoutRow}
+use Rattle.tables.specs.Rows.{Row, rows_from, RowPut, rows, next, between, flip, first_in, NoneBefore, lesser, least_of, without, without_row}
 
 pub from-length : (k at : ℕ) (t : List ℕ) → length (rows_from k at t) ≡ k
 unfolding rows_from
@@ -93,16 +93,16 @@ shifted_next i (some n) = ap some (omega arith)
 
 -- what is found from row i on
 abbrev pub found_from : ℕ → ℕ → ℕ → ℕ → ℕ → List ℕ → Option ℕ
-found_from lo hi n i base t = shifted i (firstIn lo hi (rows_from (n - i) (base + 2 * i) t))
+found_from lo hi n i base t = shifted i (first_in lo hi (rows_from (n - i) (base + 2 * i) t))
 
-pub found-start : (lo hi : ℕ) (b : Table) (n : ℕ) (t : List ℕ) → n ≡ length (rows b t) → firstIn lo hi (rows b t) ≡ found_from lo hi n 0 b.base t
+pub found-start : (lo hi : ℕ) (b : Table) (n : ℕ) (t : List ℕ) → n ≡ length (rows b t) → first_in lo hi (rows b t) ≡ found_from lo hi n 0 b.base t
 unfolding rows
 found-start lo hi b n t e =
     let l = from-length (get_or t b.count 0) b.base t in
     let c : get_or t b.count 0 ≡ n - 0 = omega arith in
     let z : b.base ≡ b.base + 2 * 0 = omega arith in
-    sym (shifted_none (firstIn lo hi (rows_from (get_or t b.count 0) b.base t)))
-    ∙ ap (λ (x : ℕ). shifted 0 (firstIn lo hi (rows_from x b.base t))) c ∙ ap (λ (x : ℕ). shifted 0 (firstIn lo hi (rows_from (n - 0) x t))) z
+    sym (shifted_none (first_in lo hi (rows_from (get_or t b.count 0) b.base t)))
+    ∙ ap (λ (x : ℕ). shifted 0 (first_in lo hi (rows_from x b.base t))) c ∙ ap (λ (x : ℕ). shifted 0 (first_in lo hi (rows_from (n - 0) x t))) z
 
 pub rows-onward : (n i base : ℕ) (t : List ℕ) → i < n →
     rows_from (n - i) (base + 2 * i) t ≡ (get_or t (base + 2 * i) 0, get_or t (base + 2 * i + 1) 0) ∷ rows_from (n - (i + 1)) (base + 2 * (i + 1)) t
@@ -114,8 +114,8 @@ rows-onward n i base t h =
 
 module _ (lo hi n i base : ℕ) (t : List ℕ) (h : i < n) where
   passed-by : between lo hi (get_or t (base + 2 * i) 0) ≡ false → found_from lo hi n i base t ≡ found_from lo hi n (i + 1) base t
-  unfolding firstIn
-  passed-by e = rw (rows-onward n i base t h, e) (shifted_next i (firstIn lo hi (rows_from (n - (i + 1)) (base + 2 * (i + 1)) t)))
+  unfolding first_in
+  passed-by e = rw (rows-onward n i base t h, e) (shifted_next i (first_in lo hi (rows_from (n - (i + 1)) (base + 2 * (i + 1)) t)))
 
   pub found-low : get_or t (base + 2 * i) 0 < lo → found_from lo hi n i base t ≡ found_from lo hi n (i + 1) base t
   found-low k = passed-by (rw (lt-leb lo (get_or t (base + 2 * i) 0) k))
@@ -124,11 +124,11 @@ module _ (lo hi n i base : ℕ) (t : List ℕ) (h : i < n) where
   found-high j k = passed-by (rw (le-leb lo (get_or t (base + 2 * i) 0) j, lt-leb (get_or t (base + 2 * i) 0) hi k))
 
   pub found_here : lo ≤ get_or t (base + 2 * i) 0 → get_or t (base + 2 * i) 0 ≤ hi → found_from lo hi n i base t ≡ some i
-  unfolding firstIn
+  unfolding first_in
   found_here j k = rw (rows-onward n i base t h, le-leb lo (get_or t (base + 2 * i) 0) j, le-leb (get_or t (base + 2 * i) 0) hi k) (ap some (omega arith))
 
 pub found-end : (lo hi n i base : ℕ) (t : List ℕ) → n ≤ i → found_from lo hi n i base t ≡ none
-unfolding firstIn rows_from
+unfolding first_in rows_from
 found-end lo hi n i base t h = let e : n - i ≡ 0 = omega arith in rw e
 
 -- rows that have no such key are passed
@@ -153,17 +153,17 @@ pub none-before-first : (lo hi : ℕ) (l : List Row) → NoneBefore 0 lo hi l
 none-before-first lo hi l = record { passed = λ i p q. absurd (omega arith) }
 
 -- one cell on, the values stand where the keys of a table stand
-pub first-value : (lo hi k at : ℕ) (t : List ℕ) → firstIn lo hi (rows_from k (at + 1) t) ≡ firstIn lo hi (map flip (rows_from k at t))
-unfolding firstIn rows_from
+pub first-value : (lo hi k at : ℕ) (t : List ℕ) → first_in lo hi (rows_from k (at + 1) t) ≡ first_in lo hi (map flip (rows_from k at t))
+unfolding first_in rows_from
 first-value lo hi zero at t = refl
 first-value lo hi (suc k) at t =
     let e : at + 1 + 2 ≡ at + 2 + 1 = omega arith in
-    ap (λ (o : Option ℕ). cond (between lo hi (get_or t (at + 1) 0)) (some zero) (next o)) (ap (λ (a : ℕ). firstIn lo hi (rows_from k a t)) e ∙ first-value lo hi k (at + 2) t)
+    ap (λ (o : Option ℕ). cond (between lo hi (get_or t (at + 1) 0)) (some zero) (next o)) (ap (λ (a : ℕ). first_in lo hi (rows_from k a t)) e ∙ first-value lo hi k (at + 2) t)
 
-pub found-value : (lo hi : ℕ) (b c : Table) (t : List ℕ) → c.count ≡ b.count → c.base ≡ b.base + 1 → firstIn lo hi (rows c t) ≡ firstIn lo hi (map flip (rows b t))
+pub found-value : (lo hi : ℕ) (b c : Table) (t : List ℕ) → c.count ≡ b.count → c.base ≡ b.base + 1 → first_in lo hi (rows c t) ≡ first_in lo hi (map flip (rows b t))
 unfolding rows
 found-value lo hi b c t p q =
-    ap (λ (n : ℕ). firstIn lo hi (rows_from (get_or t n 0) c.base t)) p ∙ ap (λ (n : ℕ). firstIn lo hi (rows_from (get_or t b.count 0) n t)) q
+    ap (λ (n : ℕ). first_in lo hi (rows_from (get_or t n 0) c.base t)) p ∙ ap (λ (n : ℕ). first_in lo hi (rows_from (get_or t b.count 0) n t)) q
     ∙ first-value lo hi (get_or t b.count 0) b.base t
 
 value_row : (b c : Table) (i : ℕ) (t : List ℕ) → c.count ≡ b.count → c.base ≡ b.base + 1 → i < length (rows c t) →
@@ -186,33 +186,33 @@ none-value lo hi from b c t p q h =
 
 -- ---- The least value
 
-pub least_start : (key n base : ℕ) (t : List ℕ) → leastOf key (rows_from (n - n) (base + 2 * n) t) ≡ none
-unfolding leastOf rows_from
+pub least_start : (key n base : ℕ) (t : List ℕ) → least_of key (rows_from (n - n) (base + 2 * n) t) ≡ none
+unfolding least_of rows_from
 least_start key n base t = let e : n - n ≡ 0 = omega arith in rw e
 
 module _ (key n i base : ℕ) (t : List ℕ) (h : i < n) where
   pub least-here : get_or t (base + 2 * i) 0 ≡ key →
-      leastOf key (rows_from (n - i) (base + 2 * i) t) ≡ lesser (get_or t (base + 2 * i + 1) 0) (leastOf key (rows_from (n - (i + 1)) (base + 2 * (i + 1)) t))
-  unfolding leastOf
+      least_of key (rows_from (n - i) (base + 2 * i) t) ≡ lesser (get_or t (base + 2 * i + 1) 0) (least_of key (rows_from (n - (i + 1)) (base + 2 * (i + 1)) t))
+  unfolding least_of
   least-here e = rw (rows-onward n i base t h, eq-eqb (get_or t (base + 2 * i) 0) key e)
 
   pub least_other : (get_or t (base + 2 * i) 0 ≡ key → ⊥) →
-      leastOf key (rows_from (n - i) (base + 2 * i) t) ≡ leastOf key (rows_from (n - (i + 1)) (base + 2 * (i + 1)) t)
-  unfolding leastOf
+      least_of key (rows_from (n - i) (base + 2 * i) t) ≡ least_of key (rows_from (n - (i + 1)) (base + 2 * (i + 1)) t)
+  unfolding least_of
   least_other e = rw (rows-onward n i base t h, ne_eqb (get_or t (base + 2 * i) 0) key e)
 
 -- from the row before one back to it
 pub back : (key n i base : ℕ) (t : List ℕ) → 0 < i →
-    leastOf key (rows_from (n - i) (base + 2 * i) t) ≡ leastOf key (rows_from (n - (i - 1 + 1)) (base + 2 * (i - 1 + 1)) t)
-back key n i base t h = let e : i ≡ i - 1 + 1 = omega arith in ap (λ (x : ℕ). leastOf key (rows_from (n - x) (base + 2 * x) t)) e
+    least_of key (rows_from (n - i) (base + 2 * i) t) ≡ least_of key (rows_from (n - (i - 1 + 1)) (base + 2 * (i - 1 + 1)) t)
+back key n i base t h = let e : i ≡ i - 1 + 1 = omega arith in ap (λ (x : ℕ). least_of key (rows_from (n - x) (base + 2 * x) t)) e
 
-pub least-end : (key n i : ℕ) (b : Table) (t : List ℕ) → i ≤ 0 → n ≡ length (rows b t) → leastOf key (rows_from (n - i) (b.base + 2 * i) t) ≡ leastOf key (rows b t)
+pub least-end : (key n i : ℕ) (b : Table) (t : List ℕ) → i ≤ 0 → n ≡ length (rows b t) → least_of key (rows_from (n - i) (b.base + 2 * i) t) ≡ least_of key (rows b t)
 unfolding rows
 least-end key n i b t h e =
     let l = from-length (get_or t b.count 0) b.base t in
     let c : n - i ≡ get_or t b.count 0 = omega arith in
     let z : b.base + 2 * i ≡ b.base = omega arith in
-    ap (λ (x : ℕ). leastOf key (rows_from x (b.base + 2 * i) t)) c ∙ ap (λ (x : ℕ). leastOf key (rows_from (get_or t b.count 0) x t)) z
+    ap (λ (x : ℕ). least_of key (rows_from x (b.base + 2 * i) t)) c ∙ ap (λ (x : ℕ). least_of key (rows_from (get_or t b.count 0) x t)) z
 
 -- ---- Rows taken out
 
@@ -282,20 +282,20 @@ module _ (key base n : ℕ) (t₀ : List ℕ) (i kept : ℕ) (t : List ℕ) (d :
 
 -- ---- One row taken out
 
-out-last : (l : List Row) (r : Row) → withoutRow (length l) (l ++ (r ∷ [])) ≡ l
-unfolding withoutRow
+out-last : (l : List Row) (r : Row) → without_row (length l) (l ++ (r ∷ [])) ≡ l
+unfolding without_row
 out-last [] r = refl
 out-last (q ∷ l) r = ap (λ (m : List Row). q ∷ m) (out-last l r)
 
-out-append : (i : ℕ) (l : List Row) (r : Row) → i < length l → withoutRow i (l ++ (r ∷ [])) ≡ withoutRow i l ++ (r ∷ [])
-unfolding withoutRow
+out-append : (i : ℕ) (l : List Row) (r : Row) → i < length l → without_row i (l ++ (r ∷ [])) ≡ without_row i l ++ (r ∷ [])
+unfolding without_row
 out-append i [] r h = absurd (omega arith)
 out-append zero (q ∷ l) r h = refl
 out-append (suc i) (q ∷ l) r h = ap (λ (m : List Row). q ∷ m) (out-append i l r (omega arith))
 
 -- the rows behind row i, up to row k, stand one row before
 pub record Closing (i base n : ℕ) (t₀ : List ℕ) (k : ℕ) (t : List ℕ) : Type 0 where
-  pub closed : rows_from k base t ≡ withoutRow i (rows_from (k + 1) base t₀)
+  pub closed : rows_from k base t ≡ without_row i (rows_from (k + 1) base t₀)
   pub from : i ≤ k
   pub upto : k + 1 ≤ n
   pub same : (j : ℕ) → (base ≤ j → j < base + 2 * k → ⊥) → get_or t j 0 ≡ get_or t₀ j 0
@@ -308,7 +308,7 @@ closing-starts i base n t h =
           let e = from-length i base t in
           let l = rows_from i base t in
           let r : Row = (get_or t (base + 2 * i) 0, get_or t (base + 2 * i + 1) 0) in
-          sym (ap (withoutRow i) (from_next i base t) ∙ ap (λ (j : ℕ). withoutRow j (l ++ (r ∷ []))) (sym e) ∙ out-last l r);
+          sym (ap (without_row i) (from_next i base t) ∙ ap (λ (j : ℕ). without_row j (l ++ (r ∷ []))) (sym e) ∙ out-last l r);
       from = omega arith;
       upto = omega arith;
       same = λ j f. refl;
@@ -324,9 +324,9 @@ closes-one i base n t₀ k t d h x y t' p q w =
     let l = rows_from (k + 1) base t₀ in
     let r : Row = (get_or t₀ (base + 2 * (k + 1)) 0, get_or t₀ (base + 2 * (k + 1) + 1) 0) in
     let len = from-length (k + 1) base t₀ in
-    let last : rows_from k base t ++ ((x, y) ∷ []) ≡ withoutRow i l ++ (r ∷ []) = cc (d.closed, a, b) in
+    let last : rows_from k base t ++ ((x, y) ∷ []) ≡ without_row i l ++ (r ∷ []) = cc (d.closed, a, b) in
     record {
-      closed = w.put ∙ last ∙ sym (ap (withoutRow i) (from_next (k + 1) base t₀) ∙ out-append i l r (omega arith));
+      closed = w.put ∙ last ∙ sym (ap (without_row i) (from_next (k + 1) base t₀) ∙ out-append i l r (omega arith));
       from = omega arith;
       upto = omega arith;
       same = λ j f. w.same j (λ m o. f (omega arith) (omega arith)) ∙ d.same j (λ m o. f m (omega arith));

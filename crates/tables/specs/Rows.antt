@@ -39,17 +39,17 @@ next (some n) = some (suc n)
 abbrev pub between : ℕ → ℕ → ℕ → Bool
 between lo hi k = leb lo k && leb k hi
 
-unfoldable pub firstIn : ℕ → ℕ → List Row → Option ℕ
-firstIn lo hi [] = none
-firstIn lo hi (r ∷ rs) = cond (between lo hi r.0) (some zero) (next (firstIn lo hi rs))
+unfoldable pub first_in : ℕ → ℕ → List Row → Option ℕ
+first_in lo hi [] = none
+first_in lo hi (r ∷ rs) = cond (between lo hi r.0) (some zero) (next (first_in lo hi rs))
 
 -- no row before a place has such a key
 pub record NoneBefore (from lo hi : ℕ) (l : List Row) : Type 0 where
   pub passed : (i : ℕ) → i < from → i < length l → between lo hi (get_or l i (0, 0)).0 ≡ false
 
-abbrev pub placeBy : Found → Option ℕ
-placeBy (At i) = some i
-placeBy Nowhere = none
+abbrev pub place_by : Found → Option ℕ
+place_by (At i) = some i
+place_by Nowhere = none
 
 -- a row by its value
 abbrev pub flip : Row → Row
@@ -60,13 +60,13 @@ abbrev pub lesser : ℕ → Option ℕ → Option ℕ
 lesser v none = some v
 lesser v (some w) = some (cond (ltb v w) v w)
 
-unfoldable pub leastOf : ℕ → List Row → Option ℕ
-leastOf k [] = none
-leastOf k (r ∷ rs) = cond (eqb r.0 k) (lesser r.1 (leastOf k rs)) (leastOf k rs)
+unfoldable pub least_of : ℕ → List Row → Option ℕ
+least_of k [] = none
+least_of k (r ∷ rs) = cond (eqb r.0 k) (lesser r.1 (least_of k rs)) (least_of k rs)
 
-abbrev pub leastBy : Least → Option ℕ
-leastBy (Some v) = some v
-leastBy None = none
+abbrev pub least_by : Least → Option ℕ
+least_by (Some v) = some v
+least_by None = none
 
 -- the rows without those of a key
 unfoldable pub without : ℕ → List Row → List Row
@@ -74,13 +74,13 @@ without k [] = []
 without k (r ∷ rs) = cond (eqb r.0 k) (without k rs) (r ∷ without k rs)
 
 -- the rows without one
-unfoldable pub withoutRow : ℕ → List Row → List Row
-withoutRow i [] = []
-withoutRow zero (r ∷ l) = l
-withoutRow (suc i) (r ∷ l) = r ∷ withoutRow i l
+unfoldable pub without_row : ℕ → List Row → List Row
+without_row i [] = []
+without_row zero (r ∷ l) = l
+without_row (suc i) (r ∷ l) = r ∷ without_row i l
 
 -- the rows with another value in one
-unfoldable pub withValue : ℕ → ℕ → List Row → List Row
-withValue i v [] = []
-withValue zero v (r ∷ rs) = (r.0, v) ∷ rs
-withValue (suc i) v (r ∷ rs) = r ∷ withValue i v rs
+unfoldable pub with_value : ℕ → ℕ → List Row → List Row
+with_value i v [] = []
+with_value zero v (r ∷ rs) = (r.0, v) ∷ rs
+with_value (suc i) v (r ∷ rs) = r ∷ with_value i v rs

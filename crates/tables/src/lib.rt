@@ -1,7 +1,9 @@
 // Tables of pairs of numbers, several in one lent array. A table has a cell for its count, before its rows, and room for so many rows of two
 // cells. Nothing is allocated, and nothing but a table's own cells is written.
+#![tactic(auto)]
+
 ghost use Rattle.std.specs.Prelude.{◌≡◌, [], ◌∷◌, ◌++◌, map, ◌+◌, ◌*◌, ◌<◌, ◌≤◌, length, get_or};
-ghost use Rattle.tables.specs.Rows.{rows, RowPut, Lies, flip, firstIn, NoneBefore, placeBy, leastBy, lesser, leastOf, without, withoutRow, withValue};
+ghost use Rattle.tables.specs.Rows.{rows, RowPut, Lies, flip, first_in, NoneBefore, place_by, least_by, lesser, least_of, without, without_row, with_value};
 ghost use Rattle.tables.specs.Only.{Only};
 
 #[derive(Clone, Copy)]
@@ -60,7 +62,7 @@ fn put_row(t: &mut [u64], base: usize, i: usize, key: u64, value: u64)
 // The first row whose key is from lo to hi.
 pub fn find(t: &[u64], b: Table, lo: u64, hi: u64) -> Found
     requires { Lies b t.now }
-    ensures { placeBy result ≡ firstIn lo hi (rows b t.now) }
+    ensures { place_by result ≡ first_in lo hi (rows b t.now) }
 {
     find_from(t, b, 0, lo, hi)
 }
@@ -68,7 +70,7 @@ pub fn find(t: &[u64], b: Table, lo: u64, hi: u64) -> Found
 // The same, where no row before `from` has such a key.
 pub fn find_from(t: &[u64], b: Table, from: usize, lo: u64, hi: u64) -> Found
     requires { Lies b t.now × NoneBefore from lo hi (rows b t.now) }
-    ensures { placeBy result ≡ firstIn lo hi (rows b t.now) }
+    ensures { place_by result ≡ first_in lo hi (rows b t.now) }
 {
     let n = count_of(t, b);
     let base = b.base;
@@ -104,7 +106,7 @@ pub fn key_of(t: &[u64], b: Table, i: usize) -> u64
 // The first row whose value is from lo to hi, where no row before `from` has such a value: one cell on, each value has the place of a key.
 pub fn find_value(t: &[u64], b: Table, from: usize, lo: u64, hi: u64) -> Found
     requires { Lies b t.now × (b.base + 2 * b.room < length t.now) × NoneBefore from lo hi (map flip (rows b t.now)) }
-    ensures { placeBy result ≡ firstIn lo hi (map flip (rows b t.now)) }
+    ensures { place_by result ≡ first_in lo hi (map flip (rows b t.now)) }
 {
     let count = b.count;
     let base = b.base + 1;
@@ -126,7 +128,7 @@ pub fn push(t: &mut [u64], b: Table, key: u64, value: u64)
 // Another value in a row.
 pub fn set_value(t: &mut [u64], b: Table, i: usize, value: u64)
     requires { Lies b t.old × (i < length (rows b t.old)) }
-    ensures { (rows b t.new ≡ withValue i value (rows b t.old)) × Only b t.old t.new }
+    ensures { (rows b t.new ≡ with_value i value (rows b t.old)) × Only b t.old t.new }
 {
     let base = b.base;
     t[base + 2 * i + 1] = value;
@@ -135,7 +137,7 @@ pub fn set_value(t: &mut [u64], b: Table, i: usize, value: u64)
 // The least value among the rows with a key.
 pub fn least_value(t: &[u64], b: Table, key: u64) -> Least
     requires { Lies b t.now }
-    ensures { leastBy result ≡ leastOf key (rows b t.now) }
+    ensures { least_by result ≡ least_of key (rows b t.now) }
 {
     let base = b.base;
     let mut i = count_of(t, b);
@@ -150,7 +152,7 @@ pub fn least_value(t: &[u64], b: Table, key: u64) -> Least
 }
 
 fn lesser_of(v: u64, best: Least) -> Least
-    ensures { leastBy result ≡ lesser v (leastBy best) }
+    ensures { least_by result ≡ lesser v (least_by best) }
 {
     match best {
         Least::None => Least::Some(v),
@@ -188,7 +190,7 @@ pub fn drop_key(t: &mut [u64], b: Table, key: u64)
 // A row is taken out.
 pub fn drop_row(t: &mut [u64], b: Table, i: usize)
     requires { Lies b t.old × (i < length (rows b t.old)) }
-    ensures { (rows b t.new ≡ withoutRow i (rows b t.old)) × Only b t.old t.new }
+    ensures { (rows b t.new ≡ without_row i (rows b t.old)) × Only b t.old t.new }
 {
     let base = b.base;
     let cell = b.count;

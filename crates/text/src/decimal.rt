@@ -7,6 +7,9 @@ use crate::fields::{Span, field};
 use crate::hex::{Digit, digit_of, glyph_of};
 use crate::write::put;
 
+// The greatest digit.
+const NINE: u8 = 9;
+
 #[derive(Drop)]
 pub enum Number {
     Of(usize),
@@ -30,7 +33,7 @@ pub fn read_decimal(s: &[u8], from: usize, to: usize) -> Number
         let Digit::Value(v) = digit_of(s[i]) else {
             return Number::Bad;
         };
-        if 9 < v {
+        if NINE < v {
             return Number::Bad;
         }
         n = n * 10 + v as usize;

@@ -5,12 +5,12 @@ use Rattle.tree.specs.Read.{read}
 use Rattle.extraction_rules.proofs.OutcomeLaws.{of-done}
 use Rattle.extraction_rules.proofs.ReadableLaws.{Items, read-items}
 use Rattle.extraction_rules.proofs.RecordsLaws.{call-records}
-use Rattle.extraction_rules.specs.Call.{itemsRead}
-use Rattle.resolving_rules.specs.Call.{recordsRead}
+use Rattle.extraction_rules.specs.Call.{items_read}
+use Rattle.resolving_rules.specs.Call.{records_read}
 use Rattle.theorems.specs.Demand.{KeptOrApart}
 use Rattle.theorems.proofs.TopLaws.{kept-or-apart}
 
 pub kept-whole-or-apart : KeptOrApart
 kept-whole-or-apart l room ms r n q items own e v bs reading requesting placed k x i d inside =
     kept-or-apart l room ms r n q items own e v reading requesting placed k x i d inside
-    (of-done (itemsRead (read Module l.tree)) Items items reading (read-items l.tree bs)) (ap recordsRead (call-records l room ms bs r e))
+    (of-done (items_read (read Module l.tree)) Items items reading (read-items l.tree bs)) (ap records_read (call-records l room ms bs r e))

@@ -14,8 +14,8 @@ use Rattle.tree.proofs.LayoutLaws.{same-equal}
 use Rattle.tree.proofs.Table.{both_true}
 use Rattle.inputs.specs.Lists.{among}
 use Rattle.extraction_rules.specs.State.{State, Setting}
-use Rattle.extraction_rules.specs.First.{idFrom, forceId, importedAs, required, withCallee, declarator}
-use Rattle.extraction_rules.specs.Second.{usagesOf}
+use Rattle.extraction_rules.specs.First.{id_from, force_id, imported_as, required, with_callee, declarator}
+use Rattle.extraction_rules.specs.Second.{usages_of}
 use Rattle.extraction_rules.specs.Walk.{member}
 use Rattle.extraction_rules.proofs.OutcomeLaws.{After}
 use Rattle.extraction_rules.proofs.ListLaws.{same_not, not_same}
@@ -23,8 +23,8 @@ use Rattle.extraction_rules.proofs.ValueLaws.{required-call, declarator-value}
 use Rattle.extraction_rules.proofs.AlikeLaws.{SameBytes, equal, required-named, callee-bytes}
 use Rattle.extraction_rules.proofs.TestLaws.{or-neither}
 use Rattle.extraction_rules.proofs.SeekLaws.{force-tables, forgotten-usages, other-imported, other-usages}
-use Rattle.placement.specs.Stands.{How, isMisplaced, properties}
-use Rattle.placement.proofs.HowLaws.{all_append, allPlain, plain-append, properties-append, fits}
+use Rattle.placement.specs.Stands.{How, is_misplaced, properties}
+use Rattle.placement.proofs.HowLaws.{all_append, all_plain, plain-append, properties-append, fits}
 
 -- an export context is no local context: one is odd, the other even
 pub export-foreign : (n own : ℕ) → same (four (export n)) (four (local own)) ≡ false
@@ -41,37 +41,37 @@ Foreign own y = same (context_of y) (four (local own)) ≡ false
 abbrev pub Says : ℕ → State → Type 0
 Says own s =
     (j : List ℕ) →
-    (usagesOf j s.usages ≡ []) ⊎
+    (usages_of j s.usages ≡ []) ⊎
     ((context_of j ≡ four (local own))
-    × ((importedAs j s.imported ≡ nothing) ⊎ ((n : ℕ) × (importedAs j s.imported ≡ some (four (export n))))))
+    × ((imported_as j s.imported ≡ nothing) ⊎ ((n : ℕ) × (imported_as j s.imported ≡ some (four (export n))))))
 
-pub foreign-unused : (own : ℕ) (s : State) (j : List ℕ) → Says own s → Foreign own j → usagesOf j s.usages ≡ []
+pub foreign-unused : (own : ℕ) (s : State) (j : List ℕ) → Says own s → Foreign own j → usages_of j s.usages ≡ []
 foreign-unused own s j h k = go (h j)
   where
-    go : (usagesOf j s.usages ≡ []) ⊎
+    go : (usages_of j s.usages ≡ []) ⊎
         ((context_of j ≡ four (local own))
-        × ((importedAs j s.imported ≡ nothing) ⊎ ((n : ℕ) × (importedAs j s.imported ≡ some (four (export n)))))) → usagesOf j s.usages ≡ []
+        × ((imported_as j s.imported ≡ nothing) ⊎ ((n : ℕ) × (imported_as j s.imported ≡ some (four (export n)))))) → usages_of j s.usages ≡ []
     go (inl q) = q
     go (inr q) = absurd (not_same (context_of j) (four (local own)) k q.0)
 
-pub says-force : (own : ℕ) (s : State) (j : List ℕ) → Says own s → Says own (forceId j s)
+pub says-force : (own : ℕ) (s : State) (j : List ℕ) → Says own s → Says own (force_id j s)
 says-force own s j h k = go (same j k) refl (h k)
   where
     go : (b : Bool) → same j k ≡ b →
-        (usagesOf k s.usages ≡ []) ⊎
+        (usages_of k s.usages ≡ []) ⊎
         ((context_of k ≡ four (local own))
-        × ((importedAs k s.imported ≡ nothing) ⊎ ((n : ℕ) × (importedAs k s.imported ≡ some (four (export n)))))) →
-        (usagesOf k (forceId j s).usages ≡ []) ⊎
+        × ((imported_as k s.imported ≡ nothing) ⊎ ((n : ℕ) × (imported_as k s.imported ≡ some (four (export n)))))) →
+        (usages_of k (force_id j s).usages ≡ []) ⊎
         ((context_of k ≡ four (local own))
-        × ((importedAs k (forceId j s).imported ≡ nothing) ⊎ ((n : ℕ) × (importedAs k (forceId j s).imported ≡ some (four (export n))))))
-    go true q w = inl (ap (usagesOf k) (force-tables j s).3 ∙ rw (same-equal j k q) (forgotten-usages k s.usages))
-    go false q (inl w) = inl (ap (usagesOf k) (force-tables j s).3 ∙ other-usages k j s.usages q ∙ w)
+        × ((imported_as k (force_id j s).imported ≡ nothing) ⊎ ((n : ℕ) × (imported_as k (force_id j s).imported ≡ some (four (export n))))))
+    go true q w = inl (ap (usages_of k) (force-tables j s).3 ∙ rw (same-equal j k q) (forgotten-usages k s.usages))
+    go false q (inl w) = inl (ap (usages_of k) (force-tables j s).3 ∙ other-usages k j s.usages q ∙ w)
     go false q (inr w) = inr (w.0, by w.1)
       where
-        by : (importedAs k s.imported ≡ nothing) ⊎ ((n : ℕ) × (importedAs k s.imported ≡ some (four (export n)))) →
-            (importedAs k (forceId j s).imported ≡ nothing) ⊎ ((n : ℕ) × (importedAs k (forceId j s).imported ≡ some (four (export n))))
-        by (inl v) = inl (ap (importedAs k) (force-tables j s).2 ∙ other-imported k j s.imported q ∙ v)
-        by (inr v) = inr (v.0, ap (importedAs k) (force-tables j s).2 ∙ other-imported k j s.imported q ∙ v.1)
+        by : (imported_as k s.imported ≡ nothing) ⊎ ((n : ℕ) × (imported_as k s.imported ≡ some (four (export n)))) →
+            (imported_as k (force_id j s).imported ≡ nothing) ⊎ ((n : ℕ) × (imported_as k (force_id j s).imported ≡ some (four (export n))))
+        by (inl v) = inl (ap (imported_as k) (force-tables j s).2 ∙ other-imported k j s.imported q ∙ v)
+        by (inr v) = inr (v.0, ap (imported_as k) (force-tables j s).2 ∙ other-imported k j s.imported q ∙ v.1)
 
 -- ---- What becomes of a field
 
@@ -122,7 +122,7 @@ module _ (taken : Bool) (i c : List ℕ) (own : ℕ) where
   -- ---- A callee in another context
 
   turned-callee : (t : ℕ) (cs : Fields) (g : Field) (n : ℕ) → name_of (fixed_of g) ≡ two require-atom → tag_of g ≡ 0x60 → Turned t cs g →
-      Turned t cs (field (tag_of g) (idFrom (name_of (fixed_of g)) (export n)) (parts_of g))
+      Turned t cs (field (tag_of g) (id_from (name_of (fixed_of g)) (export n)) (parts_of g))
   turned-callee t cs g n w q h =
       record {
         tag = h.tag;
@@ -144,12 +144,12 @@ module _ (taken : Bool) (i c : List ℕ) (own : ℕ) where
       two-front (x ∷ (y ∷ [])) c q = refl
       two-front (x ∷ (y ∷ (z ∷ p))) c q = absurd (omega arith)
 
-  callee-out : (f g : Field) (n : ℕ) → tag_of g ≡ 0x60 → name_of (fixed_of g) ≡ two require-atom → Out f g → Out f (field (tag_of g) (idFrom (name_of (fixed_of g)) (export n)) (parts_of g))
+  callee-out : (f g : Field) (n : ℕ) → tag_of g ≡ 0x60 → name_of (fixed_of g) ≡ two require-atom → Out f g → Out f (field (tag_of g) (id_from (name_of (fixed_of g)) (export n)) (parts_of g))
   callee-out (field m z ds) g n q w (inl h) = inl (h.0, callee-bytes m z (fixed_of g) n h.1 (sym h.0 ∙ q) w, h.2, h.3)
   callee-out (field m z ds) g n q w (inr h) = inr (turned-callee m ds g n w q h)
 
-  pub out-callee : (e : Setting) (n : ℕ) (f g : Field) (l : List ℕ) → required e g ≡ some l → Out f g → Out f (withCallee n g)
-  unfolding withCallee
+  pub out-callee : (e : Setting) (n : ℕ) (f g : Field) (l : List ℕ) → required e g ≡ some l → Out f g → Out f (with_callee n g)
+  unfolding with_callee
   out-callee e n f (field t x none) l q h = h
   out-callee e n (field k y cs) (field t x (more d gs)) l q (inr h) = absurd (let z : 0x65 ≡ 0x60 = sym (required-call e t x d gs l q).0 ∙ h.out in omega arith)
   out-callee e n (field k y none) (field t x (more d gs)) l q (inl h) = out_none d gs h.3
@@ -161,13 +161,13 @@ module _ (taken : Bool) (i c : List ℕ) (own : ℕ) where
   pub declarator-out : (e : Setting) (cs ds : Fields) (p : ℕ) (s : State) → OutAll cs ds → After (declarator e ds p s) (λ gs s. OutAll cs gs)
   declarator-out e cs ds p s h = declarator-value e (OutAll cs) ds p s h (λ q j rest n l w r. go cs q j rest n l r (subst (OutAll cs) w h))
     where
-      go : (cs : Fields) (q j : Field) (rest : Fields) (n : ℕ) (l : List ℕ) → required e j ≡ some l → OutAll cs (more q (more j rest)) → OutAll cs (more q (more (withCallee n j) rest))
+      go : (cs : Fields) (q j : Field) (rest : Fields) (n : ℕ) (l : List ℕ) → required e j ≡ some l → OutAll cs (more q (more j rest)) → OutAll cs (more q (more (with_callee n j) rest))
       go none q j rest n l r h = out_none q (more j rest) h
       go (more f none) q j rest n l r h = out_none j rest (out-more f none q (more j rest) h).1
       go (more f (more d fs)) q j rest n l r h =
           let a = out-more f (more d fs) q (more j rest) h in
           let b = out-more d fs j rest a.1 in
-          (q, more (withCallee n j) rest, refl, a.0, (withCallee n j, rest, refl, out-callee e n d j l r b.0, b.1))
+          (q, more (with_callee n j) rest, refl, a.0, (with_callee n j, rest, refl, out-callee e n d j l r b.0, b.1))
 
   -- a field of another tag than 63 that stays
   pub out_stays : (t : ℕ) (x : List ℕ) (cs ds : Fields) → (t ≡ 0x63 → ⊥) → OutAll cs ds → Out (field t x cs) (field t x ds)
@@ -177,7 +177,7 @@ module _ (taken : Bool) (i c : List ℕ) (own : ℕ) where
 
 -- no property named require; if the import is taken apart, all uses are plain and nothing is misplaced
 abbrev pub Fine : Bool → List How → Type 0
-Fine taken l = (taken ≡ true → allPlain l ≡ true) × (among (two require-atom) (properties l) ≡ false) × (taken ≡ true → fits l ≡ true)
+Fine taken l = (taken ≡ true → all_plain l ≡ true) × (among (two require-atom) (properties l) ≡ false) × (taken ≡ true → fits l ≡ true)
 
 among-append : (b : List ℕ) (l m : List (List ℕ)) → among b (l ++ m) ≡ among b l || among b m
 unfolding among
@@ -189,8 +189,8 @@ fine-append taken l m h =
     let r =
     or-neither (among (two require-atom) (properties l)) (among (two require-atom) (properties m))
     (sym (ap (among (two require-atom)) (properties-append l m) ∙ among-append (two require-atom) (properties l) (properties m)) ∙ h.1) in
-    let f : taken ≡ true → (fits l ≡ true) × (fits m ≡ true) = λ q. both_true (fits l) (fits m) (sym (all_append (λ h. not (isMisplaced h)) l m) ∙ h.2 q) in
-    let p : taken ≡ true → (allPlain l ≡ true) × (allPlain m ≡ true) = λ q. both_true (allPlain l) (allPlain m) (sym (plain-append l m) ∙ h.0 q) in
+    let f : taken ≡ true → (fits l ≡ true) × (fits m ≡ true) = λ q. both_true (fits l) (fits m) (sym (all_append (λ h. not (is_misplaced h)) l m) ∙ h.2 q) in
+    let p : taken ≡ true → (all_plain l ≡ true) × (all_plain m ≡ true) = λ q. both_true (all_plain l) (all_plain m) (sym (plain-append l m) ∙ h.0 q) in
     ((λ q. (p q).0, r.0, λ q. (f q).0), (λ q. (p q).1, r.1, λ q. (f q).1))
 
 pub fine-less : (plain taken : Bool) (l : List How) → (taken ≡ true → plain ≡ true) → Fine plain l → Fine taken l

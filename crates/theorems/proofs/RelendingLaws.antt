@@ -12,27 +12,27 @@ use lib.ListN.{length, length-append}
 use borrow.Author.Tests.{lt-ltb, ne_eqb, eqb-false}
 use Rattle.scope.specs.declared.Mark.{Mark}
 use Rattle.scope.specs.declared.Mark.TheVariants.{Loaded, Stored, Cjs, Wrapping}
-use Rattle.scope.specs.Modules.{Module, Modules, next, place_of, number_of, unmarked, request, generatedBy, gen, Left, goOn, filesIn, requestAll}
-use Rattle.scope.specs.Modules.{withMark, setMark, given, not-given, marking}
+use Rattle.scope.specs.Modules.{Module, Modules, next, place_of, number_of, unmarked, request, generated_by, gen, Left, go_on, files_in, request_all}
+use Rattle.scope.specs.Modules.{with_mark, set_mark, given, not-given, marking}
 use Rattle.scope.proofs.Laws.{none-some, request-cases, request-count, mark-keeps-numbers, mark-keeps-count}
 use Rattle.tree.specs.Layout.{value_of}
 use Rattle.tree.specs.Tree.{Fields, none, more, size}
 use Rattle.inputs.specs.Outcome.{Outcome, done, refused}
-use Rattle.inputs.specs.Table.{Row, rowsIn, fileOf}
+use Rattle.inputs.specs.Table.{Row, rows_in, file_of}
 use Rattle.extraction_rules.specs.State.{State, first, second, Setting, start}
 use Rattle.extraction_rules.specs.First.{forget}
-use Rattle.extraction_rules.specs.Walk.{walkModule, walkAgain}
-use Rattle.extraction_rules.specs.Call.{Lent, Lengths, Extracted, modulesAfter, setting, extracted, extraction}
+use Rattle.extraction_rules.specs.Walk.{walk_module, walk_again}
+use Rattle.extraction_rules.specs.Call.{Lent, Lengths, Extracted, modules_after, setting, extracted, extraction}
 use Rattle.extraction_rules.proofs.OutcomeLaws.{After, after-weaken, Of, of-each, of-done, of-onto}
 use Rattle.extraction_rules.proofs.FirstLaws.{source-cases, force-cases}
 use Rattle.extraction_rules.proofs.StepLaws.{EndSteps}
-use Rattle.extraction_rules.proofs.WalkLaws.{Steps, imports-any-all, walkModule-keeps, walkAgain-keeps}
+use Rattle.extraction_rules.proofs.WalkLaws.{Steps, imports-any-all, walk_module-keeps, walk_again-keeps}
 use Rattle.extraction_rules.proofs.ExtractedLaws.{call-made, run-both}
-use Rattle.resolving_rules.specs.Resolve.{sourcesIn, source_of, requested, numberOne, numberAll}
-use Rattle.resolving_rules.specs.Call.{Lent as LentRecords, Numbered, numbered, modulesAfter as numbersAfter, resolving}
+use Rattle.resolving_rules.specs.Resolve.{sources_in, source_of, requested, number_one, number_all}
+use Rattle.resolving_rules.specs.Call.{Lent as LentRecords, Numbered, numbered, modules_after as numbers_after, resolving}
 use Rattle.resolving_rules.proofs.ResolvedLaws.{numbered-made}
-use Rattle.theorems.specs.Lists.{Call, requests, requestsAll, sets, reads, readsEsm, extracts, resolves, after, afterAll}
-use Rattle.theorems.specs.Relending.{files_of, withoutMarks, SameNumbers}
+use Rattle.theorems.specs.Lists.{Call, requests, requests_all, sets, reads, reads_esm, extracts, resolves, after, after_all}
+use Rattle.theorems.specs.Relending.{files_of, without_marks, SameNumbers}
 
 -- ---- Files that stand once
 
@@ -78,14 +78,14 @@ distinct-last f (m ∷ ms) h e =
     let w = nowhere (eqb f m.file) (number_of f ms) e in
     (still-nowhere m.file f ms (λ q. eqb-false f m.file w.0 (sym q)) h.0, distinct-last f ms h.1 w.1)
 
-mark-file : (k : Mark) (m : Module) → (withMark k m).file ≡ m.file
+mark-file : (k : Mark) (m : Module) → (with_mark k m).file ≡ m.file
 mark-file Loaded m = refl
 mark-file Stored m = refl
 mark-file Cjs m = refl
 mark-file Wrapping m = refl
 
-distinct-mark : (k : Mark) (n : ℕ) (ms : Modules) → Distinct ms → Distinct (setMark k n ms)
-unfolding setMark
+distinct-mark : (k : Mark) (n : ℕ) (ms : Modules) → Distinct ms → Distinct (set_mark k n ms)
+unfolding set_mark
 distinct-mark k n [] h = tt
 distinct-mark k zero (m ∷ ms) h = (ap (λ (f : ℕ). number_of f ms) (mark-file k m) ∙ h.0, h.1)
 distinct-mark k (suc n) (m ∷ ms) h = (mark-keeps-numbers k n ms m.file ∙ h.0, distinct-mark k n ms h.1)
@@ -112,20 +112,20 @@ request-lendable f ms {n} {new} e h =
       few = request-count f ms e h.few;
     }
 
-mark-lendable : (k : Mark) (n : ℕ) (ms : Modules) → Lendable ms → Lendable (setMark k n ms)
+mark-lendable : (k : Mark) (n : ℕ) (ms : Modules) → Lendable ms → Lendable (set_mark k n ms)
 mark-lendable k n ms h = record { distinct = distinct-mark k n ms h.distinct; few = let e = mark-keeps-count k n ms in let b = h.few in omega arith }
 
-gen-lendable : (f : ℕ) (ms : Modules) (o : Option (ℕ × Modules)) → request f ms ≡ o → Lendable ms → Lendable (generatedBy o ms).modules
+gen-lendable : (f : ℕ) (ms : Modules) (o : Option (ℕ × Modules)) → request f ms ≡ o → Lendable ms → Lendable (generated_by o ms).modules
 gen-lendable f ms nothing e h = h
 gen-lendable f ms (some r) e h = request-lendable f ms e h
 
-pub requestAll-lendable : (fs : List ℕ) (ms : Modules) → Lendable ms → Lendable (requestAll fs ms).modules
-unfolding requestAll
-requestAll-lendable [] ms h = h
-requestAll-lendable (f ∷ fs) ms h = go (request f ms) refl (λ new. requestAll-lendable fs new)
+pub request_all-lendable : (fs : List ℕ) (ms : Modules) → Lendable ms → Lendable (request_all fs ms).modules
+unfolding request_all
+request_all-lendable [] ms h = h
+request_all-lendable (f ∷ fs) ms h = go (request f ms) refl (λ new. request_all-lendable fs new)
   where
-    go : (o : Option (ℕ × Modules)) → request f ms ≡ o → ((new : Modules) → Lendable new → Lendable (requestAll fs new).modules) →
-        Lendable (goOn o (λ r. requestAll fs r) ms).modules
+    go : (o : Option (ℕ × Modules)) → request f ms ≡ o → ((new : Modules) → Lendable new → Lendable (request_all fs new).modules) →
+        Lendable (go_on o (λ r. request_all fs r) ms).modules
     go nothing e k = h
     go (some r) e k = k r.1 (request-lendable f ms e h)
 
@@ -160,24 +160,24 @@ lends-end : EndSteps Lends
 lends-end = record { on-wrap = λ s n h. mark-lendable Wrapping n s.modules h; on-lose = λ s h. h }
 
 run-lendable : (l : Lent) (rows : List Row) (own : ℕ) (items : Fields) (s : State) → Lends s →
-    After (walkModule (setting first own l rows) items s) (λ works s'. Lends s' × After (walkAgain (setting second own l rows) works s') (λ outs s''. Lends s''))
+    After (walk_module (setting first own l rows) items s) (λ works s'. Lends s' × After (walk_again (setting second own l rows) works s') (λ outs s''. Lends s''))
 run-lendable l rows own items s h =
     let one = setting first own l rows in
     let two = setting second own l rows in
-    after-weaken (walkModule one items s) (λ works s'. Lends s') (λ works s'. Lends s' × After (walkAgain two works s') (λ outs s''. Lends s''))
-    (λ works s' w. (w, walkAgain-keeps two AnyLiteral Lends (lends-steps two) lends-end works s' (imports-any-all works AnyLiteral (λ x. tt)) w))
-    (walkModule-keeps one AnyLiteral Lends (lends-steps one) items s (imports-any-all items AnyLiteral (λ x. tt)) h)
+    after-weaken (walk_module one items s) (λ works s'. Lends s') (λ works s'. Lends s' × After (walk_again two works s') (λ outs s''. Lends s''))
+    (λ works s' w. (w, walk_again-keeps two AnyLiteral Lends (lends-steps two) lends-end works s' (imports-any-all works AnyLiteral (λ x. tt)) w))
+    (walk_module-keeps one AnyLiteral Lends (lends-steps one) items s (imports-any-all items AnyLiteral (λ x. tt)) h)
 
 extracted-lendable : (l : Lent) (room : Lengths) (ms : Modules) → Lendable ms → Of (extracted l room ms) (λ r. Lendable r.modules)
 extracted-lendable l room ms h =
     of-each (extracted l room ms) _ λ r e.
     let m = call-made l room ms r e in
-    let rows = rowsIn l.table in
+    let rows = rows_in l.table in
     subst (λ (z : Extracted). Lendable z.modules) m.run.given
     (run-both l rows m.own.0 m.items m.own.1 r m.run (λ works s. Lends s) (λ outs s. Lends s)
     (run-lendable l rows m.own.0 m.items (start m.own.1) (request-lendable l.file ms m.requests h))).1
 
-extraction-after : (ms : Modules) (o : Outcome Extracted) → Of o (λ r. Lendable r.modules) → Lendable ms → Lendable (modulesAfter o ms)
+extraction-after : (ms : Modules) (o : Outcome Extracted) → Of o (λ r. Lendable r.modules) → Lendable ms → Lendable (modules_after o ms)
 extraction-after ms (done r) h k = h
 extraction-after ms (refused n p) h k = k
 
@@ -187,72 +187,72 @@ extraction-lendable l room ms h = extraction-after ms (extracted l room ms) (ext
 
 -- ---- Resolving
 
-numberOne-lendable : (o : Option ℕ) (ms : Modules) (p : ℕ) → Lendable ms → Of (numberOne o ms p) Lendable
-unfolding numberOne
-numberOne-lendable nothing ms p h = h
-numberOne-lendable (some f) ms p h = go (request f ms) refl
+number_one-lendable : (o : Option ℕ) (ms : Modules) (p : ℕ) → Lendable ms → Of (number_one o ms p) Lendable
+unfolding number_one
+number_one-lendable nothing ms p h = h
+number_one-lendable (some f) ms p h = go (request f ms) refl
   where
     go : (o : Option (ℕ × Modules)) → request f ms ≡ o → Of (requested o p) Lendable
     go nothing e = tt
     go (some r) e = request-lendable f ms e h
 
-numberAll-lendable : (rows : List Row) (fs : Fields) (ms : Modules) (p : ℕ) → Lendable ms → Of (numberAll rows fs ms p) Lendable
-unfolding numberAll
-numberAll-lendable rows none ms p h = h
-numberAll-lendable rows (more f fs) ms p h =
-    of-onto (numberOne (fileOf (source_of f) rows) ms p) _ Lendable Lendable (numberOne-lendable (fileOf (source_of f) rows) ms p h) λ new k.
-    numberAll-lendable rows fs new (p + size f) k
+number_all-lendable : (rows : List Row) (fs : Fields) (ms : Modules) (p : ℕ) → Lendable ms → Of (number_all rows fs ms p) Lendable
+unfolding number_all
+number_all-lendable rows none ms p h = h
+number_all-lendable rows (more f fs) ms p h =
+    of-onto (number_one (file_of (source_of f) rows) ms p) _ Lendable Lendable (number_one-lendable (file_of (source_of f) rows) ms p h) λ new k.
+    number_all-lendable rows fs new (p + size f) k
 
 numbered-lendable : (l : LentRecords) (ms : Modules) → Lendable ms → Of (numbered l ms) (λ q. Lendable q.modules)
 numbered-lendable l ms h =
     of-each (numbered l ms) _ λ q e.
-    of-done (numberAll q.rows (sourcesIn q.records) ms 3) Lendable q.modules (numbered-made l ms q e).2
-    (numberAll-lendable q.rows (sourcesIn q.records) ms 3 h)
+    of-done (number_all q.rows (sources_in q.records) ms 3) Lendable q.modules (numbered-made l ms q e).2
+    (number_all-lendable q.rows (sources_in q.records) ms 3 h)
 
-numbers_after : (ms : Modules) (o : Outcome Numbered) → Of o (λ q. Lendable q.modules) → Lendable ms → Lendable (numbersAfter o ms)
-numbers_after ms (done q) h k = h
-numbers_after ms (refused n p) h k = k
+numbers_after-lendable : (ms : Modules) (o : Outcome Numbered) → Of o (λ q. Lendable q.modules) → Lendable ms → Lendable (numbers_after o ms)
+numbers_after-lendable ms (done q) h k = h
+numbers_after-lendable ms (refused n p) h k = k
 
 pub resolving-lendable : (l : LentRecords) (room : ℕ) (ms : Modules) → Lendable ms → Lendable (resolving l room ms).modules
 unfolding resolving
-resolving-lendable l room ms h = numbers_after ms (numbered l ms) (numbered-lendable l ms h) h
+resolving-lendable l room ms h = numbers_after-lendable ms (numbered l ms) (numbered-lendable l ms h) h
 
 -- ---- Lists of calls
 
 call-lendable : (c : Call) (ms : Modules) → Lendable ms → Lendable (after c ms)
 unfolding after gen marking
 call-lendable (requests f) ms h = gen-lendable f.0 ms (request f.0 ms) refl h
-call-lendable (requestsAll files) ms h = requestAll-lendable (filesIn files) ms h
+call-lendable (requests_all files) ms h = request_all-lendable (files_in files) ms h
 call-lendable (sets k m) ms h = go (given m ms)
   where
-    go : (b : Bool) → Lendable (cond {A = Left} b (record { modules = setMark k m.0 ms; refusal = nothing }) (record { modules = ms; refusal = some not-given })).modules
+    go : (b : Bool) → Lendable (cond {A = Left} b (record { modules = set_mark k m.0 ms; refusal = nothing }) (record { modules = ms; refusal = some not-given })).modules
     go true = mark-lendable k m.0 ms h
     go false = h
 call-lendable (reads k m) ms h = h
-call-lendable (readsEsm m) ms h = h
+call-lendable (reads_esm m) ms h = h
 call-lendable (extracts l room) ms h = extraction-lendable l room ms h
 call-lendable (resolves l room) ms h = resolving-lendable l room ms h
 
-list-lendable : (calls : List Call) (ms : Modules) → Lendable ms → Lendable (afterAll calls ms)
-unfolding afterAll
+list-lendable : (calls : List Call) (ms : Modules) → Lendable ms → Lendable (after_all calls ms)
+unfolding after_all
 list-lendable [] ms h = h
 list-lendable (c ∷ calls) ms h = list-lendable calls (after c ms) (call-lendable c ms h)
 
 -- ---- Requests anew
 
-pub unmarked-append : (ps ms : Modules) → withoutMarks (ps ++ ms) ≡ withoutMarks ps ++ withoutMarks ms
+pub unmarked-append : (ps ms : Modules) → without_marks (ps ++ ms) ≡ without_marks ps ++ without_marks ms
 unmarked-append [] ms = refl
 unmarked-append (p ∷ ps) ms = ap (λ (l : Modules). unmarked p.file ∷ l) (unmarked-append ps ms)
 
-pub unmarked-count : (ms : Modules) → length (withoutMarks ms) ≡ length ms
+pub unmarked-count : (ms : Modules) → length (without_marks ms) ≡ length ms
 unmarked-count [] = refl
 unmarked-count (m ∷ ms) = ap suc (unmarked-count ms)
 
-pub unmarked-files : (ms : Modules) → files_of (withoutMarks ms) ≡ files_of ms
+pub unmarked-files : (ms : Modules) → files_of (without_marks ms) ≡ files_of ms
 unmarked-files [] = refl
 unmarked-files (m ∷ ms) = ap (λ (l : List ℕ). m.file ∷ l) (unmarked-files ms)
 
-pub unmarked-numbers : (f : ℕ) (ms : Modules) → number_of f (withoutMarks ms) ≡ number_of f ms
+pub unmarked-numbers : (f : ℕ) (ms : Modules) → number_of f (without_marks ms) ≡ number_of f ms
 unfolding number_of
 unmarked-numbers f ms = ap (place_of f) (unmarked-files ms)
 
@@ -263,21 +263,21 @@ request-new f ms e h = rw (e, lt-ltb (length ms) 256 h)
 
 -- with the modules ps before them
 request-rest : (ps ms : Modules) → Distinct (ps ++ ms) → length ps + length ms ≤ 256 →
-    requestAll (files_of ms) (withoutMarks ps) ≡ record { modules = withoutMarks (ps ++ ms); refusal = nothing }
-unfolding requestAll
-request-rest ps [] d h = ap (λ (l : Modules). record { modules = withoutMarks l; refusal = nothing }) (sym (append-nil ps))
+    request_all (files_of ms) (without_marks ps) ≡ record { modules = without_marks (ps ++ ms); refusal = nothing }
+unfolding request_all
+request-rest ps [] d h = ap (λ (l : Modules). record { modules = without_marks l; refusal = nothing }) (sym (append-nil ps))
 request-rest ps (m ∷ ms) d h =
     let c = unmarked-count ps in
-    let e = request-new m.file (withoutMarks ps) (unmarked-numbers m.file ps ∙ distinct-new ps m ms d) (omega arith) in
+    let e = request-new m.file (without_marks ps) (unmarked-numbers m.file ps ∙ distinct-new ps m ms d) (omega arith) in
     let a = append_assoc ps (m ∷ []) ms in
     let k = length-append ps (m ∷ []) in
-    ap (λ (o : Option (ℕ × Modules)). goOn o (λ r. requestAll (files_of ms) r) (withoutMarks ps)) e
-    ∙ ap (λ (l : Modules). requestAll (files_of ms) l) (sym (unmarked-append ps (m ∷ [])))
+    ap (λ (o : Option (ℕ × Modules)). go_on o (λ r. request_all (files_of ms) r) (without_marks ps)) e
+    ∙ ap (λ (l : Modules). request_all (files_of ms) l) (sym (unmarked-append ps (m ∷ [])))
     ∙ request-rest (ps ++ (m ∷ [])) ms (subst Distinct (sym a) d) (omega arith)
-    ∙ ap (λ (l : Modules). record { modules = withoutMarks l; refusal = nothing }) a
+    ∙ ap (λ (l : Modules). record { modules = without_marks l; refusal = nothing }) a
 
-pub requested-anew : (ms : Modules) → Lendable ms → requestAll (files_of ms) [] ≡ record { modules = withoutMarks ms; refusal = nothing }
+pub requested-anew : (ms : Modules) → Lendable ms → request_all (files_of ms) [] ≡ record { modules = without_marks ms; refusal = nothing }
 requested-anew ms h = let b = h.few in request-rest [] ms h.distinct (omega arith)
 
 pub same_numbers : SameNumbers
-same_numbers calls = requested-anew (afterAll calls []) (list-lendable calls [] lendable-fresh)
+same_numbers calls = requested-anew (after_all calls []) (list-lendable calls [] lendable-fresh)

@@ -10,7 +10,7 @@ use Rattle.scope.specs.Id.{local}
 use Rattle.tree.specs.declared.grammar.Set.TheVariants.{Specifier}
 use Rattle.tree.specs.Layout.{same, four, id_at, name_of, context_of}
 use Rattle.tree.specs.Tree.{Field, field, Fields, none, more, tag_of, fixed_of}
-use Rattle.tree.specs.Grammar.{holdsAt}
+use Rattle.tree.specs.Grammar.{holds_at}
 use Rattle.tree.specs.Within.{Exact}
 use Rattle.tree.proofs.LayoutLaws.{same-equal}
 use Rattle.extraction_rules.proofs.ListLaws.{same_not, not_same}
@@ -30,7 +30,7 @@ module _ (i lit : List ℕ) (own file : ℕ) (context : context_of i ≡ four (l
   other-space : (x : List ℕ) → same x i ≡ false → context_of x ≡ four (local own) → same (name_of x) (name_of i) ≡ false
   other-space x d c = same_not (name_of x) (name_of i) (λ q. not_same x i d (same_id x i q (c ∙ sym context)))
 
-  pub spec-facts : (s : Field) → holdsAt Specifier (tag_of s) ≡ true → Shaped s → same (id_at (fixed_of s) 0) i ≡ false →
+  pub spec-facts : (s : Field) → holds_at Specifier (tag_of s) ≡ true → Shaped s → same (id_at (fixed_of s) 0) i ≡ false →
       same (context_of (id_at (fixed_of s) 0)) (four (local own)) ≡ true → fits (ways s i false) ≡ true → SpecFacts s
   spec-facts (field t x cs) k h d c f =
       let n : cs ≡ none = shaped-none cs (subst (ShapedAll cs) (specifier-rule t k) h.1) in

@@ -11,18 +11,18 @@ use Rattle.scope.specs.Id.{require-atom, local}
 use Rattle.tree.proofs.Table.{both_true}
 use Rattle.tree.specs.Layout.{same, two, four, name_of, context_of, value_of, id_at}
 use Rattle.tree.specs.Tree.{Field, field, Fields, none, more, tag_of, parts_of}
-use Rattle.tree.specs.Grammar.{ruleOf}
+use Rattle.tree.specs.Grammar.{rule_of}
 use Rattle.tree.proofs.LayoutLaws.{same_refl}
 use Rattle.inputs.specs.Lists.{among}
 use Rattle.inputs.specs.Fields.{has}
-use Rattle.extraction_rules.specs.First.{specifiersIn}
+use Rattle.extraction_rules.specs.First.{specifiers_in}
 use Rattle.extraction_rules.proofs.ShapeLaws.{ShapedAll, Shaped, import-parts, shaped-parts, shaped-each}
 use Rattle.extraction_rules.proofs.SpaceLaws.{OfImport}
 use Rattle.extraction_rules.proofs.KeepLaws.{Each, each_weaken, each_both}
 use Rattle.placement.specs.Stands.{How, stands, properties}
-use Rattle.placement.specs.Placed.{all, importsIn, sharesNone, fitNamespace, item_at, localIds, ownLocals}
-use Rattle.placement.proofs.WaysLaws.{waysAll, stands-ways, ways}
-use Rattle.placement.proofs.HowLaws.{allPlain, fits, fits_each}
+use Rattle.placement.specs.Placed.{all, imports_in, shares_none, fit_namespace, item_at, local_ids, own_locals}
+use Rattle.placement.proofs.WaysLaws.{ways_all, stands-ways, ways}
+use Rattle.placement.proofs.HowLaws.{all_plain, fits, fits_each}
 use Rattle.placement.proofs.QuietLaws.{import-ways, import-quiet}
 use Rattle.placement.proofs.LocalsLaws.{each_keep, locals-other, locals-all}
 use Rattle.placement.proofs.PlacedLaws.{EachImport, EachBut, Apart, shares-apart, but-with, item-regular, tail-shaped, imports-all}
@@ -40,21 +40,21 @@ module _ (i lit : List ℕ) (own file : ℕ) (context : context_of i ≡ four (l
   abbrev pub Others : Field → Type 0
   Others f = OtherImport i lit own file f × CleanImport i lit own file context f
 
-  item-placed : (f : Field) (fs : Fields) → ShapedAll (more f fs) (ruleOf 0x01) → (tag_of f ≡ 0x10 → Others f) → Beside i lit own file f × CleanItem i lit own file context f
+  item-placed : (f : Field) (fs : Fields) → ShapedAll (more f fs) (rule_of 0x01) → (tag_of f ≡ 0x10 → Others f) → Beside i lit own file f × CleanItem i lit own file context f
   item-placed f fs h o = go (has 0x10 f) refl
     where
       go : (b : Bool) → has 0x10 f ≡ b → Beside i lit own file f × CleanItem i lit own file context f
       go true q = let t = eqb-true (tag_of f) 0x10 q in let a = o t in (inl a.0, inl (t, a.1))
       go false q = let r = item-regular f fs h q in (inr r, inr r)
 
-  behind-placed : (fs : Fields) → ShapedAll fs (ruleOf 0x01) → EachImport Others fs → Each (Beside i lit own file) fs × Each (CleanItem i lit own file context) fs
+  behind-placed : (fs : Fields) → ShapedAll fs (rule_of 0x01) → EachImport Others fs → Each (Beside i lit own file) fs × Each (CleanItem i lit own file context) fs
   behind-placed none h o = (tt, tt)
   behind-placed (more f fs) h o =
       let a = item-placed f fs h o.0 in
       let r = behind-placed fs (tail-shaped f fs h) o.1 in
       ((a.0, r.0), (a.1, r.1))
 
-  pub around-placed : (k : ℕ) (fs : Fields) (cs : Fields) → ShapedAll fs (ruleOf 0x01) → item_at k fs ≡ some (field 0x10 lit cs) →
+  pub around-placed : (k : ℕ) (fs : Fields) (cs : Fields) → ShapedAll fs (rule_of 0x01) → item_at k fs ≡ some (field 0x10 lit cs) →
       OwnImport i lit own file (field 0x10 lit cs) → EachBut Others k fs → Around i lit own file k fs × CleanAround i lit own file context k fs
   around-placed k none cs h e w o = absurd (let z : ◌≡◌ {A = ℕ} 0 1 = cc in omega arith)
   around-placed zero (more f fs) cs h e w o =
@@ -68,7 +68,7 @@ module _ (i lit : List ℕ) (own file : ℕ) (context : context_of i ≡ four (l
       ((a.0, r.0), (a.1, r.1))
 
   module _ (Space : List ℕ → Type 0) (locals : (j : List ℕ) → Space j → context_of j ≡ four (local own)) where
-    pub ready-placed : (fs : Fields) → ShapedAll fs (ruleOf 0x01) → EachImport (λ f. Each (OfImport Space own locals) (specifiersIn (parts_of f))) fs →
+    pub ready-placed : (fs : Fields) → ShapedAll fs (rule_of 0x01) → EachImport (λ f. Each (OfImport Space own locals) (specifiers_in (parts_of f))) fs →
         Ready i lit own file context Space locals fs
     ready-placed none h o = tt
     ready-placed (more f fs) h o = (go (has 0x10 f) refl, ready-placed fs (tail-shaped f fs h) o.1)
@@ -79,15 +79,15 @@ module _ (i lit : List ℕ) (own file : ℕ) (context : context_of i ≡ four (l
 
 -- ---- What the second pass needs of the namespace's ways
 
-pub fine-placed : (items : Fields) (i : List ℕ) → fitNamespace (stands items i) i ≡ true → (same (name_of i) (two require-atom) ≡ false)
-    × Fine (allPlain (stands items i)) (waysAll items i false)
-unfolding fitNamespace
+pub fine-placed : (items : Fields) (i : List ℕ) → fit_namespace (stands items i) i ≡ true → (same (name_of i) (two require-atom) ≡ false)
+    × Fine (all_plain (stands items i)) (ways_all items i false)
+unfolding fit_namespace
 fine-placed items i h =
     let hs = stands items i in
     let a = both_true (fits hs && not (same (name_of i) (two require-atom))) (not (among (two require-atom) (properties hs))) h in
     let b = both_true (fits hs) (not (same (name_of i) (two require-atom))) a.0 in (
       not-true (same (name_of i) (two require-atom)) b.1,
-      subst (Fine (allPlain hs)) (stands-ways items i) ((λ t. t), not-true (among (two require-atom) (properties hs)) a.1, λ _. b.0),
+      subst (Fine (all_plain hs)) (stands-ways items i) ((λ t. t), not-true (among (two require-atom) (properties hs)) a.1, λ _. b.0),
     )
 
 -- ---- Around the import of a well placed tree
@@ -95,41 +95,41 @@ fine-placed items i h =
 module _ (i lit : List ℕ) (own file : ℕ) (context : context_of i ≡ four (local own)) where
   -- what is known of every item
   abbrev Known : Field → Type 0
-  Known f = Shaped f × ((tag_of f ≡ 0x10 → ownLocals own f ≡ true) × (fits (ways f i false) ≡ true))
+  Known f = Shaped f × ((tag_of f ≡ 0x10 → own_locals own f ≡ true) × (fits (ways f i false) ≡ true))
 
   import-others : (f : Field) → tag_of f ≡ 0x10 → Apart i (value_of lit) f → Known f → Others i lit own file context f
-  unfolding ownLocals
+  unfolding own_locals
   import-others f t a k =
       let s = shaped-parts f 0x10 k.0 t in
       let p = import-parts (parts_of f) s in
       let ws = fits_each (parts_of f) i (subst (λ (l : List How). fits l ≡ true) (import-ways f i t) k.1.1) in
       let w =
-      specs-facts i lit own file context (specifiersIn (parts_of f)) p.0 (locals-other i (specifiersIn (parts_of f)) a.1)
-      (locals-all (λ i. same (context_of i) (four (local own))) (specifiersIn (parts_of f)) (k.1.0 t))
+      specs-facts i lit own file context (specifiers_in (parts_of f)) p.0 (locals-other i (specifiers_in (parts_of f)) a.1)
+      (locals-all (λ i. same (context_of i) (four (local own))) (specifiers_in (parts_of f)) (k.1.0 t))
       (each_keep (λ s. fits (ways s i false) ≡ true) (λ f. not (has 0x2F f)) (parts_of f) ws) in
       let F = SpecFacts i lit own file context in (
         record {
           tag = t;
           source = a.0;
-          locals = each_weaken F (OtherLocal i lit own file) (specifiersIn (parts_of f)) (λ s k. k.0) w;
-          spaces = each_weaken F (OtherSpace i lit own file) (specifiersIn (parts_of f)) (λ s k. k.1.0) w;
+          locals = each_weaken F (OtherLocal i lit own file) (specifiers_in (parts_of f)) (λ s k. k.0) w;
+          spaces = each_weaken F (OtherSpace i lit own file) (specifiers_in (parts_of f)) (λ s k. k.1.0) w;
           quiet = import-quiet (parts_of f) s;
         },
-        (each_weaken F (CleanSpec i own context) (specifiersIn (parts_of f)) (λ s k. k.1.1.0) w, each_weaken F (Whole i own context) (specifiersIn (parts_of f)) (λ s k. k.1.1.1) w),
+        (each_weaken F (CleanSpec i own context) (specifiers_in (parts_of f)) (λ s k. k.1.1.0) w, each_weaken F (Whole i own context) (specifiers_in (parts_of f)) (λ s k. k.1.1.1) w),
       )
 
   -- the namespace's own id is among its locals
-  own-local : (cs : Fields) → specifiersIn cs ≡ more (field 0x22 i none) none → id_at i 0 ≡ i → among i (localIds (specifiersIn cs)) ≡ true
-  unfolding localIds among
+  own-local : (cs : Fields) → specifiers_in cs ≡ more (field 0x22 i none) none → id_at i 0 ≡ i → among i (local_ids (specifiers_in cs)) ≡ true
+  unfolding local_ids among
   own-local cs q w = rw (q, w, same_refl i)
 
-  pub around-well : (k : ℕ) (items cs : Fields) → ShapedAll items (ruleOf 0x01) → sharesNone (importsIn items) ≡ true →
-      all (ownLocals own) (importsIn items) ≡ true → fits (waysAll items i false) ≡ true → id_at i 0 ≡ i →
-      item_at k items ≡ some (field 0x10 lit cs) → specifiersIn cs ≡ more (field 0x22 i none) none → ShapedAll cs (ruleOf 0x10) →
+  pub around-well : (k : ℕ) (items cs : Fields) → ShapedAll items (rule_of 0x01) → shares_none (imports_in items) ≡ true →
+      all (own_locals own) (imports_in items) ≡ true → fits (ways_all items i false) ≡ true → id_at i 0 ≡ i →
+      item_at k items ≡ some (field 0x10 lit cs) → specifiers_in cs ≡ more (field 0x22 i none) none → ShapedAll cs (rule_of 0x10) →
       Around i lit own file k items × CleanAround i lit own file context k items
   around-well k items cs shape share locals fit w e q s =
       around-placed i lit own file context k items cs shape e (record { tag = refl; literal = refl; sole = q; quiet = import-quiet cs s })
       (but-with (Apart i (value_of lit)) Known (Others i lit own file context) k items (λ f t a b. import-others f t a b)
       (shares-apart i k items (field 0x10 lit cs) share e refl (own-local cs q w))
-      (each_both Shaped (λ f. (tag_of f ≡ 0x10 → ownLocals own f ≡ true) × (fits (ways f i false) ≡ true)) items (shaped-each items (ruleOf 0x01) shape)
-      (each_both (λ f. tag_of f ≡ 0x10 → ownLocals own f ≡ true) (λ f. fits (ways f i false) ≡ true) items (imports-all (ownLocals own) items locals) (fits_each items i fit))))
+      (each_both Shaped (λ f. (tag_of f ≡ 0x10 → own_locals own f ≡ true) × (fits (ways f i false) ≡ true)) items (shaped-each items (rule_of 0x01) shape)
+      (each_both (λ f. tag_of f ≡ 0x10 → own_locals own f ≡ true) (λ f. fits (ways f i false) ≡ true) items (imports-all (own_locals own) items locals) (fits_each items i fit))))

@@ -6,26 +6,26 @@ use mathlib.Core.List.{List, [], ◌∷◌, ◌++◌}
 use Rattle.scope.specs.Id.{local}
 use Rattle.tree.specs.Layout.{same, four, context_of}
 use Rattle.extraction_rules.specs.State.{Usage, State}
-use Rattle.extraction_rules.specs.Second.{usagesOf}
+use Rattle.extraction_rules.specs.Second.{usages_of}
 use Rattle.extraction_rules.proofs.ListLaws.{All, all_filter}
 use Rattle.extraction_rules.proofs.SpaceLaws.{Property}
 use Rattle.extraction_rules.proofs.KeepLaws.{Each}
 use Rattle.placement.proofs.WaysLaws.{ways}
-use Rattle.theorems.specs.Demand.{propertyFields}
-use Rattle.theorems.proofs.HeldLaws.{usagesFor}
+use Rattle.theorems.specs.Demand.{property_fields}
+use Rattle.theorems.proofs.HeldLaws.{usages_for}
 use Rattle.theorems.proofs.CleanLaws.{property-absent}
 
 -- ---- Properties as specifiers
 
 usages-absent : (i : List ℕ) (own : ℕ) (context : context_of i ≡ four (local own)) (c : List ℕ) (ps : List (List ℕ)) →
-    All (λ u. Property u.property) (usagesFor i c ps) → Each (λ f. ways f i false ≡ []) (propertyFields 0x20 c ps)
+    All (λ u. Property u.property) (usages_for i c ps) → Each (λ f. ways f i false ≡ []) (property_fields 0x20 c ps)
 usages-absent i own context c [] h = tt
 usages-absent i own context c (p ∷ ps) h = (property-absent i own context (p ++ c) h.0, usages-absent i own context c ps h.1)
 
 pub properties-absent : (i : List ℕ) (own : ℕ) (context : context_of i ≡ four (local own)) (c : List ℕ) (ps : List (List ℕ)) (s : State) →
-    All (λ u. Property u.property) s.usages → usagesOf i s.usages ≡ usagesFor i c ps →
-    Each (λ f. ways f i false ≡ []) (propertyFields 0x20 c ps)
-unfolding usagesOf
+    All (λ u. Property u.property) s.usages → usages_of i s.usages ≡ usages_for i c ps →
+    Each (λ f. ways f i false ≡ []) (property_fields 0x20 c ps)
+unfolding usages_of
 properties-absent i own context c ps s h q =
     usages-absent i own context c ps
     (subst (All (λ (u : Usage). Property u.property)) q

@@ -15,14 +15,14 @@ use Rattle.tree.specs.Tree.{Field, field, Fields, none, more, tag_of, fixed_of, 
 use Rattle.tree.proofs.LayoutLaws.{same-equal}
 use Rattle.inputs.specs.Lists.{filter}
 use Rattle.inputs.specs.Fields.{has}
-use Rattle.extraction_rules.specs.Walk.{Parts, unwalked, member, super, assignment, children, partsFor}
+use Rattle.extraction_rules.specs.Walk.{Parts, unwalked, member, super, assignment, children, parts_for}
 use Rattle.extraction_rules.proofs.ListLaws.{not_same, All}
 use Rattle.extraction_rules.proofs.TagLaws.{parts-member, parts-assignment}
 use Rattle.extraction_rules.proofs.AlikeLaws.{Two, RegularAt, Regular, RegularAll, SameBytes, equal, behind, callee, same-other}
-use Rattle.placement.specs.Stands.{How, plain, computed, bare, original, ids_in, byMember, objectIds, Standing, matching, standings}
-use Rattle.placement.specs.Stands.{standingsAll, standingsMember, standingsAssignment, standingsTarget, isUse, is_plain}
+use Rattle.placement.specs.Stands.{How, plain, computed, bare, original, ids_in, by_member, object_ids, Standing, matching, standings}
+use Rattle.placement.specs.Stands.{standings_all, standings_member, standings_assignment, standings_target, is_use, is_plain}
 use Rattle.placement.specs.Placed.{all}
-use Rattle.placement.proofs.WaysLaws.{met, ways, waysAll, waysMember, waysAssignment, waysTarget, waysParts, waysObject, standingsParts}
+use Rattle.placement.proofs.WaysLaws.{met, ways, ways_all, ways_member, ways_assignment, ways_target, ways_parts, ways_object, standings_parts}
 use Rattle.placement.proofs.HowLaws.{Unused, unused-append, ids-unused, object-unused}
 use Rattle.theorems.specs.Demand.{counted, Unchanged, Rewritten, Every}
 use Rattle.theorems.proofs.OutFieldLaws.{Turned, Out, OutAll, out-more, out-lacking, Fine, fine-append}
@@ -33,12 +33,12 @@ pub every_append : (P : Standing → Type 0) (l m : List Standing) → Every P l
 every_append P [] m h k = k
 every_append P (s ∷ l) m h k = (h.0, every_append P l m h.1 k)
 
-pub every-filter : (P : Standing → Type 0) (l : List Standing) → Every (λ s. isUse s.how ≡ true → P s) l → Every P (filter (λ s. isUse s.how) l)
+pub every-filter : (P : Standing → Type 0) (l : List Standing) → Every (λ s. is_use s.how ≡ true → P s) l → Every P (filter (λ s. is_use s.how) l)
 unfolding filter
 every-filter P [] h = tt
-every-filter P (s ∷ l) h = go (isUse s.how) h.0 (every-filter P l h.1)
+every-filter P (s ∷ l) h = go (is_use s.how) h.0 (every-filter P l h.1)
   where
-    go : (b : Bool) → (b ≡ true → P s) → Every P (filter (λ s. isUse s.how) l) → Every P (cond b (s ∷ filter (λ s. isUse s.how) l) (filter (λ s. isUse s.how) l))
+    go : (b : Bool) → (b ≡ true → P s) → Every P (filter (λ s. is_use s.how) l) → Every P (cond b (s ∷ filter (λ s. is_use s.how) l) (filter (λ s. is_use s.how) l))
     go true k r = (k refl, r)
     go false k r = r
 
@@ -63,13 +63,13 @@ module _ (taken : Bool) (i c : List ℕ) (own : ℕ) (named : same (name_of i) (
   OA fs gs = OutAll taken i c own fs gs
 
   abbrev pub Uses : List Standing → Type 0
-  Uses l = Every (λ s. isUse s.how ≡ true → Good taken c s) l
+  Uses l = Every (λ s. is_use s.how ≡ true → Good taken c s) l
 
   uses-append : (l m : List Standing) → Uses l → Uses m → Uses (l ++ m)
-  uses-append l m h k = every_append (λ s. isUse s.how ≡ true → Good taken c s) l m h k
+  uses-append l m h k = every_append (λ s. is_use s.how ≡ true → Good taken c s) l m h k
 
   abbrev UseOf : Field → Field → How × List ℕ → Type 0
-  UseOf f g w = same w.1 i ≡ true → isUse w.0 ≡ true → Good taken c (record { how = w.0; here = f; there = g })
+  UseOf f g w = same w.1 i ≡ true → is_use w.0 ≡ true → Good taken c (record { how = w.0; here = f; there = g })
 
   matching-uses : (l : List (How × List ℕ)) (f g : Field) → All (UseOf f g) l → Uses (matching l i f g)
   unfolding matching
@@ -87,7 +87,7 @@ module _ (taken : Bool) (i c : List ℕ) (own : ℕ) (named : same (name_of i) (
   -- ---- A field's own ids
 
   -- a use that is not plain: the import is kept
-  kept : (h : How) (j : List ℕ) → isUse h ≡ true → is_plain h ≡ false → same j i ≡ true → Fine taken (met ((h, j) ∷ []) i) → taken ≡ true → ⊥
+  kept : (h : How) (j : List ℕ) → is_use h ≡ true → is_plain h ≡ false → same j i ≡ true → Fine taken (met ((h, j) ∷ []) i) → taken ≡ true → ⊥
   unfolding met filter all
   kept h j u p q fine t = true≢false (sym (fine.0 t) ∙ rw (q, u, p))
 
@@ -225,27 +225,27 @@ module _ (taken : Bool) (i c : List ℕ) (own : ℕ) (named : same (name_of i) (
       (ap (counted computed) m.2 ∙ rw (object-same o m.0 m.3 to (same-equal (fixed_of o) i e) so, v.0, v.1))
 
   pair-uses : (x : List ℕ) (o q g : Field) → (tag_of q ≡ 0x70) ⊎ ((tag_of q ≡ 0x71) ⊎ (tag_of q ≡ 0x72)) → Regular o → Regular q →
-      Fine taken (met ((byMember (more q none), fixed_of o) ∷ []) i) → O (field 0x63 x (more o (more q none))) g → tag_of o ≡ 0x60 →
-      UseOf (field 0x63 x (more o (more q none))) g (byMember (more q none), fixed_of o)
+      Fine taken (met ((by_member (more q none), fixed_of o) ∷ []) i) → O (field 0x63 x (more o (more q none))) g → tag_of o ≡ 0x60 →
+      UseOf (field 0x63 x (more o (more q none))) g (by_member (more q none), fixed_of o)
   pair-uses x o q g (inl k) so sq fine h to e u =
       subst (λ (w : How). Good taken c (record { how = w; here = field 0x63 x (more o (more q none)); there = g })) (sym (by k)) (plain-uses x o q g k so sq h to (same-equal (fixed_of o) i e))
     where
-      by : tag_of q ≡ 0x70 → byMember (more q none) ≡ plain (fixed_of q)
+      by : tag_of q ≡ 0x70 → by_member (more q none) ≡ plain (fixed_of q)
       by k = rw k
   pair-uses x o q g (inr (inl k)) so sq fine h to e u =
       subst (λ (w : How). Good taken c (record { how = w; here = field 0x63 x (more o (more q none)); there = g })) (sym (by k))
       (computed-uses x o q g k so (subst (λ (w : How). Fine taken (met ((w, fixed_of o) ∷ []) i)) (by k) fine) h to e)
     where
-      by : tag_of q ≡ 0x71 → byMember (more q none) ≡ computed
+      by : tag_of q ≡ 0x71 → by_member (more q none) ≡ computed
       by k = rw k
   pair-uses x o q g (inr (inr k)) so sq fine h to e u = absurd (true≢false (sym u ∙ by k))
     where
-      by : tag_of q ≡ 0x72 → isUse (byMember (more q none)) ≡ false
+      by : tag_of q ≡ 0x72 → is_use (by_member (more q none)) ≡ false
       by k = rw k
 
-  object-uses : (x : List ℕ) (cs : Fields) (g : Field) → Two cs → RegularAll cs → Fine taken (met (objectIds true cs) i) → O (field 0x63 x cs) g →
-      Uses (matching (objectIds true cs) i (field 0x63 x cs) g)
-  unfolding objectIds
+  object-uses : (x : List ℕ) (cs : Fields) (g : Field) → Two cs → RegularAll cs → Fine taken (met (object_ids true cs) i) → O (field 0x63 x cs) g →
+      Uses (matching (object_ids true cs) i (field 0x63 x cs) g)
+  unfolding object_ids
   object-uses x none g w s fine h = absurd (let e = w.2 in let z : ◌≡◌ {A = ℕ} 0 1 = cc in omega arith)
   object-uses x (more o none) g w s fine h = absurd (let e = w.2 in let z : ◌≡◌ {A = ℕ} 0 1 = cc in omega arith)
   object-uses x (more o (more q (more r rs))) g w s fine h = absurd (let e = w.2 in let z : ◌≡◌ {A = ℕ} 0 1 = cc in omega arith)
@@ -254,15 +254,15 @@ module _ (taken : Bool) (i c : List ℕ) (own : ℕ) (named : same (name_of i) (
       tq : (tag_of q ≡ 0x70) ⊎ ((tag_of q ≡ 0x71) ⊎ (tag_of q ≡ 0x72))
       tq = let e : w.1 ≡ q = cc w.2 in subst (λ (m : Field). (tag_of m ≡ 0x70) ⊎ ((tag_of m ≡ 0x71) ⊎ (tag_of m ≡ 0x72))) e w.3
 
-      go : (b : Bool) → eqb (tag_of o) 0x60 ≡ b → Fine taken (met (cond b ((byMember (more q none), fixed_of o) ∷ []) []) i) →
-          Uses (matching (cond b ((byMember (more q none), fixed_of o) ∷ []) []) i (field 0x63 x (more o (more q none))) g)
-      go true t f = matching-uses ((byMember (more q none), fixed_of o) ∷ []) (field 0x63 x (more o (more q none))) g (pair-uses x o q g tq s.0 s.1.0 f h (eqb-true (tag_of o) 0x60 t), tt)
+      go : (b : Bool) → eqb (tag_of o) 0x60 ≡ b → Fine taken (met (cond b ((by_member (more q none), fixed_of o) ∷ []) []) i) →
+          Uses (matching (cond b ((by_member (more q none), fixed_of o) ∷ []) []) i (field 0x63 x (more o (more q none))) g)
+      go true t f = matching-uses ((by_member (more q none), fixed_of o) ∷ []) (field 0x63 x (more o (more q none))) g (pair-uses x o q g tq s.0 s.1.0 f h (eqb-true (tag_of o) 0x60 t), tt)
       go false t f = matching-uses [] (field 0x63 x (more o (more q none))) g tt
 
   -- ---- The parts of a field that stays, and of one that is turned
 
-  turned-parts : (t : ℕ) (cs : Fields) (g : Field) → RegularAll cs → Turned taken i c own t cs g → standingsMember cs (parts_of g) i ≡ []
-  unfolding standings ids_in partsFor matching
+  turned-parts : (t : ℕ) (cs : Fields) (g : Field) → RegularAll cs → Turned taken i c own t cs g → standings_member cs (parts_of g) i ≡ []
+  unfolding standings ids_in parts_for matching
   turned-parts t none g s h = absurd (let e = h.parts in let z : ◌≡◌ {A = ℕ} 0 1 = cc in omega arith)
   turned-parts t (more o none) g s h = absurd (let e = h.parts in let z : ◌≡◌ {A = ℕ} 0 1 = cc in omega arith)
   turned-parts t (more o (more q (more r rs))) g s h = absurd (let e = h.parts in let z : ◌≡◌ {A = ℕ} 0 1 = cc in omega arith)
@@ -274,11 +274,11 @@ module _ (taken : Bool) (i c : List ℕ) (own : ℕ) (named : same (name_of i) (
       rw (to, tk, s.1.0.0.name-bare tk)
 
   -- a target's own ids stand in no use
-  target-uses : (t : ℕ) (x : List ℕ) (cs : Fields) (g : Field) → (t ≡ 0x60 → ⊥) → (t ≡ 0x23 → ⊥) → Uses (matching (ids_in t x false ++ objectIds false cs) i (field t x cs) g)
+  target-uses : (t : ℕ) (x : List ℕ) (cs : Fields) (g : Field) → (t ≡ 0x60 → ⊥) → (t ≡ 0x23 → ⊥) → Uses (matching (ids_in t x false ++ object_ids false cs) i (field t x cs) g)
   target-uses t x cs g d k =
-      matching-uses (ids_in t x false ++ objectIds false cs) (field t x cs) g
-      (unused-uses (ids_in t x false ++ objectIds false cs) (field t x cs) g
-      (unused-append (ids_in t x false) (objectIds false cs) (ids-unused t x false (ne_eqb t 0x23 k) (λ z. absurd (d (eqb-true t 0x60 z))))
+      matching-uses (ids_in t x false ++ object_ids false cs) (field t x cs) g
+      (unused-uses (ids_in t x false ++ object_ids false cs) (field t x cs) g
+      (unused-append (ids_in t x false) (object_ids false cs) (ids-unused t x false (ne_eqb t 0x23 k) (λ z. absurd (d (eqb-true t 0x60 z))))
       (object-unused cs)))
 
   -- the ids of a 63 itself
@@ -292,37 +292,37 @@ module _ (taken : Bool) (i c : List ℕ) (own : ℕ) (named : same (name_of i) (
   abbrev TargetTag : Fields → Type 0
   TargetTag cs = (f : Field) (fs : Fields) → cs ≡ more f fs → (tag_of f ≡ 0x60 → ⊥) × (tag_of f ≡ 0x23 → ⊥)
 
-  parts-uses : (v : Parts) (t : ℕ) (x : List ℕ) (cs : Fields) (g : Field) (object : Bool) → partsFor t ≡ v → RegularAt t x cs → RegularAll cs →
-      Fine taken (waysParts v cs i object) → O (field t x cs) g → OA cs (parts_of g) →
-      ((b : Bool) → Fine taken (waysAll cs i b) → Uses (standingsAll cs (parts_of g) i b)) →
-      (Fine taken (waysMember cs i) → Uses (standingsMember cs (parts_of g) i)) →
-      (TargetTag cs → Fine taken (waysAssignment cs i object) → Uses (standingsAssignment cs (parts_of g) i object)) →
-      Uses (standingsParts v t x cs g i object)
+  parts-uses : (v : Parts) (t : ℕ) (x : List ℕ) (cs : Fields) (g : Field) (object : Bool) → parts_for t ≡ v → RegularAt t x cs → RegularAll cs →
+      Fine taken (ways_parts v cs i object) → O (field t x cs) g → OA cs (parts_of g) →
+      ((b : Bool) → Fine taken (ways_all cs i b) → Uses (standings_all cs (parts_of g) i b)) →
+      (Fine taken (ways_member cs i) → Uses (standings_member cs (parts_of g) i)) →
+      (TargetTag cs → Fine taken (ways_assignment cs i object) → Uses (standings_assignment cs (parts_of g) i object)) →
+      Uses (standings_parts v t x cs g i object)
   parts-uses unwalked t x cs g object q w s fine h oa all mem asg = all object fine
   parts-uses super t x cs g object q w s fine h oa all mem asg = all false fine
   parts-uses assignment t x cs g object q w s fine h oa all mem asg = asg (w.target (parts-assignment t q)) fine
   parts-uses children t x cs g object q w s fine h oa all mem asg = all object fine
   parts-uses member t x cs g object q w s fine h oa all mem asg =
-      let f = fine-append taken (met (objectIds true cs) i) (waysMember cs i) fine in
-      uses-append (matching (objectIds true cs) i (field t x cs) g) (standingsMember cs (parts_of g) i) (go t (parts-member t q) (w.member-two (parts-member t q)) h f.0) (mem f.1)
+      let f = fine-append taken (met (object_ids true cs) i) (ways_member cs i) fine in
+      uses-append (matching (object_ids true cs) i (field t x cs) g) (standings_member cs (parts_of g) i) (go t (parts-member t q) (w.member-two (parts-member t q)) h f.0) (mem f.1)
     where
-      go : (t : ℕ) → t ≡ 0x63 → Two cs → O (field t x cs) g → Fine taken (met (objectIds true cs) i) → Uses (matching (objectIds true cs) i (field t x cs) g)
+      go : (t : ℕ) → t ≡ 0x63 → Two cs → O (field t x cs) g → Fine taken (met (object_ids true cs) i) → Uses (matching (object_ids true cs) i (field t x cs) g)
       go t k y h f = rw k (object-uses x cs g y s f (subst (λ (m : ℕ). O (field m x cs) g) k h))
 
-  turned-member : (x : List ℕ) (cs : Fields) (g : Field) (object : Bool) → Two cs → RegularAll cs → Fine taken (waysParts member cs i object) →
-      Turned taken i c own 0x63 cs g → Uses (standingsParts member 0x63 x cs g i object)
+  turned-member : (x : List ℕ) (cs : Fields) (g : Field) (object : Bool) → Two cs → RegularAll cs → Fine taken (ways_parts member cs i object) →
+      Turned taken i c own 0x63 cs g → Uses (standings_parts member 0x63 x cs g i object)
   turned-member x cs g object y s fine h =
-      uses-append (matching (objectIds true cs) i (field 0x63 x cs) g) (standingsMember cs (parts_of g) i)
-      (object-uses x cs g y s (fine-append taken (met (objectIds true cs) i) (waysMember cs i) fine).0 (inr h))
+      uses-append (matching (object_ids true cs) i (field 0x63 x cs) g) (standings_member cs (parts_of g) i)
+      (object-uses x cs g y s (fine-append taken (met (object_ids true cs) i) (ways_member cs i) fine).0 (inr h))
       (rw (turned-parts 0x63 cs g s h) tt)
 
   turned-uses : (t : ℕ) (x : List ℕ) (cs : Fields) (g : Field) (object : Bool) → t ≡ 0x63 → Two cs → RegularAll cs →
-      Fine taken (waysParts (partsFor t) cs i object) → Turned taken i c own t cs g → Uses (standingsParts (partsFor t) t x cs g i object)
-  unfolding partsFor
+      Fine taken (ways_parts (parts_for t) cs i object) → Turned taken i c own t cs g → Uses (standings_parts (parts_for t) t x cs g i object)
+  unfolding parts_for
   turned-uses t x cs g object k y s fine h =
-      rw k (turned-member x cs g object y s (subst (λ (m : ℕ). Fine taken (waysParts (partsFor m) cs i object)) k fine) (subst (λ (m : ℕ). Turned taken i c own m cs g) k h))
+      rw k (turned-member x cs g object y s (subst (λ (m : ℕ). Fine taken (ways_parts (parts_for m) cs i object)) k fine) (subst (λ (m : ℕ). Turned taken i c own m cs g) k h))
 
-  object-part : (o w : Field) (b : Bool) → Fine taken (waysObject b o i) → (Fine taken (ways o i true) → Uses (standings o w i true)) →
+  object-part : (o w : Field) (b : Bool) → Fine taken (ways_object b o i) → (Fine taken (ways o i true) → Uses (standings o w i true)) →
       Uses (elim b as (λ _. List Standing) [ true ↦ [] | false ↦ standings o w i true ])
   object-part o w true f k = tt
   object-part o w false f k = k f
@@ -332,44 +332,44 @@ module _ (taken : Bool) (i c : List ℕ) (own : ℕ) (named : same (name_of i) (
 
     pub uses : (f g : Field) (object : Bool) → Regular f → Fine taken (ways f i object) → O f g → Uses (standings f g i object)
     uses (field t x cs) g object w fine (inr h) =
-        let f = fine-append taken (met (ids_in t x object) i) (waysParts (partsFor t) cs i object) fine in
-        uses-append (matching (ids_in t x object) i (field t x cs) g) (standingsParts (partsFor t) t x cs g i object)
+        let f = fine-append taken (met (ids_in t x object) i) (ways_parts (parts_for t) cs i object) fine in
+        uses-append (matching (ids_in t x object) i (field t x cs) g) (standings_parts (parts_for t) t x cs g i object)
         (member-ids t x cs g object h.tag) (turned-uses t x cs g object h.tag (w.0.member-two h.tag) w.1 f.1 h)
     uses (field t x cs) g object w fine (inl h) =
-        let f = fine-append taken (met (ids_in t x object) i) (waysParts (partsFor t) cs i object) fine in
-        uses-append (matching (ids_in t x object) i (field t x cs) g) (standingsParts (partsFor t) t x cs g i object) (own-uses t x cs g object w.0 f.0 (h.0, h.1, h.3))
-        (parts-uses (partsFor t) t x cs g object refl w.0 w.1 f.1 (inl h) h.3 (λ b f. usesAll cs (parts_of g) b w.1 f h.3)
-        (λ f. usesMember cs (parts_of g) w.1 f h.3) (λ d f. usesAssignment cs (parts_of g) object w.1 d f h.3))
+        let f = fine-append taken (met (ids_in t x object) i) (ways_parts (parts_for t) cs i object) fine in
+        uses-append (matching (ids_in t x object) i (field t x cs) g) (standings_parts (parts_for t) t x cs g i object) (own-uses t x cs g object w.0 f.0 (h.0, h.1, h.3))
+        (parts-uses (parts_for t) t x cs g object refl w.0 w.1 f.1 (inl h) h.3 (λ b f. uses_all cs (parts_of g) b w.1 f h.3)
+        (λ f. uses_member cs (parts_of g) w.1 f h.3) (λ d f. uses_assignment cs (parts_of g) object w.1 d f h.3))
 
-    pub usesAll : (fs gs : Fields) (object : Bool) → RegularAll fs → Fine taken (waysAll fs i object) → OA fs gs → Uses (standingsAll fs gs i object)
-    usesAll none gs object w fine h = tt
-    usesAll (more f fs) none object w fine h = out-lacking taken i c own f fs h
-    usesAll (more f fs) (more g gs) object w fine h =
+    pub uses_all : (fs gs : Fields) (object : Bool) → RegularAll fs → Fine taken (ways_all fs i object) → OA fs gs → Uses (standings_all fs gs i object)
+    uses_all none gs object w fine h = tt
+    uses_all (more f fs) none object w fine h = out-lacking taken i c own f fs h
+    uses_all (more f fs) (more g gs) object w fine h =
         let a = out-more taken i c own f fs g gs h in
-        let k = fine-append taken (ways f i object) (waysAll fs i object) fine in
-        uses-append (standings f g i object) (standingsAll fs gs i object) (uses f g object w.0 k.0 a.0) (usesAll fs gs object w.1 k.1 a.1)
+        let k = fine-append taken (ways f i object) (ways_all fs i object) fine in
+        uses-append (standings f g i object) (standings_all fs gs i object) (uses f g object w.0 k.0 a.0) (uses_all fs gs object w.1 k.1 a.1)
 
-    usesMember : (fs gs : Fields) → RegularAll fs → Fine taken (waysMember fs i) → OA fs gs → Uses (standingsMember fs gs i)
-    usesMember none gs w fine h = tt
-    usesMember (more f fs) none w fine h = out-lacking taken i c own f fs h
-    usesMember (more f fs) (more g gs) w fine h =
+    uses_member : (fs gs : Fields) → RegularAll fs → Fine taken (ways_member fs i) → OA fs gs → Uses (standings_member fs gs i)
+    uses_member none gs w fine h = tt
+    uses_member (more f fs) none w fine h = out-lacking taken i c own f fs h
+    uses_member (more f fs) (more g gs) w fine h =
         let a = out-more taken i c own f fs g gs h in
-        let k = fine-append taken (waysObject (has 0x60 f) f i) (waysAll fs i false) fine in
-        uses-append (elim (has 0x60 f) as (λ _. List Standing) [ true ↦ [] | false ↦ standings f g i true ]) (standingsAll fs gs i false)
-        (object-part f g (has 0x60 f) k.0 (λ y. uses f g true w.0 y a.0)) (usesAll fs gs false w.1 k.1 a.1)
+        let k = fine-append taken (ways_object (has 0x60 f) f i) (ways_all fs i false) fine in
+        uses-append (elim (has 0x60 f) as (λ _. List Standing) [ true ↦ [] | false ↦ standings f g i true ]) (standings_all fs gs i false)
+        (object-part f g (has 0x60 f) k.0 (λ y. uses f g true w.0 y a.0)) (uses_all fs gs false w.1 k.1 a.1)
 
-    usesAssignment : (fs gs : Fields) (object : Bool) → RegularAll fs → TargetTag fs → Fine taken (waysAssignment fs i object) → OA fs gs → Uses (standingsAssignment fs gs i object)
-    usesAssignment none gs object w d fine h = tt
-    usesAssignment (more f fs) none object w d fine h = out-lacking taken i c own f fs h
-    usesAssignment (more f fs) (more g gs) object w d fine h =
+    uses_assignment : (fs gs : Fields) (object : Bool) → RegularAll fs → TargetTag fs → Fine taken (ways_assignment fs i object) → OA fs gs → Uses (standings_assignment fs gs i object)
+    uses_assignment none gs object w d fine h = tt
+    uses_assignment (more f fs) none object w d fine h = out-lacking taken i c own f fs h
+    uses_assignment (more f fs) (more g gs) object w d fine h =
         let a = out-more taken i c own f fs g gs h in
-        let k = fine-append taken (waysTarget f i) (waysAll fs i object) fine in
-        uses-append (standingsTarget f g i) (standingsAll fs gs i object) (usesTarget f g w.0 (d f fs refl) k.0 a.0) (usesAll fs gs object w.1 k.1 a.1)
+        let k = fine-append taken (ways_target f i) (ways_all fs i object) fine in
+        uses-append (standings_target f g i) (standings_all fs gs i object) (uses_target f g w.0 (d f fs refl) k.0 a.0) (uses_all fs gs object w.1 k.1 a.1)
 
-    usesTarget : (f g : Field) → Regular f → (tag_of f ≡ 0x60 → ⊥) × (tag_of f ≡ 0x23 → ⊥) → Fine taken (waysTarget f i) → O f g → Uses (standingsTarget f g i)
-    usesTarget (field t x cs) g w d fine (inr h) =
-        uses-append (matching (ids_in t x false ++ objectIds false cs) i (field t x cs) g) (standingsMember cs (parts_of g) i) (target-uses t x cs g d.0 d.1) (rw (turned-parts t cs g w.1 h) tt)
-    usesTarget (field t x cs) g w d fine (inl h) =
-        let f = fine-append taken (met (ids_in t x false ++ objectIds false cs) i) (waysMember cs i) fine in
-        uses-append (matching (ids_in t x false ++ objectIds false cs) i (field t x cs) g) (standingsMember cs (parts_of g) i)
-        (target-uses t x cs g d.0 d.1) (usesMember cs (parts_of g) w.1 f.1 h.3)
+    uses_target : (f g : Field) → Regular f → (tag_of f ≡ 0x60 → ⊥) × (tag_of f ≡ 0x23 → ⊥) → Fine taken (ways_target f i) → O f g → Uses (standings_target f g i)
+    uses_target (field t x cs) g w d fine (inr h) =
+        uses-append (matching (ids_in t x false ++ object_ids false cs) i (field t x cs) g) (standings_member cs (parts_of g) i) (target-uses t x cs g d.0 d.1) (rw (turned-parts t cs g w.1 h) tt)
+    uses_target (field t x cs) g w d fine (inl h) =
+        let f = fine-append taken (met (ids_in t x false ++ object_ids false cs) i) (ways_member cs i) fine in
+        uses-append (matching (ids_in t x false ++ object_ids false cs) i (field t x cs) g) (standings_member cs (parts_of g) i)
+        (target-uses t x cs g d.0 d.1) (uses_member cs (parts_of g) w.1 f.1 h.3)

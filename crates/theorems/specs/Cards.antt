@@ -6,9 +6,9 @@ use Rattle.tree.specs.declared.grammar.Set.TheVariants.{Module}
 use Rattle.tree.specs.declared.read.Why.TheVariants.{Deep}
 use Rattle.tree.specs.Tree.{field, Fields, none, more, encode}
 use Rattle.tree.specs.Read.{Reading, fine, refused, read}
-use Rattle.metadata.specs.Decimal.{numberFrom, number, unsigned, parsed}
-use Rattle.metadata.specs.Metadata.{Metadata, starts_with, contextIn, injectedAttribute, told, decode_from, decode, contextKey, attribute}
-use Rattle.metadata.specs.Calls.{lent, decodeCall}
+use Rattle.metadata.specs.Decimal.{number_from, number, unsigned, parsed}
+use Rattle.metadata.specs.Metadata.{Metadata, starts_with, context_in, injected_attribute, told, decode_from, decode, context_key, attribute}
+use Rattle.metadata.specs.Calls.{lent, decode_call}
 use Rattle.extraction_rules.specs.Call.{Left, extraction}
 use Rattle.extraction_rules.specs.Build.{Case, rooms}
 use Rattle.extraction_rules.specs.Cards.{card1, card2, card3, card4, card5, card6, card7, card7-without, card8, card9, card11, card11-deeper, deep, listing}
@@ -34,7 +34,7 @@ pub data Answer : Type 0 where
 unfoldable pub given : Question → Answer
 given (extract c) = extracted (extraction c.lent rooms [])
 given (resolve c) = resolved (resolving c.lent 250 c.modules)
-given (decoding s r) = decoded (decodeCall s)
+given (decoding s r) = decoded (decode_call s)
 given (reading-module s r) = read_module (read Module s)
 
 unfoldable pub said : Question → Answer
@@ -45,7 +45,7 @@ said (reading-module s r) = read_module r
 
 -- a 2F with the text as export context
 abbrev context : List ℕ → List ℕ
-context text = encode (field 0x2F [] (more (attribute contextKey text) none))
+context text = encode (field 0x2F [] (more (attribute context_key text) none))
 
 abbrev gives : Option ℕ → Reading Metadata
 gives c = fine (record { injected = false; context = c })
@@ -70,5 +70,5 @@ cards =
 
 -- the rules answer every question of every card as the card says
 pub cards-hold : map (map given) cards ≡ map (map said) cards
-unfolding computing computing-resolved listing listing-resolved given said cards numberFrom number unsigned parsed starts_with contextIn injectedAttribute told decode_from decode lent decodeCall
+unfolding computing computing-resolved listing listing-resolved given said cards number_from number unsigned parsed starts_with context_in injected_attribute told decode_from decode lent decode_call
 cards-hold = refl

@@ -4,30 +4,30 @@ use Rattle.std.specs.Prelude.{ℕ, ◌≡◌, refl, Bool, true, false}
 use Rattle.std.proofs.Common.{sym, ap, ◌∙◌, true≢false}
 use mathlib.Core.List.{List, [], ◌∷◌, ◌++◌, cons≢nil}
 use Rattle.std.proofs.Math.Option.{some, get_or}
-use Rattle.modes.specs.Bits.{modesOf}
+use Rattle.modes.specs.Bits.{modes_of}
 use Rattle.scope.specs.Id.{default-atom, export}
 use Rattle.scope.specs.Modules.{Module, Modules, unmarked, number_of}
 use Rattle.tree.specs.Layout.{two, four, same, value_of}
 use Rattle.tree.specs.Tree.{Field, field, Fields, none, fixed_of, parts_of, encode}
 use Rattle.inputs.specs.Outcome.{Outcome, done, refused, ◌>>=◌}
 use Rattle.inputs.specs.Fields.{has}
-use Rattle.inputs.specs.Table.{Row, rowsIn, fileOf}
-use Rattle.extraction_rules.specs.Call.{Lent, Extracted, moduleWith, extracted}
+use Rattle.inputs.specs.Table.{Row, rows_in, file_of}
+use Rattle.extraction_rules.specs.Call.{Lent, Extracted, module_with, extracted}
 use Rattle.extraction_rules.specs.Build.{m, a, x, b, d, f, y, q, own, exp, literal, listed, leaf, fields, imports, named, default, namespace, const}
 use Rattle.extraction_rules.specs.Build.{statement, ident, member, call, requiring, metadata, room, rooms}
-use Rattle.metadata.specs.Metadata.{contextKey, attribute}
+use Rattle.metadata.specs.Metadata.{context_key, attribute}
 use Rattle.resolving_rules.specs.Call.{Resolved, resolved}
 use Rattle.resolving_rules.specs.Computes.{computing as computing-resolved}
 use Rattle.placement.specs.Stands.{head_of, stands}
-use Rattle.placement.specs.Placed.{wellPlaced}
+use Rattle.placement.specs.Placed.{well_placed}
 use Rattle.placement.specs.Example.{placing, ax, at, n, literal-n, ay, spaced-n, behind, late, shared-source, shared-local, other-context, in-company}
 use Rattle.placement.specs.Example.{as-target, below-object, as-shorthand, a-private, with-private, namespace-require, property-require}
-use Rattle.theorems.specs.Demand.{usesOf, recordFor, takes, TakenApart, Kept, Ends, ResolvesTo, handedOn}
+use Rattle.theorems.specs.Demand.{uses_of, record_for, takes, TakenApart, Kept, Ends, ResolvesTo, handed_on}
 
 -- every definition of both calls and of their ends: a worked case says `unfolding ending`
 unfoldable ending : ℕ → Fields → Bool
-unfolding placing computing-resolved usesOf recordFor takes
-ending own items = wellPlaced own items
+unfolding placing computing-resolved uses_of record_for takes
+ending own items = well_placed own items
 
 -- ---- Fields
 
@@ -40,7 +40,7 @@ abbrev from-m : List Field → Field
 from-m l = imports (l ++ metadata ∷ [])
 
 abbrev from-n : List Field → Field
-from-n l = field 0x10 literal-n (listed (l ++ fields 0x2F (attribute contextKey (55 ∷ []) ∷ []) ∷ []))
+from-n l = field 0x10 literal-n (listed (l ++ fields 0x2F (attribute context_key (55 ∷ []) ∷ []) ∷ []))
 
 -- their 90s; a 91 without alias, and a 92 marked "all"
 abbrev record-m : List Field → Field
@@ -63,13 +63,13 @@ table = two m ++ two 10 ++ two n ++ two 11
 
 -- own file 9, require on
 abbrev lent : Fields → Lent
-lent items = record { file = 9; modes = modesOf 1; externals = []; table = table; tree = encode (moduleWith items) }
+lent items = record { file = 9; modes = modes_of 1; externals = []; table = table; tree = encode (module_with items) }
 
 -- extraction in a fresh scope, and resolving of its records with the scope handed on
 abbrev after : Fields → Outcome (Extracted × Resolved)
 after items = do
   r ← extracted (lent items) rooms []
-  t ← resolved (handedOn (lent items) r) room r.modules
+  t ← resolved (handed_on (lent items) r) room r.modules
   done (r, t)
 
 -- both are accepted, and what they give has P
@@ -79,20 +79,20 @@ Accepted P (refused k p) = ⊥
 
 -- what `takes` says of the namespace i of './m'
 abbrev says : List ℕ → Fields → Bool
-says i items = takes (rowsIn table) (literal 1) (stands items i)
+says i items = takes (rows_in table) (literal 1) (stands items i)
 
 -- ---- Both ends of `import * as a from './m'`, in front of other items
 
 -- well placed, to be taken apart, and taken apart into these properties
 abbrev Apart : List (List ℕ) → Fields → Type 0
 Apart ps items =
-    (wellPlaced 0 items ≡ true) × (says (own a) items ≡ true) ×
+    (well_placed 0 items ≡ true) × (says (own a) items ≡ true) ×
     Accepted (λ r t. TakenApart (own a) (four 5) (literal 1) 0 ps items (parts_of r.out) (parts_of t.list)) (after items)
 
 -- well placed, to be kept, and kept
 abbrev Whole : Fields → Type 0
 Whole items =
-    (wellPlaced 0 items ≡ true) × (says (own a) items ≡ false) ×
+    (well_placed 0 items ≡ true) × (says (own a) items ≡ false) ×
     Accepted (λ r t. Kept (own a) (literal 1) 0 items (parts_of r.out) (parts_of t.list)) (after items)
 
 -- a.x
@@ -172,7 +172,7 @@ unlike : {A : Type 0} {u v : A} (p : A → Bool) → u ≡ v → p u ≡ true �
 unlike p e h k = true≢false (sym h ∙ ap p e ∙ k)
 
 -- a source resolves to one module
-one-module : (rows : List Row) (ms : Modules) (l : List ℕ) {j file k : ℕ} → ResolvesTo rows ms l j → fileOf (value_of l) rows ≡ some file → number_of file ms ≡ some k → j ≡ k
+one-module : (rows : List Row) (ms : Modules) (l : List ℕ) {j file k : ℕ} → ResolvesTo rows ms l j → file_of (value_of l) rows ≡ some file → number_of file ms ≡ some k → j ≡ k
 one-module rows ms l {file = file} (g, e, h) u v = let z : g ≡ file = cc in cc
 
 -- the id i is not the property p in the export context of module k
@@ -203,7 +203,7 @@ shared-local-fails = record {
   told = refl;
   left = (refl, refl);
   fails = λ e.
-      let h : e.0 ≡ 1 = one-module (rowsIn table) (unmarked 9 ∷ unmarked 10 ∷ unmarked 11 ∷ []) (literal 1) e.1 refl refl in
+      let h : e.0 ≡ 1 = one-module (rows_in table) (unmarked 9 ∷ unmarked 10 ∷ unmarked 11 ∷ []) (literal 1) e.1 refl refl in
       elsewhere (two x ++ four 7) (two x) h e.2.used.0 refl refl;
 }
 
@@ -277,6 +277,6 @@ property-require-fails = record {
   told = refl;
   left = (refl, refl);
   fails = λ e.
-      let h : e.0 ≡ 1 = one-module (rowsIn table) (unmarked 9 ∷ unmarked 10 ∷ required-n ∷ []) (literal 1) e.1 refl refl in
+      let h : e.0 ≡ 1 = one-module (rows_in table) (unmarked 9 ∷ unmarked 10 ∷ required-n ∷ []) (literal 1) e.1 refl refl in
       elsewhere (two 0 ++ four 7) (two 0) h e.2.used.0 refl refl;
 }

@@ -15,9 +15,9 @@ use Rattle.tree.specs.declared.grammar.Piece.{Piece}
 use Rattle.tree.specs.declared.grammar.Piece.TheVariants.{Plain, Source, Original, Outside, Spread, KeyValue}
 use Rattle.tree.specs.declared.access.Choice.{Choice}
 use Rattle.tree.specs.declared.access.Choice.TheVariants.{Take, Bad}
-use Rattle.tree.specs.Layout.{skipAt, literalEnd}
+use Rattle.tree.specs.Layout.{skip_at, literal_end}
 use Rattle.tree.specs.Grammar.{pieces_of}
-use Rattle.tree.specs.Access.{value_at, choice_of, onChoice, kind_at, key_at, piece_at, thenPiece, fixed_at, length_at, extentAt}
+use Rattle.tree.specs.Access.{value_at, choice_of, on_choice, kind_at, key_at, piece_at, then_piece, fixed_at, length_at, extent_at}
 
 pub cond_ind : {A : Type 0} (P : A → Type 0) (b : Bool) (x y : A) → (b ≡ true → P x) → (b ≡ false → P y) →
     P (cond b x y)
@@ -28,8 +28,8 @@ abbrev pub ReachIn : ℕ → ℕ → Reach → Type 0
 ReachIn at stop Short = Unit
 ReachIn at stop (Upto b) = (at ≤ b) × (b ≤ stop)
 
-pub skip-in : (at n stop : ℕ) → at ≤ stop → ReachIn at stop (skipAt at n stop)
-unfolding skipAt
+pub skip-in : (at n stop : ℕ) → at ≤ stop → ReachIn at stop (skip_at at n stop)
+unfolding skip_at
 skip-in at n stop h =
     cond_ind (ReachIn at stop) (leb n (stop - at)) (Upto (at + n)) Short
     (λ e. let q = leb-true n (stop - at) e in (omega arith, omega arith)) (λ e. tt)
@@ -39,7 +39,7 @@ wider at at' stop Short h r = tt
 wider at at' stop (Upto b) h r = (omega arith, r.1)
 
 pub value_in : (v : Value) (at stop : ℕ) → at ≤ stop → ReachIn at stop (value_at v at stop)
-unfolding value_at literalEnd
+unfolding value_at literal_end
 value_in Empty at stop h = skip-in at 0 stop h
 value_in Byte at stop h = skip-in at 1 stop h
 value_in Atom at stop h = skip-in at 2 stop h
@@ -47,8 +47,8 @@ value_in Id at stop h = skip-in at 6 stop h
 value_in Literal at stop h = skip-in at 6 stop h
 value_in Number at stop h = skip-in at 8 stop h
 
-choice-in : (c : Choice) (at stop : ℕ) → at ≤ stop → ReachIn at stop (onChoice c at stop)
-unfolding onChoice
+choice-in : (c : Choice) (at stop : ℕ) → at ≤ stop → ReachIn at stop (on_choice c at stop)
+unfolding on_choice
 choice-in Bad at stop h = tt
 choice-in (Take v) at stop h = value_in v at stop h
 
@@ -56,8 +56,8 @@ kind-in : (s : List ℕ) (p : Piece) (at stop : ℕ) → at ≤ stop → ReachIn
 unfolding kind_at
 kind-in s p at stop h =
     let c = choice_of p (get_or s at 0) in
-    cond_ind (ReachIn at stop) (ltb at stop) (onChoice c (at + 1) stop) Short
-    (λ e. let q = ltb-true at stop e in wider at (at + 1) stop (onChoice c (at + 1) stop) (omega arith) (choice-in c (at + 1) stop (omega arith))) (λ e. tt)
+    cond_ind (ReachIn at stop) (ltb at stop) (on_choice c (at + 1) stop) Short
+    (λ e. let q = ltb-true at stop e in wider at (at + 1) stop (on_choice c (at + 1) stop) (omega arith) (choice-in c (at + 1) stop (omega arith))) (λ e. tt)
 
 key_in : (s : List ℕ) (at stop : ℕ) → at ≤ stop → ReachIn at stop (key_at s at stop)
 unfolding key_at
@@ -78,8 +78,8 @@ piece-in s Outside at stop h = kind-in s Outside at stop h
 piece-in s Spread at stop h = kind-in s Spread at stop h
 
 then-in : (s : List ℕ) (r : Reach) (p : Piece) (at stop : ℕ) → ReachIn at stop r →
-    ReachIn at stop (thenPiece r s p stop)
-unfolding thenPiece
+    ReachIn at stop (then_piece r s p stop)
+unfolding then_piece
 then-in s Short p at stop h = tt
 then-in s (Upto b) p at stop h = wider at b stop (piece_at s p b stop) h.0 (piece-in s p b stop h.1)
 
@@ -88,17 +88,17 @@ unfolding fixed_at
 fixed_in s tag at stop h =
     then-in s (piece_at s (pieces_of tag).first at stop) (pieces_of tag).second at stop (piece-in s (pieces_of tag).first at stop h)
 
-pub extent-in : (s : List ℕ) (at end : ℕ) → at ≤ end → ReachIn (at + 3) end (extentAt s at end)
-unfolding extentAt
+pub extent-in : (s : List ℕ) (at end : ℕ) → at ≤ end → ReachIn (at + 3) end (extent_at s at end)
+unfolding extent_at
 extent-in s at end h =
-    cond_ind (ReachIn (at + 3) end) (leb 3 (end - at)) (skipAt (at + 3) (length_at s at) end) Short
+    cond_ind (ReachIn (at + 3) end) (leb 3 (end - at)) (skip_at (at + 3) (length_at s at) end) Short
     (λ e. let q = leb-true 3 (end - at) e in skip-in (at + 3) (length_at s at) end (omega arith)) (λ e. tt)
 
 pub upto-in : (s : List ℕ) (tag at stop : ℕ) {b : ℕ} → at ≤ stop → fixed_at s tag at stop ≡ Upto b →
     ReachIn at stop (Upto b)
 upto-in s tag at stop le e = subst (ReachIn at stop) e (fixed_in s tag at stop le)
 
-pub extent-upto : (s : List ℕ) (at end : ℕ) {stop : ℕ} → at ≤ end → extentAt s at end ≡ Upto stop →
+pub extent-upto : (s : List ℕ) (at end : ℕ) {stop : ℕ} → at ≤ end → extent_at s at end ≡ Upto stop →
     ReachIn (at + 3) end (Upto stop)
 extent-upto s at end le e = subst (ReachIn (at + 3) end) e (extent-in s at end le)
 

@@ -16,9 +16,9 @@ use Rattle.tree.specs.declared.grammar.Piece.TheVariants.{Plain, Source, Origina
 use Rattle.tree.specs.declared.grammar.Pieces.{Pieces}
 use Rattle.tree.specs.declared.access.Choice.{Choice}
 use Rattle.tree.specs.declared.access.Choice.TheVariants.{Take, Bad}
-use Rattle.tree.specs.Layout.{skipAt, literalEnd}
+use Rattle.tree.specs.Layout.{skip_at, literal_end}
 use Rattle.tree.specs.Grammar.{pieces_of}
-use Rattle.tree.specs.Access.{value_at, choice_of, onChoice, kind_at, key_at, piece_at, thenPiece, fixed_at}
+use Rattle.tree.specs.Access.{value_at, choice_of, on_choice, kind_at, key_at, piece_at, then_piece, fixed_at}
 use Rattle.tree.proofs.AccessLaws.{ReachIn, value_in, piece-in}
 
 pub no-upto : {b : ℕ} → Short ≡ Upto b → ⊥
@@ -40,9 +40,9 @@ failed false r e = (refl, e)
 abbrev pub Same : List ℕ → ℕ → List ℕ → ℕ → ℕ → Type 0
 Same s at s' at' w = (k : ℕ) → k < w → get_or s (at + k) 0 ≡ get_or s' (at' + k) 0
 
-skip-same : (n at at' w stop stop' : ℕ) → at' + w ≤ stop' → skipAt at n stop ≡ Upto (at + w) →
-    skipAt at' n stop' ≡ Upto (at' + w)
-unfolding skipAt
+skip-same : (n at at' w stop stop' : ℕ) → at' + w ≤ stop' → skip_at at n stop ≡ Upto (at + w) →
+    skip_at at' n stop' ≡ Upto (at' + w)
+unfolding skip_at
 skip-same n at at' w stop stop' h e =
     let p = passed (leb n (stop - at)) (Upto (at + n)) e in
     let q = upto-inj p.1 in
@@ -52,7 +52,7 @@ skip-same n at at' w stop stop' h e =
 
 value_same : (v : Value) (at at' w stop stop' : ℕ) → at' + w ≤ stop' → value_at v at stop ≡ Upto (at + w) →
     value_at v at' stop' ≡ Upto (at' + w)
-unfolding value_at literalEnd
+unfolding value_at literal_end
 value_same Empty at at' w stop stop' h e = skip-same 0 at at' w stop stop' h e
 value_same Byte at at' w stop stop' h e = skip-same 1 at at' w stop stop' h e
 value_same Atom at at' w stop stop' h e = skip-same 2 at at' w stop stop' h e
@@ -61,9 +61,9 @@ value_same Literal at at' w stop stop' h e = skip-same 6 at at' w stop stop' h e
 value_same Number at at' w stop stop' h e = skip-same 8 at at' w stop stop' h e
 
 choice-same : (c : Choice) (at at' w stop stop' : ℕ) → at + 1 ≤ stop → at' + w ≤ stop' →
-    onChoice c (at + 1) stop ≡ Upto (at + w) →
-    (0 < w) × (onChoice c (at' + 1) stop' ≡ Upto (at' + w))
-unfolding onChoice
+    on_choice c (at + 1) stop ≡ Upto (at + w) →
+    (0 < w) × (on_choice c (at' + 1) stop' ≡ Upto (at' + w))
+unfolding on_choice
 choice-same Bad at at' w stop stop' l h e = absurd (no-upto e)
 choice-same (Take v) at at' w stop stop' l h e =
     let i : ReachIn (at + 1) stop (Upto (at + w)) = subst (ReachIn (at + 1) stop) e (value_in v (at + 1) stop l) in
@@ -83,11 +83,11 @@ kind-same : (p : Piece) (s s' : List ℕ) (at at' w stop stop' : ℕ) → Same s
 unfolding kind_at
 kind-same p s s' at at' w stop stop' g h e =
     let c = choice_of p (get_or s at 0) in
-    let q = passed (ltb at stop) (onChoice c (at + 1) stop) e in
+    let q = passed (ltb at stop) (on_choice c (at + 1) stop) e in
     let lt = ltb-true at stop q.0 in
     let r = choice-same c at at' w stop stop' (omega arith) h q.1 in
     let lt' : at' < stop' = omega arith in
-    rw (lt-ltb at' stop' lt') (ap (λ (b : ℕ). onChoice (choice_of p b) (at' + 1) stop') (sym (first_byte s s' at at' w g r.0)) ∙ r.1)
+    rw (lt-ltb at' stop' lt') (ap (λ (b : ℕ). on_choice (choice_of p b) (at' + 1) stop') (sym (first_byte s s' at at' w g r.0)) ∙ r.1)
 
 -- what a key and its value tell
 record KeyIs (s : List ℕ) (at stop : ℕ) : Type 0 where
@@ -131,16 +131,16 @@ key-same s s' at at' w stop stop' g h e =
     key-from s' at' stop' (record { room = omega arith; first = omega arith; second = omega arith; third = omega arith }) ∙ ap Upto (sym h)
 
 -- a piece that takes all up to the end of the content
-abbrev pub openPiece : Piece → Bool
-openPiece (Plain v) = false
-openPiece Source = false
-openPiece Original = false
-openPiece Outside = false
-openPiece Spread = false
-openPiece KeyValue = true
+abbrev pub open_piece : Piece → Bool
+open_piece (Plain v) = false
+open_piece Source = false
+open_piece Original = false
+open_piece Outside = false
+open_piece Spread = false
+open_piece KeyValue = true
 
 pub piece-same : (p : Piece) (s s' : List ℕ) (at at' w stop stop' : ℕ) → Same s at s' at' w → at' + w ≤ stop' →
-    (openPiece p ≡ true → at' + w ≡ stop') →
+    (open_piece p ≡ true → at' + w ≡ stop') →
     piece_at s p at stop ≡ Upto (at + w) → piece_at s' p at' stop' ≡ Upto (at' + w)
 unfolding piece_at
 piece-same (Plain v) s s' at at' w stop stop' g h o e = value_same v at at' w stop stop' h e
@@ -153,7 +153,7 @@ piece-same Spread s s' at at' w stop stop' g h o e = kind-same Spread s s' at at
 false-true : {A : Type 0} → false ≡ true → A
 false-true e = absurd (let z : ◌≡◌ {A = ℕ} 0 1 = cc in omega arith)
 
-open-ends : (p : Piece) (s : List ℕ) (at stop b : ℕ) → piece_at s p at stop ≡ Upto b → openPiece p ≡ true → b ≡ stop
+open-ends : (p : Piece) (s : List ℕ) (at stop b : ℕ) → piece_at s p at stop ≡ Upto b → open_piece p ≡ true → b ≡ stop
 unfolding piece_at
 open-ends (Plain v) s at stop b e o = false-true o
 open-ends KeyValue s at stop b e o = sym (key-is s at stop b e).0
@@ -163,7 +163,7 @@ open-ends Outside s at stop b e o = false-true o
 open-ends Spread s at stop b e o = false-true o
 
 abbrev pub opens : Pieces → Bool
-opens ps = openPiece ps.first || openPiece ps.second
+opens ps = open_piece ps.first || open_piece ps.second
 
 pub or_left : (a b : Bool) → a ≡ true → a || b ≡ true
 or_left true b e = refl
@@ -175,10 +175,10 @@ or_right false b e = e
 
 then_same : (r : Reach) (p q : Piece) (s s' : List ℕ) (at at' w stop stop' : ℕ) → at ≤ stop → Same s at s' at' w →
     at' + w ≤ stop' →
-    (openPiece p || openPiece q ≡ true → at' + w ≡ stop') → piece_at s p at stop ≡ r →
-    thenPiece r s q stop ≡ Upto (at + w) →
-    thenPiece (piece_at s' p at' stop') s' q stop' ≡ Upto (at' + w)
-unfolding thenPiece
+    (open_piece p || open_piece q ≡ true → at' + w ≡ stop') → piece_at s p at stop ≡ r →
+    then_piece r s q stop ≡ Upto (at + w) →
+    then_piece (piece_at s' p at' stop') s' q stop' ≡ Upto (at' + w)
+unfolding then_piece
 then_same Short p q s s' at at' w stop stop' le g h o x e = absurd (no-upto e)
 then_same (Upto b) p q s s' at at' w stop stop' le g h o x e =
     let i : ReachIn at stop (Upto b) = subst (ReachIn at stop) x (piece-in s p at stop le) in
@@ -186,10 +186,10 @@ then_same (Upto b) p q s s' at at' w stop stop' le g h o x e =
     let e₁ : b ≡ at + (b - at) = omega arith in
     let e₂ : at + w ≡ b + (w - (b - at)) = omega arith in
     let e₃ : at' + (b - at) + (w - (b - at)) ≡ at' + w = omega arith in
-    let ends₁ : openPiece p ≡ true → at' + (b - at) ≡ stop' =
-    λ m. let y = open-ends p s at stop b x m in let z = o (or_left (openPiece p) (openPiece q) m) in omega arith
+    let ends₁ : open_piece p ≡ true → at' + (b - at) ≡ stop' =
+    λ m. let y = open-ends p s at stop b x m in let z = o (or_left (open_piece p) (open_piece q) m) in omega arith
     in
-    let ends₂ : openPiece q ≡ true → at' + (b - at) + (w - (b - at)) ≡ stop' = λ m. e₃ ∙ o (or_right (openPiece p) (openPiece q) m) in
+    let ends₂ : open_piece q ≡ true → at' + (b - at) + (w - (b - at)) ≡ stop' = λ m. e₃ ∙ o (or_right (open_piece p) (open_piece q) m) in
     let first = piece-same p s s' at at' (b - at) stop stop' (λ k l. g k (omega arith)) (omega arith) ends₁ (x ∙ ap Upto e₁) in
     let rest =
     piece-same q s s' b (at' + (b - at)) (w - (b - at)) stop stop'

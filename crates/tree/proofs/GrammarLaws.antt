@@ -15,7 +15,7 @@ use Rattle.tree.specs.declared.grammar.Value.TheVariants.{Empty}
 use Rattle.tree.specs.declared.grammar.Piece.TheVariants.{Plain}
 use Rattle.tree.specs.declared.grammar.Pieces.{Pieces}
 use Rattle.tree.specs.Tree.{Field, Fields, none, more, tag_of}
-use Rattle.tree.specs.Grammar.{within, parts0, parts3, parts4, ruleOf, slot_at, stepBy, stepAt, holdsAt, only, fixedParts, pieces_of}
+use Rattle.tree.specs.Grammar.{within, parts0, parts3, parts4, rule_of, slot_at, step_by, step_at, holds_at, only, fixed_parts, pieces_of}
 use Rattle.tree.specs.Within.{Formed, FormedAll}
 use Rattle.tree.proofs.Table.{find-passes}
 use Rattle.tree.proofs.FixedLaws.{opens}
@@ -38,25 +38,25 @@ closing k ps = cond (opens ps) (eqb k 0x30) true
 
 closing-all : (t : ℕ) → closing t (pieces_of t) ≡ true
 unfolding closing pieces_of
-closing-all t = find-passes closing t fixedParts (only (Plain Empty)) refl refl
+closing-all t = find-passes closing t fixed_parts (only (Plain Empty)) refl refl
 
 closing-tag : (t : ℕ) (ps : Pieces) → closing t ps ≡ true → opens ps ≡ true → t ≡ 0x30
 unfolding closing
 closing-tag t ps h o = eqb-true t 0x30 (rw o at h)
 
-rule-30 : ruleOf 0x30 ≡ parts0
-unfolding ruleOf within
+rule-30 : rule_of 0x30 ≡ parts0
+unfolding rule_of within
 rule-30 = refl
 
-pub open-rule : (t : ℕ) → opens (pieces_of t) ≡ true → ruleOf t ≡ parts0
-open-rule t o = ap ruleOf (closing-tag t (pieces_of t) (closing-all t) o) ∙ rule-30
+pub open-rule : (t : ℕ) → opens (pieces_of t) ≡ true → rule_of t ≡ parts0
+open-rule t o = ap rule_of (closing-tag t (pieces_of t) (closing-all t) o) ∙ rule-30
 
 pub go-inj : {a b : Rule} → Go a ≡ Go b → a ≡ b
 go-inj e = cc
 
 -- a rule without parts takes no tag
-pub no_step : (t : ℕ) {q : Rule} → stepAt parts0 t ≡ Go q → ⊥
-unfolding stepAt stepBy slot_at
+pub no_step : (t : ℕ) {q : Rule} → step_at parts0 t ≡ Go q → ⊥
+unfolding step_at step_by slot_at
 no_step t {q} e = let z : ◌≡◌ {A = ℕ} 0 1 = cc in omega arith
 
 -- where no part is left, there is none
@@ -65,54 +65,54 @@ formed-none none w = refl
 formed-none (more f fs) w = absurd (no_step (tag_of f) w.1)
 
 module _ (x : Set) (a b c : Slot) (t : ℕ) where
-  one-by : (y : Bool) → holdsAt x t ≡ y → stepAt (parts4 (One x) a b c) t ≡ cond y (Go (parts3 a b c)) No
-  unfolding stepAt stepBy slot_at
+  one-by : (y : Bool) → holds_at x t ≡ y → step_at (parts4 (One x) a b c) t ≡ cond y (Go (parts3 a b c)) No
+  unfolding step_at step_by slot_at
   one-by true e = rw e
   one-by false e = rw e
 
-  maybe-by : (y : Bool) → holdsAt x t ≡ y →
-      stepAt (parts4 (Maybe x) a b c) t ≡ cond y (Go (parts3 a b c)) (stepAt (parts3 a b c) t)
-  unfolding stepAt stepBy slot_at
+  maybe-by : (y : Bool) → holds_at x t ≡ y →
+      step_at (parts4 (Maybe x) a b c) t ≡ cond y (Go (parts3 a b c)) (step_at (parts3 a b c) t)
+  unfolding step_at step_by slot_at
   maybe-by true e = rw e
   maybe-by false e = rw e
 
-  many_by : (y : Bool) → holdsAt x t ≡ y →
-      stepAt (parts4 (Many x) a b c) t ≡ cond y (Go (parts4 (Many x) a b c)) (stepAt (parts3 a b c) t)
-  unfolding stepAt stepBy slot_at
+  many_by : (y : Bool) → holds_at x t ≡ y →
+      step_at (parts4 (Many x) a b c) t ≡ cond y (Go (parts4 (Many x) a b c)) (step_at (parts3 a b c) t)
+  unfolding step_at step_by slot_at
   many_by true e = rw e
   many_by false e = rw e
 
 -- what a slot in front that may stay empty says to a tag
 pub maybe-slot : (x : Set) (a b c : Slot) (t : ℕ) →
-    stepAt (parts4 (Maybe x) a b c) t ≡ cond (holdsAt x t) (Go (parts3 a b c)) (stepAt (parts3 a b c) t)
-maybe-slot x a b c t = maybe-by x a b c t (holdsAt x t) refl
+    step_at (parts4 (Maybe x) a b c) t ≡ cond (holds_at x t) (Go (parts3 a b c)) (step_at (parts3 a b c) t)
+maybe-slot x a b c t = maybe-by x a b c t (holds_at x t) refl
 
 pub many-slot : (x : Set) (a b c : Slot) (t : ℕ) →
-    stepAt (parts4 (Many x) a b c) t ≡ cond (holdsAt x t) (Go (parts4 (Many x) a b c)) (stepAt (parts3 a b c) t)
-many-slot x a b c t = many_by x a b c t (holdsAt x t) refl
+    step_at (parts4 (Many x) a b c) t ≡ cond (holds_at x t) (Go (parts4 (Many x) a b c)) (step_at (parts3 a b c) t)
+many-slot x a b c t = many_by x a b c t (holds_at x t) refl
 
 -- the set of modules has one tag
-pub module-tag : (t : ℕ) → holdsAt Module t ≡ true → t ≡ 0x01
-unfolding holdsAt
+pub module-tag : (t : ℕ) → holds_at Module t ≡ true → t ≡ 0x01
+unfolding holds_at
 module-tag t e = eqb-true t 0x01 e
 
 -- so a slot for one part takes a tag of its set, and nothing else
-pub one-step : (x : Set) (a b c : Slot) (t : ℕ) → holdsAt x t ≡ true →
-    stepAt (parts4 (One x) a b c) t ≡ Go (parts3 a b c)
+pub one-step : (x : Set) (a b c : Slot) (t : ℕ) → holds_at x t ≡ true →
+    step_at (parts4 (One x) a b c) t ≡ Go (parts3 a b c)
 one-step x a b c t e = one-by x a b c t true e
 
-one-back : (x : Set) (a b c : Slot) (t : ℕ) (y : Bool) (q : Rule) → holdsAt x t ≡ y →
-    stepAt (parts4 (One x) a b c) t ≡ Go q → (y ≡ true) × (q ≡ parts3 a b c)
+one-back : (x : Set) (a b c : Slot) (t : ℕ) (y : Bool) (q : Rule) → holds_at x t ≡ y →
+    step_at (parts4 (One x) a b c) t ≡ Go q → (y ≡ true) × (q ≡ parts3 a b c)
 one-back x a b c t true q h e = (refl, go-inj (sym e ∙ one-by x a b c t true h))
 one-back x a b c t false q h e = absurd (let z = sym e ∙ one-by x a b c t false h in let y : ◌≡◌ {A = ℕ} 0 1 = cc in omega arith)
 
-pub step-one : (x : Set) (a b c : Slot) (t : ℕ) (q : Rule) → stepAt (parts4 (One x) a b c) t ≡ Go q →
-    (holdsAt x t ≡ true) × (q ≡ parts3 a b c)
-step-one x a b c t q e = one-back x a b c t (holdsAt x t) q refl e
+pub step-one : (x : Set) (a b c : Slot) (t : ℕ) (q : Rule) → step_at (parts4 (One x) a b c) t ≡ Go q →
+    (holds_at x t ≡ true) × (q ≡ parts3 a b c)
+step-one x a b c t q e = one-back x a b c t (holds_at x t) q refl e
 
 -- so a row with such a slot in front has a first part of that set
 pub formed-one : (x : Set) (a b c : Slot) (cs : Fields) → FormedAll cs (parts4 (One x) a b c) →
-    (f : Field) × (fs : Fields) × (cs ≡ more f fs) × (holdsAt x (tag_of f) ≡ true) × Formed f × FormedAll fs (parts3 a b c)
+    (f : Field) × (fs : Fields) × (cs ≡ more f fs) × (holds_at x (tag_of f) ≡ true) × Formed f × FormedAll fs (parts3 a b c)
 formed-one x a b c none w = absurd (let z : ◌≡◌ {A = ℕ} 0 1 = cc in omega arith)
 formed-one x a b c (more f fs) w =
     let s = step-one x a b c (tag_of f) w.0 w.1 in

@@ -8,7 +8,7 @@ use lib.Dec.{eqb}
 use lib.ListN.{length, get_or}
 use lib.Seq.{slice, slice_empty, slice-cons}
 use borrow.Author.Tests.{eq-eqb, ne_eqb, eqb-true, eqb-false}
-use Rattle.tree.specs.Layout.{Bytes, same, two, four, twoAt, fourAt, atomAt, contextAt}
+use Rattle.tree.specs.Layout.{Bytes, same, two, four, two_at, four_at, atom_at, context_at}
 use Rattle.tree.proofs.Table.{both_true}
 use Rattle.tree.proofs.SliceLaws.{slice-join}
 
@@ -56,7 +56,7 @@ same-equal (x ∷ l) (y ∷ m) e = let h = both_true (eqb x y) (same l m) e in a
 
 -- ---- numbers and the bytes that hold them
 
-two_bytes : (s : List ℕ) (at : ℕ) → at + 2 ≤ length s → atomAt s at ≡ get_or s at 0 ∷ get_or s (at + 1) 0 ∷ []
+two_bytes : (s : List ℕ) (at : ℕ) → at + 2 ≤ length s → atom_at s at ≡ get_or s at 0 ∷ get_or s (at + 1) 0 ∷ []
 two_bytes s at h =
     let a : suc at ≡ at + 1 = omega arith in
     let b : suc (at + 1) ≡ at + 2 = omega arith in
@@ -65,22 +65,22 @@ two_bytes s at h =
     ∙ ap (λ (l : List ℕ). get_or s (at + 1) 0 ∷ l) (ap (λ (n : ℕ). slice n (at + 2) s) b ∙ slice_empty (at + 2) s))
 
 -- the atom at a place, from its number
-pub two_at : (s : List ℕ) (at : ℕ) → Bytes s → at + 2 ≤ length s → two (twoAt s at) ≡ atomAt s at
-two_at s at bs h =
+pub two_at-is : (s : List ℕ) (at : ℕ) → Bytes s → at + 2 ≤ length s → two (two_at s at) ≡ atom_at s at
+two_at-is s at bs h =
     let b₀ = bs at in
     let b₁ = bs (at + 1) in
-    let hi : twoAt s at / 256 % 256 ≡ get_or s at 0 = omega arith in
-    let lo : twoAt s at % 256 ≡ get_or s (at + 1) 0 = omega arith in
+    let hi : two_at s at / 256 % 256 ≡ get_or s at 0 = omega arith in
+    let lo : two_at s at % 256 ≡ get_or s (at + 1) 0 = omega arith in
     ap₂ (λ (x y : ℕ). x ∷ y ∷ []) hi lo ∙ sym (two_bytes s at h)
 
 -- the context at a place, from its number
-pub four-at : (s : List ℕ) (at : ℕ) → Bytes s → at + 4 ≤ length s → four (fourAt s at) ≡ contextAt s at
+pub four-at : (s : List ℕ) (at : ℕ) → Bytes s → at + 4 ≤ length s → four (four_at s at) ≡ context_at s at
 four-at s at bs h =
     let b₀ = bs at in
     let b₁ = bs (at + 1) in
     let b₂ = bs (at + 2) in
     let b₃ = bs (at + 2 + 1) in
-    let n = fourAt s at in
+    let n = four_at s at in
     let e₀ : n / 16777216 % 256 ≡ get_or s at 0 = omega arith in
     let e₁ : n / 65536 % 256 ≡ get_or s (at + 1) 0 = omega arith in
     let e₂ : n / 256 % 256 ≡ get_or s (at + 2) 0 = omega arith in

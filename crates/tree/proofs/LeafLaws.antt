@@ -11,31 +11,31 @@ use Rattle.tree.specs.declared.grammar.Rule.{Rule}
 use Rattle.tree.specs.declared.read.Why.TheVariants.{Misplaced}
 use Rattle.tree.specs.declared.read.Head.TheVariants.{Done, Bad}
 use Rattle.tree.specs.declared.read.Verdict.TheVariants.{Good, Refused}
-use Rattle.tree.specs.Grammar.{parts0, ruleOf, slot_at, stepBy, stepAt}
+use Rattle.tree.specs.Grammar.{parts0, rule_of, slot_at, step_by, step_at}
 use Rattle.tree.specs.Access.{fixed_at}
-use Rattle.tree.specs.Packed.{unpackRule}
-use Rattle.tree.specs.Read.{verdict, onStep, headAt, childrenAt, contentAt}
+use Rattle.tree.specs.Packed.{unpack_rule}
+use Rattle.tree.specs.Read.{verdict, on_step, head_at, children_at, content_at}
 use Rattle.tree.proofs.PackedLaws.{rule-none}
 use Rattle.tree.proofs.ReadLaws.{children-verdict, content-upto}
 
-none-good : (s : List ℕ) (b stop d p : ℕ) → b ≡ stop → verdict (childrenAt s b stop d parts0 p) ≡ Good
-unfolding headAt
+none-good : (s : List ℕ) (b stop d p : ℕ) → b ≡ stop → verdict (children_at s b stop d parts0 p) ≡ Good
+unfolding head_at
 none-good s b stop d p e = children-verdict s b stop d parts0 p Done (omega arith) (rw (eq-eqb b stop e))
 
-none-bad : (s : List ℕ) (b stop d p : ℕ) → b ≤ stop → (b ≡ stop → ⊥) → verdict (childrenAt s b stop d parts0 p) ≡ Refused Misplaced b
-unfolding headAt onStep stepAt stepBy slot_at
+none-bad : (s : List ℕ) (b stop d p : ℕ) → b ≤ stop → (b ≡ stop → ⊥) → verdict (children_at s b stop d parts0 p) ≡ Refused Misplaced b
+unfolding head_at on_step step_at step_by slot_at
 none-bad s b stop d p l e = children-verdict s b stop d parts0 p (Bad Misplaced) l (rw (ne_eqb b stop e))
 
 module _ (s : List ℕ) (at stop d n : ℕ) {b : ℕ} (fixed : fixed_at s (get_or s at 0) (at + 3) stop ≡ Upto b)
-    (rule : unpackRule n ≡ ruleOf (get_or s at 0)) where
-  pub parts-read : verdict (contentAt s at stop d) ≡ verdict (childrenAt s b stop d (unpackRule n) at)
-  parts-read = content-upto s at stop d b fixed ∙ ap (λ (q : Rule). verdict (childrenAt s b stop d q at)) (sym rule)
+    (rule : unpack_rule n ≡ rule_of (get_or s at 0)) where
+  pub parts-read : verdict (content_at s at stop d) ≡ verdict (children_at s b stop d (unpack_rule n) at)
+  parts-read = content-upto s at stop d b fixed ∙ ap (λ (q : Rule). verdict (children_at s b stop d q at)) (sym rule)
 
-  none_read : n ≡ 0 → verdict (contentAt s at stop d) ≡ verdict (childrenAt s b stop d parts0 at)
-  none_read z = parts-read ∙ ap (λ (q : Rule). verdict (childrenAt s b stop d q at)) (ap unpackRule z ∙ rule-none)
+  none_read : n ≡ 0 → verdict (content_at s at stop d) ≡ verdict (children_at s b stop d parts0 at)
+  none_read z = parts-read ∙ ap (λ (q : Rule). verdict (children_at s b stop d q at)) (ap unpack_rule z ∙ rule-none)
 
-  pub leaf-good : n ≡ 0 → b ≡ stop → verdict (contentAt s at stop d) ≡ Good
+  pub leaf-good : n ≡ 0 → b ≡ stop → verdict (content_at s at stop d) ≡ Good
   leaf-good z e = none_read z ∙ none-good s b stop d at e
 
-  pub leaf-bad : n ≡ 0 → b ≤ stop → (b ≡ stop → ⊥) → verdict (contentAt s at stop d) ≡ Refused Misplaced b
+  pub leaf-bad : n ≡ 0 → b ≤ stop → (b ≡ stop → ⊥) → verdict (content_at s at stop d) ≡ Refused Misplaced b
   leaf-bad z l e = none_read z ∙ none-bad s b stop d at l e

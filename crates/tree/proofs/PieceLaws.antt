@@ -12,7 +12,7 @@ use Rattle.tree.specs.declared.grammar.Piece.TheVariants.{Plain, Source, Origina
 use Rattle.tree.specs.declared.grammar.Pieces.{Pieces}
 use Rattle.tree.specs.Grammar.{find, pieces, pieces_of}
 use Rattle.tree.specs.Runs.{Run, lookup, Answers}
-use Rattle.tree.specs.PackedPieces.{pieceNumber, firstPieces, secondPieces, packedPiecesAt}
+use Rattle.tree.specs.PackedPieces.{piece_number, first_pieces, second_pieces, packed_pieces_at}
 use Rattle.tree.proofs.Table.{all_below, below}
 use Rattle.tree.proofs.RunLaws.{rising, answer-is}
 
@@ -30,10 +30,10 @@ numbered =
     (10, Outside) ∷
     []
 
-abbrev pieceBy : ℕ → Piece
-pieceBy n = find n numbered (Plain Empty)
+abbrev piece_by : ℕ → Piece
+piece_by n = find n numbered (Plain Empty)
 
-back : (p : Piece) → pieceBy (pieceNumber p) ≡ p
+back : (p : Piece) → piece_by (piece_number p) ≡ p
 back (Plain Empty) = refl
 back (Plain Byte) = refl
 back (Plain Atom) = refl
@@ -46,30 +46,30 @@ back Outside = refl
 back Spread = refl
 back KeyValue = refl
 
-same_number : (p q : Piece) → pieceNumber p ≡ pieceNumber q → p ≡ q
-same_number p q e = sym (back p) ∙ ap pieceBy e ∙ back q
+same_number : (p q : Piece) → piece_number p ≡ piece_number q → p ≡ q
+same_number p q e = sym (back p) ∙ ap piece_by e ∙ back q
 
 -- of the first pieces, and of the second
 module _ (runs : List Run) (part : Pieces → Piece) where
   abbrev agrees : ℕ → Bool
-  agrees t = eqb (lookup runs (packedPiecesAt t)) (pieceNumber (part (pieces_of t)))
+  agrees t = eqb (lookup runs (packed_pieces_at t)) (piece_number (part (pieces_of t)))
 
-  part-is : rising 0 runs ≡ true → all_below agrees 256 ≡ true → (t n : ℕ) (p : Piece) → t < 256 → n ≡ packedPiecesAt t →
-      Answers runs n (pieceNumber p) → p ≡ part (pieces_of t)
+  part-is : rising 0 runs ≡ true → all_below agrees 256 ≡ true → (t n : ℕ) (p : Piece) → t < 256 → n ≡ packed_pieces_at t →
+      Answers runs n (piece_number p) → p ≡ part (pieces_of t)
   part-is up all t n p h e w =
-      let m = answer-is runs n (pieceNumber p) up w ∙ ap (lookup runs) e in
+      let m = answer-is runs n (piece_number p) up w ∙ ap (lookup runs) e in
       same_number p (part (pieces_of t)) (m ∙ eqb-true _ _ (below agrees 256 all t h))
 
-all_first : all_below (agrees firstPieces (λ (ps : Pieces). ps.first)) 256 ≡ true
+all_first : all_below (agrees first_pieces (λ (ps : Pieces). ps.first)) 256 ≡ true
 unfolding pieces_of
 all_first = refl
 
-all-second : all_below (agrees secondPieces (λ (ps : Pieces). ps.second)) 256 ≡ true
+all-second : all_below (agrees second_pieces (λ (ps : Pieces). ps.second)) 256 ≡ true
 unfolding pieces_of
 all-second = refl
 
-pub pieces_are : (t n : ℕ) (p q : Piece) → t < 256 → n ≡ packedPiecesAt t → Answers firstPieces n (pieceNumber p) →
-    Answers secondPieces n (pieceNumber q) → pieces p q ≡ pieces_of t
+pub pieces_are : (t n : ℕ) (p q : Piece) → t < 256 → n ≡ packed_pieces_at t → Answers first_pieces n (piece_number p) →
+    Answers second_pieces n (piece_number q) → pieces p q ≡ pieces_of t
 pieces_are t n p q h e v w =
-    ap (λ (x : Piece). pieces x q) (part-is firstPieces (λ (ps : Pieces). ps.first) refl all_first t n p h e v)
-    ∙ ap (λ (y : Piece). pieces (pieces_of t).first y) (part-is secondPieces (λ (ps : Pieces). ps.second) refl all-second t n q h e w)
+    ap (λ (x : Piece). pieces x q) (part-is first_pieces (λ (ps : Pieces). ps.first) refl all_first t n p h e v)
+    ∙ ap (λ (y : Piece). pieces (pieces_of t).first y) (part-is second_pieces (λ (ps : Pieces). ps.second) refl all-second t n q h e w)

@@ -20,11 +20,11 @@ use Rattle.tree.specs.declared.read.Head.{Head}
 use Rattle.tree.specs.declared.read.Head.TheVariants.{Done, Missing, Bad, Child}
 use Rattle.tree.specs.declared.read.Verdict.{Verdict}
 use Rattle.tree.specs.declared.read.Verdict.TheVariants.{Good, Refused}
-use Rattle.tree.specs.Layout.{skipAt}
+use Rattle.tree.specs.Layout.{skip_at}
 use Rattle.tree.specs.Tree.{field, Fields, more}
-use Rattle.tree.specs.Grammar.{ruleOf, stepAt, doneAt}
-use Rattle.tree.specs.Access.{fixed_at, length_at, extentAt}
-use Rattle.tree.specs.Read.{Reading, fine, refused, mapped, both, verdict, Kids, onExtent, onStep, headAt, onFixed, contentBy, onHead, children, childrenAt, contentAt, top, read}
+use Rattle.tree.specs.Grammar.{rule_of, step_at, done_at}
+use Rattle.tree.specs.Access.{fixed_at, length_at, extent_at}
+use Rattle.tree.specs.Read.{Reading, fine, refused, mapped, both, verdict, Kids, on_extent, on_step, head_at, on_fixed, content_by, on_head, children, children_at, content_at, top, read}
 use Rattle.tree.proofs.AccessLaws.{cond_ind, ReachIn, fixed_in, extent-in}
 
 -- a child stands inside, and its depth is at most 64
@@ -34,25 +34,25 @@ HeadIn at end d Missing = Unit
 HeadIn at end d (Bad w) = Unit
 HeadIn at end d (Child q stop) = (at + 3 ≤ stop) × (stop ≤ end) × (d < 64)
 
-extent-head : (r : Reach) (q : Rule) (at end d : ℕ) → ReachIn (at + 3) end r → HeadIn at end d (onExtent r q d)
-unfolding onExtent
+extent-head : (r : Reach) (q : Rule) (at end d : ℕ) → ReachIn (at + 3) end r → HeadIn at end d (on_extent r q d)
+unfolding on_extent
 extent-head Short q at end d h = tt
 extent-head (Upto stop) q at end d h =
     cond_ind (HeadIn at end d) (ltb d 64) (Child q stop) (Bad Deep) (λ e. (h.0, h.1, ltb-true d 64 e)) (λ e. tt)
 
-step-head : (x : Step) (s : List ℕ) (at end d : ℕ) → at ≤ end → HeadIn at end d (onStep x s at end d)
-unfolding onStep
+step-head : (x : Step) (s : List ℕ) (at end d : ℕ) → at ≤ end → HeadIn at end d (on_step x s at end d)
+unfolding on_step
 step-head No s at end d h = tt
-step-head (Go q) s at end d h = extent-head (extentAt s at end) q at end d (extent-in s at end h)
+step-head (Go q) s at end d h = extent-head (extent_at s at end) q at end d (extent-in s at end h)
 
-pub head_in : (s : List ℕ) (at end d : ℕ) (q : Rule) → at ≤ end → HeadIn at end d (headAt s at end d q)
-unfolding headAt
+pub head_in : (s : List ℕ) (at end d : ℕ) (q : Rule) → at ≤ end → HeadIn at end d (head_at s at end d q)
+unfolding head_at
 head_in s at end d q h =
-    cond_ind (HeadIn at end d) (eqb at end) (cond (doneAt q) Done Missing) (onStep (stepAt q (get_or s at 0)) s at end d)
-    (λ e. cond_ind (HeadIn at end d) (doneAt q) Done Missing (λ _. tt) (λ _. tt)) (λ e. step-head (stepAt q (get_or s at 0)) s at end d h)
+    cond_ind (HeadIn at end d) (eqb at end) (cond (done_at q) Done Missing) (on_step (step_at q (get_or s at 0)) s at end d)
+    (λ e. cond_ind (HeadIn at end d) (done_at q) Done Missing (λ _. tt) (λ _. tt)) (λ e. step-head (step_at q (get_or s at 0)) s at end d h)
 
 pub child-in : (s : List ℕ) (at end d : ℕ) (q : Rule) {q' : Rule} {stop : ℕ} → at ≤ end →
-    headAt s at end d q ≡ Child q' stop → HeadIn at end d (Child q' stop)
+    head_at s at end d q ≡ Child q' stop → HeadIn at end d (Child q' stop)
 child-in s at end d q le e = subst (HeadIn at end d) e (head_in s at end d q le)
 
 -- two readings of children agree on parts that start after `at` and end inside `end`
@@ -61,21 +61,21 @@ Agree k k' s at end = (a e d : ℕ) (q : Rule) (p : ℕ) → at < a → a ≤ e 
 
 fixed-agree : (r : Reach) (k k' : Kids) (s : List ℕ) (at stop end d : ℕ) → ReachIn (at + 3) stop r → stop ≤ end →
     Agree k k' s at end →
-    onFixed r k s at stop d ≡ onFixed r k' s at stop d
-unfolding onFixed
+    on_fixed r k s at stop d ≡ on_fixed r k' s at stop d
+unfolding on_fixed
 fixed-agree Short k k' s at stop end d h le g = refl
 fixed-agree (Upto b) k k' s at stop end d h le g =
-    ap (mapped (field (get_or s at 0) (slice (at + 3) b s))) (g b stop d (ruleOf (get_or s at 0)) at (omega arith) h.1 le)
+    ap (mapped (field (get_or s at 0) (slice (at + 3) b s))) (g b stop d (rule_of (get_or s at 0)) at (omega arith) h.1 le)
 
 content-agree : (k k' : Kids) (s : List ℕ) (at stop end d : ℕ) → at + 3 ≤ stop → stop ≤ end → Agree k k' s at end →
-    contentBy k s at stop d ≡ contentBy k' s at stop d
-unfolding contentBy
+    content_by k s at stop d ≡ content_by k' s at stop d
+unfolding content_by
 content-agree k k' s at stop end d h le g =
     fixed-agree (fixed_at s (get_or s at 0) (at + 3) stop) k k' s at stop end d (fixed_in s (get_or s at 0) (at + 3) stop h) le g
 
 head-agree : (h : Head) (k k' : Kids) (s : List ℕ) (at end d p : ℕ) → HeadIn at end d h → Agree k k' s at end →
-    onHead h k s at end d p ≡ onHead h k' s at end d p
-unfolding onHead
+    on_head h k s at end d p ≡ on_head h k' s at end d p
+unfolding on_head
 head-agree Done k k' s at end d p i g = refl
 head-agree Missing k k' s at end d p i g = refl
 head-agree (Bad w) k k' s at end d p i g = refl
@@ -88,14 +88,14 @@ unfolding children
 enough zero m s at end d q p le hn hm = absurd (omega arith)
 enough (suc n) zero s at end d q p le hn hm = absurd (omega arith)
 enough (suc n) (suc m) s at end d q p le hn hm =
-    head-agree (headAt s at end d q) (children n) (children m) s at end d p (head_in s at end d q le)
+    head-agree (head_at s at end d q) (children n) (children m) s at end d p (head_in s at end d q le)
     (λ a e d' q' p' l₁ l₂ l₃. enough n m s a e d' q' p' l₂ (omega arith) (omega arith))
 
 pub children-step : (s : List ℕ) (at end d : ℕ) (q : Rule) (p : ℕ) → at ≤ end →
-    childrenAt s at end d q p ≡ onHead (headAt s at end d q) childrenAt s at end d p
-unfolding childrenAt children
+    children_at s at end d q p ≡ on_head (head_at s at end d q) children_at s at end d p
+unfolding children_at children
 children-step s at end d q p le =
-    head-agree (headAt s at end d q) (children (end - at)) childrenAt s at end d p (head_in s at end d q le)
+    head-agree (head_at s at end d q) (children (end - at)) children_at s at end d p (head_in s at end d q le)
     (λ a e d' q' p' l₁ l₂ l₃. enough (end - at) (suc (e - a)) s a e d' q' p' l₂ (omega arith) (omega arith))
 
 abbrev pub after : Verdict → Verdict → Verdict
@@ -113,34 +113,34 @@ verdict-both f (refused w p) b = refl
 
 -- the content's verdict, by its fixed bytes
 pub content-short : (s : List ℕ) (at stop d : ℕ) → fixed_at s (get_or s at 0) (at + 3) stop ≡ Short →
-    verdict (contentAt s at stop d) ≡ Refused Lacking at
-unfolding contentAt contentBy onFixed
+    verdict (content_at s at stop d) ≡ Refused Lacking at
+unfolding content_at content_by on_fixed
 content-short s at stop d e = rw e
 
 pub content-upto : (s : List ℕ) (at stop d b : ℕ) → fixed_at s (get_or s at 0) (at + 3) stop ≡ Upto b →
-    verdict (contentAt s at stop d) ≡ verdict (childrenAt s b stop d (ruleOf (get_or s at 0)) at)
-unfolding contentAt contentBy onFixed
-content-upto s at stop d b e = rw e (verdict-mapped (field (get_or s at 0) (slice (at + 3) b s)) (childrenAt s b stop d (ruleOf (get_or s at 0)) at))
+    verdict (content_at s at stop d) ≡ verdict (children_at s b stop d (rule_of (get_or s at 0)) at)
+unfolding content_at content_by on_fixed
+content-upto s at stop d b e = rw e (verdict-mapped (field (get_or s at 0) (slice (at + 3) b s)) (children_at s b stop d (rule_of (get_or s at 0)) at))
 
 -- the children's verdict, by their head
 abbrev pub verdict-by : Head → List ℕ → ℕ → ℕ → ℕ → ℕ → Verdict
 verdict-by Done s at end d p = Good
 verdict-by Missing s at end d p = Refused Lacking p
 verdict-by (Bad w) s at end d p = Refused w at
-verdict-by (Child q stop) s at end d p = after (verdict (contentAt s at stop (d + 1))) (verdict (childrenAt s stop end d q p))
+verdict-by (Child q stop) s at end d p = after (verdict (content_at s at stop (d + 1))) (verdict (children_at s stop end d q p))
 
 on-head : (h : Head) (s : List ℕ) (at end d p : ℕ) →
-    verdict (onHead h childrenAt s at end d p) ≡ verdict-by h s at end d p
-unfolding onHead contentAt
+    verdict (on_head h children_at s at end d p) ≡ verdict-by h s at end d p
+unfolding on_head content_at
 on-head Done s at end d p = refl
 on-head Missing s at end d p = refl
 on-head (Bad w) s at end d p = refl
-on-head (Child q stop) s at end d p = verdict-both more (contentBy childrenAt s at stop (d + 1)) (childrenAt s stop end d q p)
+on-head (Child q stop) s at end d p = verdict-both more (content_by children_at s at stop (d + 1)) (children_at s stop end d q p)
 
-pub children-verdict : (s : List ℕ) (at end d : ℕ) (q : Rule) (p : ℕ) (h : Head) → at ≤ end → headAt s at end d q ≡ h →
-    verdict (childrenAt s at end d q p) ≡ verdict-by h s at end d p
+pub children-verdict : (s : List ℕ) (at end d : ℕ) (q : Rule) (p : ℕ) (h : Head) → at ≤ end → head_at s at end d q ≡ h →
+    verdict (children_at s at end d q p) ≡ verdict-by h s at end d p
 children-verdict s at end d q p h le e =
-    ap verdict (children-step s at end d q p le) ∙ on-head (headAt s at end d q) s at end d p ∙ ap (λ (x : Head). verdict-by x s at end d p) e
+    ap verdict (children-step s at end d q p le) ∙ on-head (head_at s at end d q) s at end d p ∙ ap (λ (x : Head). verdict-by x s at end d p) e
 
 pub after-good : {v : Verdict} (w : Verdict) → v ≡ Good → after v w ≡ w
 after-good w e = ap (λ (x : Verdict). after x w) e
@@ -168,42 +168,42 @@ both-fine f (refused w p) t c e = absurd (no-refused e)
 
 -- what a head says of the bytes: at the end, or a child whose tag the rule takes and whose length it has
 abbrev pub Says : List ℕ → ℕ → ℕ → Rule → Head → Type 0
-Says s at end q Done = (at ≡ end) × (doneAt q ≡ true)
+Says s at end q Done = (at ≡ end) × (done_at q ≡ true)
 Says s at end q Missing = Unit
 Says s at end q (Bad w) = Unit
-Says s at end q (Child q' stop) = (stepAt q (get_or s at 0) ≡ Go q') × (stop ≡ at + 3 + length_at s at) × (extentAt s at end ≡ Upto stop)
+Says s at end q (Child q' stop) = (step_at q (get_or s at 0) ≡ Go q') × (stop ≡ at + 3 + length_at s at) × (extent_at s at end ≡ Upto stop)
 
 abbrev Stops : List ℕ → ℕ → Reach → Type 0
 Stops s at Short = Unit
 Stops s at (Upto stop) = stop ≡ at + 3 + length_at s at
 
-extent-says : (s : List ℕ) (at end : ℕ) → Stops s at (extentAt s at end)
-unfolding extentAt skipAt
+extent-says : (s : List ℕ) (at end : ℕ) → Stops s at (extent_at s at end)
+unfolding extent_at skip_at
 extent-says s at end =
-    cond_ind (Stops s at) (leb 3 (end - at)) (skipAt (at + 3) (length_at s at) end) Short
+    cond_ind (Stops s at) (leb 3 (end - at)) (skip_at (at + 3) (length_at s at) end) Short
     (λ e. cond_ind (Stops s at) (leb (length_at s at) (end - (at + 3))) (Upto (at + 3 + length_at s at)) Short (λ _. refl) (λ _. tt)) (λ e. tt)
 
-pub extent-length : (s : List ℕ) (at end : ℕ) {stop : ℕ} → extentAt s at end ≡ Upto stop → stop ≡ at + 3 + length_at s at
+pub extent-length : (s : List ℕ) (at end : ℕ) {stop : ℕ} → extent_at s at end ≡ Upto stop → stop ≡ at + 3 + length_at s at
 extent-length s at end e = subst (Stops s at) e (extent-says s at end)
 
-on-extent-says : (r : Reach) (s : List ℕ) (at end d : ℕ) (q q' : Rule) → stepAt q (get_or s at 0) ≡ Go q' → Stops s at r →
-    extentAt s at end ≡ r → Says s at end q (onExtent r q' d)
-unfolding onExtent
+on-extent-says : (r : Reach) (s : List ℕ) (at end d : ℕ) (q q' : Rule) → step_at q (get_or s at 0) ≡ Go q' → Stops s at r →
+    extent_at s at end ≡ r → Says s at end q (on_extent r q' d)
+unfolding on_extent
 on-extent-says Short s at end d q q' e h x = tt
 on-extent-says (Upto stop) s at end d q q' e h x = cond_ind (Says s at end q) (ltb d 64) (Child q' stop) (Bad Deep) (λ _. (e, h, x)) (λ _. tt)
 
-on-step-says : (x : Step) (s : List ℕ) (at end d : ℕ) (q : Rule) → stepAt q (get_or s at 0) ≡ x →
-    Says s at end q (onStep x s at end d)
-unfolding onStep
+on-step-says : (x : Step) (s : List ℕ) (at end d : ℕ) (q : Rule) → step_at q (get_or s at 0) ≡ x →
+    Says s at end q (on_step x s at end d)
+unfolding on_step
 on-step-says No s at end d q e = tt
-on-step-says (Go q') s at end d q e = on-extent-says (extentAt s at end) s at end d q q' e (extent-says s at end) refl
+on-step-says (Go q') s at end d q e = on-extent-says (extent_at s at end) s at end d q q' e (extent-says s at end) refl
 
-pub head-says : (s : List ℕ) (at end d : ℕ) (q : Rule) → Says s at end q (headAt s at end d q)
-unfolding headAt
+pub head-says : (s : List ℕ) (at end d : ℕ) (q : Rule) → Says s at end q (head_at s at end d q)
+unfolding head_at
 head-says s at end d q =
-    cond_ind (Says s at end q) (eqb at end) (cond (doneAt q) Done Missing) (onStep (stepAt q (get_or s at 0)) s at end d)
-    (λ e. cond_ind (Says s at end q) (doneAt q) Done Missing (λ f. (eqb-true at end e, f)) (λ _. tt))
-    (λ e. on-step-says (stepAt q (get_or s at 0)) s at end d q refl)
+    cond_ind (Says s at end q) (eqb at end) (cond (done_at q) Done Missing) (on_step (step_at q (get_or s at 0)) s at end d)
+    (λ e. cond_ind (Says s at end q) (done_at q) Done Missing (λ f. (eqb-true at end e, f)) (λ _. tt))
+    (λ e. on-step-says (step_at q (get_or s at 0)) s at end d q refl)
 
 read_by : (b : Bool) (r : Reading Fields) (fs : Fields) → cond b (refused Cut 0) r ≡ fine fs → r ≡ fine fs
 read_by true r fs e = absurd (no-refused e)
@@ -211,9 +211,9 @@ read_by false r fs e = e
 
 -- an accepted reading is one of parts, at depth 0
 pub read-children : (root : Set) (s : List ℕ) (fs : Fields) → read root s ≡ fine fs →
-    childrenAt s 0 (length s) 0 (top root) 0 ≡ fine fs
+    children_at s 0 (length s) 0 (top root) 0 ≡ fine fs
 unfolding read
-read-children root s fs e = read_by (eqb (length s) 0) (childrenAt s 0 (length s) 0 (top root) 0) fs e
+read-children root s fs e = read_by (eqb (length s) 0) (children_at s 0 (length s) 0 (top root) 0) fs e
 
 -- what the code calls good was read
 pub good-fine : {A : Type 0} (r : Reading A) → verdict r ≡ Good → (a : A) × (r ≡ fine a)

@@ -7,7 +7,7 @@ use mathlib.Core.List.{List, [], ◌∷◌}
 use native.Mathlib.Omega.{arith}
 use lib.Dec.{leb, eqb}
 use borrow.Author.Tests.{le-leb, lt-leb, leb-true, leb-false, eqb-true}
-use Rattle.tree.specs.Runs.{Run, lookup, condType, NoneOf, Absent, InRun, Answers, nibbleIn, nibbleAt}
+use Rattle.tree.specs.Runs.{Run, lookup, cond_type, NoneOf, Absent, InRun, Answers, nibble_in, nibble_at}
 use Rattle.tree.proofs.Table.{both_true}
 
 -- the runs rise from k on
@@ -29,7 +29,7 @@ rises k e l h =
     record { from = leb-true k e.0 a.0; upto = leb-true e.0 e.1 b.0; rest = b.1 }
 
 behind-by : (k t : ℕ) (e : Run) (A : Type 0) (b : Bool) → k ≤ e.0 → e.0 ≤ e.1 → (A → suc e.1 ≤ t) →
-    condType b ((e.0 ≤ t) × (t ≤ e.1)) A → k ≤ t
+    cond_type b ((e.0 ≤ t) × (t ≤ e.1)) A → k ≤ t
 behind-by k t e A true from upto later w = omega arith
 behind-by k t e A false from upto later w = let i = later w in omega arith
 
@@ -46,7 +46,7 @@ past : (e : Run) (t x : ℕ) → e.0 ≤ e.1 → suc e.1 ≤ t → cond (leb e.0
 past e t x a b = rw (le-leb e.0 t (omega arith), lt-leb t e.1 b)
 
 found-by : (e : Run) (l : List Run) (t r : ℕ) (b : Bool) → eqb r e.2 ≡ b → e.0 ≤ e.1 → rising (suc e.1) l ≡ true →
-    (InRun l t r → lookup l t ≡ r) → condType b ((e.0 ≤ t) × (t ≤ e.1)) (InRun l t r) → lookup (e ∷ l) t ≡ r
+    (InRun l t r → lookup l t ≡ r) → cond_type b ((e.0 ≤ t) × (t ≤ e.1)) (InRun l t r) → lookup (e ∷ l) t ≡ r
 found-by e l t r true q upto h later w = inside e t (lookup l t) w.0 w.1 ∙ sym (eqb-true r e.2 q)
 found-by e l t r false q upto h later w = past e t (lookup l t) upto (behind (suc e.1) l t r h w) ∙ later w
 
@@ -81,7 +81,7 @@ missing k (e ∷ l) t X h w =
 
 -- ---- An answer
 
-answers_by : (l : List Run) (t r : ℕ) (b : Bool) → eqb r 0 ≡ b → rising 0 l ≡ true → condType b (Absent t Unit l) (InRun l t r) → r ≡ lookup l t
+answers_by : (l : List Run) (t r : ℕ) (b : Bool) → eqb r 0 ≡ b → rising 0 l ≡ true → cond_type b (Absent t Unit l) (InRun l t r) → r ≡ lookup l t
 answers_by l t r true q h w = eqb-true r 0 q ∙ sym (missing 0 l t Unit h w).1
 answers_by l t r false q h w = sym (found 0 l t r h w)
 
@@ -90,5 +90,5 @@ pub answer-is : (l : List Run) (t r : ℕ) → rising 0 l ≡ true → Answers l
 answer-is l t r h w = answers_by l t r (eqb r 0) refl h w
 
 -- so a number of a row's sixteen is the table's
-pub nibble-is : (rows : List Run) (t row n : ℕ) → rising 0 rows ≡ true → Answers rows (t / 16) row → n ≡ nibbleIn row t → n ≡ nibbleAt rows t
-nibble-is rows t row n h w e = e ∙ ap (λ (x : ℕ). nibbleIn x t) (answer-is rows (t / 16) row h w)
+pub nibble-is : (rows : List Run) (t row n : ℕ) → rising 0 rows ≡ true → Answers rows (t / 16) row → n ≡ nibble_in row t → n ≡ nibble_at rows t
+nibble-is rows t row n h w e = e ∙ ap (λ (x : ℕ). nibble_in x t) (answer-is rows (t / 16) row h w)

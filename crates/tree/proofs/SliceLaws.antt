@@ -29,8 +29,8 @@ slice-split at end s l r h k e =
     let p = append-parts (slice at (at + length l) s) l (slice (at + length l) end s) r w (slice-join at (at + length l) end s (omega arith) m k ∙ e) in
     (m, p.0, p.1)
 
-pub getD-slice : (at end : ℕ) (s : List ℕ) (k : ℕ) → at + k < end → get_or (slice at end s) k 0 ≡ get_or s (at + k) 0
-getD-slice at end s k h = get_or-drop at (take end s) k 0 ∙ get_or-take end s (at + k) 0 h
+pub get_d-slice : (at end : ℕ) (s : List ℕ) (k : ℕ) → at + k < end → get_or (slice at end s) k 0 ≡ get_or s (at + k) 0
+get_d-slice at end s k h = get_or-drop at (take end s) k 0 ∙ get_or-take end s (at + k) 0 h
 
 -- the front and the back of a part
 pub take-slice : (n a b : ℕ) (s : List ℕ) → a + n ≤ b → b ≤ length s → take n (slice a b s) ≡ slice a (a + n) s

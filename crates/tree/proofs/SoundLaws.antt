@@ -17,12 +17,12 @@ use Rattle.tree.specs.declared.read.Head.{Head}
 use Rattle.tree.specs.declared.read.Head.TheVariants.{Done, Missing, Bad, Child}
 use Rattle.tree.specs.Tree.{Field, field, Fields, none, more, tag_of, framed, encode, encodes, size, depth, depths}
 use Rattle.tree.specs.Layout.{Bytes}
-use Rattle.tree.specs.Grammar.{ruleOf, stepAt, doneAt}
-use Rattle.tree.specs.Access.{fixed_at, length_at, extentAt}
-use Rattle.tree.specs.Read.{fine, Kids, headAt, onFixed, contentBy, onHead, children, childrenAt, contentAt, read, top}
-use Rattle.tree.specs.Standing.{row_at, treeAt, Whole, Row}
+use Rattle.tree.specs.Grammar.{rule_of, step_at, done_at}
+use Rattle.tree.specs.Access.{fixed_at, length_at, extent_at}
+use Rattle.tree.specs.Read.{fine, Kids, head_at, on_fixed, content_by, on_head, children, children_at, content_at, read, top}
+use Rattle.tree.specs.Standing.{row_at, tree_at, Whole, Row}
 use Rattle.tree.specs.Within.{Exact, Formed, FormedAll, Within}
-use Rattle.tree.proofs.SliceLaws.{slice-join, getD-slice}
+use Rattle.tree.proofs.SliceLaws.{slice-join, get_d-slice}
 use Rattle.tree.proofs.GrammarLaws.{formed-none, formed-one}
 use Rattle.tree.proofs.TreeLaws.{size-encode, content-size, depth-parts, depth-none, depth-most, depth-one}
 use Rattle.tree.proofs.FixedLaws.{fixed_same}
@@ -59,7 +59,7 @@ found-exact s t at stop b le len i e =
     let e₁ : b ≡ at + length x = omega arith in
     let e₂ : 0 + length x ≡ length x = omega arith in
     fixed_same t s x at 0 (length x) stop (length x) le
-    (λ k l. let z : k ≡ 0 + k = omega arith in sym (getD-slice at b s k (omega arith)) ∙ ap (λ (j : ℕ). get_or x j 0) z)
+    (λ k l. let z : k ≡ 0 + k = omega arith in sym (get_d-slice at b s k (omega arith)) ∙ ap (λ (j : ℕ). get_or x j 0) z)
     (omega arith) (λ _. e₂) (e ∙ ap Upto e₁) ∙ ap Upto e₂
 
 -- what holds of parts that a reading accepts at depth d
@@ -81,7 +81,7 @@ length-small s at bs = omega (arith, bs (at + 1), bs (at + 2))
 field-sound : (s : List ℕ) (at stop d b : ℕ) (cs : Fields) → Bytes s → at + 3 ≤ stop → stop ≤ length s →
     stop ≡ at + 3 + length_at s at → ReachIn (at + 3) stop (Upto b) →
     fixed_at s (get_or s at 0) (at + 3) stop ≡ Upto b →
-    SoundRow s b stop d (ruleOf (get_or s at 0)) cs →
+    SoundRow s b stop d (rule_of (get_or s at 0)) cs →
     SoundAt s at stop d (field (get_or s at 0) (slice (at + 3) b s) cs)
 unfolding encode
 field-sound s at stop d b cs bs h le st i x w =
@@ -98,38 +98,38 @@ field-sound s at stop d b cs bs h le st i x w =
 
 fixed-sound : (r : Reach) (k : Kids) (s : List ℕ) (at stop d : ℕ) (f : Field) → Bytes s → Sound k s → at + 3 ≤ stop →
     stop ≤ length s → stop ≡ at + 3 + length_at s at →
-    ReachIn (at + 3) stop r → fixed_at s (get_or s at 0) (at + 3) stop ≡ r → onFixed r k s at stop d ≡ fine f →
+    ReachIn (at + 3) stop r → fixed_at s (get_or s at 0) (at + 3) stop ≡ r → on_fixed r k s at stop d ≡ fine f →
     SoundAt s at stop d f
-unfolding onFixed
+unfolding on_fixed
 fixed-sound Short k s at stop d f bs ih h le st i x e = absurd (no-refused e)
 fixed-sound (Upto b) k s at stop d f bs ih h le st i x e =
-    let m = mapped-fine (field (get_or s at 0) (slice (at + 3) b s)) (k s b stop d (ruleOf (get_or s at 0)) at) f e in
-    subst (SoundAt s at stop d) m.2 (field-sound s at stop d b m.0 bs h le st i x (ih b stop d (ruleOf (get_or s at 0)) at m.0 i.1 le m.1))
+    let m = mapped-fine (field (get_or s at 0) (slice (at + 3) b s)) (k s b stop d (rule_of (get_or s at 0)) at) f e in
+    subst (SoundAt s at stop d) m.2 (field-sound s at stop d b m.0 bs h le st i x (ih b stop d (rule_of (get_or s at 0)) at m.0 i.1 le m.1))
 
-none-sound : (s : List ℕ) (at end d : ℕ) (q : Rule) → at ≡ end → doneAt q ≡ true → SoundRow s at end d q none
+none-sound : (s : List ℕ) (at end d : ℕ) (q : Rule) → at ≡ end → done_at q ≡ true → SoundRow s at end d q none
 unfolding encode
 none-sound s at end d q e h = (sym (ap (λ (n : ℕ). slice n end s) e ∙ slice_empty end s), h, λ l. let z = depth-none in omega arith)
 
 more-sound : (s : List ℕ) (at stop end d : ℕ) (q q' : Rule) (f : Field) (fs : Fields) → at ≤ stop → stop ≤ end →
-    end ≤ length s → stepAt q (get_or s at 0) ≡ Go q' →
+    end ≤ length s → step_at q (get_or s at 0) ≡ Go q' →
     d < 64 → SoundAt s at stop (d + 1) f → SoundRow s stop end d q' fs → SoundRow s at end d q (more f fs)
 unfolding encode
 more-sound s at stop end d q q' f fs h k len y lt w v =
     let a = w.2 (omega arith) in
     let b = v.2 (omega arith) in
     let most = depth-most f fs (64 - d) (omega arith) (omega arith) in
-    (ap₂ ◌++◌ w.0 v.0 ∙ slice-join at stop end s h k len, (q', ap (stepAt q) w.3 ∙ y, w.1, v.1), λ l. omega arith)
+    (ap₂ ◌++◌ w.0 v.0 ∙ slice-join at stop end s h k len, (q', ap (step_at q) w.3 ∙ y, w.1, v.1), λ l. omega arith)
 
 head-sound : (h : Head) (k : Kids) (s : List ℕ) (at end d : ℕ) (q : Rule) (p : ℕ) (fs : Fields) → Bytes s → Sound k s →
     at ≤ end → end ≤ length s →
-    HeadIn at end d h → Says s at end q h → onHead h k s at end d p ≡ fine fs → SoundRow s at end d q fs
-unfolding onHead contentBy
+    HeadIn at end d h → Says s at end q h → on_head h k s at end d p ≡ fine fs → SoundRow s at end d q fs
+unfolding on_head content_by
 head-sound Done k s at end d q p fs bs ih le len i y e =
     subst (SoundRow s at end d q) (fine-inj e) (none-sound s at end d q y.0 y.1)
 head-sound Missing k s at end d q p fs bs ih le len i y e = absurd (no-refused e)
 head-sound (Bad w) k s at end d q p fs bs ih le len i y e = absurd (no-refused e)
 head-sound (Child q' stop) k s at end d q p fs bs ih le len i y e =
-    let m = both-fine more (contentBy k s at stop (d + 1)) (k s stop end d q' p) fs e in
+    let m = both-fine more (content_by k s at stop (d + 1)) (k s stop end d q' p) fs e in
     let f =
     fixed-sound (fixed_at s (get_or s at 0) (at + 3) stop) k s at stop (d + 1) m.0 bs ih i.0 (omega arith) y.1
     (fixed_in s (get_or s at 0) (at + 3) stop i.0) refl m.2
@@ -141,11 +141,11 @@ children-sound : (n : ℕ) (s : List ℕ) → Bytes s → Sound (children n) s
 unfolding children
 children-sound zero s bs at end d q p fs le len e = absurd (no-refused e)
 children-sound (suc n) s bs at end d q p fs le len e =
-    head-sound (headAt s at end d q) (children n) s at end d q p fs bs (children-sound n s bs) le len (head_in s at end d q le)
+    head-sound (head_at s at end d q) (children n) s at end d q p fs bs (children-sound n s bs) le len (head_in s at end d q le)
     (head-says s at end d q) e
 
-children-at-sound : (s : List ℕ) → Bytes s → Sound childrenAt s
-unfolding childrenAt
+children-at-sound : (s : List ℕ) → Bytes s → Sound children_at s
+unfolding children_at
 children-at-sound s bs at end d q p fs le len e = children-sound (suc (end - at)) s bs at end d q p fs le len e
 
 -- where reading accepts parts, what stands there has these bytes and is by the grammar
@@ -157,14 +157,14 @@ row-sound s at end q bs le len w =
     (r.0, r.1)
 
 -- and where it accepts a field
-pub whole-sound : (s : List ℕ) (at end stop : ℕ) → Bytes s → at ≤ end → end ≤ length s → extentAt s at end ≡ Upto stop →
+pub whole-sound : (s : List ℕ) (at end stop : ℕ) → Bytes s → at ≤ end → end ≤ length s → extent_at s at end ≡ Upto stop →
     Whole s at stop →
-    (encode (treeAt s at stop) ≡ slice at stop s) × Formed (treeAt s at stop)
-unfolding contentAt contentBy
+    (encode (tree_at s at stop) ≡ slice at stop s) × Formed (tree_at s at stop)
+unfolding content_at content_by
 whole-sound s at end stop bs le len x w =
     let i = extent-upto s at end le x in
     let r =
-    fixed-sound (fixed_at s (get_or s at 0) (at + 3) stop) childrenAt s at stop w.0 w.1 bs (children-at-sound s bs) i.0 (omega arith)
+    fixed-sound (fixed_at s (get_or s at 0) (at + 3) stop) children_at s at stop w.0 w.1 bs (children-at-sound s bs) i.0 (omega arith)
     (extent-length s at end x)
     (fixed_in s (get_or s at 0) (at + 3) stop i.0) refl w.2
     in

@@ -17,10 +17,10 @@ use Rattle.tree.specs.declared.grammar.Step.TheVariants.{Go}
 use Rattle.tree.specs.declared.read.Head.{Head}
 use Rattle.tree.specs.declared.read.Head.TheVariants.{Done, Missing, Bad, Child}
 use Rattle.tree.specs.Tree.{Field, field, Fields, none, more, tag_of}
-use Rattle.tree.specs.Grammar.{parts0, holdsAt, ruleOf, stepAt, doneAt}
-use Rattle.tree.specs.Access.{fixed_at, extentAt}
-use Rattle.tree.specs.Read.{fine, Kids, headAt, onFixed, contentBy, onHead, children, childrenAt, contentAt, read, top}
-use Rattle.tree.specs.Standing.{Rows, treeOn, treeBy, rowOn, row, row_at, treeAt, Whole, Row}
+use Rattle.tree.specs.Grammar.{parts0, holds_at, rule_of, step_at, done_at}
+use Rattle.tree.specs.Access.{fixed_at, extent_at}
+use Rattle.tree.specs.Read.{fine, Kids, head_at, on_fixed, content_by, on_head, children, children_at, content_at, read, top}
+use Rattle.tree.specs.Standing.{Rows, tree_on, tree_by, row_on, row, row_at, tree_at, Whole, Row}
 use Rattle.tree.proofs.AccessLaws.{ReachIn, fixed_in, extent-in, extent-upto}
 use Rattle.tree.proofs.GrammarLaws.{no_step, step-one}
 use Rattle.tree.proofs.ReadLaws.{HeadIn, head_in, children-step, no-refused, fine-inj, mapped-fine, both-fine, Says, head-says, read-children}
@@ -29,14 +29,14 @@ abbrev Agree : Rows → Rows → List ℕ → ℕ → ℕ → Type 0
 Agree k k' s at end = (a e : ℕ) → at < a → a ≤ e → e ≤ end → k s a e ≡ k' s a e
 
 tree-agree : (r : Reach) (k k' : Rows) (s : List ℕ) (at stop end : ℕ) → ReachIn (at + 3) stop r → stop ≤ end →
-    Agree k k' s at end → treeOn r k s at stop ≡ treeOn r k' s at stop
-unfolding treeOn
+    Agree k k' s at end → tree_on r k s at stop ≡ tree_on r k' s at stop
+unfolding tree_on
 tree-agree Short k k' s at stop end i le g = refl
 tree-agree (Upto b) k k' s at stop end i le g = ap (field (get_or s at 0) (slice (at + 3) b s)) (g b stop (omega arith) i.1 le)
 
 row-agree : (r : Reach) (k k' : Rows) (s : List ℕ) (at end : ℕ) → ReachIn (at + 3) end r → Agree k k' s at end →
-    rowOn r k s at end ≡ rowOn r k' s at end
-unfolding rowOn treeBy
+    row_on r k s at end ≡ row_on r k' s at end
+unfolding row_on tree_by
 row-agree Short k k' s at end i g = refl
 row-agree (Upto stop) k k' s at end i g =
     ap₂ more
@@ -48,66 +48,66 @@ unfolding row
 enough zero m s at end le hn hm = absurd (omega arith)
 enough (suc n) zero s at end le hn hm = absurd (omega arith)
 enough (suc n) (suc m) s at end le hn hm =
-    row-agree (extentAt s at end) (row n) (row m) s at end (extent-in s at end le) (λ a e l₁ l₂ l₃. enough n m s a e l₂ (omega arith) (omega arith))
+    row-agree (extent_at s at end) (row n) (row m) s at end (extent-in s at end le) (λ a e l₁ l₂ l₃. enough n m s a e l₂ (omega arith) (omega arith))
 
-row_step : (s : List ℕ) (at end : ℕ) → at ≤ end → row_at s at end ≡ rowOn (extentAt s at end) row_at s at end
+row_step : (s : List ℕ) (at end : ℕ) → at ≤ end → row_at s at end ≡ row_on (extent_at s at end) row_at s at end
 unfolding row_at row
 row_step s at end le =
-    row-agree (extentAt s at end) (row (end - at)) row_at s at end (extent-in s at end le)
+    row-agree (extent_at s at end) (row (end - at)) row_at s at end (extent-in s at end le)
     (λ a e l₁ l₂ l₃. enough (end - at) (suc (e - a)) s a e l₂ (omega arith) (omega arith))
 
 -- from a place to its first field and the fields after it
-pub row_more : (s : List ℕ) (at end stop : ℕ) → at ≤ end → extentAt s at end ≡ Upto stop →
-    row_at s at end ≡ more (treeAt s at stop) (row_at s stop end)
-unfolding treeAt rowOn
-row_more s at end stop le e = row_step s at end le ∙ ap (λ (r : Reach). rowOn r row_at s at end) e
+pub row_more : (s : List ℕ) (at end stop : ℕ) → at ≤ end → extent_at s at end ≡ Upto stop →
+    row_at s at end ≡ more (tree_at s at stop) (row_at s stop end)
+unfolding tree_at row_on
+row_more s at end stop le e = row_step s at end le ∙ ap (λ (r : Reach). row_on r row_at s at end) e
 
-pub row-none : (s : List ℕ) (at end : ℕ) → at ≤ end → extentAt s at end ≡ Short → row_at s at end ≡ none
-unfolding rowOn
-row-none s at end le e = row_step s at end le ∙ ap (λ (r : Reach). rowOn r row_at s at end) e
+pub row-none : (s : List ℕ) (at end : ℕ) → at ≤ end → extent_at s at end ≡ Short → row_at s at end ≡ none
+unfolding row_on
+row-none s at end le e = row_step s at end le ∙ ap (λ (r : Reach). row_on r row_at s at end) e
 
 -- from a field to its children
 pub tree-upto : (s : List ℕ) (at stop b : ℕ) → fixed_at s (get_or s at 0) (at + 3) stop ≡ Upto b →
-    treeAt s at stop ≡ field (get_or s at 0) (slice (at + 3) b s) (row_at s b stop)
-unfolding treeAt treeBy treeOn
-tree-upto s at stop b e = ap (λ (r : Reach). treeOn r row_at s at stop) e
+    tree_at s at stop ≡ field (get_or s at 0) (slice (at + 3) b s) (row_at s b stop)
+unfolding tree_at tree_by tree_on
+tree-upto s at stop b e = ap (λ (r : Reach). tree_on r row_at s at stop) e
 
 pub tree-short : (s : List ℕ) (at stop : ℕ) → fixed_at s (get_or s at 0) (at + 3) stop ≡ Short →
-    treeAt s at stop ≡ field 0 [] none
-unfolding treeAt treeBy treeOn
-tree-short s at stop e = ap (λ (r : Reach). treeOn r row_at s at stop) e
+    tree_at s at stop ≡ field 0 [] none
+unfolding tree_at tree_by tree_on
+tree-short s at stop e = ap (λ (r : Reach). tree_on r row_at s at stop) e
 
 abbrev Standing : Kids → List ℕ → Type 0
 Standing k s = (at end d : ℕ) (q : Rule) (p : ℕ) (fs : Fields) → at ≤ end → k s at end d q p ≡ fine fs → row_at s at end ≡ fs
 
 fixed-standing : (r : Reach) (k : Kids) (s : List ℕ) (at stop d : ℕ) (f : Field) → Standing k s →
     fixed_at s (get_or s at 0) (at + 3) stop ≡ r → ReachIn (at + 3) stop r →
-    onFixed r k s at stop d ≡ fine f → treeAt s at stop ≡ f
-unfolding onFixed
+    on_fixed r k s at stop d ≡ fine f → tree_at s at stop ≡ f
+unfolding on_fixed
 fixed-standing Short k s at stop d f ih x i e = absurd (no-refused e)
 fixed-standing (Upto b) k s at stop d f ih x i e =
-    let m = mapped-fine (field (get_or s at 0) (slice (at + 3) b s)) (k s b stop d (ruleOf (get_or s at 0)) at) f e in
-    tree-upto s at stop b x ∙ ap (field (get_or s at 0) (slice (at + 3) b s)) (ih b stop d (ruleOf (get_or s at 0)) at m.0 i.1 m.1) ∙ m.2
+    let m = mapped-fine (field (get_or s at 0) (slice (at + 3) b s)) (k s b stop d (rule_of (get_or s at 0)) at) f e in
+    tree-upto s at stop b x ∙ ap (field (get_or s at 0) (slice (at + 3) b s)) (ih b stop d (rule_of (get_or s at 0)) at m.0 i.1 m.1) ∙ m.2
 
 content-standing : (k : Kids) (s : List ℕ) (at stop d : ℕ) (f : Field) → Standing k s → at + 3 ≤ stop →
-    contentBy k s at stop d ≡ fine f → treeAt s at stop ≡ f
-unfolding contentBy
+    content_by k s at stop d ≡ fine f → tree_at s at stop ≡ f
+unfolding content_by
 content-standing k s at stop d f ih h e =
     fixed-standing (fixed_at s (get_or s at 0) (at + 3) stop) k s at stop d f ih refl (fixed_in s (get_or s at 0) (at + 3) stop h) e
 
-nothing_left : (s : List ℕ) (at end : ℕ) → at ≡ end → extentAt s at end ≡ Short
-unfolding extentAt
+nothing_left : (s : List ℕ) (at end : ℕ) → at ≡ end → extent_at s at end ≡ Short
+unfolding extent_at
 nothing_left s at end e = rw (lt-leb 3 (end - at) (omega arith))
 
 head-standing : (h : Head) (k : Kids) (s : List ℕ) (at end d : ℕ) (q : Rule) (p : ℕ) (fs : Fields) → Standing k s →
     at ≤ end → HeadIn at end d h → Says s at end q h →
-    onHead h k s at end d p ≡ fine fs → row_at s at end ≡ fs
-unfolding onHead
+    on_head h k s at end d p ≡ fine fs → row_at s at end ≡ fs
+unfolding on_head
 head-standing Done k s at end d q p fs ih le i y e = row-none s at end le (nothing_left s at end y.0) ∙ fine-inj e
 head-standing Missing k s at end d q p fs ih le i y e = absurd (no-refused e)
 head-standing (Bad w) k s at end d q p fs ih le i y e = absurd (no-refused e)
 head-standing (Child q' stop) k s at end d q p fs ih le i y e =
-    let m = both-fine more (contentBy k s at stop (d + 1)) (k s stop end d q' p) fs e in
+    let m = both-fine more (content_by k s at stop (d + 1)) (k s stop end d q' p) fs e in
     row_more s at end stop le y.2
     ∙ ap₂ more (content-standing k s at stop (d + 1) m.0 ih i.0 m.2) (ih stop end d q' p m.1 i.1 m.3) ∙ m.4
 
@@ -115,72 +115,72 @@ children-standing : (n : ℕ) (s : List ℕ) → Standing (children n) s
 unfolding children
 children-standing zero s at end d q p fs le e = absurd (no-refused e)
 children-standing (suc n) s at end d q p fs le e =
-    head-standing (headAt s at end d q) (children n) s at end d q p fs (children-standing n s) le (head_in s at end d q le) (head-says s at end d q) e
+    head-standing (head_at s at end d q) (children n) s at end d q p fs (children-standing n s) le (head_in s at end d q le) (head-says s at end d q) e
 
 pub row-standing : (s : List ℕ) (at end d : ℕ) (q : Rule) (p : ℕ) (fs : Fields) → at ≤ end →
-    childrenAt s at end d q p ≡ fine fs → row_at s at end ≡ fs
-unfolding childrenAt
+    children_at s at end d q p ≡ fine fs → row_at s at end ≡ fs
+unfolding children_at
 row-standing s at end d q p fs le e = children-standing (suc (end - at)) s at end d q p fs le e
 
-pub whole-standing : (s : List ℕ) (at stop d : ℕ) (f : Field) → at + 3 ≤ stop → contentAt s at stop d ≡ fine f →
-    treeAt s at stop ≡ f
-unfolding contentAt
-whole-standing s at stop d f h e = content-standing childrenAt s at stop d f (row-standing s) h e
+pub whole-standing : (s : List ℕ) (at stop d : ℕ) (f : Field) → at + 3 ≤ stop → content_at s at stop d ≡ fine f →
+    tree_at s at stop ≡ f
+unfolding content_at
+whole-standing s at stop d f h e = content-standing children_at s at stop d f (row-standing s) h e
 
 -- what reading gives is what stands in the bytes
 pub read-standing : (root : Set) (s : List ℕ) (fs : Fields) → read root s ≡ fine fs → row_at s 0 (length s) ≡ fs
 read-standing root s fs e = row-standing s 0 (length s) 0 (top root) 0 fs (omega arith) (read-children root s fs e)
 
-whole-on : (r : Reach) (s : List ℕ) (at stop d : ℕ) (f : Field) → onFixed r childrenAt s at stop d ≡ fine f →
-    (b : ℕ) × (r ≡ Upto b) × Row s b stop (ruleOf (get_or s at 0))
-unfolding onFixed
+whole-on : (r : Reach) (s : List ℕ) (at stop d : ℕ) (f : Field) → on_fixed r children_at s at stop d ≡ fine f →
+    (b : ℕ) × (r ≡ Upto b) × Row s b stop (rule_of (get_or s at 0))
+unfolding on_fixed
 whole-on Short s at stop d f e = absurd (no-refused e)
 whole-on (Upto b) s at stop d f e =
-    let m = mapped-fine (field (get_or s at 0) (slice (at + 3) b s)) (childrenAt s b stop d (ruleOf (get_or s at 0)) at) f e in
+    let m = mapped-fine (field (get_or s at 0) (slice (at + 3) b s)) (children_at s b stop d (rule_of (get_or s at 0)) at) f e in
     (b, refl, (d, at, m.0, m.1))
 
 pub whole-step : (s : List ℕ) (at stop : ℕ) → Whole s at stop →
-    (b : ℕ) × (fixed_at s (get_or s at 0) (at + 3) stop ≡ Upto b) × Row s b stop (ruleOf (get_or s at 0))
-unfolding contentAt contentBy
+    (b : ℕ) × (fixed_at s (get_or s at 0) (at + 3) stop ≡ Upto b) × Row s b stop (rule_of (get_or s at 0))
+unfolding content_at content_by
 whole-step s at stop w = whole-on (fixed_at s (get_or s at 0) (at + 3) stop) s at stop w.0 w.1 w.2
 
 -- it has the tag that stands at its place
-pub whole-tag : (s : List ℕ) (at stop : ℕ) → Whole s at stop → tag_of (treeAt s at stop) ≡ get_or s at 0
+pub whole-tag : (s : List ℕ) (at stop : ℕ) → Whole s at stop → tag_of (tree_at s at stop) ≡ get_or s at 0
 whole-tag s at stop w = let m = whole-step s at stop w in ap tag_of (tree-upto s at stop m.0 m.1)
 
 -- a row that has not ended has a first field, which its rule takes
 abbrev pub First : List ℕ → ℕ → ℕ → Rule → Type 0
-First s at end q = (q' : Rule) × (stop : ℕ) × (stepAt q (get_or s at 0) ≡ Go q') × (extentAt s at end ≡ Upto stop) × Whole s at stop × Row s stop end q'
+First s at end q = (q' : Rule) × (stop : ℕ) × (step_at q (get_or s at 0) ≡ Go q') × (extent_at s at end ≡ Upto stop) × Whole s at stop × Row s stop end q'
 
 abbrev Ended : ℕ → ℕ → Rule → Type 0
-Ended at end q = (at ≡ end) × (doneAt q ≡ true)
+Ended at end q = (at ≡ end) × (done_at q ≡ true)
 
-row_on : (h : Head) (s : List ℕ) (at end d : ℕ) (q : Rule) (p : ℕ) (fs : Fields) → Says s at end q h →
-    onHead h childrenAt s at end d p ≡ fine fs → Ended at end q ⊎ First s at end q
-unfolding onHead contentAt
-row_on Done s at end d q p fs y e = inl y
-row_on Missing s at end d q p fs y e = absurd (no-refused e)
-row_on (Bad w) s at end d q p fs y e = absurd (no-refused e)
-row_on (Child q' stop) s at end d q p fs y e =
-    let m = both-fine more (contentBy childrenAt s at stop (d + 1)) (childrenAt s stop end d q' p) fs e in
+row_on-says : (h : Head) (s : List ℕ) (at end d : ℕ) (q : Rule) (p : ℕ) (fs : Fields) → Says s at end q h →
+    on_head h children_at s at end d p ≡ fine fs → Ended at end q ⊎ First s at end q
+unfolding on_head content_at
+row_on-says Done s at end d q p fs y e = inl y
+row_on-says Missing s at end d q p fs y e = absurd (no-refused e)
+row_on-says (Bad w) s at end d q p fs y e = absurd (no-refused e)
+row_on-says (Child q' stop) s at end d q p fs y e =
+    let m = both-fine more (content_by children_at s at stop (d + 1)) (children_at s stop end d q' p) fs e in
     inr (q', stop, y.0, y.2, (d + 1, m.0, m.2), (d, p, m.1, m.3))
 
 pub row-cases : (s : List ℕ) (at end : ℕ) (q : Rule) → at ≤ end → Row s at end q → Ended at end q ⊎ First s at end q
 row-cases s at end q le w =
-    row_on (headAt s at end w.0 q) s at end w.0 q w.1 w.2 (head-says s at end w.0 q)
+    row_on-says (head_at s at end w.0 q) s at end w.0 q w.1 w.2 (head-says s at end w.0 q)
     (sym (children-step s at end w.0 q w.1 le) ∙ w.3)
 
 -- by the place, or by the rule
 pub row_next : (s : List ℕ) (at end : ℕ) (q : Rule) → at ≤ end → Row s at end q → (at ≡ end → ⊥) → First s at end q
 row_next s at end q le w n = ⊎_elim (λ e. absurd (n e.0)) (λ f. f) (row-cases s at end q le w)
 
-pub row_first : (s : List ℕ) (at end : ℕ) (q : Rule) → at ≤ end → Row s at end q → doneAt q ≡ false → First s at end q
+pub row_first : (s : List ℕ) (at end : ℕ) (q : Rule) → at ≤ end → Row s at end q → done_at q ≡ false → First s at end q
 row_first s at end q le w n =
     ⊎_elim (λ e. absurd (let d = e.1 in let z : ◌≡◌ {A = ℕ} 0 1 = cc in omega arith)) (λ f. f) (row-cases s at end q le w)
 
 -- a row whose place has no field has ended, and lacks nothing
-pub row-end : (s : List ℕ) (at end : ℕ) (q : Rule) → at ≤ end → Row s at end q → extentAt s at end ≡ Short →
-    (at ≡ end) × (doneAt q ≡ true)
+pub row-end : (s : List ℕ) (at end : ℕ) (q : Rule) → at ≤ end → Row s at end q → extent_at s at end ≡ Short →
+    (at ≡ end) × (done_at q ≡ true)
 row-end s at end q le w x =
     ⊎_elim (λ e. e) (λ f. absurd (let e = f.3 in let z : ◌≡◌ {A = ℕ} 0 1 = cc in omega arith)) (row-cases s at end q le w)
 
@@ -190,10 +190,10 @@ read-row root s fs e = (0, 0, fs, read-children root s fs e)
 -- where a walk over accepted bytes starts: one field from 0 up to the end
 pub record Rooted (root : Set) (s : List ℕ) (fs : Fields) : Type 0 where
   pub room : 3 ≤ length s
-  pub tag : holdsAt root (get_or s 0 0) ≡ true
-  pub extent : extentAt s 0 (length s) ≡ Upto (length s)
+  pub tag : holds_at root (get_or s 0 0) ≡ true
+  pub extent : extent_at s 0 (length s) ≡ Upto (length s)
   pub whole : Whole s 0 (length s)
-  pub tree : fs ≡ more (treeAt s 0 (length s)) none
+  pub tree : fs ≡ more (tree_at s 0 (length s)) none
 
 none_left : (s : List ℕ) (at end : ℕ) → at ≤ end → Row s at end parts0 → at ≡ end
 none_left s at end le w = ⊎_elim (λ e. e.0) (λ f. absurd (no_step (get_or s at 0) f.2)) (row-cases s at end parts0 le w)
@@ -205,7 +205,7 @@ read-field root s fs e =
     let one = step-one root Nothing Nothing Nothing (get_or s 0 0) f.0 f.2 in
     let i = extent-upto s 0 (length s) (omega arith) f.3 in
     let all : stop ≡ length s = none_left s stop (length s) i.1 (subst (Row s stop (length s)) one.1 f.5) in
-    let x : extentAt s 0 (length s) ≡ Upto (length s) = f.3 ∙ ap Upto all in
+    let x : extent_at s 0 (length s) ≡ Upto (length s) = f.3 ∙ ap Upto all in
     record {
       room = omega arith;
       tag = one.0;
@@ -213,5 +213,5 @@ read-field root s fs e =
       whole = subst (Whole s 0) all f.4;
       tree =
           sym (read-standing root s fs e) ∙ row_more s 0 (length s) (length s) (omega arith) x
-          ∙ ap (more (treeAt s 0 (length s))) (row-none s (length s) (length s) (omega arith) (nothing_left s (length s) (length s) refl));
+          ∙ ap (more (tree_at s 0 (length s))) (row-none s (length s) (length s) (omega arith) (nothing_left s (length s) (length s) refl));
     }

@@ -15,28 +15,28 @@ use Rattle.tree.specs.declared.grammar.Value.TheVariants.{Empty}
 use Rattle.tree.specs.declared.grammar.Piece.{Piece}
 use Rattle.tree.specs.declared.grammar.Piece.TheVariants.{Plain, Source, Original, Outside, Spread, KeyValue}
 use Rattle.tree.specs.declared.access.Choice.TheVariants.{Bad}
-use Rattle.tree.specs.Layout.{skipAt}
+use Rattle.tree.specs.Layout.{skip_at}
 use Rattle.tree.specs.Grammar.{pieces_of}
-use Rattle.tree.specs.Access.{value_at, kinds, choice_of, onChoice, kind_at, piece_at, thenPiece, fixed_at}
-use Rattle.tree.specs.Width.{valueWidth, pieceWidth, width_at, packedWidthAt}
+use Rattle.tree.specs.Access.{value_at, kinds, choice_of, on_choice, kind_at, piece_at, then_piece, fixed_at}
+use Rattle.tree.specs.Width.{value_width, piece_width, width_at, packed_width_at}
 use Rattle.tree.proofs.Table.{all_below, below}
 use Rattle.tree.proofs.WidthLaws.{value-skips}
 
-widthAgrees : ℕ → Bool
-widthAgrees t = eqb (packedWidthAt t) (width_at t)
+width_agrees : ℕ → Bool
+width_agrees t = eqb (packed_width_at t) (width_at t)
 
-all-widths : all_below widthAgrees 256 ≡ true
-unfolding widthAgrees width_at pieces_of
+all-widths : all_below width_agrees 256 ≡ true
+unfolding width_agrees width_at pieces_of
 all-widths = refl
 
-pub width_is : (t : ℕ) → t < 256 → packedWidthAt t ≡ width_at t
-unfolding widthAgrees
-width_is t h = eqb-true (packedWidthAt t) (width_at t) (below widthAgrees 256 all-widths t h)
+pub width_is : (t : ℕ) → t < 256 → packed_width_at t ≡ width_at t
+unfolding width_agrees
+width_is t h = eqb-true (packed_width_at t) (width_at t) (below width_agrees 256 all-widths t h)
 
 module _ (s : List ℕ) (at stop : ℕ) (inside : at ≤ stop) where
   -- a bytes and b more are a + b
-  skip-more : (a b : ℕ) (y : Bool) → a ≤ stop - at → leb b (stop - (at + a)) ≡ y → skipAt (at + a) b stop ≡ skipAt at (a + b) stop
-  unfolding skipAt
+  skip-more : (a b : ℕ) (y : Bool) → a ≤ stop - at → leb b (stop - (at + a)) ≡ y → skip_at (at + a) b stop ≡ skip_at at (a + b) stop
+  unfolding skip_at
   skip-more a b true h e =
       let l = leb-true b (stop - (at + a)) e in
       let z : at + a + b ≡ at + (a + b) = omega arith in
@@ -46,16 +46,16 @@ module _ (s : List ℕ) (at stop : ℕ) (inside : at ≤ stop) where
       rw (e, lt-leb (a + b) (stop - at) (omega arith))
 
   then-skip : (a : ℕ) (v : Value) (x : Bool) → leb a (stop - at) ≡ x →
-      thenPiece (skipAt at a stop) s (Plain v) stop ≡ skipAt at (a + valueWidth v) stop
-  unfolding skipAt thenPiece piece_at
-  then-skip a v true e = rw e (value-skips v (at + a) stop ∙ skip-more a (valueWidth v) _ (leb-true a (stop - at) e) refl)
-  then-skip a v false e = let l = leb-false a (stop - at) e in rw (e, lt-leb (a + valueWidth v) (stop - at) (omega arith))
+      then_piece (skip_at at a stop) s (Plain v) stop ≡ skip_at at (a + value_width v) stop
+  unfolding skip_at then_piece piece_at
+  then-skip a v true e = rw e (value-skips v (at + a) stop ∙ skip-more a (value_width v) _ (leb-true a (stop - at) e) refl)
+  then-skip a v false e = let l = leb-false a (stop - at) e in rw (e, lt-leb (a + value_width v) (stop - at) (omega arith))
 
-  pieces-skip : (p q : Piece) → pieceWidth p + pieceWidth q < 9 →
-      thenPiece (piece_at s p at stop) s q stop ≡ skipAt at (pieceWidth p + pieceWidth q) stop
+  pieces-skip : (p q : Piece) → piece_width p + piece_width q < 9 →
+      then_piece (piece_at s p at stop) s q stop ≡ skip_at at (piece_width p + piece_width q) stop
   unfolding piece_at
   pieces-skip (Plain v) (Plain w) h =
-      ap (λ (r : Reach). thenPiece r s (Plain w) stop) (value-skips v at stop) ∙ then-skip (valueWidth v) w _ refl
+      ap (λ (r : Reach). then_piece r s (Plain w) stop) (value-skips v at stop) ∙ then-skip (value_width v) w _ refl
   pieces-skip (Plain v) Source h = absurd (omega arith)
   pieces-skip (Plain v) Original h = absurd (omega arith)
   pieces-skip (Plain v) Outside h = absurd (omega arith)
@@ -72,15 +72,15 @@ module _ (s : List ℕ) (at stop : ℕ) (inside : at ≤ stop) where
   width-by n false e h = absurd (omega arith)
 
   -- below 9, the fixed bytes are as many as the width says
-  pub fixed-skip : (t : ℕ) → width_at t < 9 → fixed_at s t at stop ≡ skipAt at (width_at t) stop
+  pub fixed-skip : (t : ℕ) → width_at t < 9 → fixed_at s t at stop ≡ skip_at at (width_at t) stop
   unfolding fixed_at width_at
   fixed-skip t h =
-      let w = width-by (pieceWidth (pieces_of t).first + pieceWidth (pieces_of t).second) _ refl h in
-      pieces-skip (pieces_of t).first (pieces_of t).second w.1 ∙ ap (λ (n : ℕ). skipAt at n stop) (sym w.0)
+      let w = width-by (piece_width (pieces_of t).first + piece_width (pieces_of t).second) _ refl h in
+      pieces-skip (pieces_of t).first (pieces_of t).second w.1 ∙ ap (λ (n : ℕ). skip_at at n stop) (sym w.0)
 
 -- a spread byte is 0 or 1
-spread-good : (s : List ℕ) (b at stop : ℕ) → b < 2 → at ≤ stop → thenPiece (onChoice (choice_of Spread b) at stop) s (Plain Empty) stop ≡ Upto at
-unfolding onChoice choice_of kinds value_at skipAt thenPiece piece_at
+spread-good : (s : List ℕ) (b at stop : ℕ) → b < 2 → at ≤ stop → then_piece (on_choice (choice_of Spread b) at stop) s (Plain Empty) stop ≡ Upto at
+unfolding on_choice choice_of kinds value_at skip_at then_piece piece_at
 spread-good s zero at stop h l =
     let y : at + 0 + 0 ≡ at = omega arith in
     rw (le-leb 0 (stop - at) (omega arith), le-leb 0 (stop - (at + 0)) (omega arith)) (ap Upto y)
@@ -99,9 +99,9 @@ module _ (s : List ℕ) (at stop : ℕ) where
   spread-upto h b = rw (lt-ltb at stop h) (spread-good s (get_or s at 0) (at + 1) stop b (omega arith))
 
   pub spread-bad : at < stop → 2 ≤ get_or s at 0 → fixed_at s 0x75 at stop ≡ Short
-  unfolding fixed_at pieces_of piece_at kind_at onChoice thenPiece
+  unfolding fixed_at pieces_of piece_at kind_at on_choice then_piece
   spread-bad h b = rw (lt-ltb at stop h, spread-wrong (get_or s at 0) b)
 
   pub spread_cut : stop ≤ at → fixed_at s 0x75 at stop ≡ Short
-  unfolding fixed_at pieces_of piece_at kind_at thenPiece
+  unfolding fixed_at pieces_of piece_at kind_at then_piece
   spread_cut h = rw (le-ltb at stop h)

@@ -6,7 +6,7 @@ use native.Mathlib.Omega.{arith}
 use native.Mathlib.Nat.{le-max_left, le-max_right, max-le}
 use lib.ListN.{length, length-append, take}
 use lib.Seq.{take-append_seam}
-use Rattle.tree.specs.Layout.{fieldIn}
+use Rattle.tree.specs.Layout.{field_in}
 use Rattle.tree.specs.Tree.{Field, field, Fields, none, more, framed, encode, encodes, size, sizes, depth, depths}
 
 framed-length : (t : ℕ) (c : List ℕ) → length (framed t c) ≡ 3 + length c
@@ -87,12 +87,12 @@ depth-positive (field t x cs) = let z = depth-parts t x cs in omega arith
 
 -- ---- A field at the front of a buffer
 
-framed-front : (t : ℕ) (c z : List ℕ) → fieldIn (framed t c ++ z) ≡ framed t c
-unfolding fieldIn framed
+framed-front : (t : ℕ) (c z : List ℕ) → field_in (framed t c ++ z) ≡ framed t c
+unfolding field_in framed
 framed-front t c z =
     let n : 3 + (length c / 256 * 256 + length c % 256) ≡ length (framed t c) = omega arith in
     ap (λ (n : ℕ). take n (framed t c ++ z)) n ∙ take-append_seam (framed t c) z
 
-pub encode-front : (f : Field) (z : List ℕ) → fieldIn (encode f ++ z) ≡ encode f
+pub encode-front : (f : Field) (z : List ℕ) → field_in (encode f ++ z) ≡ encode f
 unfolding encode
 encode-front (field t x cs) z = framed-front t (x ++ encodes cs) z

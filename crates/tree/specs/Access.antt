@@ -8,17 +8,17 @@ use Rattle.tree.specs.declared.grammar.Piece.{Piece}
 use Rattle.tree.specs.declared.grammar.Piece.TheVariants.{Plain, Source, Original, Outside, Spread, KeyValue}
 use Rattle.tree.specs.declared.access.Choice.{Choice}
 use Rattle.tree.specs.declared.access.Choice.TheVariants.{Take, Bad}
-use Rattle.tree.specs.Layout.{skipAt, literalEnd}
+use Rattle.tree.specs.Layout.{skip_at, literal_end}
 use Rattle.tree.specs.Grammar.{find, pieces_of}
 
 -- where the value at `at` ends, inside stop
 unfoldable pub value_at : Value → ℕ → ℕ → Reach
-value_at Empty at stop = skipAt at 0 stop
-value_at Byte at stop = skipAt at 1 stop
-value_at Atom at stop = skipAt at 2 stop
-value_at Id at stop = skipAt at 6 stop
-value_at Literal at stop = literalEnd at stop
-value_at Number at stop = skipAt at 8 stop
+value_at Empty at stop = skip_at at 0 stop
+value_at Byte at stop = skip_at at 1 stop
+value_at Atom at stop = skip_at at 2 stop
+value_at Id at stop = skip_at at 6 stop
+value_at Literal at stop = literal_end at stop
+value_at Number at stop = skip_at at 8 stop
 
 -- 'Kind bytes have only the listed values': each with what follows it
 unfoldable pub kinds : Piece → List (ℕ × Choice)
@@ -32,13 +32,13 @@ kinds KeyValue = []
 unfoldable pub choice_of : Piece → ℕ → Choice
 choice_of p b = find b (kinds p) Bad
 
-unfoldable pub onChoice : Choice → ℕ → ℕ → Reach
-onChoice Bad at stop = Short
-onChoice (Take v) at stop = value_at v at stop
+unfoldable pub on_choice : Choice → ℕ → ℕ → Reach
+on_choice Bad at stop = Short
+on_choice (Take v) at stop = value_at v at stop
 
 -- a kind byte and what it chooses
 unfoldable pub kind_at : List ℕ → Piece → ℕ → ℕ → Reach
-kind_at s p at stop = cond (ltb at stop) (onChoice (choice_of p (get_or s at 0)) (at + 1) stop) Short
+kind_at s p at stop = cond (ltb at stop) (on_choice (choice_of p (get_or s at 0)) (at + 1) stop) Short
 
 -- two kind bytes of 0 or 1, a length byte and that many bytes at least: all up to stop
 unfoldable pub key_at : List ℕ → ℕ → ℕ → Reach
@@ -55,18 +55,18 @@ piece_at s Original at stop = kind_at s Original at stop
 piece_at s Outside at stop = kind_at s Outside at stop
 piece_at s Spread at stop = kind_at s Spread at stop
 
-unfoldable pub thenPiece : Reach → List ℕ → Piece → ℕ → Reach
-thenPiece Short s p stop = Short
-thenPiece (Upto b) s p stop = piece_at s p b stop
+unfoldable pub then_piece : Reach → List ℕ → Piece → ℕ → Reach
+then_piece Short s p stop = Short
+then_piece (Upto b) s p stop = piece_at s p b stop
 
 -- where the fixed bytes from `at` of a field with this tag end
 unfoldable pub fixed_at : List ℕ → ℕ → ℕ → ℕ → Reach
-fixed_at s tag at stop = thenPiece (piece_at s (pieces_of tag).first at stop) s (pieces_of tag).second stop
+fixed_at s tag at stop = then_piece (piece_at s (pieces_of tag).first at stop) s (pieces_of tag).second stop
 
 -- the length that stands behind the tag at `at`
 unfoldable pub length_at : List ℕ → ℕ → ℕ
 length_at s at = get_or s (at + 1) 0 * 256 + get_or s (at + 2) 0
 
 -- where the field at `at` ends, if it is whole inside `end`
-unfoldable pub extentAt : List ℕ → ℕ → ℕ → Reach
-extentAt s at end = cond (leb 3 (end - at)) (skipAt (at + 3) (length_at s at) end) Short
+unfoldable pub extent_at : List ℕ → ℕ → ℕ → Reach
+extent_at s at end = cond (leb 3 (end - at)) (skip_at (at + 3) (length_at s at) end) Short

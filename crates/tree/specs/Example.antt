@@ -3,16 +3,16 @@ use Rattle.std.specs.Prelude.{ℕ, zero, suc, ◌*◌, ◌≡◌, refl, List, []
 use Rattle.tree.specs.declared.grammar.Set.{Set}
 use Rattle.tree.specs.declared.grammar.Set.TheVariants.{Module, Attributes, Records}
 use Rattle.tree.specs.declared.read.Why.TheVariants.{Misplaced, Cut, Lacking, Deep}
-use Rattle.tree.specs.Layout.{skipAt, literalEnd}
+use Rattle.tree.specs.Layout.{skip_at, literal_end}
 use Rattle.tree.specs.Tree.{Field, field, Fields, none, more, framed, encode}
-use Rattle.tree.specs.Grammar.{within, holdsAt, ruleOf, pieces_of, slot_at, stepBy, stepAt}
-use Rattle.tree.specs.Access.{value_at, kinds, choice_of, onChoice, kind_at, key_at, piece_at, thenPiece, fixed_at, length_at, extentAt}
-use Rattle.tree.specs.Read.{Reading, fine, refused, onExtent, onStep, headAt, onFixed, contentBy, onHead, children, childrenAt, read}
+use Rattle.tree.specs.Grammar.{within, holds_at, rule_of, pieces_of, slot_at, step_by, step_at}
+use Rattle.tree.specs.Access.{value_at, kinds, choice_of, on_choice, kind_at, key_at, piece_at, then_piece, fixed_at, length_at, extent_at}
+use Rattle.tree.specs.Read.{Reading, fine, refused, on_extent, on_step, head_at, on_fixed, content_by, on_head, children, children_at, read}
 
 -- `read`, with all that it computes by: an example says `unfolding reading`
 unfoldable pub reading : Set → List ℕ → Reading Fields
-unfolding skipAt literalEnd within holdsAt ruleOf pieces_of slot_at stepBy stepAt value_at kinds choice_of onChoice kind_at key_at piece_at thenPiece fixed_at
-    length_at extentAt onExtent onStep headAt onFixed contentBy onHead children childrenAt read
+unfolding skip_at literal_end within holds_at rule_of pieces_of slot_at step_by step_at value_at kinds choice_of on_choice kind_at key_at piece_at then_piece fixed_at
+    length_at extent_at on_extent on_step head_at on_fixed content_by on_head children children_at read
 reading root s = read root s
 
 -- document 01's second worked case: `import * as a from './m'; a.x;`

@@ -22,44 +22,44 @@ unfoldable pub within : ℕ → ℕ → ℕ → Bool
 within lo hi t = leb lo t && leb t hi
 
 -- statements: 40, 41, 43 to 48
-abbrev pub statementTag : ℕ → Bool
-statementTag t = within 0x40 0x41 t || within 0x43 0x48 t
+abbrev pub statement_tag : ℕ → Bool
+statement_tag t = within 0x40 0x41 t || within 0x43 0x48 t
 
 -- patterns: 50, 51, 52, 55, 56
-abbrev pub patternTag : ℕ → Bool
-patternTag t = within 0x50 0x52 t || within 0x55 0x56 t
+abbrev pub pattern_tag : ℕ → Bool
+pattern_tag t = within 0x50 0x52 t || within 0x55 0x56 t
 
 -- expressions: 60 to 6E
-abbrev pub expressionTag : ℕ → Bool
-expressionTag t = within 0x60 0x6e t
+abbrev pub expression_tag : ℕ → Bool
+expression_tag t = within 0x60 0x6e t
 
 -- the tags of each set
-unfoldable pub holdsAt : Set → ℕ → Bool
-holdsAt Module t = eqb t 0x01
-holdsAt Item t = within 0x10 0x14 t || statementTag t
-holdsAt Specifier t = within 0x20 0x22 t
-holdsAt ExportSpecifier t = within 0x23 0x24 t
-holdsAt Attributes t = eqb t 0x2f
-holdsAt Attribute t = eqb t 0x30
-holdsAt Declaration t = eqb t 0x41 || eqb t 0x43
-holdsAt Statement t = statementTag t
-holdsAt Declarator t = eqb t 0x42
-holdsAt Block t = eqb t 0x45
-holdsAt Pattern t = patternTag t
-holdsAt PatternProperty t = within 0x53 0x54 t
-holdsAt Expression t = expressionTag t
-holdsAt Callee t = expressionTag t || within 0x73 0x74 t
-holdsAt Target t = eqb t 0x50 || eqb t 0x63
-holdsAt Body t = eqb t 0x45 || expressionTag t
-holdsAt Member t = within 0x70 0x72 t
-holdsAt SuperMember t = within 0x70 0x71 t
-holdsAt Argument t = eqb t 0x75
-holdsAt Property t = within 0x77 0x78 t
-holdsAt Records t = eqb t 0x02
-holdsAt Collected t = eqb t 0x80
-holdsAt Lazy t = eqb t 0x81
-holdsAt Dynamic t = eqb t 0x82
-holdsAt Forced t = eqb t 0x83
+unfoldable pub holds_at : Set → ℕ → Bool
+holds_at Module t = eqb t 0x01
+holds_at Item t = within 0x10 0x14 t || statement_tag t
+holds_at Specifier t = within 0x20 0x22 t
+holds_at ExportSpecifier t = within 0x23 0x24 t
+holds_at Attributes t = eqb t 0x2f
+holds_at Attribute t = eqb t 0x30
+holds_at Declaration t = eqb t 0x41 || eqb t 0x43
+holds_at Statement t = statement_tag t
+holds_at Declarator t = eqb t 0x42
+holds_at Block t = eqb t 0x45
+holds_at Pattern t = pattern_tag t
+holds_at PatternProperty t = within 0x53 0x54 t
+holds_at Expression t = expression_tag t
+holds_at Callee t = expression_tag t || within 0x73 0x74 t
+holds_at Target t = eqb t 0x50 || eqb t 0x63
+holds_at Body t = eqb t 0x45 || expression_tag t
+holds_at Member t = within 0x70 0x72 t
+holds_at SuperMember t = within 0x70 0x71 t
+holds_at Argument t = eqb t 0x75
+holds_at Property t = within 0x77 0x78 t
+holds_at Records t = eqb t 0x02
+holds_at Collected t = eqb t 0x80
+holds_at Lazy t = eqb t 0x81
+holds_at Dynamic t = eqb t 0x82
+holds_at Forced t = eqb t 0x83
 
 -- rules of four slots and fewer
 abbrev pub parts4 : Slot → Slot → Slot → Slot → Rule
@@ -141,8 +141,8 @@ expressions =
     []
 
 -- the parts of a field with this tag
-unfoldable pub ruleOf : ℕ → Rule
-ruleOf t =
+unfoldable pub rule_of : ℕ → Rule
+rule_of t =
     cond (within 0x40 0x48 t) (find t statements parts0)
     (cond (within 0x50 0x56 t) (find t patterns parts0)
     (cond (within 0x60 0x6e t) (find t expressions parts0) (find t others parts0)))
@@ -155,8 +155,8 @@ abbrev pub only : Piece → Pieces
 only a = pieces a (Plain Empty)
 
 -- tags that are not listed have no fixed bytes
-abbrev pub fixedParts : List (ℕ × Pieces)
-fixedParts =
+abbrev pub fixed_parts : List (ℕ × Pieces)
+fixed_parts =
     (0x10, only (Plain Literal)) ∷  -- import
     (0x11, only Source) ∷  -- export
     (0x12, only (Plain Literal)) ∷  -- export all
@@ -188,41 +188,41 @@ fixedParts =
 
 -- the fixed bytes of a field with this tag
 unfoldable pub pieces_of : ℕ → Pieces
-pieces_of t = find t fixedParts (only (Plain Empty))
+pieces_of t = find t fixed_parts (only (Plain Empty))
 
 -- what a slot says to a tag
 unfoldable pub slot_at : Slot → ℕ → Fit
 slot_at Nothing t = Over
-slot_at (One x) t = cond (holdsAt x t) Used No
-slot_at (Maybe x) t = cond (holdsAt x t) Used Over
-slot_at (Many x) t = cond (holdsAt x t) Stay Over
+slot_at (One x) t = cond (holds_at x t) Used No
+slot_at (Maybe x) t = cond (holds_at x t) Used Over
+slot_at (Many x) t = cond (holds_at x t) Stay Over
 
 -- a rule without its first slot
 abbrev pub rest_of : Rule → Rule
 rest_of r = parts3 r.second r.third r.fourth
 
 -- by what the first slot of r says: r stays, is left without that slot, or the next slots answer
-abbrev pub onFit : Fit → Rule → Step → Step
-onFit Stay r o = Go r
-onFit Used r o = Go (rest_of r)
-onFit Over r o = o
-onFit No r o = Refused
+abbrev pub on_fit : Fit → Rule → Step → Step
+on_fit Stay r o = Go r
+on_fit Used r o = Go (rest_of r)
+on_fit Over r o = o
+on_fit No r o = Refused
 
 -- what the first n slots of a rule say to a tag
-unfoldable pub stepBy : ℕ → Rule → ℕ → Step
-stepBy zero r t = Refused
-stepBy (suc n) r t = onFit (slot_at r.first t) r (stepBy n (rest_of r) t)
+unfoldable pub step_by : ℕ → Rule → ℕ → Step
+step_by zero r t = Refused
+step_by (suc n) r t = on_fit (slot_at r.first t) r (step_by n (rest_of r) t)
 
 -- the rule that is left behind a field with this tag, or refused
-unfoldable pub stepAt : Rule → ℕ → Step
-stepAt r t = stepBy 4 r t
+unfoldable pub step_at : Rule → ℕ → Step
+step_at r t = step_by 4 r t
 
-abbrev pub fullAt : Slot → Bool
-fullAt Nothing = true
-fullAt (One x) = false
-fullAt (Maybe x) = true
-fullAt (Many x) = true
+abbrev pub full_at : Slot → Bool
+full_at Nothing = true
+full_at (One x) = false
+full_at (Maybe x) = true
+full_at (Many x) = true
 
 -- a rule that lacks no part
-abbrev pub doneAt : Rule → Bool
-doneAt r = fullAt r.first && (fullAt r.second && (fullAt r.third && fullAt r.fourth))
+abbrev pub done_at : Rule → Bool
+done_at r = full_at r.first && (full_at r.second && (full_at r.third && full_at r.fourth))

@@ -21,8 +21,8 @@ use Rattle.tree.specs.Grammar.{find, parts4}
 use Rattle.tree.specs.Runs.{Run, lookup}
 
 -- a number for each set
-abbrev pub setNumbers : List (ℕ × Set)
-setNumbers =
+abbrev pub set_numbers : List (ℕ × Set)
+set_numbers =
     (0, Module) ∷
     (1, Item) ∷
     (2, Specifier) ∷
@@ -51,35 +51,35 @@ setNumbers =
     []
 
 -- the set of a number; every number from 25 on stands for the first set, so that all have one
-unfoldable pub unpackSet : ℕ → Set
-unpackSet i = find i setNumbers Module
+unfoldable pub unpack_set : ℕ → Set
+unpack_set i = find i set_numbers Module
 
 -- the slot of a byte: 32 and the set's number for one, 64 for at most one, 96 for any number
-unfoldable pub unpackSlot : ℕ → Slot
-unpackSlot n =
+unfoldable pub unpack_slot : ℕ → Slot
+unpack_slot n =
     cond (eqb n 0) Nothing
-    (cond (ltb n 64) (One (unpackSet (n % 32)))
-    (cond (ltb n 96) (Maybe (unpackSet (n % 32))) (Many (unpackSet (n % 32)))))
+    (cond (ltb n 64) (One (unpack_set (n % 32)))
+    (cond (ltb n 96) (Maybe (unpack_set (n % 32))) (Many (unpack_set (n % 32)))))
 
 -- the rule of four bytes, the first slot lowest
-unfoldable pub unpackRule : ℕ → Rule
-unpackRule n =
-    parts4 (unpackSlot (n % 256)) (unpackSlot (n / 256 % 256)) (unpackSlot (n / 256 / 256 % 256)) (unpackSlot (n / 256 / 256 / 256 % 256))
+unfoldable pub unpack_rule : ℕ → Rule
+unpack_rule n =
+    parts4 (unpack_slot (n % 256)) (unpack_slot (n / 256 % 256)) (unpack_slot (n / 256 / 256 % 256)) (unpack_slot (n / 256 / 256 / 256 % 256))
 
 -- what the code answers, with the rules unpacked
-abbrev pub unpackStep : PackedStep → Step
-unpackStep (GoPacked n) = Go (unpackRule n)
-unpackStep NoPacked = No
+abbrev pub unpack_step : PackedStep → Step
+unpack_step (GoPacked n) = Go (unpack_rule n)
+unpack_step NoPacked = No
 
-abbrev pub unpackHead : PackedHead → Head
-unpackHead DonePacked = Done
-unpackHead MissingPacked = Missing
-unpackHead (BadPacked w) = Bad w
-unpackHead (ChildPacked n stop) = Child (unpackRule n) stop
+abbrev pub unpack_head : PackedHead → Head
+unpack_head DonePacked = Done
+unpack_head MissingPacked = Missing
+unpack_head (BadPacked w) = Bad w
+unpack_head (ChildPacked n stop) = Child (unpack_rule n) stop
 
 -- for each tag its sets, a bit for each, and above these 32 bits its rule: tags below 80
-abbrev pub lowEntries : List Run
-lowEntries =
+abbrev pub low_entries : List Run
+low_entries =
     (0x01, 0x01, 0x61fe000001) ∷
     (0x02, 0x02, 0x7877767500100000) ∷
     (0x10, 0x10, 0x446200000002) ∷
@@ -129,8 +129,8 @@ lowEntries =
     []
 
 -- tags from 80 on
-abbrev pub highEntries : List Run
-highEntries =
+abbrev pub high_entries : List Run
+high_entries =
     (0x80, 0x80, 0x6200200000) ∷
     (0x81, 0x81, 0x6200400000) ∷
     (0x82, 0x82, 0x800000) ∷
@@ -138,10 +138,10 @@ highEntries =
     []
 
 unfoldable pub entry_at : ℕ → ℕ
-entry_at t = cond (ltb t 0x80) (lookup lowEntries t) (lookup highEntries t)
+entry_at t = cond (ltb t 0x80) (lookup low_entries t) (lookup high_entries t)
 
-unfoldable pub setsAt : ℕ → ℕ
-setsAt t = entry_at t % 4294967296
+unfoldable pub sets_at : ℕ → ℕ
+sets_at t = entry_at t % 4294967296
 
-unfoldable pub packedRuleAt : ℕ → ℕ
-packedRuleAt t = entry_at t / 4294967296
+unfoldable pub packed_rule_at : ℕ → ℕ
+packed_rule_at t = entry_at t / 4294967296

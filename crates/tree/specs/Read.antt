@@ -15,8 +15,8 @@ use Rattle.tree.specs.declared.read.Head.TheVariants.{Done, Missing, Bad, Child}
 use Rattle.tree.specs.declared.read.Verdict.{Verdict}
 use Rattle.tree.specs.declared.read.Verdict.TheVariants.{Good, Refused}
 use Rattle.tree.specs.Tree.{Field, field, Fields, none, more}
-use Rattle.tree.specs.Grammar.{parts1, ruleOf, stepAt, doneAt}
-use Rattle.tree.specs.Access.{fixed_at, extentAt}
+use Rattle.tree.specs.Grammar.{parts1, rule_of, step_at, done_at}
+use Rattle.tree.specs.Access.{fixed_at, extent_at}
 
 -- what reading gives: something, or why not, and the offset of the field
 pub data Reading (A : Type 0) : Type 0 where
@@ -24,16 +24,16 @@ pub data Reading (A : Type 0) : Type 0 where
   refused : Why → ℕ → Reading A
 
 -- the refusal's number: 'field off the grammar' is 3, 'depth over 64' is 4
-abbrev pub refusalOf : Why → ℕ
-refusalOf Misplaced = 3
-refusalOf Cut = 3
-refusalOf Lacking = 3
-refusalOf Deep = 4
+abbrev pub refusal_of : Why → ℕ
+refusal_of Misplaced = 3
+refusal_of Cut = 3
+refusal_of Lacking = 3
+refusal_of Deep = 4
 
 -- a verdict's number and place: 0 and 0 where the bytes are accepted
 abbrev pub number_of : Verdict → ℕ
 number_of Good = 0
-number_of (Refused w p) = refusalOf w
+number_of (Refused w p) = refusal_of w
 
 abbrev pub place_of : Verdict → ℕ
 place_of Good = 0
@@ -52,47 +52,47 @@ abbrev pub both : {A B C : Type 0} → (A → B → C) → Reading A → Reading
 both f (fine a) r = mapped (f a) r
 both f (refused w p) r = refused w p
 
-unfoldable pub onExtent : Reach → Rule → ℕ → Head
-onExtent Short q d = Bad Cut
-onExtent (Upto stop) q d = cond (ltb d 64) (Child q stop) (Bad Deep)
+unfoldable pub on_extent : Reach → Rule → ℕ → Head
+on_extent Short q d = Bad Cut
+on_extent (Upto stop) q d = cond (ltb d 64) (Child q stop) (Bad Deep)
 
-unfoldable pub onStep : Step → List ℕ → ℕ → ℕ → ℕ → Head
-onStep No s at end d = Bad Misplaced
-onStep (Go q) s at end d = onExtent (extentAt s at end) q d
+unfoldable pub on_step : Step → List ℕ → ℕ → ℕ → ℕ → Head
+on_step No s at end d = Bad Misplaced
+on_step (Go q) s at end d = on_extent (extent_at s at end) q d
 
 -- what stands at `at` inside `end`, where the rule q is left and d is the depth of the field around:
 -- 'Reading tests a field's tag and length, its depth, then its content'
-unfoldable pub headAt : List ℕ → ℕ → ℕ → ℕ → Rule → Head
-headAt s at end d q = cond (eqb at end) (cond (doneAt q) Done Missing) (onStep (stepAt q (get_or s at 0)) s at end d)
+unfoldable pub head_at : List ℕ → ℕ → ℕ → ℕ → Rule → Head
+head_at s at end d q = cond (eqb at end) (cond (done_at q) Done Missing) (on_step (step_at q (get_or s at 0)) s at end d)
 
 -- a reading of the parts from `at` up to end of the field at p, whose depth is d, where the rule q is left
 abbrev pub Kids : Type 0
 Kids = List ℕ → ℕ → ℕ → ℕ → Rule → ℕ → Reading Fields
 
-unfoldable pub onFixed : Reach → Kids → List ℕ → ℕ → ℕ → ℕ → Reading Field
-onFixed Short k s at stop d = refused Lacking at
-onFixed (Upto b) k s at stop d = mapped (field (get_or s at 0) (slice (at + 3) b s)) (k s b stop d (ruleOf (get_or s at 0)) at)
+unfoldable pub on_fixed : Reach → Kids → List ℕ → ℕ → ℕ → ℕ → Reading Field
+on_fixed Short k s at stop d = refused Lacking at
+on_fixed (Upto b) k s at stop d = mapped (field (get_or s at 0) (slice (at + 3) b s)) (k s b stop d (rule_of (get_or s at 0)) at)
 
 -- the field at `at` up to stop, whose depth is d, its parts read by k
-unfoldable pub contentBy : Kids → List ℕ → ℕ → ℕ → ℕ → Reading Field
-contentBy k s at stop d = onFixed (fixed_at s (get_or s at 0) (at + 3) stop) k s at stop d
+unfoldable pub content_by : Kids → List ℕ → ℕ → ℕ → ℕ → Reading Field
+content_by k s at stop d = on_fixed (fixed_at s (get_or s at 0) (at + 3) stop) k s at stop d
 
-unfoldable pub onHead : Head → Kids → List ℕ → ℕ → ℕ → ℕ → ℕ → Reading Fields
-onHead Done k s at end d p = fine none
-onHead Missing k s at end d p = refused Lacking p
-onHead (Bad w) k s at end d p = refused w at
-onHead (Child q stop) k s at end d p = both more (contentBy k s at stop (d + 1)) (k s stop end d q p)
+unfoldable pub on_head : Head → Kids → List ℕ → ℕ → ℕ → ℕ → ℕ → Reading Fields
+on_head Done k s at end d p = fine none
+on_head Missing k s at end d p = refused Lacking p
+on_head (Bad w) k s at end d p = refused w at
+on_head (Child q stop) k s at end d p = both more (content_by k s at stop (d + 1)) (k s stop end d q p)
 
 -- n bounds the nesting and the number
 unfoldable pub children : ℕ → Kids
 children zero s at end d q p = refused Lacking p
-children (suc n) s at end d q p = onHead (headAt s at end d q) (children n) s at end d p
+children (suc n) s at end d q p = on_head (head_at s at end d q) (children n) s at end d p
 
-unfoldable pub childrenAt : Kids
-childrenAt s at end d q p = children (suc (end - at)) s at end d q p
+unfoldable pub children_at : Kids
+children_at s at end d q p = children (suc (end - at)) s at end d q p
 
-unfoldable pub contentAt : List ℕ → ℕ → ℕ → ℕ → Reading Field
-contentAt s at stop d = contentBy childrenAt s at stop d
+unfoldable pub content_at : List ℕ → ℕ → ℕ → ℕ → Reading Field
+content_at s at stop d = content_by children_at s at stop d
 
 -- one field whose tag is of the set root
 abbrev pub top : Set → Rule
@@ -100,4 +100,4 @@ top root = parts1 (One root)
 
 -- bytes as one field of the root; 'bytes left over' are a field that may not stand there
 unfoldable pub read : Set → List ℕ → Reading Fields
-read root s = cond (eqb (length s) 0) (refused Cut 0) (childrenAt s 0 (length s) 0 (top root) 0)
+read root s = cond (eqb (length s) 0) (refused Cut 0) (children_at s 0 (length s) 0 (top root) 0)

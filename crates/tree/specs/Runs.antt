@@ -10,9 +10,9 @@ abbrev pub lookup : List Run → ℕ → ℕ
 lookup [] t = 0
 lookup (e ∷ l) t = cond (leb e.0 t && leb t e.1) e.2 (lookup l t)
 
-abbrev pub condType : Bool → Type 0 → Type 0 → Type 0
-condType true A B = A
-condType false A B = B
+abbrev pub cond_type : Bool → Type 0 → Type 0 → Type 0
+cond_type true A B = A
+cond_type false A B = B
 
 -- t is none of n keys behind k, nor k; X is told of the keys before, as in the last arm of a `match`
 abbrev pub NoneOf : ℕ → Type 0 → ℕ → ℕ → Type 0
@@ -26,16 +26,16 @@ Absent t X (e ∷ l) = Absent t (NoneOf t X e.0 (e.1 - e.0)) l
 -- t is in the run whose value is r
 abbrev pub InRun : List Run → ℕ → ℕ → Type 0
 InRun [] t r = ⊥
-InRun (e ∷ l) t r = condType (eqb r e.2) ((e.0 ≤ t) × (t ≤ e.1)) (InRun l t r)
+InRun (e ∷ l) t r = cond_type (eqb r e.2) ((e.0 ≤ t) × (t ≤ e.1)) (InRun l t r)
 
 -- the answer r to the key t: the value of t's run, or 0
 abbrev pub Answers : List Run → ℕ → ℕ → Type 0
-Answers l t r = condType (eqb r 0) (Absent t Unit l) (InRun l t r)
+Answers l t r = cond_type (eqb r 0) (Absent t Unit l) (InRun l t r)
 
 -- the number of t in a row of sixteen, four bits for each
-abbrev pub nibbleIn : ℕ → ℕ → ℕ
-nibbleIn row t = row / 2 ^ (4 * (t % 16)) % 16
+abbrev pub nibble_in : ℕ → ℕ → ℕ
+nibble_in row t = row / 2 ^ (4 * (t % 16)) % 16
 
 -- a number for each t, sixteen to a row
-abbrev pub nibbleAt : List Run → ℕ → ℕ
-nibbleAt rows t = nibbleIn (lookup rows (t / 16)) t
+abbrev pub nibble_at : List Run → ℕ → ℕ
+nibble_at rows t = nibble_in (lookup rows (t / 16)) t

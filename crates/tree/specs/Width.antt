@@ -6,39 +6,39 @@ use Rattle.tree.specs.declared.grammar.Value.TheVariants.{Empty, Byte, Atom, Id,
 use Rattle.tree.specs.declared.grammar.Piece.{Piece}
 use Rattle.tree.specs.declared.grammar.Piece.TheVariants.{Plain, Source, Original, Outside, Spread, KeyValue}
 use Rattle.tree.specs.declared.grammar.Pieces.{Pieces}
-use Rattle.tree.specs.Layout.{literalWidth}
+use Rattle.tree.specs.Layout.{literal_width}
 use Rattle.tree.specs.Grammar.{pieces_of}
-use Rattle.tree.specs.Runs.{Run, nibbleAt}
+use Rattle.tree.specs.Runs.{Run, nibble_at}
 
 -- how many bytes a value takes
-abbrev pub valueWidth : Value → ℕ
-valueWidth Empty = 0
-valueWidth Byte = 1
-valueWidth Atom = 2
-valueWidth Id = 6
-valueWidth Literal = literalWidth
-valueWidth Number = 8
+abbrev pub value_width : Value → ℕ
+value_width Empty = 0
+value_width Byte = 1
+value_width Atom = 2
+value_width Id = 6
+value_width Literal = literal_width
+value_width Number = 8
 
 -- 9 where a kind byte chooses
-abbrev pub pieceWidth : Piece → ℕ
-pieceWidth (Plain v) = valueWidth v
-pieceWidth Source = 9
-pieceWidth Original = 9
-pieceWidth Outside = 9
-pieceWidth Spread = 9
-pieceWidth KeyValue = 9
+abbrev pub piece_width : Piece → ℕ
+piece_width (Plain v) = value_width v
+piece_width Source = 9
+piece_width Original = 9
+piece_width Outside = 9
+piece_width Spread = 9
+piece_width KeyValue = 9
 
 -- how many fixed bytes the pieces have, if these are values; or else 9
-abbrev pub piecesWidth : Pieces → ℕ
-piecesWidth ps =
-    cond (ltb (pieceWidth ps.first + pieceWidth ps.second) 9) (pieceWidth ps.first + pieceWidth ps.second) 9
+abbrev pub pieces_width : Pieces → ℕ
+pieces_width ps =
+    cond (ltb (piece_width ps.first + piece_width ps.second) 9) (piece_width ps.first + piece_width ps.second) 9
 
 unfoldable pub width_at : ℕ → ℕ
-width_at t = piecesWidth (pieces_of t)
+width_at t = pieces_width (pieces_of t)
 
 -- the same packed: a number for sixteen tags, four bits for each
-abbrev pub widthRows : List Run
-widthRows =
+abbrev pub width_rows : List Run
+width_rows =
     (1, 1, 0x696) ∷
     (2, 2, 0x69669) ∷
     (3, 3, 0x9) ∷
@@ -49,5 +49,5 @@ widthRows =
     (8, 8, 0x2666) ∷
     []
 
-abbrev pub packedWidthAt : ℕ → ℕ
-packedWidthAt t = nibbleAt widthRows t
+abbrev pub packed_width_at : ℕ → ℕ
+packed_width_at t = nibble_at width_rows t

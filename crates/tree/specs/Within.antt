@@ -5,7 +5,7 @@ use Rattle.tree.specs.declared.grammar.Set.{Set}
 use Rattle.tree.specs.declared.grammar.Rule.{Rule}
 use Rattle.tree.specs.declared.grammar.Step.TheVariants.{Go}
 use Rattle.tree.specs.Tree.{Field, field, Fields, none, more, tag_of, sizes, depth}
-use Rattle.tree.specs.Grammar.{holdsAt, ruleOf, stepAt, doneAt}
+use Rattle.tree.specs.Grammar.{holds_at, rule_of, step_at, done_at}
 use Rattle.tree.specs.Access.{fixed_at}
 
 -- x is just what the pieces of the tag t take
@@ -15,13 +15,13 @@ Exact t x = fixed_at x t 0 (length x) ≡ Upto (length x)
 abbrev mutual
   -- a content that two bytes can measure, the tag's fixed bytes, and parts by the tag's rule
   pub Formed : Field → Type 0
-  Formed (field t x cs) = (length x + sizes cs < 65536) × Exact t x × FormedAll cs (ruleOf t)
+  Formed (field t x cs) = (length x + sizes cs < 65536) × Exact t x × FormedAll cs (rule_of t)
 
   -- the rest of a row of parts, where the rule q is left
   pub FormedAll : Fields → Rule → Type 0
-  FormedAll none q = doneAt q ≡ true
-  FormedAll (more f fs) q = (q' : Rule) × (stepAt q (tag_of f) ≡ Go q') × Formed f × FormedAll fs q'
+  FormedAll none q = done_at q ≡ true
+  FormedAll (more f fs) q = (q' : Rule) × (step_at q (tag_of f) ≡ Go q') × Formed f × FormedAll fs q'
 
 -- a tree that may stand at this root: 'Module depth is 1, the deepest 64'
 abbrev pub Within : Set → Field → Type 0
-Within root f = (holdsAt root (tag_of f) ≡ true) × Formed f × (depth f ≤ 64)
+Within root f = (holds_at root (tag_of f) ≡ true) × Formed f × (depth f ≤ 64)

@@ -1,8 +1,8 @@
 // Where a field ends, and where its fixed bytes end: what every walk over the bytes goes by.
 ghost use Rattle.std.specs.Prelude.{◌≡◌, ◌+◌, ◌≤◌, ◌<◌, length};
 ghost use Rattle.tree.specs.Runs.{Answers};
-ghost use Rattle.tree.specs.Width.{valueWidth, width_at, widthRows};
-ghost use Rattle.tree.specs.Access.{value_at, choice_of, kind_at, key_at, piece_at, fixed_at, extentAt};
+ghost use Rattle.tree.specs.Width.{value_width, width_at, width_rows};
+ghost use Rattle.tree.specs.Access.{value_at, choice_of, kind_at, key_at, piece_at, fixed_at, extent_at};
 
 use crate::grammar::{Piece, Value, nibble_of, pieces_of};
 use crate::layout::{ATOM, ID, LITERAL, Reach, skip, wide};
@@ -16,7 +16,7 @@ pub enum Choice {
 
 // How many bytes a value takes.
 fn value_width(v: Value) -> usize
-    ensures { result ≡ valueWidth v }
+    ensures { result ≡ value_width v }
 {
     match v {
         Value::Empty => 0,
@@ -112,7 +112,7 @@ fn piece_end(s: &[u8], p: Piece, at: usize, stop: usize) -> Reach
 
 // How many fixed bytes each of sixteen tags has, four bits for a tag, the first one lowest; 9 where a kind byte chooses.
 fn widths(row: u8) -> u64
-    ensures { Answers widthRows row result }
+    ensures { Answers width_rows row result }
 {
     match row {
         1 => 0x696,
@@ -180,7 +180,7 @@ pub fn fixed(s: &[u8], tag: u8, at: usize, stop: usize) -> Reach
 // Where the field at `at` ends, if it is whole inside `end`: the next one starts there.
 pub fn extent(s: &[u8], at: usize, end: usize) -> Reach
     requires { (at ≤ end) × (end ≤ length s.now) }
-    ensures { result ≡ extentAt s.now at end }
+    ensures { result ≡ extent_at s.now at end }
 {
     if 3 <= end - at {
         let n = wide(s[at + 1]) * 256 + wide(s[at + 2]);

@@ -1,10 +1,10 @@
 // The grammar of document 01, section 'Tree': which fixed bytes and which parts a tag has.
 ghost use Rattle.std.specs.Prelude.{◌≡◌, ◌-◌, ◌≤◌, ◌<◌};
-ghost use Rattle.tree.specs.Packed.{unpackRule, unpackStep, setNumbers, lowEntries, highEntries, entry_at, setsAt};
-ghost use Rattle.tree.specs.Grammar.{find, stepAt, doneAt, ruleOf, pieces_of};
+ghost use Rattle.tree.specs.Packed.{unpack_rule, unpack_step, set_numbers, low_entries, high_entries, entry_at, sets_at};
+ghost use Rattle.tree.specs.Grammar.{find, step_at, done_at, rule_of, pieces_of};
 ghost use Rattle.tree.specs.declared.grammar.Set.TheVariants.{Module};
-ghost use Rattle.tree.specs.Runs.{Answers, nibbleIn};
-ghost use Rattle.tree.specs.PackedPieces.{fixedRows, firstPieces, secondPieces, pieceNumber};
+ghost use Rattle.tree.specs.Runs.{Answers, nibble_in};
+ghost use Rattle.tree.specs.PackedPieces.{fixed_rows, first_pieces, second_pieces, piece_number};
 
 use crate::grammar::Piece::*;
 use crate::grammar::Value::*;
@@ -108,7 +108,7 @@ pub struct Pieces {
 
 // The number of a tag in a row of sixteen, four bits for each, the first one lowest.
 pub fn nibble_of(row: u64, tag: u8) -> u8
-    ensures { result ≡ nibbleIn row tag }
+    ensures { result ≡ nibble_in row tag }
 {
     let column = tag % 16;
     ((row >> (4 * column)) % 16) as u8
@@ -116,7 +116,7 @@ pub fn nibble_of(row: u64, tag: u8) -> u8
 
 // What fixed bytes sixteen tags have, as numbers.
 fn fixed_row(row: u8) -> u64
-    ensures { Answers fixedRows row result }
+    ensures { Answers fixed_rows row result }
 {
     match row {
         1 => 0x353,
@@ -132,7 +132,7 @@ fn fixed_row(row: u8) -> u64
 }
 
 fn first_piece(n: u8) -> Piece
-    ensures { Answers firstPieces n (pieceNumber result) }
+    ensures { Answers first_pieces n (piece_number result) }
 {
     match n {
         1 => Plain(Byte),
@@ -150,7 +150,7 @@ fn first_piece(n: u8) -> Piece
 }
 
 fn second_piece(n: u8) -> Piece
-    ensures { Answers secondPieces n (pieceNumber result) }
+    ensures { Answers second_pieces n (piece_number result) }
 {
     match n {
         9 => Outside,
@@ -178,7 +178,7 @@ pub enum PackedStep {
 }
 
 // What the grammar says of a tag: a bit for each set that it is in, and above these 32 bits its packed rule. The bits from 25 on, which
-// are of no set, go with those of the first set, as in `unpackSet`.
+// are of no set, go with those of the first set, as in `unpack_set`.
 fn entry_of(tag: u8) -> u64
     ensures { result ≡ entry_at tag }
 {
@@ -191,7 +191,7 @@ fn entry_of(tag: u8) -> u64
 
 // Tags below 80.
 fn low_entry(tag: u8) -> u64
-    ensures { Answers lowEntries tag result }
+    ensures { Answers low_entries tag result }
 {
     match tag {
         0x01 => 0x61FE000001,
@@ -253,7 +253,7 @@ fn low_entry(tag: u8) -> u64
 
 // Tags from 80 on. Apart, so that either table is dense.
 fn high_entry(tag: u8) -> u64
-    ensures { Answers highEntries tag result }
+    ensures { Answers high_entries tag result }
 {
     match tag {
         0x80 => 0x6200200000,
@@ -266,21 +266,21 @@ fn high_entry(tag: u8) -> u64
 
 // The sets that a tag is in, a bit for each.
 fn sets_of(tag: u8) -> u32
-    ensures { result ≡ setsAt tag }
+    ensures { result ≡ sets_at tag }
 {
     (entry_of(tag) % 4294967296) as u32
 }
 
 // The rule of a tag's parts.
 pub fn rule_of(tag: u8) -> u32
-    ensures { unpackRule result ≡ ruleOf tag }
+    ensures { unpack_rule result ≡ rule_of tag }
 {
     (entry_of(tag) / 4294967296) as u32
 }
 
 // What the rule says to the tag: its slots are asked in turn.
 pub fn step_by(whole: u32, tag: u8) -> PackedStep
-    ensures { unpackStep result ≡ stepAt (unpackRule whole) tag }
+    ensures { unpack_step result ≡ step_at (unpack_rule whole) tag }
 {
     let sets = sets_of(tag);
     let mut rule = whole;
@@ -306,7 +306,7 @@ pub fn step_by(whole: u32, tag: u8) -> PackedStep
 
 // Nothing is lacking.
 pub fn done(whole: u32) -> bool
-    ensures { result ≡ doneAt (unpackRule whole) }
+    ensures { result ≡ done_at (unpack_rule whole) }
 {
     let mut rule = whole;
     while rule != 0 {
@@ -325,7 +325,7 @@ pub fn done(whole: u32) -> bool
 
 // The rule of one field of a set.
 pub fn root_rule(set: Set) -> u32
-    ensures { (set ≡ find (result - 32) setNumbers Module) × (32 ≤ result) × (result < 64) }
+    ensures { (set ≡ find (result - 32) set_numbers Module) × (32 ≤ result) × (result < 64) }
 {
     match set {
         Set::Module => 32,

@@ -1,7 +1,7 @@
 // Atoms, contexts, ids and literals in bytes: where they end, their numbers, and whether two are equal.
 ghost use Rattle.std.specs.Prelude.{◌≡◌, ◌+◌, ◌≤◌, length};
 ghost use Rattle.std.proofs.Math.Seq.{slice};
-ghost use Rattle.tree.specs.Layout.{skipAt, twoAt, fourAt, same, literalWidth, literalValue};
+ghost use Rattle.tree.specs.Layout.{skip_at, two_at, four_at, same, literal_width, literal_value};
 
 // How far something reaches: up to a place, or past the bytes that there are.
 #[derive(Drop)]
@@ -26,7 +26,7 @@ pub fn wide(x: u8) -> usize
 // n bytes from `at`, inside stop.
 pub fn skip(at: usize, n: usize, stop: usize) -> Reach
     requires { at ≤ stop }
-    ensures { result ≡ skipAt at n stop }
+    ensures { result ≡ skip_at at n stop }
 {
     if n <= stop - at {
         Reach::Upto(at + n)
@@ -38,15 +38,15 @@ pub fn skip(at: usize, n: usize, stop: usize) -> Reach
 // The atom at `at`, as a number.
 pub fn atom_at(s: &[u8], at: usize) -> u16
     requires { at + 2 ≤ length s.now }
-    ensures { result ≡ twoAt s.now at }
+    ensures { result ≡ two_at s.now at }
 {
     (s[at] as u16) * 256 + (s[at + 1] as u16)
 }
 
 // The value of the literal at `at`, as a number.
 pub fn literal_value(s: &[u8], at: usize) -> u16
-    requires { at + literalWidth ≤ length s.now }
-    ensures { result ≡ literalValue s.now at }
+    requires { at + literal_width ≤ length s.now }
+    ensures { result ≡ literal_value s.now at }
 {
     atom_at(s, at)
 }
@@ -54,7 +54,7 @@ pub fn literal_value(s: &[u8], at: usize) -> u16
 // The context at `at`, as a number.
 pub fn context_at(s: &[u8], at: usize) -> u32
     requires { at + 4 ≤ length s.now }
-    ensures { result ≡ fourAt s.now at }
+    ensures { result ≡ four_at s.now at }
 {
     (atom_at(s, at) as u32) * 65536 + (atom_at(s, at + 2) as u32)
 }

@@ -1,4 +1,6 @@
 // The byte form of a module: its grammar, reading it, and access to its fields.
+#![tactic(auto)]
+
 pub mod layout; // atoms, contexts, ids and literals in bytes
 pub mod grammar; // which fixed bytes and which parts a tag has
 pub mod access; // where a field and its fixed bytes end

@@ -1,7 +1,7 @@
 // Reading bytes by the grammar: whether they are one tree, or why not and where.
 ghost use Rattle.std.specs.Prelude.{◌≡◌, ◌+◌, ◌≤◌, length};
-ghost use Rattle.tree.specs.Read.{headAt, childrenAt, contentAt, verdict, read};
-ghost use Rattle.tree.specs.Packed.{unpackRule, unpackHead};
+ghost use Rattle.tree.specs.Read.{head_at, children_at, content_at, verdict, read};
+ghost use Rattle.tree.specs.Packed.{unpack_rule, unpack_head};
 
 use crate::access::{extent, fixed};
 use crate::grammar::{PackedStep, Rule, Set, done, root_rule, rule_of, step_by};
@@ -52,7 +52,7 @@ pub enum PackedHead {
 // Tag, length, and depth are tested in this order.
 fn head_of(s: &[u8], at: usize, end: usize, depth: usize, rule: u32) -> PackedHead
     requires { (at ≤ end) × (end ≤ length s.now) }
-    ensures { unpackHead result ≡ headAt s.now at end depth (unpackRule rule) }
+    ensures { unpack_head result ≡ head_at s.now at end depth (unpack_rule rule) }
 {
     if at == end {
         return if done(rule) {
@@ -78,7 +78,7 @@ fn head_of(s: &[u8], at: usize, end: usize, depth: usize, rule: u32) -> PackedHe
 #[cycle(children_content)]
 fn content(s: &[u8], at: usize, stop: usize, depth: usize) -> Verdict
     requires { (at + 3 ≤ stop) × (stop ≤ length s.now) × (depth ≤ 64) }
-    ensures { result ≡ verdict (contentAt s.now at stop depth) }
+    ensures { result ≡ verdict (content_at s.now at stop depth) }
 {
     let tag = s[at];
     let Reach::Upto(from) = fixed(s, tag, at + 3, stop) else {
@@ -99,7 +99,7 @@ fn content(s: &[u8], at: usize, stop: usize, depth: usize) -> Verdict
 #[cycle(children_content)]
 fn children(s: &[u8], from: usize, end: usize, depth: usize, whole: u32, place: usize) -> Verdict
     requires { (from ≤ end) × (end ≤ length s.now) × (depth ≤ 64) }
-    ensures { result ≡ verdict (childrenAt s.now from end depth (unpackRule whole) place) }
+    ensures { result ≡ verdict (children_at s.now from end depth (unpack_rule whole) place) }
 {
     let mut at = from;
     let mut rule = whole;

@@ -9,11 +9,11 @@ use lib.ListN.{length, get_or, drop, replicate}
 use lib.Seq.{sets, sets-eq}
 use borrow.Author.Tests.{eq-eqb, ne_eqb}
 use Rattle.scope.specs.Modules.{Modules}
-use Rattle.scope.specs.ScopeValue.{modulesIn, module_by}
-use Rattle.writer.specs.Bytes.{twoBytes}
+use Rattle.scope.specs.ScopeValue.{modules_in, module_by}
+use Rattle.writer.specs.Bytes.{two_bytes}
 use Rattle.writer.specs.Wrote.{Wrote}
 use Rattle.writer.proofs.Wrote.{wrote_none, wrote_then, wrote_as}
-use Rattle.tychodrel.specs.Answer.{bit, marksOf, modulesBytes, listed, scopeBytes}
+use Rattle.tychodrel.specs.Answer.{bit, marks_of, modules_bytes, listed, scope_bytes}
 
 -- ---- A number's bits
 
@@ -30,7 +30,7 @@ zero_one (suc k) h = inr (omega arith)
 bit_is : (k : ℕ) → bit (eqb (k % 2) 1) ≡ k % 2
 bit_is k = ⊎_elim (bit-zero k) (bit-one k) (zero_one (k % 2) (omega arith))
 
-marks-are : (f m : ℕ) → marksOf (module_by f m) ≡ m % 16
+marks-are : (f m : ℕ) → marks_of (module_by f m) ≡ m % 16
 marks-are f m =
     let a = bit_is m in
     let b = bit_is (m / 2) in
@@ -44,42 +44,42 @@ marks-are f m =
 -- ---- Modules in cells
 
 pub cells-more : (t : List ℕ) (n i : ℕ) → i < n →
-    (twoBytes (get_or t (2 * i) 0 % 65536) ++ (get_or t (2 * i + 1) 0 % 16 ∷ [])) ++ modulesBytes (modulesIn (n - (i + 1)) (2 * (i + 1)) t)
-    ≡ modulesBytes (modulesIn (n - i) (2 * i) t)
-unfolding modulesIn modulesBytes
+    (two_bytes (get_or t (2 * i) 0 % 65536) ++ (get_or t (2 * i + 1) 0 % 16 ∷ [])) ++ modules_bytes (modules_in (n - (i + 1)) (2 * (i + 1)) t)
+    ≡ modules_bytes (modules_in (n - i) (2 * i) t)
+unfolding modules_in modules_bytes
 cells-more t n i h =
     let e : n - i ≡ suc (n - (i + 1)) = omega arith in
     let f : 2 * (i + 1) ≡ 2 * i + 2 = omega arith in
     rw (e, f, marks-are (get_or t (2 * i) 0) (get_or t (2 * i + 1) 0))
 
-pub cells-end : (t : List ℕ) (n i : ℕ) → n ≤ i → [] ≡ modulesBytes (modulesIn (n - i) (2 * i) t)
-unfolding modulesIn modulesBytes
+pub cells-end : (t : List ℕ) (n i : ℕ) → n ≤ i → [] ≡ modules_bytes (modules_in (n - i) (2 * i) t)
+unfolding modules_in modules_bytes
 cells-end t n i h =
     let e : n - i ≡ 0 = omega arith in
     rw e
 
 -- a module is written, and then those behind it
 pub module-written : (t : List ℕ) (n i : ℕ) {a b : ℕ} {l m k z : List ℕ} {o p q r : ℕ} → i < n → a ≡ get_or t (2 * i) 0 % 65536 → b ≡ get_or t (2 * i + 1) 0 % 16 →
-    Wrote l o (twoBytes a) m p → Wrote m p (b ∷ []) k q → Wrote k q (modulesBytes (modulesIn (n - (i + 1)) (2 * (i + 1)) t)) z r →
-    Wrote l o (modulesBytes (modulesIn (n - i) (2 * i) t)) z r
+    Wrote l o (two_bytes a) m p → Wrote m p (b ∷ []) k q → Wrote k q (modules_bytes (modules_in (n - (i + 1)) (2 * (i + 1)) t)) z r →
+    Wrote l o (modules_bytes (modules_in (n - i) (2 * i) t)) z r
 module-written t n i {a} {b} h e f x y w =
     wrote_as (wrote_then (wrote_then x y) w)
-    (ap (λ (v : ℕ). (twoBytes v ++ (b ∷ [])) ++ modulesBytes (modulesIn (n - (i + 1)) (2 * (i + 1)) t)) e
-    ∙ ap (λ (v : ℕ). (twoBytes (get_or t (2 * i) 0 % 65536) ++ (v ∷ [])) ++ modulesBytes (modulesIn (n - (i + 1)) (2 * (i + 1)) t)) f
+    (ap (λ (v : ℕ). (two_bytes v ++ (b ∷ [])) ++ modules_bytes (modules_in (n - (i + 1)) (2 * (i + 1)) t)) e
+    ∙ ap (λ (v : ℕ). (two_bytes (get_or t (2 * i) 0 % 65536) ++ (v ∷ [])) ++ modules_bytes (modules_in (n - (i + 1)) (2 * (i + 1)) t)) f
     ∙ cells-more t n i h)
 
-pub all_left : (t : List ℕ) (n : ℕ) {l m : List ℕ} {o p : ℕ} → Wrote l o (modulesBytes (modulesIn (n - 0) 0 t)) m p → Wrote l o (modulesBytes (modulesIn n 0 t)) m p
+pub all_left : (t : List ℕ) (n : ℕ) {l m : List ℕ} {o p : ℕ} → Wrote l o (modules_bytes (modules_in (n - 0) 0 t)) m p → Wrote l o (modules_bytes (modules_in n 0 t)) m p
 all_left t n w =
     let e : n - 0 ≡ n = omega arith in
-    wrote_as w (ap (λ (k : ℕ). modulesBytes (modulesIn k 0 t)) e)
+    wrote_as w (ap (λ (k : ℕ). modules_bytes (modules_in k 0 t)) e)
 
-pub none_left : (t : List ℕ) (n i : ℕ) {l : List ℕ} {o : ℕ} → n ≤ i → Wrote l o (modulesBytes (modulesIn (n - i) (2 * i) t)) l o
+pub none_left : (t : List ℕ) (n i : ℕ) {l : List ℕ} {o : ℕ} → n ≤ i → Wrote l o (modules_bytes (modules_in (n - i) (2 * i) t)) l o
 none_left t n i h = wrote_as wrote_none (cells-end t n i h)
 
 -- ---- The 770 bytes
 
-modules-size : (ms : Modules) → length (modulesBytes ms) ≡ 3 * length ms
-unfolding modulesBytes
+modules-size : (ms : Modules) → length (modules_bytes ms) ≡ 3 * length ms
+unfolding modules_bytes
 modules-size [] = refl
 modules-size (m ∷ ms) =
     let e = modules-size ms in
@@ -110,11 +110,11 @@ zeros-behind bs h =
     ∙ ap (λ (l : List ℕ). bs ++ l) (drop-zeros (length bs) 770)
 
 pub scope-written : {b c : List ℕ} {n o p : ℕ} (ms ns : Modules) → n ≡ length ms → n ≤ 256 → ns ≡ ms →
-    Wrote (replicate 770 0) 0 (twoBytes n) b o → Wrote b o (modulesBytes ns) c p → c ≡ scopeBytes ms
-unfolding listed scopeBytes
+    Wrote (replicate 770 0) 0 (two_bytes n) b o → Wrote b o (modules_bytes ns) c p → c ≡ scope_bytes ms
+unfolding listed scope_bytes
 scope-written {b} {c} {n} {o} {p} ms ns e h f x y =
     let w : Wrote (replicate 770 0) 0 (listed ms) c p =
-    wrote_as (wrote_then x y) (ap (λ (k : ℕ). twoBytes k ++ modulesBytes ns) e ∙ ap (λ (k : Modules). twoBytes (length ms) ++ modulesBytes k) f)
+    wrote_as (wrote_then x y) (ap (λ (k : ℕ). two_bytes k ++ modules_bytes ns) e ∙ ap (λ (k : Modules). two_bytes (length ms) ++ modules_bytes k) f)
     in
     let g = listed-size ms in
     w.bytes (omega arith) ∙ zeros-behind (listed ms) (omega arith)

@@ -3,46 +3,46 @@
 use Rattle.std.specs.Prelude.{ℕ, ◌≤◌, ◌≡◌, List, [], replicate}
 use Rattle.std.proofs.Math.Option.{Option, none, some}
 use Rattle.report.specs.declared.Report.{Report}
-use Rattle.report.specs.Counts.{noCounts}
-use Rattle.scope.specs.Modules.{Modules, Refusal, filesIn, requestAll}
+use Rattle.report.specs.Counts.{no_counts}
+use Rattle.scope.specs.Modules.{Modules, Refusal, files_in, request_all}
 use Rattle.extraction_rules.specs.Call.{Lent as Extracting, Lengths, Left as Extraction, extraction}
 use Rattle.resolving_rules.specs.Call.{Lent as Resolving, Left as Resolution, resolving}
-use Rattle.tychodrel.specs.Answer.{packedIn, scopeBytes, reportBytes}
+use Rattle.tychodrel.specs.Answer.{packed_in, scope_bytes, report_bytes}
 
 -- ---- The files
 
 -- after their request: refused or not, and the modules that were given
-abbrev pub onFiles : {A : Type 0} → Refusal → Modules → (Modules → A) → (ℕ × ℕ → Modules → A) → A
-onFiles none ms go stop = go ms
-onFiles (some r) ms go stop = stop r ms
+abbrev pub on_files : {A : Type 0} → Refusal → Modules → (Modules → A) → (ℕ × ℕ → Modules → A) → A
+on_files none ms go stop = go ms
+on_files (some r) ms go stop = stop r ms
 
 -- what a call gives in a fresh scope with these files
-unfoldable pub withFiles : {A : Type 0} → List ℕ → (Modules → A) → (ℕ × ℕ → Modules → A) → A
-withFiles files go stop =
-    let r = requestAll (filesIn files) [] in
-    onFiles r.refusal r.modules go stop
+unfoldable pub with_files : {A : Type 0} → List ℕ → (Modules → A) → (ℕ × ℕ → Modules → A) → A
+with_files files go stop =
+    let r = request_all (files_in files) [] in
+    on_files r.refusal r.modules go stop
 
 -- ---- The calls; where the files are refused, 'buffers all zero', and the scope has those that were given
 
-abbrev pub extractNone : Lengths → ℕ × ℕ → Modules → Extraction
-extractNone room r ms =
+abbrev pub extract_none : Lengths → ℕ × ℕ → Modules → Extraction
+extract_none room r ms =
     record {
       refusal = some r;
       modules = ms;
-      report = noCounts;
+      report = no_counts;
       work = replicate room.work 0;
       out = replicate room.out 0;
       records = replicate room.records 0;
     }
 
-abbrev pub extractCall : List ℕ → Extracting → Lengths → Extraction
-extractCall files l room = withFiles files (extraction l room) (extractNone room)
+abbrev pub extract_call : List ℕ → Extracting → Lengths → Extraction
+extract_call files l room = with_files files (extraction l room) (extract_none room)
 
-abbrev pub resolveNone : ℕ → ℕ × ℕ → Modules → Resolution
-resolveNone room r ms = record { refusal = some r; modules = ms; report = noCounts; list = replicate room 0 }
+abbrev pub resolve_none : ℕ → ℕ × ℕ → Modules → Resolution
+resolve_none room r ms = record { refusal = some r; modules = ms; report = no_counts; list = replicate room 0 }
 
-abbrev pub resolveCall : List ℕ → Resolving → ℕ → Resolution
-resolveCall files l room = withFiles files (resolving l room) (resolveNone room)
+abbrev pub resolve_call : List ℕ → Resolving → ℕ → Resolution
+resolve_call files l room = with_files files (resolving l room) (resolve_none room)
 
 -- ---- What they leave
 
@@ -53,10 +53,10 @@ Numbered (some r) = 1 ≤ r.0
 
 -- a call answers a, and leaves s in the array for the scope and b in that for the report
 pub record Tells (refusal : Option (ℕ × ℕ)) (ms : Modules) (counts : Report) (a : ℕ) (s b : List ℕ) : Type 0 where
-  pub answer : a ≡ packedIn refusal
+  pub answer : a ≡ packed_in refusal
   pub numbered : Numbered refusal
-  pub scope : s ≡ scopeBytes ms
-  pub report : b ≡ reportBytes counts
+  pub scope : s ≡ scope_bytes ms
+  pub report : b ≡ report_bytes counts
 
 -- and w, o, r in the buffers of an extraction
 pub record Leaves (l : Extraction) (a : ℕ) (s b w o r : List ℕ) : Type 0 where

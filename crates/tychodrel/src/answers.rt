@@ -1,11 +1,11 @@
 // Answers as one number: the refusal's number times 2^32 plus its place, 0 where there is none.
 ghost use Rattle.std.specs.Prelude.{◌≡◌};
-ghost use Rattle.tree.specs.Read.{refusalOf};
-ghost use Rattle.steps.specs.Refusal.{refusalOf as walkRefusal};
-ghost use Rattle.extraction.specs.Answer.{answerRefusal as extractRefusal};
-ghost use Rattle.resolving.specs.Answer.{whyNumber};
-ghost use Rattle.resolving.specs.Answer.{answerRefusal as resolveRefusal};
-ghost use Rattle.tychodrel.specs.Answer.{packed, packedIn, encodeAnswerOf};
+ghost use Rattle.tree.specs.Read.{refusal_of};
+ghost use Rattle.steps.specs.Refusal.{refusal_of as walk_refusal};
+ghost use Rattle.extraction.specs.Answer.{answer_refusal as extract_refusal};
+ghost use Rattle.resolving.specs.Answer.{why_number};
+ghost use Rattle.resolving.specs.Answer.{answer_refusal as resolve_refusal};
+ghost use Rattle.tychodrel.specs.Answer.{packed, packed_in, encode_answer_of};
 
 use extraction::ExtractAnswer;
 use metadata::Encoded;
@@ -20,7 +20,7 @@ pub fn pack(number: u8, place: usize) -> u64
 
 // Document 01's number of a refusal by reading.
 pub fn number_of(why: Why) -> u8
-    ensures { result ≡ refusalOf why }
+    ensures { result ≡ refusal_of why }
 {
     match why {
         Why::Misplaced => 3,
@@ -31,7 +31,7 @@ pub fn number_of(why: Why) -> u8
 }
 
 pub fn encoded_answer(r: Encoded) -> u64
-    ensures { result ≡ encodeAnswerOf r }
+    ensures { result ≡ encode_answer_of r }
 {
     match r {
         Encoded::Done(_) => 0,
@@ -42,7 +42,7 @@ pub fn encoded_answer(r: Encoded) -> u64
 
 // Document 01's number of a refusal by the walk.
 fn walk_number(why: steps::Why) -> u8
-    ensures { result ≡ walkRefusal why }
+    ensures { result ≡ walk_refusal why }
 {
     match why {
         steps::Why::TooManyFiles => 5,
@@ -53,7 +53,7 @@ fn walk_number(why: steps::Why) -> u8
 }
 
 pub fn extract_answer(r: ExtractAnswer) -> u64
-    ensures { result ≡ packedIn (extractRefusal r) }
+    ensures { result ≡ packed_in (extract_refusal r) }
 {
     match r {
         ExtractAnswer::Extracted => 0,
@@ -67,7 +67,7 @@ pub fn extract_answer(r: ExtractAnswer) -> u64
 
 // Document 01's number of a refusal of the resolved list.
 fn list_number(why: resolving::specifiers::Why) -> u8
-    ensures { result ≡ whyNumber why }
+    ensures { result ≡ why_number why }
 {
     match why {
         resolving::specifiers::Why::Unresolved => 11,
@@ -76,7 +76,7 @@ fn list_number(why: resolving::specifiers::Why) -> u8
 }
 
 pub fn resolve_answer(r: ResolveAnswer) -> u64
-    ensures { result ≡ packedIn (resolveRefusal r) }
+    ensures { result ≡ packed_in (resolve_refusal r) }
 {
     match r {
         ResolveAnswer::Listed => 0,

@@ -1,5 +1,7 @@
 // The calls of the library for C and Rust: numbers and byte slices in, numbers and bytes out, nothing asked of the caller.
 // An answer is the refusal's number times 2^32 plus its place; a zero upper half is acceptance.
+#![tactic(auto)]
+
 mod answers; // answers as one number
 mod counts; // a report as bytes
 mod listing; // a scope as bytes
@@ -7,18 +9,18 @@ mod listing; // a scope as bytes
 ghost use Rattle.std.specs.Prelude.{◌≡◌, [], length};
 ghost use Rattle.std.proofs.Math.Option.{some};
 ghost use Rattle.detection.specs.Detection.{detect};
-ghost use Rattle.metadata.specs.MetadataValue.{metadataOf};
-ghost use Rattle.metadata.specs.Calls.{decodeCall, encodeAnswer, encodeOut};
-ghost use Rattle.modes.specs.Bits.{modesOf};
-ghost use Rattle.report.specs.Counts.{noCounts};
-ghost use Rattle.scope.specs.Modules.{too-many-files, filesIn, requestAll};
-ghost use Rattle.scope.specs.ScopeValue.{modulesOf, requested};
+ghost use Rattle.metadata.specs.MetadataValue.{metadata_of};
+ghost use Rattle.metadata.specs.Calls.{decode_call, encode_answer, encode_out};
+ghost use Rattle.modes.specs.Bits.{modes_of};
+ghost use Rattle.report.specs.Counts.{no_counts};
+ghost use Rattle.scope.specs.Modules.{too-many-files, files_in, request_all};
+ghost use Rattle.scope.specs.ScopeValue.{modules_of, requested};
 ghost use Rattle.extraction_rules.specs.Call.{extraction};
-ghost use Rattle.extraction.specs.Answer.{lent_as, roomIn};
+ghost use Rattle.extraction.specs.Answer.{lent_as, room_in};
 ghost use Rattle.resolving_rules.specs.Call.{resolving};
-ghost use Rattle.resolving.specs.Answer.{lent_as as recordsAs};
-ghost use Rattle.tychodrel.specs.Answer.{bit, detectAnswer, encodeAnswerOf, decodeAnswerOf, bytes_of, metadataBytes, metadataGiven};
-ghost use Rattle.tychodrel.specs.Calls.{extractCall, resolveCall, Tells, Leaves, LeavesList};
+ghost use Rattle.resolving.specs.Answer.{lent_as as records_as};
+ghost use Rattle.tychodrel.specs.Answer.{bit, detect_answer, encode_answer_of, decode_answer_of, bytes_of, metadata_bytes, metadata_given};
+ghost use Rattle.tychodrel.specs.Calls.{extract_call, resolve_call, Tells, Leaves, LeavesList};
 
 use answers::{encoded_answer, extract_answer, number_of, pack, resolve_answer};
 use counts::report_bytes;
@@ -41,7 +43,7 @@ fn bit_of(on: bool) -> u8
 // Whether a module is an ES module: 1 or 0.
 #[unsafe(no_mangle)]
 pub extern "C" fn tychodrel_detect(modes: u32, tree: &[u8]) -> u64
-    ensures { result ≡ detectAnswer (detect (modesOf modes) tree.now) }
+    ensures { result ≡ detect_answer (detect (modes_of modes) tree.now) }
 {
     match is_es6(modes_of(modes), tree) {
         DetectAnswer::Es6(es6) => bit_of(es6) as u64,
@@ -51,7 +53,7 @@ pub extern "C" fn tychodrel_detect(modes: u32, tree: &[u8]) -> u64
 }
 
 fn metadata_given(injected: bool, has_context: bool, context: u32) -> ExportMetadata
-    ensures { metadataOf result ≡ metadataGiven injected has_context context }
+    ensures { metadata_of result ≡ metadata_given injected has_context context }
 {
     if has_context {
         ExportMetadata {
@@ -75,15 +77,15 @@ pub extern "C" fn tychodrel_encode_metadata(
     attributes: &[u8],
     out: &mut [u8],
 ) -> u64
-    ensures { (result ≡ encodeAnswerOf (encodeAnswer (metadataGiven injected has_context context) attributes.now (length out.old)))
-        × (out.new ≡ encodeOut (metadataGiven injected has_context context) attributes.now (length out.old)) }
+    ensures { (result ≡ encode_answer_of (encode_answer (metadata_given injected has_context context) attributes.now (length out.old)))
+        × (out.new ≡ encode_out (metadata_given injected has_context context) attributes.now (length out.old)) }
 {
     let m = metadata_given(injected, has_context, context);
     encoded_answer(m.encode(attributes, out))
 }
 
 fn bytes_of(m: ExportMetadata) -> [u8; 6]
-    ensures { result ≡ bytes_of (metadataOf m) }
+    ensures { result ≡ bytes_of (metadata_of m) }
 {
     let i = bit_of(m.injected);
     let ctxt = m.export_ctxt;
@@ -106,7 +108,7 @@ fn bytes_of(m: ExportMetadata) -> [u8; 6]
 // The metadata in lent attributes: whether it is injected, whether there is a context, and the context in four bytes.
 #[unsafe(no_mangle)]
 pub extern "C" fn tychodrel_decode_metadata(attributes: &[u8], metadata: &mut [u8; 6]) -> u64
-    ensures { (result ≡ decodeAnswerOf (decodeCall attributes.now)) × (metadata.new ≡ metadataBytes (decodeCall attributes.now)) }
+    ensures { (result ≡ decode_answer_of (decode_call attributes.now)) × (metadata.new ≡ metadata_bytes (decode_call attributes.now)) }
 {
     match ExportMetadata::decode(attributes) {
         Decoded::Done(m) => {
@@ -122,14 +124,14 @@ pub extern "C" fn tychodrel_decode_metadata(attributes: &[u8], metadata: &mut [u
 
 // The files, requested in a fresh scope.
 fn request_files(files: &[u8]) -> Requested
-    ensures { requested result ≡ requestAll (filesIn files.now) [] }
+    ensures { requested result ≡ request_all (files_in files.now) [] }
 {
     Scope::new().gen_ids(files)
 }
 
 // A 257th file among those that are lent.
 fn refuse_files(entry: Scope, scope: &mut [u8; 770], report: &mut [u8; 32]) -> u64
-    ensures { Tells (some too-many-files) (modulesOf entry) noCounts result scope.new report.new }
+    ensures { Tells (some too-many-files) (modules_of entry) no_counts result scope.new report.new }
 {
     *scope = scope_bytes(entry);
     *report = report_bytes(no_counts());
@@ -153,8 +155,8 @@ pub extern "C" fn tychodrel_extract(
     records: &mut [u8],
 ) -> u64
     ensures { Leaves
-        (extractCall files.now (lent_as file (modesOf modes) externals.now table.now tree.now)
-        (roomIn work.old out.old records.old)) result scope.new report.new work.new out.new
+        (extract_call files.now (lent_as file (modes_of modes) externals.now table.now tree.now)
+        (room_in work.old out.old records.old)) result scope.new report.new work.new out.new
         records.new }
 {
     let requested = request_files(files);
@@ -198,8 +200,8 @@ fn extract_in(
     records: &mut [u8],
 ) -> u64
     ensures { Leaves
-        (extraction (lent_as file.0 (modesOf modes) externals.now table.now tree.now)
-        (roomIn work.old out.old records.old) (modulesOf entry)) result scope.new report.new work.new
+        (extraction (lent_as file.0 (modes_of modes) externals.now table.now tree.now)
+        (room_in work.old out.old records.old) (modules_of entry)) result scope.new report.new work.new
         out.new records.new }
 {
     let r = extract_import_info(
@@ -233,7 +235,7 @@ pub extern "C" fn tychodrel_resolve(
     report: &mut [u8; 32],
     list: &mut [u8],
 ) -> u64
-    ensures { LeavesList (resolveCall files.now (recordsAs (modesOf modes) table.now records.now) (length list.old)) result
+    ensures { LeavesList (resolve_call files.now (records_as (modes_of modes) table.now records.now) (length list.old)) result
         scope.new report.new list.new }
 {
     let requested = request_files(files);
@@ -258,7 +260,7 @@ fn resolve_in(
     report: &mut [u8; 32],
     list: &mut [u8],
 ) -> u64
-    ensures { LeavesList (resolving (recordsAs (modesOf modes) table.now records.now) (length list.old) (modulesOf entry)) result
+    ensures { LeavesList (resolving (records_as (modes_of modes) table.now records.now) (length list.old) (modules_of entry)) result
         scope.new report.new list.new }
 {
     let r = resolve_imports(entry, modes_of(modes), table, records, list);

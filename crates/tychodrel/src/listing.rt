@@ -1,8 +1,8 @@
 // A scope as bytes: the number of modules (2 bytes), then for each its file (2 bytes) and its marks (1 byte), and zeros behind.
 ghost use Rattle.std.specs.Prelude.{◌≡◌, ◌*◌, ◌%◌, ◌≤◌, length};
-ghost use Rattle.scope.specs.ScopeValue.{modulesOf, modulesIn};
+ghost use Rattle.scope.specs.ScopeValue.{modules_of, modules_in};
 ghost use Rattle.writer.specs.Wrote.{Wrote};
-ghost use Rattle.tychodrel.specs.Answer.{modulesBytes, scopeBytes};
+ghost use Rattle.tychodrel.specs.Answer.{modules_bytes, scope_bytes};
 
 use scope::Scope;
 use writer::{put, put_u16};
@@ -24,7 +24,7 @@ fn low_marks(cell: u64) -> u8
 // Writes the n modules that stand in cells, two cells each, from o on.
 fn put_modules(cells: &[u64], n: usize, out: &mut [u8], o: usize) -> usize
     requires { (n ≤ 256) × (2 * n ≤ length cells.now) }
-    ensures { Wrote out.old o (modulesBytes (modulesIn n 0 cells.now)) out.new result }
+    ensures { Wrote out.old o (modules_bytes (modules_in n 0 cells.now)) out.new result }
 {
     let mut to = o;
     let mut i = 0;
@@ -38,7 +38,7 @@ fn put_modules(cells: &[u64], n: usize, out: &mut [u8], o: usize) -> usize
 
 // A scope's bytes. Its modules have 768 at most.
 pub fn scope_bytes(scope: Scope) -> [u8; 770]
-    ensures { result ≡ scopeBytes (modulesOf scope) }
+    ensures { result ≡ scope_bytes (modules_of scope) }
 {
     let mut cells = [0u64; 512];
     let n = scope.to_cells(&mut cells, 0);

@@ -10,65 +10,65 @@ use Rattle.tree.specs.Tree.{Field, field, Fields, none, more, tag_of, fixed_of, 
 use Rattle.inputs.specs.Outcome.{Outcome, done, refused, onto}
 use Rattle.inputs.specs.Fields.{has, inside}
 use Rattle.extraction_rules.specs.State.{Usage, State, Pass, second, Setting}
-use Rattle.extraction_rules.specs.First.{importedAs, onIdent}
-use Rattle.extraction_rules.specs.Second.{usagesOf, asProperty, rewritten}
-use Rattle.extraction_rules.specs.Walk.{afterExpression, walk, walkMember}
+use Rattle.extraction_rules.specs.First.{imported_as, on_ident}
+use Rattle.extraction_rules.specs.Second.{usages_of, as_property, rewritten}
+use Rattle.extraction_rules.specs.Walk.{after_expression, walk, walk_member}
 use Rattle.extraction_rules.proofs.OutcomeLaws.{after-done}
 use Rattle.extraction_rules.proofs.AlikeLaws.{Two, Regular, RegularAll}
-use Rattle.expressions.specs.After.{identOf, asIdent, becomes, identAfter, memberAfter}
+use Rattle.expressions.specs.After.{ident_of, as_ident, becomes, ident_after, member_after}
 use Rattle.expressions.proofs.IdentLaws.{walk-70, as-ident, Became, walk-ident}
 use Rattle.walking.proofs.TagLaws.{around, walk-60, walk-63, second-60}
 use Rattle.scope.proofs.Laws.{none-some}
 
 -- ---- A 63 that is no usage
 
-unwritten : (us : List Usage) (c : Option (List ℕ)) (q f : Field) → identOf (asProperty us c q f) ≡ nothing → asProperty us c q f ≡ f
-unfolding asProperty identOf
+unwritten : (us : List Usage) (c : Option (List ℕ)) (q f : Field) → ident_of (as_property us c q f) ≡ nothing → as_property us c q f ≡ f
+unfolding as_property ident_of
 unwritten [] c q f h = refl
 unwritten (u ∷ us) nothing q f h = refl
 unwritten (u ∷ us) (some c) q f h = go (has 0x70 q) h
   where
-    go : (b : Bool) → identOf (cond b (field 0x60 (fixed_of q ++ c) none) f) ≡ nothing → cond b (field 0x60 (fixed_of q ++ c) none) f ≡ f
+    go : (b : Bool) → ident_of (cond b (field 0x60 (fixed_of q ++ c) none) f) ≡ nothing → cond b (field 0x60 (fixed_of q ++ c) none) f ≡ f
     go true h = none-some (sym h)
     go false h = refl
 
-rewritten-same : (o : Option (Field × Field)) (f : Field) (s : State) → identOf (rewritten o f s) ≡ nothing → rewritten o f s ≡ f
+rewritten-same : (o : Option (Field × Field)) (f : Field) (s : State) → ident_of (rewritten o f s) ≡ nothing → rewritten o f s ≡ f
 unfolding rewritten
 rewritten-same nothing f s h = refl
-rewritten-same (some m) f s h = unwritten (usagesOf (fixed_of m.0) s.usages) (importedAs (fixed_of m.0) s.imported) m.1 f h
+rewritten-same (some m) f s h = unwritten (usages_of (fixed_of m.0) s.usages) (imported_as (fixed_of m.0) s.imported) m.1 f h
 
 second-63 : (e : Setting) (x : List ℕ) (ds : Fields) (object : Bool) (p : ℕ) (s : State) →
-    afterExpression second e (field 0x63 x ds) object p s ≡ done (rewritten (onIdent (field 0x63 x ds)) (field 0x63 x ds) s, s)
-unfolding afterExpression
+    after_expression second e (field 0x63 x ds) object p s ≡ done (rewritten (on_ident (field 0x63 x ds)) (field 0x63 x ds) s, s)
+unfolding after_expression
 second-63 e x ds object p s = refl
 
 module _ (e : Setting) (two : e.pass ≡ second) where
-  pub member-stays : (x : List ℕ) (cs : Fields) (object : Bool) (p : ℕ) (s : State) → Regular (field 0x63 x cs) → identAfter (field 0x63 x cs) second s ≡ nothing →
-      walk (field 0x63 x cs) e object p s ≡ around 0x63 x (walkMember cs e (inside p x)) s
+  pub member-stays : (x : List ℕ) (cs : Fields) (object : Bool) (p : ℕ) (s : State) → Regular (field 0x63 x cs) → ident_after (field 0x63 x cs) second s ≡ nothing →
+      walk (field 0x63 x cs) e object p s ≡ around 0x63 x (walk_member cs e (inside p x)) s
   member-stays x cs object p s w h =
-      walk-63 e x cs object p s ∙ go (walkMember cs e (inside p x) s) (sym (walk-63 e x cs object p s))
+      walk-63 e x cs object p s ∙ go (walk_member cs e (inside p x) s) (sym (walk-63 e x cs object p s))
     where
-      passed : (ds : Fields) (u : State) → afterExpression e.pass e (field 0x63 x ds) object p u ≡ done (rewritten (onIdent (field 0x63 x ds)) (field 0x63 x ds) u, u)
-      passed ds u = ap (λ (k : Pass). afterExpression k e (field 0x63 x ds) object p u) two ∙ second-63 e x ds object p u
+      passed : (ds : Fields) (u : State) → after_expression e.pass e (field 0x63 x ds) object p u ≡ done (rewritten (on_ident (field 0x63 x ds)) (field 0x63 x ds) u, u)
+      passed ds u = ap (λ (k : Pass). after_expression k e (field 0x63 x ds) object p u) two ∙ second-63 e x ds object p u
 
-      go : (m : Outcome (Fields × State)) → onto m (λ r. afterExpression e.pass e (field 0x63 x r.0) object p r.1) ≡ walk (field 0x63 x cs) e object p s →
-          onto m (λ r. afterExpression e.pass e (field 0x63 x r.0) object p r.1) ≡ onto m (λ r. done (field 0x63 x r.0, r.1))
+      go : (m : Outcome (Fields × State)) → onto m (λ r. after_expression e.pass e (field 0x63 x r.0) object p r.1) ≡ walk (field 0x63 x cs) e object p s →
+          onto m (λ r. after_expression e.pass e (field 0x63 x r.0) object p r.1) ≡ onto m (λ r. done (field 0x63 x r.0, r.1))
       go (refused n q) z = refl
       go (done r) z =
           let f = field 0x63 x r.0 in
-          let b = after-done (walk (field 0x63 x cs) e object p s) (Became e (field 0x63 x cs) s) (rewritten (onIdent f) f r.1, r.1)
+          let b = after-done (walk (field 0x63 x cs) e object p s) (Became e (field 0x63 x cs) s) (rewritten (on_ident f) f r.1, r.1)
           (sym z ∙ passed r.0 r.1) (walk-ident e (field 0x63 x cs) object p s w) in
-          let n : identOf (rewritten (onIdent f) f r.1) ≡ nothing = sym b.0 ∙ ap (λ (k : Pass). identAfter (field 0x63 x cs) k s) two ∙ h in
-          passed r.0 r.1 ∙ ap (λ (g : Field). done (g, r.1)) (rewritten-same (onIdent f) f r.1 n)
+          let n : ident_of (rewritten (on_ident f) f r.1) ≡ nothing = sym b.0 ∙ ap (λ (k : Pass). ident_after (field 0x63 x cs) k s) two ∙ h in
+          passed r.0 r.1 ∙ ap (λ (g : Field). done (g, r.1)) (rewritten-same (on_ident f) f r.1 n)
 
   -- ---- A chain that becomes an id
 
   -- what a 63 on the id j becomes
   abbrev As : List ℕ → Field → State → List ℕ → Type 0
-  As j q s i = asIdent (usagesOf j s.usages) (importedAs j s.imported) q ≡ some i
+  As j q s i = as_ident (usages_of j s.usages) (imported_as j s.imported) q ≡ some i
 
-  as-name : (us : List Usage) (c : Option (List ℕ)) (q : Field) (i : List ℕ) → asIdent us c q ≡ some i → tag_of q ≡ 0x70
-  unfolding asIdent
+  as-name : (us : List Usage) (c : Option (List ℕ)) (q : Field) (i : List ℕ) → as_ident us c q ≡ some i → tag_of q ≡ 0x70
+  unfolding as_ident
   as-name [] c q i h = none-some h
   as-name (u ∷ us) nothing q i h = none-some h
   as-name (u ∷ us) (some c) q i h = go (has 0x70 q) refl h
@@ -78,10 +78,10 @@ module _ (e : Setting) (two : e.pass ≡ second) where
       go false k h = none-some h
 
   chain-60 : (x : List ℕ) (j : List ℕ) (q : Field) (s : State) (i : List ℕ) → As j q s i →
-      rewritten (onIdent (field 0x63 x (more (field 0x60 j none) (more q none)))) (field 0x63 x (more (field 0x60 j none) (more q none))) s ≡ field 0x60 i none
-  unfolding onIdent rewritten
+      rewritten (on_ident (field 0x63 x (more (field 0x60 j none) (more q none)))) (field 0x63 x (more (field 0x60 j none) (more q none))) s ≡ field 0x60 i none
+  unfolding on_ident rewritten
   chain-60 x j q s i h =
-      let a = as-ident e (usagesOf j s.usages) (importedAs j s.imported) q (field 0x63 x (more (field 0x60 j none) (more q none))) refl in
+      let a = as-ident e (usages_of j s.usages) (imported_as j s.imported) q (field 0x63 x (more (field 0x60 j none) (more q none))) refl in
       a.1 i (sym a.0 ∙ h)
 
   name-walks : (q : Field) (p : ℕ) (s : State) → Regular q → tag_of q ≡ 0x70 → walk q e false p s ≡ done (q, s)
@@ -91,7 +91,7 @@ module _ (e : Setting) (two : e.pass ≡ second) where
 
   -- the parts of such a 63
   chain-parts : (o q : Field) (j : List ℕ) (p : ℕ) (s : State) → walk o e true p s ≡ done (field 0x60 j none, s) → Regular q → tag_of q ≡ 0x70 →
-      walkMember (more o (more q none)) e p s ≡ done (more (field 0x60 j none) (more q none), s)
+      walk_member (more o (more q none)) e p s ≡ done (more (field 0x60 j none) (more q none), s)
   unfolding walk
   chain-parts o q j p s h w k = rw (h, name-walks q (p + size o) s w k) refl
 
@@ -99,39 +99,39 @@ module _ (e : Setting) (two : e.pass ≡ second) where
       walk (field 0x63 x (more o (more q none))) e object p s ≡ done (field 0x60 i none, s)
   chain-63 x o q object p s j i h w a =
       walk-63 e x (more o (more q none)) object p s
-      ∙ ap (λ (m : Outcome (Fields × State)). onto m (λ r. afterExpression e.pass e (field 0x63 x r.0) object p r.1))
-      (chain-parts o q j (inside p x) s h w (as-name (usagesOf j s.usages) (importedAs j s.imported) q i a))
-      ∙ ap (λ (k : Pass). afterExpression k e (field 0x63 x (more (field 0x60 j none) (more q none))) object p s) two
+      ∙ ap (λ (m : Outcome (Fields × State)). onto m (λ r. after_expression e.pass e (field 0x63 x r.0) object p r.1))
+      (chain-parts o q j (inside p x) s h w (as-name (usages_of j s.usages) (imported_as j s.imported) q i a))
+      ∙ ap (λ (k : Pass). after_expression k e (field 0x63 x (more (field 0x60 j none) (more q none))) object p s) two
       ∙ second-63 e x (more (field 0x60 j none) (more q none)) object p s ∙ ap (λ (g : Field). done (g, s)) (chain-60 x j q s i a)
 
   -- the law of an object
   abbrev ObjectWalks : Fields → Type 0
   ObjectWalks none = Unit {0}
-  ObjectWalks (more o fs) = (p : ℕ) (s : State) (j : List ℕ) → identAfter o second s ≡ some j → walk o e true p s ≡ done (field 0x60 j none, s)
+  ObjectWalks (more o fs) = (p : ℕ) (s : State) (j : List ℕ) → ident_after o second s ≡ some j → walk o e true p s ≡ done (field 0x60 j none, s)
 
-  chain-member : (x : List ℕ) (cs : Fields) (object : Bool) (p : ℕ) (s : State) (i : List ℕ) → Two cs → RegularAll cs → ObjectWalks cs → memberAfter cs second s ≡ some i →
+  chain-member : (x : List ℕ) (cs : Fields) (object : Bool) (p : ℕ) (s : State) (i : List ℕ) → Two cs → RegularAll cs → ObjectWalks cs → member_after cs second s ≡ some i →
       walk (field 0x63 x cs) e object p s ≡ done (field 0x60 i none, s)
-  unfolding identAfter becomes
+  unfolding ident_after becomes
   chain-member x none object p s i m w o h = none-some h
   chain-member x (more c none) object p s i m w o h = none-some h
-  chain-member x (more c (more q qs)) object p s i m w o h = go (identAfter c second s) refl h
+  chain-member x (more c (more q qs)) object p s i m w o h = go (ident_after c second s) refl h
     where
       last : qs ≡ none
       last = cc m.2
 
-      go : (v : Option (List ℕ)) → identAfter c second s ≡ v → becomes second v q s ≡ some i → walk (field 0x63 x (more c (more q qs))) e object p s ≡ done (field 0x60 i none, s)
+      go : (v : Option (List ℕ)) → ident_after c second s ≡ v → becomes second v q s ≡ some i → walk (field 0x63 x (more c (more q qs))) e object p s ≡ done (field 0x60 i none, s)
       go nothing k h = none-some h
       go (some j) k h =
           subst (λ (l : Fields). walk (field 0x63 x (more c (more q l))) e object p s ≡ done (field 0x60 i none, s)) (sym last)
           (chain-63 x c q object p s j i (o (inside p x) s j k) w.1.0 h)
 
   ident-at-once : (t : ℕ) (x : List ℕ) (cs : Fields) (object : Bool) (p : ℕ) (s : State) (i : List ℕ) → Regular (field t x cs) → ObjectWalks cs →
-      identAfter (field t x cs) second s ≡ some i →
+      ident_after (field t x cs) second s ≡ some i →
       walk (field t x cs) e object p s ≡ done (field 0x60 i none, s)
-  unfolding identAfter
+  unfolding ident_after
   ident-at-once t x cs object p s i w o h = go (eqb t 0x63) refl (eqb t 0x60) refl h
     where
-      go : (a : Bool) → eqb t 0x63 ≡ a → (b : Bool) → eqb t 0x60 ≡ b → cond a (memberAfter cs second s) (cond b (some x) nothing) ≡ some i →
+      go : (a : Bool) → eqb t 0x63 ≡ a → (b : Bool) → eqb t 0x60 ≡ b → cond a (member_after cs second s) (cond b (some x) nothing) ≡ some i →
           walk (field t x cs) e object p s ≡ done (field 0x60 i none, s)
       go true k b l h =
           subst (λ (u : ℕ). walk (field u x cs) e object p s ≡ done (field 0x60 i none, s)) (sym (eqb-true t 0x63 k))
@@ -140,11 +140,11 @@ module _ (e : Setting) (two : e.pass ≡ second) where
           let z : field t x cs ≡ field 0x60 x none = cc (eqb-true t 0x60 l, w.0.ident-bare (eqb-true t 0x60 l)) in
           let y : x ≡ i = cc in
           ap (λ (f : Field). walk f e object p s) z ∙ walk-60 e x object p s
-          ∙ ap (λ (k : Pass). afterExpression k e (field 0x60 x none) object p s) two ∙ second-60 e x object p s ∙ ap (λ (v : List ℕ). done (field 0x60 v none, s)) y
+          ∙ ap (λ (k : Pass). after_expression k e (field 0x60 x none) object p s) two ∙ second-60 e x object p s ∙ ap (λ (v : List ℕ). done (field 0x60 v none, s)) y
       go false k false l h = none-some h
 
   mutual
-    pub ident-walks : (f : Field) (object : Bool) (p : ℕ) (s : State) (i : List ℕ) → Regular f → identAfter f second s ≡ some i → walk f e object p s ≡ done (field 0x60 i none, s)
+    pub ident-walks : (f : Field) (object : Bool) (p : ℕ) (s : State) (i : List ℕ) → Regular f → ident_after f second s ≡ some i → walk f e object p s ≡ done (field 0x60 i none, s)
     ident-walks (field t x cs) object p s i w h = ident-at-once t x cs object p s i w (object-walks cs w.1) h
 
     object-walks : (cs : Fields) → RegularAll cs → ObjectWalks cs

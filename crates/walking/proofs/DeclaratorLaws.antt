@@ -15,8 +15,8 @@ use Rattle.tree.specs.declared.layout.Reach.{Reach}
 use Rattle.tree.specs.declared.layout.Reach.TheVariants.{Upto, Short}
 use Rattle.tree.specs.Layout.{Bytes, name_of}
 use Rattle.tree.specs.Tree.{Field, field, Fields, none, more, tag_of, fixed_of, encode, encodes, size}
-use Rattle.tree.specs.Access.{fixed_at, extentAt}
-use Rattle.tree.specs.Standing.{treeAt, row_at}
+use Rattle.tree.specs.Access.{fixed_at, extent_at}
+use Rattle.tree.specs.Standing.{tree_at, row_at}
 use Rattle.tree.proofs.AccessLaws.{extent-upto}
 use Rattle.tree.proofs.FixedLaws.{upto-inj}
 use Rattle.tree.proofs.StandingLaws.{row_more, row-none, tree-upto, tree-short}
@@ -26,16 +26,16 @@ use Rattle.writer.proofs.Wrote.{wrote_as}
 use Rattle.inputs.specs.Outcome.{Outcome, done, refused, onto}
 use Rattle.inputs.specs.Fields.{inside}
 use Rattle.extraction_rules.specs.State.{State, Pass, first, second, Setting}
-use Rattle.extraction_rules.specs.First.{idFrom, required, withCallee, bindings, requireLazily, declarator}
-use Rattle.extraction_rules.specs.Walk.{afterExpression, walk, walkAll}
+use Rattle.extraction_rules.specs.First.{id_from, required, with_callee, bindings, require_lazily, declarator}
+use Rattle.extraction_rules.specs.Walk.{after_expression, walk, walk_all}
 use Rattle.extraction_rules.proofs.OutcomeLaws.{After, after-bind, after-done, after_both, after-weaken}
 use Rattle.extraction_rules.proofs.ValueLaws.{after_any, first-expression}
 use Rattle.extraction_rules.proofs.ExactLaws.{id-width}
 use Rattle.extraction_rules.proofs.AlikeLaws.{Regular}
 use Rattle.extraction_rules.proofs.ShapeLaws.{Shaped, ShapedAll}
-use Rattle.state.specs.Cells.{Env, Good, literalBy}
+use Rattle.state.specs.Cells.{Env, Good, literal_by}
 use Rattle.state.specs.declared.Literal.{Literal}
-use Rattle.expressions.specs.After.{requiredAfter}
+use Rattle.expressions.specs.After.{required_after}
 use Rattle.expressions.specs.Require.{RequiredIs}
 use Rattle.expressions.specs.declared.require.Source.{Source}
 use Rattle.expressions.specs.declared.require.Source.TheVariants.{Is, Other}
@@ -45,7 +45,7 @@ use Rattle.steps.specs.declared.Why.{Why}
 use Rattle.steps.specs.declared.Step.{Step}
 use Rattle.steps.specs.declared.Step.TheVariants.{Done, Refused}
 use Rattle.steps.specs.Step.{Reads, SoundAll, Steps}
-use Rattle.steps.proofs.SoundLaws.{read-size, read-inside, soundAll-first, soundAll-rest}
+use Rattle.steps.proofs.SoundLaws.{read-size, read-inside, sound_all-first, sound_all-rest}
 use Rattle.steps.proofs.StepsLaws.{done_refused, steps-by, steps-as, steps-give, steps_map, pair_of, steps-pair, steps-turned}
 use Rattle.walking.specs.Walking.{FieldSteps, initialised, behind, declared, Sole, Declares, Behind, Called, Amends}
 use Rattle.walking.proofs.TagLaws.{walk-65, second-65}
@@ -56,17 +56,17 @@ use Rattle.walking.proofs.AmendLaws.{Bound}
 
 -- ---- A walked initialiser that meets the require conditions is a call with a callee of six bytes
 
-callee-called : (n : ℕ) (f : Field) → Called f → Called (withCallee n f)
-unfolding withCallee
+callee-called : (n : ℕ) (f : Field) → Called f → Called (with_callee n f)
+unfolding with_callee
 callee-called n f (y, ds, gs, z, w) =
-    (idFrom (name_of y) (export n), ds, gs, ap (withCallee n) z, id-width (name_of y) (export n) (length-take-le 2 y (omega arith)))
+    (id_from (name_of y) (export n), ds, gs, ap (with_callee n) z, id-width (name_of y) (export n) (length-take-le 2 y (omega arith)))
 
 module _ (e : Setting) where
   -- it is a call if it meets the conditions
   abbrev IfCalled : Field → Type 0
   IfCalled f = (l : List ℕ) → required e f ≡ some l → Called f
 
-  expression-called : (k : Pass) (ds : Fields) (object : Bool) (p : ℕ) (u : State) → IfCalled (field 0x65 [] ds) → After (afterExpression k e (field 0x65 [] ds) object p u) (λ g v. IfCalled g)
+  expression-called : (k : Pass) (ds : Fields) (object : Bool) (p : ℕ) (u : State) → IfCalled (field 0x65 [] ds) → After (after_expression k e (field 0x65 [] ds) object p u) (λ g v. IfCalled g)
   expression-called first ds object p u h =
       first-expression e IfCalled first refl (field 0x65 [] ds) object p u (h, λ n l w. λ m z. callee-called n (field 0x65 [] ds) (h l w))
   expression-called second ds object p u h = subst (λ (m : Outcome (Field × State)). After m (λ g v. IfCalled g)) (sym (second-65 e [] ds object p u)) h
@@ -75,7 +75,7 @@ module _ (e : Setting) where
       After (walk (field 0x65 [] cs) e object p u) (λ g v. IfCalled g)
   walk-called-65 cs object p u f w g =
       subst (λ (m : Outcome (Field × State)). After m (λ g v. IfCalled g)) (sym (walk-65 e [] cs object p u))
-      (after-bind (walkAll cs e object (inside p []) u) _ (λ ds v. IfCalled (field 0x65 [] ds)) _ (walked-called e cs _ object (inside p []) u f w.1 g.1) λ ds v k.
+      (after-bind (walk_all cs e object (inside p []) u) _ (λ ds v. IfCalled (field 0x65 [] ds)) _ (walked-called e cs _ object (inside p []) u f w.1 g.1) λ ds v k.
       expression-called e.pass ds object p v k)
 
   walk-called : (i : Field) (object : Bool) (p : ℕ) (u : State) → FourBytes u → Regular i → Shaped i → (tag_of i ≡ 0x65 → fixed_of i ≡ []) →
@@ -92,7 +92,7 @@ module _ (e : Setting) where
 
 -- ---- What stands behind the pattern
 
-all_one : (b : Bool) (e : Setting) (f : Field) (p : ℕ) (s : State) → walkAll (more f none) e b p s ≡ onto (walk f e b p s) (λ r. done (more r.0 none, r.1))
+all_one : (b : Bool) (e : Setting) (f : Field) (p : ℕ) (s : State) → walk_all (more f none) e b p s ≡ onto (walk f e b p s) (λ r. done (more r.0 none, r.1))
 unfolding walk
 all_one b e f p s = refl
 
@@ -100,84 +100,84 @@ encodes_one : (f : Field) → encodes (more f none) ≡ encode f
 encodes_one f = encodes_more f none ∙ ap (λ (l : List ℕ). encode f ++ l) encodes-none ∙ append-nil (encode f)
 
 initialised-more : (e : Setting) (q i : Field) (rest : Fields) (p : ℕ) (u : State) →
-    initialised e q (more i rest) p u ≡ onto (requireLazily (required e i) e q i p u) (λ j. done (more j.0 rest, j.1))
+    initialised e q (more i rest) p u ≡ onto (require_lazily (required e i) e q i p u) (λ j. done (more j.0 rest, j.1))
 unfolding initialised
 initialised-more e q i rest p u = refl
 
 -- a 65 has no fixed bytes
-call-bare : (s : List ℕ) (at stop : ℕ) → at + 3 ≤ stop → tag_of (treeAt s at stop) ≡ 0x65 → fixed_of (treeAt s at stop) ≡ []
+call-bare : (s : List ℕ) (at stop : ℕ) → at + 3 ≤ stop → tag_of (tree_at s at stop) ≡ 0x65 → fixed_of (tree_at s at stop) ≡ []
 call-bare s at stop h k = go (fixed_at s (get_or s at 0) (at + 3) stop) refl
   where
-    go : (r : Reach) → fixed_at s (get_or s at 0) (at + 3) stop ≡ r → fixed_of (treeAt s at stop) ≡ []
+    go : (r : Reach) → fixed_at s (get_or s at 0) (at + 3) stop ≡ r → fixed_of (tree_at s at stop) ≡ []
     go Short z = ap fixed_of (tree-short s at stop z)
     go (Upto b) z = ap fixed_of (tree-bare 0x65 refl s at stop h (ap tag_of (sym (tree-upto s at stop b z)) ∙ k))
 
 module _ (object : Bool) (s : List ℕ) (bytes : Bytes s) (at end p pattern : ℕ) (le : at ≤ end) (q : Field) where
-  pub behind-over : {t out : List ℕ} {o : ℕ} → extentAt s at end ≡ Short → Good t →
+  pub behind-over : {t out : List ℕ} {o : ℕ} → extent_at s at end ≡ Short → Good t →
       Steps encodes (Behind s at end pattern q) (λ y. behind y.setting object s at end p q) t out o t out (Done o)
   unfolding initialised encode
   behind-over x g =
       steps-give encodes _ (λ y. behind y.setting object s at end p q) none g refl
-      (λ y u w. ap (λ (fs : Fields). onto (walkAll fs y.setting object at u) (λ b. initialised y.setting q b.0 p b.1)) (row-none s at end le x)
+      (λ y u w. ap (λ (fs : Fields). onto (walk_all fs y.setting object at u) (λ b. initialised y.setting q b.0 p b.1)) (row-none s at end le x)
       ∙ ap (λ (m : Outcome (Fields × State)). onto m (λ b. initialised y.setting q b.0 p b.1)) (all_none object y.setting at u))
 
-  module _ (stop : ℕ) (x : extentAt s at end ≡ Upto stop) where
+  module _ (stop : ℕ) (x : extent_at s at end ≡ Upto stop) where
     -- what is known of the walked initialiser
     abbrev Known : Setting → State → Fields → Type 0
-    Known e u ds = (i : Field) × (rest : Fields) × (ds ≡ more i rest) × (required e i ≡ requiredAfter e (treeAt s at stop) u) × IfCalled e i
+    Known e u ds = (i : Field) × (rest : Fields) × (ds ≡ more i rest) × (required e i ≡ required_after e (tree_at s at stop) u) × IfCalled e i
 
-    known_more : (e : Setting) (f : Field) (fs : Fields) (u : State) → After (walk f e object at u) (λ g v. (required e g ≡ requiredAfter e f u) × IfCalled e g) →
-        After (walkAll (more f fs) e object at u) (λ ds v. (i : Field) × (rest : Fields) × (ds ≡ more i rest) × (required e i ≡ requiredAfter e f u) × IfCalled e i)
+    known_more : (e : Setting) (f : Field) (fs : Fields) (u : State) → After (walk f e object at u) (λ g v. (required e g ≡ required_after e f u) × IfCalled e g) →
+        After (walk_all (more f fs) e object at u) (λ ds v. (i : Field) × (rest : Fields) × (ds ≡ more i rest) × (required e i ≡ required_after e f u) × IfCalled e i)
     unfolding walk
     known_more e f fs u h =
         after-bind (walk f e object at u) _ _ _ h λ i v k.
-        after-bind (walkAll fs e object (at + size f) v) _ (λ _ _. Unit {0}) _ (after_any (walkAll fs e object (at + size f) v)) λ rest w _. (i, rest, refl, k.0, k.1)
+        after-bind (walk_all fs e object (at + size f) v) _ (λ _ _. Unit {0}) _ (after_any (walk_all fs e object (at + size f) v)) λ rest w _. (i, rest, refl, k.0, k.1)
 
-    known : (e : Setting) (u : State) → FourBytes u → SoundAll s at end → After (walkAll (row_at s at end) e object at u) (λ ds v. Known e u ds)
+    known : (e : Setting) (u : State) → FourBytes u → SoundAll s at end → After (walk_all (row_at s at end) e object at u) (λ ds v. Known e u ds)
     known e u f w =
         let z = row_more s at end stop le x in
-        let g = soundAll-first le w x in
+        let g = sound_all-first le w x in
         let h = subst (λ (fs : Fields). ShapedAll fs w.rule) z (sound-shaped bytes le w) in
-        subst (λ (fs : Fields). After (walkAll fs e object at u) (λ ds v. Known e u ds)) (sym z)
-        (known_more e (treeAt s at stop) (row_at s stop end) u
-        (after_both (walk (treeAt s at stop) e object at u) _ _ (walk-required e (treeAt s at stop) object at u g.regular)
-        (walk-called e (treeAt s at stop) object at u f g.regular h.2 (call-bare s at stop (read-inside g.read).0))))
+        subst (λ (fs : Fields). After (walk_all fs e object at u) (λ ds v. Known e u ds)) (sym z)
+        (known_more e (tree_at s at stop) (row_at s stop end) u
+        (after_both (walk (tree_at s at stop) e object at u) _ _ (walk-required e (tree_at s at stop) object at u g.regular)
+        (walk-called e (tree_at s at stop) object at u f g.regular h.2 (call-bare s at stop (read-inside g.read).0))))
 
     -- it does not meet the require conditions
     unrequired : (e : Setting) (m : Outcome (Fields × State)) → After m (λ ds v. (i : Field) × (rest : Fields) × (ds ≡ more i rest) × (required e i ≡ nothing)) →
         onto m (λ b. initialised e q b.0 p b.1) ≡ m
-    unfolding initialised requireLazily
+    unfolding initialised require_lazily
     unrequired e (refused n k) h = refl
     unrequired e (done r) h =
         ap (λ (ds : Fields). initialised e q ds p r.1) h.2
-        ∙ ap (λ (l : Option (List ℕ)). onto (requireLazily l e q h.0 p r.1) (λ j. done (more j.0 h.1, j.1))) h.3 ∙ ap (λ (ds : Fields). done (ds, r.1)) (sym h.2)
+        ∙ ap (λ (l : Option (List ℕ)). onto (require_lazily l e q h.0 p r.1) (λ j. done (more j.0 h.1, j.1))) h.3 ∙ ap (λ (ds : Fields). done (ds, r.1)) (sym h.2)
 
     -- the initialiser is all that stands there
-    sole-row : {t out t' out' : List ℕ} {o : ℕ} {k : Step} → FieldSteps s at stop (λ y. walk (treeAt s at stop) y.setting object at) t out o t' out' k →
-        Steps encodes (λ y u. SoundAll s at end × Reads y s × Sole s at end) (λ y. walkAll (row_at s at end) y.setting object at) t out o t' out' k
+    sole-row : {t out t' out' : List ℕ} {o : ℕ} {k : Step} → FieldSteps s at stop (λ y. walk (tree_at s at stop) y.setting object at) t out o t' out' k →
+        Steps encodes (λ y u. SoundAll s at end × Reads y s × Sole s at end) (λ y. walk_all (row_at s at end) y.setting object at) t out o t' out' k
     sole-row m =
         steps-as _
-        (steps_map encode encodes (λ f. more f none) (λ y u. SoundAll s at end × Reads y s × Sole s at end) m (λ y u w. (soundAll-first le w.0 x, w.1))
+        (steps_map encode encodes (λ f. more f none) (λ y u. SoundAll s at end × Reads y s × Sole s at end) m (λ y u w. (sound_all-first le w.0 x, w.1))
         (λ y u w f v z. encodes_one f))
         (λ y u w. (
           w,
-          ap (λ (fs : Fields). walkAll fs y.setting object at u) (row_more s at end stop le x)
-              ∙ ap (λ (fs : Fields). walkAll (more (treeAt s at stop) fs) y.setting object at u) (row-none s stop end (extent-upto s at end le x).1 (w.2 stop x))
-              ∙ all_one object y.setting (treeAt s at stop) at u,
+          ap (λ (fs : Fields). walk_all fs y.setting object at u) (row_more s at end stop le x)
+              ∙ ap (λ (fs : Fields). walk_all (more (tree_at s at stop) fs) y.setting object at u) (row-none s stop end (extent-upto s at end le x).1 (w.2 stop x))
+              ∙ all_one object y.setting (tree_at s at stop) at u,
         ))
 
-    pub behind-plain : {t out t' out' : List ℕ} {o : ℕ} {k : Step} {r : Source} → RequiredIs (λ e. requiredAfter e (treeAt s at stop)) s t r → r ≡ Other →
-        FieldSteps s at stop (λ y. walk (treeAt s at stop) y.setting object at) t out o t' out' k →
+    pub behind-plain : {t out t' out' : List ℕ} {o : ℕ} {k : Step} {r : Source} → RequiredIs (λ e. required_after e (tree_at s at stop)) s t r → r ≡ Other →
+        FieldSteps s at stop (λ y. walk (tree_at s at stop) y.setting object at) t out o t' out' k →
         Steps encodes (Behind s at end pattern q) (λ y. behind y.setting object s at end p q) t out o t' out' k
     behind-plain n z m =
         steps-by (λ y. behind y.setting object s at end p q) (sole-row m) (λ y u w k. (
           (k.0, k.1, k.3),
-          unrequired y.setting (walkAll (row_at s at end) y.setting object at u)
-              (after-weaken (walkAll (row_at s at end) y.setting object at u) (λ ds v. Known y.setting u ds) _
+          unrequired y.setting (walk_all (row_at s at end) y.setting object at u)
+              (after-weaken (walk_all (row_at s at end) y.setting object at u) (λ ds v. Known y.setting u ds) _
               (λ ds v i. (i.0, i.1, i.2, i.3 ∙ source-other n z y u w k.1)) (known y.setting u (four-shown w) k.0)),
         ))
 
-    pub behind-turned : {t out t' out' : List ℕ} {o r : ℕ} {v : Why} → FieldSteps s at stop (λ y. walk (treeAt s at stop) y.setting object at) t out o t' out' (Refused v r) →
+    pub behind-turned : {t out t' out' : List ℕ} {o r : ℕ} {v : Why} → FieldSteps s at stop (λ y. walk (tree_at s at stop) y.setting object at) t out o t' out' (Refused v r) →
         Steps encodes (Behind s at end pattern q) (λ y. behind y.setting object s at end p q) t out o t' out' (Refused v r)
     behind-turned m =
         record {
@@ -189,9 +189,9 @@ module _ (object : Bool) (s : List ℕ) (bytes : Bytes s) (at end p pattern : �
         }
 
     -- it does, and is amended
-    pub behind-required : (n : Literal) {t out t1 out1 t2 out2 : List ℕ} {o r : ℕ} {k : Step} {f : Source} → RequiredIs (λ e. requiredAfter e (treeAt s at stop)) s t f → f ≡ Is n →
-        FieldSteps s at stop (λ y. walk (treeAt s at stop) y.setting object at) t out o t1 out1 (Done r) →
-        Amends (Bound n pattern q) (λ y f. requireLazily (some (literalBy y n)) y.setting q f p) o r t1 out1 t2 out2 k →
+    pub behind-required : (n : Literal) {t out t1 out1 t2 out2 : List ℕ} {o r : ℕ} {k : Step} {f : Source} → RequiredIs (λ e. required_after e (tree_at s at stop)) s t f → f ≡ Is n →
+        FieldSteps s at stop (λ y. walk (tree_at s at stop) y.setting object at) t out o t1 out1 (Done r) →
+        Amends (Bound n pattern q) (λ y f. require_lazily (some (literal_by y n)) y.setting q f p) o r t1 out1 t2 out2 k →
         Steps encodes (Behind s at end pattern q) (λ y. behind y.setting object s at end p q) t out o t2 out2 k
     behind-required n {t} {out} {t1} {out1} {o = o} {r} told c m a =
         record {
@@ -199,11 +199,11 @@ module _ (object : Bool) (s : List ℕ) (bytes : Bytes s) (at end p pattern : �
           size = a.size ∙ m.size;
           made = λ i z {x = y} u w k.
               let d = (sole-row m).made r refl u w (k.0, k.1, k.3) in
-              let f = after-done (walkAll (row_at s at end) y.setting object at u) (λ ds v. Known y.setting u ds) (d.value, d.state) d.is
+              let f = after-done (walk_all (row_at s at end) y.setting object at u) (λ ds v. Known y.setting u ds) (d.value, d.state) d.is
               (known y.setting u (four-shown w) k.0) in
               let v = source_is told c y u w k.1 in
-              let l : required y.setting f.0 ≡ some (literalBy y n) = f.3 ∙ v.0 in
-              let g = a.made i z d.state d.shows (k.2, v.1) out f.0 (encodes f.1) (f.4 (literalBy y n) l)
+              let l : required y.setting f.0 ≡ some (literal_by y n) = f.3 ∙ v.0 in
+              let g = a.made i z d.state d.shows (k.2, v.1) out f.0 (encodes f.1) (f.4 (literal_by y n) l)
               (wrote_as d.wrote (ap encodes f.2 ∙ encodes_more f.0 f.1)) in
               record {
                 value = more g.value f.1;
@@ -214,25 +214,25 @@ module _ (object : Bool) (s : List ℕ) (bytes : Bytes s) (at end p pattern : �
               };
           turned = λ j i z {x = y} u w k.
               let d = (sole-row m).made r refl u w (k.0, k.1, k.3) in
-              let f = after-done (walkAll (row_at s at end) y.setting object at u) (λ ds v. Known y.setting u ds) (d.value, d.state) d.is
+              let f = after-done (walk_all (row_at s at end) y.setting object at u) (λ ds v. Known y.setting u ds) (d.value, d.state) d.is
               (known y.setting u (four-shown w) k.0) in
               let v = source_is told c y u w k.1 in
               joined y u d.value d.state f.0 f.1 d.is f.2 (f.3 ∙ v.0)
               ∙ ap (λ (b : Outcome (Field × State)). onto b (λ j. done (more j.0 f.1, j.1))) (a.turned j i z d.state d.shows (k.2, v.1) f.0);
         }
       where
-        joined : (y : Env) (u : State) (ds : Fields) (v : State) (i : Field) (rest : Fields) → walkAll (row_at s at end) y.setting object at u ≡ done (ds, v) →
-            ds ≡ more i rest → required y.setting i ≡ some (literalBy y n) →
-            behind y.setting object s at end p q u ≡ onto (requireLazily (some (literalBy y n)) y.setting q i p v) (λ j. done (more j.0 rest, j.1))
+        joined : (y : Env) (u : State) (ds : Fields) (v : State) (i : Field) (rest : Fields) → walk_all (row_at s at end) y.setting object at u ≡ done (ds, v) →
+            ds ≡ more i rest → required y.setting i ≡ some (literal_by y n) →
+            behind y.setting object s at end p q u ≡ onto (require_lazily (some (literal_by y n)) y.setting q i p v) (λ j. done (more j.0 rest, j.1))
         joined y u ds v i rest h z l =
             ap (λ (b : Outcome (Fields × State)). onto b (λ b. initialised y.setting q b.0 p b.1)) h
             ∙ ap (λ (fs : Fields). initialised y.setting q fs p v) z ∙ initialised-more y.setting q i rest p v
-            ∙ ap (λ (o : Option (List ℕ)). onto (requireLazily o y.setting q i p v) (λ j. done (more j.0 rest, j.1))) l
+            ∙ ap (λ (o : Option (List ℕ)). onto (require_lazily o y.setting q i p v) (λ j. done (more j.0 rest, j.1))) l
 
 -- where the pattern ends
-pub behind-from : (object : Bool) (s : List ℕ) (at stop p pattern : ℕ) {from : ℕ} → extentAt s at stop ≡ Upto from → {t out t' out' : List ℕ} {o : ℕ} {k : Step} →
+pub behind-from : (object : Bool) (s : List ℕ) (at stop p pattern : ℕ) {from : ℕ} → extent_at s at stop ≡ Upto from → {t out t' out' : List ℕ} {o : ℕ} {k : Step} →
     ((q : Field) → Steps encodes (Behind s from stop pattern q) (λ y. behind y.setting object s from stop p q) t out o t' out' k) →
-    (q : Field) (f : ℕ) → extentAt s at stop ≡ Upto f → Steps encodes (Behind s f stop pattern q) (λ y. behind y.setting object s f stop p q) t out o t' out' k
+    (q : Field) (f : ℕ) → extent_at s at stop ≡ Upto f → Steps encodes (Behind s f stop pattern q) (λ y. behind y.setting object s f stop p q) t out o t' out' k
 behind-from object s at stop p pattern x {t} {out} {t'} {out'} {o} {k} m q f z =
     subst (λ (n : ℕ). Steps encodes (Behind s n stop pattern q) (λ y. behind y.setting object s n stop p q) t out o t' out' k) (upto-inj (sym x ∙ z)) (m q)
 
@@ -241,7 +241,7 @@ behind-from object s at stop p pattern x {t} {out} {t'} {out'} {o} {k} m q f z =
 declarator-more : (e : Setting) (q : Field) (ds : Fields) (p : ℕ) (u : State) → declarator e (more q ds) p u ≡ onto (initialised e q ds p u) (λ b. done (more q b.0, b.1))
 unfolding declarator initialised
 declarator-more e q none p u = refl
-declarator-more e q (more i rest) p u = go (requireLazily (required e i) e q i p u)
+declarator-more e q (more i rest) p u = go (require_lazily (required e i) e q i p u)
   where
     go : (m : Outcome (Field × State)) →
         onto {B = Fields × State} m (λ j. done (more q (more j.0 rest), j.1)) ≡ onto
@@ -250,26 +250,26 @@ declarator-more e q (more i rest) p u = go (requireLazily (required e i) e q i p
     go (refused n k) = refl
 
 module _ (object : Bool) (s : List ℕ) (bytes : Bytes s) (at end p : ℕ) (le : at ≤ end) where
-  pub declared-over : {t out : List ℕ} {o : ℕ} → extentAt s at end ≡ Short → Good t → Steps encodes (λ y u. Declares s at end y) (λ y. declared y.setting object s at end p) t out o t out (Done o)
+  pub declared-over : {t out : List ℕ} {o : ℕ} → extent_at s at end ≡ Short → Good t → Steps encodes (λ y u. Declares s at end y) (λ y. declared y.setting object s at end p) t out o t out (Done o)
   unfolding declarator encode
   declared-over x g =
       steps-give encodes _ (λ y. declared y.setting object s at end p) none g refl
-      (λ y u w. ap (λ (fs : Fields). onto (walkAll fs y.setting object at u) (λ b. declarator y.setting b.0 p b.1)) (row-none s at end le x)
+      (λ y u w. ap (λ (fs : Fields). onto (walk_all fs y.setting object at u) (λ b. declarator y.setting b.0 p b.1)) (row-none s at end le x)
       ∙ ap (λ (m : Outcome (Fields × State)). onto m (λ b. declarator y.setting b.0 p b.1)) (all_none object y.setting at u))
 
-  module _ (stop : ℕ) (x : extentAt s at end ≡ Upto stop) where
+  module _ (stop : ℕ) (x : extent_at s at end ≡ Upto stop) where
     split-here : SoundAll s at end → (y : Env) (u : State) →
         declared y.setting object s at end p u ≡
-        pair_of more (λ v. walk (treeAt s at stop) v.setting object at) (λ q v. behind v.setting object s stop end p q) y u
+        pair_of more (λ v. walk (tree_at s at stop) v.setting object at) (λ q v. behind v.setting object s stop end p q) y u
     split-here w y u =
-        let i = read-inside (soundAll-first le w x).read in
-        let n = read-size (soundAll-first le w x).read bytes in
-        let z : at + size (treeAt s at stop) ≡ stop = omega arith in
-        ap (λ (fs : Fields). onto (walkAll fs y.setting object at u) (λ r. declarator y.setting r.0 p r.1)) (row_more s at end stop le x)
-        ∙ ap (λ (m : Outcome (Fields × State)). onto m (λ r. declarator y.setting r.0 p r.1)) (all_more object y (treeAt s at stop) (row_at s stop end) at u)
-        ∙ ap (λ (k : ℕ). onto (pair_of more (λ v. walk (treeAt s at stop) v.setting object at) (λ _ v. walkAll (row_at s stop end) v.setting object k) y u)
+        let i = read-inside (sound_all-first le w x).read in
+        let n = read-size (sound_all-first le w x).read bytes in
+        let z : at + size (tree_at s at stop) ≡ stop = omega arith in
+        ap (λ (fs : Fields). onto (walk_all fs y.setting object at u) (λ r. declarator y.setting r.0 p r.1)) (row_more s at end stop le x)
+        ∙ ap (λ (m : Outcome (Fields × State)). onto m (λ r. declarator y.setting r.0 p r.1)) (all_more object y (tree_at s at stop) (row_at s stop end) at u)
+        ∙ ap (λ (k : ℕ). onto (pair_of more (λ v. walk (tree_at s at stop) v.setting object at) (λ _ v. walk_all (row_at s stop end) v.setting object k) y u)
         (λ r. declarator y.setting r.0 p r.1)) z
-        ∙ go y.setting (walk (treeAt s at stop) y.setting object at u)
+        ∙ go y.setting (walk (tree_at s at stop) y.setting object at u)
       where
         two : (e : Setting) (q : Field) (m : Outcome (Fields × State)) → onto (onto {B = Fields × State} m (λ b. done (more q b.0, b.1))) (λ r. declarator e r.0 p r.1) ≡
             onto (onto m (λ b. initialised e q b.0 p b.1)) (λ b. done (more q b.0, b.1))
@@ -277,29 +277,29 @@ module _ (object : Bool) (s : List ℕ) (bytes : Bytes s) (at end p : ℕ) (le :
         two e q (refused n k) = refl
 
         go : (e : Setting) (m : Outcome (Field × State)) →
-            onto (onto {B = Fields × State} m (λ a. onto (walkAll (row_at s stop end) e object stop a.1) (λ b. done (more a.0 b.0, b.1)))) (λ r. declarator e r.0 p r.1) ≡
+            onto (onto {B = Fields × State} m (λ a. onto (walk_all (row_at s stop end) e object stop a.1) (λ b. done (more a.0 b.0, b.1)))) (λ r. declarator e r.0 p r.1) ≡
             onto m (λ a. onto (behind e object s stop end p a.0 a.1) (λ b. done (more a.0 b.0, b.1)))
-        go e (done a) = two e a.0 (walkAll (row_at s stop end) e object stop a.1)
+        go e (done a) = two e a.0 (walk_all (row_at s stop end) e object stop a.1)
         go e (refused n k) = refl
 
     pub declared-then : 0 < at → {t out t1 out1 t2 out2 : List ℕ} {o r : ℕ} {k : Step} →
-        FieldSteps s at stop (λ y. walk (treeAt s at stop) y.setting object at) t out o t1 out1 (Done r) →
+        FieldSteps s at stop (λ y. walk (tree_at s at stop) y.setting object at) t out o t1 out1 (Done r) →
         ((q : Field) → Steps encodes (Behind s stop end at q) (λ y. behind y.setting object s stop end p q) t1 out1 r t2 out2 k) →
         Steps encodes (λ y u. Declares s at end y) (λ y. declared y.setting object s at end p) t out o t2 out2 k
     declared-then pos one rest =
         steps-as (λ y. declared y.setting object s at end p)
         (steps-pair encode encodes encodes more encodes_more (λ y u. Declares s at end y) (λ q y. behind y.setting object s stop end p q) one rest (field 0 [] none)
-        (λ y u w. (soundAll-first le w.0 x, w.1))
+        (λ y u w. (sound_all-first le w.0 x, w.1))
         (λ y u w q v z.
-        let g = soundAll-first le w.0 x in
-        let b = after-done (walk (treeAt s at stop) y.setting object at u) _ (q, v) z (walk-binds y.setting (treeAt s at stop) object at u g.regular) in
-        (soundAll-rest le w.0 x, w.1, b ∙ sym (w.1.pattern at stop pos g.read), w.2 stop x)))
+        let g = sound_all-first le w.0 x in
+        let b = after-done (walk (tree_at s at stop) y.setting object at u) _ (q, v) z (walk-binds y.setting (tree_at s at stop) object at u g.regular) in
+        (sound_all-rest le w.0 x, w.1, b ∙ sym (w.1.pattern at stop pos g.read), w.2 stop x)))
         (λ y u w. (w, split-here w.0 y u))
 
-    pub declared-turned : {t out t1 out1 : List ℕ} {o r : ℕ} {v : Why} → FieldSteps s at stop (λ y. walk (treeAt s at stop) y.setting object at) t out o t1 out1 (Refused v r) →
+    pub declared-turned : {t out t1 out1 : List ℕ} {o r : ℕ} {v : Why} → FieldSteps s at stop (λ y. walk (tree_at s at stop) y.setting object at) t out o t1 out1 (Refused v r) →
         Steps encodes (λ y u. Declares s at end y) (λ y. declared y.setting object s at end p) t out o t1 out1 (Refused v r)
     declared-turned one =
         steps-as (λ y. declared y.setting object s at end p)
         (steps-turned encode encodes encodes more encodes_more (λ y u. Declares s at end y)
-        (λ q y. behind y.setting object s stop end p q) one (λ y u w. (soundAll-first le w.0 x, w.1)))
+        (λ q y. behind y.setting object s stop end p q) one (λ y u w. (sound_all-first le w.0 x, w.1)))
         (λ y u w. (w, split-here w.0 y u))

@@ -12,7 +12,7 @@ use Rattle.tree.specs.declared.layout.Reach.TheVariants.{Upto, Short}
 use Rattle.tree.specs.Layout.{id_at}
 use Rattle.tree.specs.Tree.{Field, field, Fields, none, encode}
 use Rattle.tree.specs.Access.{fixed_at}
-use Rattle.tree.specs.Standing.{treeAt, row_at}
+use Rattle.tree.specs.Standing.{tree_at, row_at}
 use Rattle.tree.proofs.StandingLaws.{tree-upto}
 use Rattle.tree.proofs.AccessLaws.{upto-in}
 use Rattle.tree.proofs.WidthLaws.{plain-ends, plain-upto, tree-bare}
@@ -22,20 +22,20 @@ use Rattle.writer.specs.Wrote.{Wrote}
 use Rattle.inputs.specs.Outcome.{Outcome, done, refused, onto}
 use Rattle.inputs.specs.Fields.{inside}
 use Rattle.extraction_rules.specs.State.{State, Pass, first, second, Setting, Act}
-use Rattle.extraction_rules.specs.First.{forceId, onIdent, usage}
-use Rattle.extraction_rules.specs.Walk.{afterExpression, walk, walkMember, walkTarget}
+use Rattle.extraction_rules.specs.First.{force_id, on_ident, usage}
+use Rattle.extraction_rules.specs.Walk.{after_expression, walk, walk_member, walk_target}
 use Rattle.extraction_rules.proofs.OutcomeLaws.{After}
 use Rattle.extraction_rules.proofs.AlikeLaws.{Regular}
-use Rattle.state.specs.Cells.{Env, Good, idBy, Shows}
-use Rattle.state.specs.Does.{isSecond, Turns, Tells, Says}
-use Rattle.expressions.specs.After.{identAfter}
+use Rattle.state.specs.Cells.{Env, Good, id_by, Shows}
+use Rattle.state.specs.Does.{is_second, Turns, Tells, Says}
+use Rattle.expressions.specs.After.{ident_after}
 use Rattle.steps.specs.declared.Step.{Step}
 use Rattle.steps.specs.declared.Step.TheVariants.{Done, Refused}
 use Rattle.steps.specs.declared.Why.{Why}
 use Rattle.steps.specs.Step.{Reads, Sound, Steps}
 use Rattle.steps.proofs.SoundLaws.{read_short, read-inside}
-use Rattle.steps.proofs.StepsLaws.{steps-done, steps-never, steps-by, steps-write, thenOf, steps_then, steps-then-turned}
-use Rattle.walking.specs.Walking.{FieldSteps, InPass, forcedBy, ForcedFirst}
+use Rattle.steps.proofs.StepsLaws.{steps-done, steps-never, steps-by, steps-write, then_of, steps_then, steps-then-turned}
+use Rattle.walking.specs.Walking.{FieldSteps, InPass, forced_by, ForcedFirst}
 use Rattle.walking.proofs.TagLaws.{around, walk-60, walk-63, first-63, ident-by}
 use Rattle.walking.proofs.ChainLaws.{ident-walks, member-stays}
 use Rattle.walking.proofs.UsedLaws.{usage-walked}
@@ -46,11 +46,11 @@ tells_as m e = record { is = λ u w. sym e ∙ m.is u w }
 
 -- ---- The pass
 
-by_flag : (k : Pass) (b : Bool) → b ≡ isSecond k → k ≡ cond b second first
+by_flag : (k : Pass) (b : Bool) → b ≡ is_second k → k ≡ cond b second first
 by_flag first b e = ap (λ (z : Bool). cond z second first) (sym e)
 by_flag second b e = ap (λ (z : Bool). cond z second first) (sym e)
 
-module _ {t : List ℕ} {b : Bool} (m : Says (λ e. isSecond e.pass) t b) where
+module _ {t : List ℕ} {b : Bool} (m : Says (λ e. is_second e.pass) t b) where
   pub pass-second : b ≡ true → InPass second t
   pass-second e x u w = by_flag x.setting.pass b (m.is u w) ∙ ap (λ (z : Bool). cond z second first) e
 
@@ -60,7 +60,7 @@ module _ {t : List ℕ} {b : Bool} (m : Says (λ e. isSecond e.pass) t b) where
 -- ---- A 60
 
 module _ (s : List ℕ) (at from stop : ℕ) (x : fixed_at s (get_or s at 0) (at + 3) stop ≡ Upto from) (q : get_or s at 0 ≡ 0x60) where
-  pub ident-tree : Sound s at stop → treeAt s at stop ≡ field 0x60 (id_at s (at + 3)) none
+  pub ident-tree : Sound s at stop → tree_at s at stop ≡ field 0x60 (id_at s (at + 3)) none
   ident-tree w =
       let z = tree-upto s at stop from x in
       let r = subst Regular z w.regular in
@@ -69,22 +69,22 @@ module _ (s : List ℕ) (at from stop : ℕ) (x : fixed_at s (get_or s at 0) (at
       ∙ ap (λ (fs : Fields). field 0x60 (slice (at + 3) from s) fs) (r.0.ident-bare q) ∙ ap (λ (n : ℕ). field 0x60 (slice (at + 3) n s) none) b
 
   -- the walk of this 60 in a pass
-  ident-walk : (e : Setting) (k : Pass) (object : Bool) (id : Id) (u : State) → e.pass ≡ k → idBy id ≡ id_at s (at + 3) → Sound s at stop →
-      walk (treeAt s at stop) e object at u ≡ afterExpression k e (field 0x60 (idBy id) none) object at u
+  ident-walk : (e : Setting) (k : Pass) (object : Bool) (id : Id) (u : State) → e.pass ≡ k → id_by id ≡ id_at s (at + 3) → Sound s at stop →
+      walk (tree_at s at stop) e object at u ≡ after_expression k e (field 0x60 (id_by id) none) object at u
   ident-walk e k object id u p i w =
-      ap (λ (f : Field). walk f e object at u) (ident-tree w ∙ ap (λ (z : List ℕ). field 0x60 z none) (sym i)) ∙ walk-60 e (idBy id) object at u
-      ∙ ap (λ (b : Pass). afterExpression b e (field 0x60 (idBy id) none) object at u) p
+      ap (λ (f : Field). walk f e object at u) (ident-tree w ∙ ap (λ (z : List ℕ). field 0x60 z none) (sym i)) ∙ walk-60 e (id_by id) object at u
+      ∙ ap (λ (b : Pass). after_expression b e (field 0x60 (id_by id) none) object at u) p
 
 -- its id is forced as the pass has it, and it is written
-pub ident-written : (s : List ℕ) (at stop : ℕ) (object : Bool) (id : Id) {t t' out out' : List ℕ} {o p : ℕ} → get_or s at 0 ≡ 0x60 → at + 9 ≤ stop → idBy id ≡ id_at s (at + 3) →
-    ForcedFirst object (idBy id) t t' → Wrote out o (encode (field 0x60 (idBy id) none)) out' p →
-    FieldSteps s at stop (λ y. walk (treeAt s at stop) y.setting object at) t out o t' out' (Done p)
+pub ident-written : (s : List ℕ) (at stop : ℕ) (object : Bool) (id : Id) {t t' out out' : List ℕ} {o p : ℕ} → get_or s at 0 ≡ 0x60 → at + 9 ≤ stop → id_by id ≡ id_at s (at + 3) →
+    ForcedFirst object (id_by id) t t' → Wrote out o (encode (field 0x60 (id_by id) none)) out' p →
+    FieldSteps s at stop (λ y. walk (tree_at s at stop) y.setting object at) t out o t' out' (Done p)
 ident-written s at stop object id q h i g v =
     let x = plain-upto 0x60 id-value refl s (get_or s at 0) (at + 3) stop q (omega arith) in
     steps-done g.good v.size (λ y u w k. record {
-      value = field 0x60 (idBy id) none;
-      state = forcedBy y.setting.pass object (idBy id) u;
-      is = ident-walk s at (at + 3 + 6) stop x q y.setting y.setting.pass object id u refl i k.0 ∙ ident-by y.setting.pass y.setting (idBy id) object at u;
+      value = field 0x60 (id_by id) none;
+      state = forced_by y.setting.pass object (id_by id) u;
+      is = ident-walk s at (at + 3 + 6) stop x q y.setting y.setting.pass object id u refl i k.0 ∙ ident-by y.setting.pass y.setting (id_by id) object at u;
       wrote = v;
       shows = g.shows u w;
     })
@@ -104,90 +104,90 @@ ident-short s at stop act k q h g = steps-never encode _ act k g (λ y u w. go w
 -- what the forcing of an id does, by the tests
 module _ (i : List ℕ) {t : List ℕ} where
   pub forced-object : {b : Bool} → Good t → b ≡ true → ForcedFirst b i t t
-  unfolding forcedBy
+  unfolding forced_by
   forced-object {b} g e = record { good = g; shows = λ {x} u w. go x.setting.pass b e u w }
     where
-      go : {x : Env} (k : Pass) (b : Bool) → b ≡ true → (u : State) → Shows x t u → Shows x t (forcedBy k b i u)
+      go : {x : Env} (k : Pass) (b : Bool) → b ≡ true → (u : State) → Shows x t u → Shows x t (forced_by k b i u)
       go first b e u w = rw e w
       go second b e u w = w
 
   pub forced-again : (b : Bool) → Good t → InPass second t → ForcedFirst b i t t
-  unfolding forcedBy
-  forced-again b g two = record { good = g; shows = λ {x} u w. subst (λ (k : Pass). Shows x t (forcedBy k b i u)) (sym (two x u w)) w }
+  unfolding forced_by
+  forced-again b g two = record { good = g; shows = λ {x} u w. subst (λ (k : Pass). Shows x t (forced_by k b i u)) (sym (two x u w)) w }
 
-  pub forced-first : {t' : List ℕ} {b : Bool} → b ≡ false → InPass first t → Turns (forceId i) t t' → ForcedFirst b i t t'
-  unfolding forcedBy
+  pub forced-first : {t' : List ℕ} {b : Bool} → b ≡ false → InPass first t → Turns (force_id i) t t' → ForcedFirst b i t t'
+  unfolding forced_by
   forced-first {t'} {b} e one g =
       record {
         good = g.good;
         shows = λ {x} u w.
-            subst (λ (k : Pass). Shows x t' (forcedBy k b i u)) (sym (one x u w))
-            (subst (λ (c : Bool). Shows x t' (cond c u (forceId i u))) (sym e) (g.shows u w));
+            subst (λ (k : Pass). Shows x t' (forced_by k b i u)) (sym (one x u w))
+            (subst (λ (c : Bool). Shows x t' (cond c u (force_id i u))) (sym e) (g.shows u w));
       }
 
 -- ---- A 63
 
 -- in the second pass: what becomes an id is written as one
 pub member-ident : (s : List ℕ) (at stop : ℕ) (object : Bool) (id : Id) {t out out' : List ℕ} {o p : ℕ} → Good t → InPass second t →
-    Tells (identAfter (treeAt s at stop) second) t (some (idBy id)) → Wrote out o (encode (field 0x60 (idBy id) none)) out' p →
-    FieldSteps s at stop (λ y. walk (treeAt s at stop) y.setting object at) t out o t out' (Done p)
+    Tells (ident_after (tree_at s at stop) second) t (some (id_by id)) → Wrote out o (encode (field 0x60 (id_by id) none)) out' p →
+    FieldSteps s at stop (λ y. walk (tree_at s at stop) y.setting object at) t out o t out' (Done p)
 member-ident s at stop object id g two n v =
-    steps-write encode _ _ (field 0x60 (idBy id) none) (λ u. u) (record { good = g; shows = λ u w. w }) v
-    (λ y u w k. ident-walks y.setting (two y u w) (treeAt s at stop) object at u (idBy id) k.0.regular (sym (n.is u w)))
+    steps-write encode _ _ (field 0x60 (id_by id) none) (λ u. u) (record { good = g; shows = λ u w. w }) v
+    (λ y u w k. ident-walks y.setting (two y u w) (tree_at s at stop) object at u (id_by id) k.0.regular (sym (n.is u w)))
 
 -- else it is walked as the target of an assignment is
 module _ (object : Bool) (s : List ℕ) (at stop : ℕ) (h : at + 3 ≤ stop) (q : get_or s at 0 ≡ 0x63) where
-  target-63 : (e : Setting) (u : State) → walkTarget (treeAt s at stop) e at u ≡ around 0x63 [] (walkMember (row_at s (at + 3) stop) e (inside at [])) u
+  target-63 : (e : Setting) (u : State) → walk_target (tree_at s at stop) e at u ≡ around 0x63 [] (walk_member (row_at s (at + 3) stop) e (inside at [])) u
   unfolding walk
-  target-63 e u = ap (λ (f : Field). walkTarget f e at u) (tree-bare 0x63 refl s at stop h q)
+  target-63 e u = ap (λ (f : Field). walk_target f e at u) (tree-bare 0x63 refl s at stop h q)
 
-  pub member-other : {t out t' out' : List ℕ} {o : ℕ} {k : Step} → InPass second t → Tells (identAfter (treeAt s at stop) second) t nothing →
-      FieldSteps s at stop (λ y. walkTarget (treeAt s at stop) y.setting at) t out o t' out' k →
-      FieldSteps s at stop (λ y. walk (treeAt s at stop) y.setting object at) t out o t' out' k
+  pub member-other : {t out t' out' : List ℕ} {o : ℕ} {k : Step} → InPass second t → Tells (ident_after (tree_at s at stop) second) t nothing →
+      FieldSteps s at stop (λ y. walk_target (tree_at s at stop) y.setting at) t out o t' out' k →
+      FieldSteps s at stop (λ y. walk (tree_at s at stop) y.setting object at) t out o t' out' k
   member-other two n m =
       steps-by _ m (λ y u w k.
       let z = tree-bare 0x63 refl s at stop h q in (
         k,
         ap (λ (f : Field). walk f y.setting object at u) z
             ∙ member-stays y.setting (two y u w) [] (row_at s (at + 3) stop) object at u (subst Regular z k.0.regular)
-            (ap (λ (f : Field). identAfter f second u) (sym z) ∙ sym (n.is u w))
+            (ap (λ (f : Field). ident_after f second u) (sym z) ∙ sym (n.is u w))
             ∙ sym (target-63 y.setting u),
       ))
 
   -- in the first pass usage follows
   walk-used : (y : Env) → y.setting.pass ≡ first → Sound s at stop → (u : State) →
-      walk (treeAt s at stop) y.setting object at u ≡
-      thenOf (λ z. walkTarget (treeAt s at stop) z.setting at) (λ z. usage (onIdent (treeAt s at stop)) z.setting at) y u
+      walk (tree_at s at stop) y.setting object at u ≡
+      then_of (λ z. walk_target (tree_at s at stop) z.setting at) (λ z. usage (on_ident (tree_at s at stop)) z.setting at) y u
   walk-used y one w u =
       let z = tree-bare 0x63 refl s at stop h q in
       let r = subst Regular z w.regular in
       ap (λ (f : Field). walk f y.setting object at u) z ∙ walk-63 y.setting [] (row_at s (at + 3) stop) object at u
-      ∙ go (walkMember (row_at s (at + 3) stop) y.setting (inside at []) u)
+      ∙ go (walk_member (row_at s (at + 3) stop) y.setting (inside at []) u)
       (usage-walked y.setting one [] (row_at s (at + 3) stop) at (inside at []) u (r.0.member-two refl) r.1)
-      ∙ sym (ap (λ (m : Outcome (Field × State)). onto m (λ a. onto (usage (onIdent (treeAt s at stop)) y.setting at a.1) (λ b. done (a.0, b.1)))) (target-63 y.setting u)
-      ∙ ap (λ (f : Field). onto (around 0x63 [] (walkMember (row_at s (at + 3) stop) y.setting (inside at [])) u)
-      (λ a. onto (usage (onIdent f) y.setting at a.1) (λ b. done (a.0, b.1)))) z)
+      ∙ sym (ap (λ (m : Outcome (Field × State)). onto m (λ a. onto (usage (on_ident (tree_at s at stop)) y.setting at a.1) (λ b. done (a.0, b.1)))) (target-63 y.setting u)
+      ∙ ap (λ (f : Field). onto (around 0x63 [] (walk_member (row_at s (at + 3) stop) y.setting (inside at [])) u)
+      (λ a. onto (usage (on_ident f) y.setting at a.1) (λ b. done (a.0, b.1)))) z)
     where
       go : (m : Outcome (Fields × State)) →
-          After m (λ ds v. (u : State) → usage (onIdent (field 0x63 [] ds)) y.setting at u ≡ usage (onIdent (field 0x63 [] (row_at s (at + 3) stop))) y.setting at u) →
-          onto m (λ r. afterExpression y.setting.pass y.setting (field 0x63 [] r.0) object at r.1) ≡
+          After m (λ ds v. (u : State) → usage (on_ident (field 0x63 [] ds)) y.setting at u ≡ usage (on_ident (field 0x63 [] (row_at s (at + 3) stop))) y.setting at u) →
+          onto m (λ r. after_expression y.setting.pass y.setting (field 0x63 [] r.0) object at r.1) ≡
           onto (onto {B = Field × State} m (λ r. done (field 0x63 [] r.0, r.1)))
-          (λ a. onto (usage (onIdent (field 0x63 [] (row_at s (at + 3) stop))) y.setting at a.1) (λ b. done (a.0, b.1)))
+          (λ a. onto (usage (on_ident (field 0x63 [] (row_at s (at + 3) stop))) y.setting at a.1) (λ b. done (a.0, b.1)))
       go (refused n p) k = refl
       go (done r) k =
-          ap (λ (b : Pass). afterExpression b y.setting (field 0x63 [] r.0) object at r.1) one ∙ first-63 y.setting [] r.0 object at r.1
+          ap (λ (b : Pass). after_expression b y.setting (field 0x63 [] r.0) object at r.1) one ∙ first-63 y.setting [] r.0 object at r.1
           ∙ ap (λ (m : Outcome (Unit {0} × State)). onto m (λ b. done (field 0x63 [] r.0, b.1))) (k r.1)
 
   module _ {t out t1 out1 : List ℕ} {o : ℕ} (one : InPass first t) where
-    pub member-used : {t2 : List ℕ} {p : ℕ} {k : Step} → FieldSteps s at stop (λ y. walkTarget (treeAt s at stop) y.setting at) t out o t1 out1 (Done p) →
-        Steps (λ _. []) (λ y u. Sound s at stop) (λ y. usage (onIdent (treeAt s at stop)) y.setting at) t1 out1 p t2 out1 k →
-        FieldSteps s at stop (λ y. walk (treeAt s at stop) y.setting object at) t out o t2 out1 k
+    pub member-used : {t2 : List ℕ} {p : ℕ} {k : Step} → FieldSteps s at stop (λ y. walk_target (tree_at s at stop) y.setting at) t out o t1 out1 (Done p) →
+        Steps (λ _. []) (λ y u. Sound s at stop) (λ y. usage (on_ident (tree_at s at stop)) y.setting at) t1 out1 p t2 out1 k →
+        FieldSteps s at stop (λ y. walk (tree_at s at stop) y.setting object at) t out o t2 out1 k
     member-used m n =
         steps-by _ (steps_then encode (field 0 [] none) (λ y u. Sound s at stop × Reads y s) m n (λ y u w. w) (λ y u w a v z. w.0))
         (λ y u w k. (k, walk-used y (one y u w) k.0 u))
 
-    pub member-turned : {r : ℕ} {v : Why} → FieldSteps s at stop (λ y. walkTarget (treeAt s at stop) y.setting at) t out o t1 out1 (Refused v r) →
-        FieldSteps s at stop (λ y. walk (treeAt s at stop) y.setting object at) t out o t1 out1 (Refused v r)
+    pub member-turned : {r : ℕ} {v : Why} → FieldSteps s at stop (λ y. walk_target (tree_at s at stop) y.setting at) t out o t1 out1 (Refused v r) →
+        FieldSteps s at stop (λ y. walk (tree_at s at stop) y.setting object at) t out o t1 out1 (Refused v r)
     member-turned m =
-        steps-by _ (steps-then-turned encode (λ y u. Sound s at stop × Reads y s) (λ y. usage (onIdent (treeAt s at stop)) y.setting at) m (λ y u w. w))
+        steps-by _ (steps-then-turned encode (λ y u. Sound s at stop × Reads y s) (λ y. usage (on_ident (tree_at s at stop)) y.setting at) m (λ y u w. w))
         (λ y u w k. (k, walk-used y (one y u w) k.0 u))

@@ -12,11 +12,11 @@ use Rattle.tree.specs.declared.layout.Reach.TheVariants.{Upto, Short}
 use Rattle.tree.specs.declared.grammar.Rule.{Rule}
 use Rattle.tree.specs.declared.grammar.Step.TheVariants.{Go}
 use Rattle.tree.specs.declared.grammar.Value.TheVariants.{Atom as atom-value, Id as id-value}
-use Rattle.tree.specs.Layout.{Bytes, atomAt, id_at}
+use Rattle.tree.specs.Layout.{Bytes, atom_at, id_at}
 use Rattle.tree.specs.Tree.{Field, field, Fields, none, more, encode, tag_of, parts_of, size}
-use Rattle.tree.specs.Grammar.{within, parts0, ruleOf, stepAt}
-use Rattle.tree.specs.Access.{fixed_at, extentAt}
-use Rattle.tree.specs.Standing.{treeAt, row_at}
+use Rattle.tree.specs.Grammar.{within, parts0, rule_of, step_at}
+use Rattle.tree.specs.Access.{fixed_at, extent_at}
+use Rattle.tree.specs.Standing.{tree_at, row_at}
 use Rattle.tree.proofs.AccessLaws.{extent-upto, upto-in}
 use Rattle.tree.proofs.GrammarLaws.{no_step}
 use Rattle.tree.proofs.StandingLaws.{row_more, row-none, tree-upto, row-cases}
@@ -26,17 +26,17 @@ use Rattle.writer.proofs.Wrote.{wrote_as}
 use Rattle.inputs.specs.Outcome.{Outcome, done, onto}
 use Rattle.inputs.specs.Fields.{inside}
 use Rattle.extraction_rules.specs.State.{State, Pass, first, second, Setting, Act}
-use Rattle.extraction_rules.specs.Walk.{walk, walkMember}
+use Rattle.extraction_rules.specs.Walk.{walk, walk_member}
 use Rattle.extraction_rules.proofs.AlikeLaws.{Two, Regular}
 use Rattle.expressions.proofs.IdentLaws.{walk-70}
 use Rattle.state.specs.Cells.{Env, Good, Shows}
 use Rattle.steps.specs.declared.Step.TheVariants.{Done}
 use Rattle.steps.specs.Step.{Sound, SoundAll}
-use Rattle.steps.proofs.SoundLaws.{read_short, read-inside, read-parts, read-bytes, sound-parts, soundAll-first, soundAll-rest}
+use Rattle.steps.proofs.SoundLaws.{read_short, read-inside, read-parts, read-bytes, sound-parts, sound_all-first, sound_all-rest}
 use Rattle.steps.proofs.StepsLaws.{steps-done}
 use Rattle.walking.specs.declared.Way.{Way}
 use Rattle.walking.specs.declared.Way.TheVariants.{Member}
-use Rattle.walking.specs.Walking.{FieldSteps, row_by, node_by, NameIs, forcedBy}
+use Rattle.walking.specs.Walking.{FieldSteps, row_by, node_by, NameIs, forced_by}
 use Rattle.walking.proofs.TagLaws.{walk-60, ident-by}
 use Rattle.walking.proofs.RowLaws.{by-none}
 use Rattle.walking.proofs.NodeLaws.{none_left}
@@ -44,10 +44,10 @@ use Rattle.walking.proofs.ExpressionLaws.{ident-tree}
 
 -- a field that a rule leaves as it is, with the state
 pub as-stands : (rule : Env → Act Field) {s : List ℕ} {at stop : ℕ} (bytes : Bytes s) {t out out' : List ℕ} {o p : ℕ} → Good t → Wrote out o (slice at stop s) out' p →
-    ((y : Env) (u : State) → Shows y t u → Sound s at stop → rule y u ≡ done (treeAt s at stop, u)) → FieldSteps s at stop rule t out o t out' (Done p)
+    ((y : Env) (u : State) → Shows y t u → Sound s at stop → rule y u ≡ done (tree_at s at stop, u)) → FieldSteps s at stop rule t out o t out' (Done p)
 as-stands rule {s} {at} {stop} bytes g v h =
     steps-done g v.size (λ y u w k. record {
-      value = treeAt s at stop;
+      value = tree_at s at stop;
       state = u;
       is = h y u w k.0;
       wrote = wrote_as v (sym (read-bytes k.0.read bytes));
@@ -64,16 +64,16 @@ node-none way e p u (field n x cs) z =
     ∙ ap (λ (ds : Fields). done (field n x ds, u)) (sym z)
 
 pub node-leaf : (way : Way) (s : List ℕ) (bytes : Bytes s) (at from stop : ℕ) {t out out' : List ℕ} {o p : ℕ} → fixed_at s (get_or s at 0) (at + 3) stop ≡ Upto from → from ≡ stop →
-    Good t → Wrote out o (slice at stop s) out' p → FieldSteps s at stop (λ y. node_by way (treeAt s at stop) y.setting at) t out o t out' (Done p)
+    Good t → Wrote out o (slice at stop s) out' p → FieldSteps s at stop (λ y. node_by way (tree_at s at stop) y.setting at) t out o t out' (Done p)
 node-leaf way s bytes at from stop x z g v =
-    as-stands (λ y. node_by way (treeAt s at stop) y.setting at) bytes g v (λ y u _ w.
-    node-none way y.setting at u (treeAt s at stop)
+    as-stands (λ y. node_by way (tree_at s at stop) y.setting at) bytes g v (λ y u _ w.
+    node-none way y.setting at u (tree_at s at stop)
     (ap parts_of (tree-upto s at stop from x) ∙ ap (λ (n : ℕ). row_at s n stop) z ∙ row-none s stop stop (omega arith) (none_left s stop)))
 
 -- ---- A name of an identifier
 
-object-stays : (k : Pass) (x : List ℕ) (u : State) → forcedBy k true x u ≡ u
-unfolding forcedBy
+object-stays : (k : Pass) (x : List ℕ) (u : State) → forced_by k true x u ≡ u
+unfolding forced_by
 object-stays first x u = refl
 object-stays second x u = refl
 
@@ -89,12 +89,12 @@ name-stays e (field t x cs) p u w k =
     ap (λ (f : Field). walk f e false p u) z ∙ walk-70 e x false p u ∙ ap (λ (f : Field). done (f, u)) (sym z)
 
 pub both-stay : (e : Setting) (o q : Field) (p : ℕ) (u : State) → Regular o → Regular q → tag_of o ≡ 0x60 → tag_of q ≡ 0x70 →
-    walkMember (more o (more q none)) e p u ≡ done (more o (more q none), u)
+    walk_member (more o (more q none)) e p u ≡ done (more o (more q none), u)
 unfolding walk
 both-stay e o q p u a b i j = rw (ident-stays e o p u a i, name-stays e q (p + size o) u b j) refl
 
-ident-rule : ruleOf 0x60 ≡ parts0
-unfolding ruleOf within
+ident-rule : rule_of 0x60 ≡ parts0
+unfolding rule_of within
 ident-rule = refl
 
 -- a 60 that was read has nine bytes
@@ -107,20 +107,20 @@ ident-ends s at stop w q = go (fixed_at s (get_or s at 0) (at + 3) stop) refl
         let z = plain-ends 0x60 id-value refl s (get_or s at 0) (at + 3) stop b q e in
         let i = upto-in s (get_or s at 0) (at + 3) stop (read-inside w.read).0 e in
         ⊎_elim (λ d. let n = d.0 in omega arith)
-        (λ f. absurd (no_step (get_or s b 0) (subst (λ (r : Rule). stepAt r (get_or s b 0) ≡ Go f.0) (ap ruleOf q ∙ ident-rule) f.2)))
-        (row-cases s b stop (ruleOf (get_or s at 0)) i.1 (read-parts w.read e))
+        (λ f. absurd (no_step (get_or s b 0) (subst (λ (r : Rule). step_at r (get_or s b 0) ≡ Go f.0) (ap rule_of q ∙ ident-rule) f.2)))
+        (row-cases s b stop (rule_of (get_or s at 0)) i.1 (read-parts w.read e))
 
-ident-whole : (s : List ℕ) (at stop : ℕ) → Sound s at stop → get_or s at 0 ≡ 0x60 → treeAt s at stop ≡ field 0x60 (id_at s (at + 3)) none
+ident-whole : (s : List ℕ) (at stop : ℕ) → Sound s at stop → get_or s at 0 ≡ 0x60 → tree_at s at stop ≡ field 0x60 (id_at s (at + 3)) none
 ident-whole s at stop w q = go (fixed_at s (get_or s at 0) (at + 3) stop) refl
   where
-    go : (r : Reach) → fixed_at s (get_or s at 0) (at + 3) stop ≡ r → treeAt s at stop ≡ field 0x60 (id_at s (at + 3)) none
+    go : (r : Reach) → fixed_at s (get_or s at 0) (at + 3) stop ≡ r → tree_at s at stop ≡ field 0x60 (id_at s (at + 3)) none
     go Short e = read_short w.read e
     go (Upto b) e = ident-tree s at b stop e q w
 
-name-whole : (s : List ℕ) (at stop : ℕ) → Sound s at stop → get_or s at 0 ≡ 0x70 → treeAt s at stop ≡ field 0x70 (atomAt s (at + 3)) none
+name-whole : (s : List ℕ) (at stop : ℕ) → Sound s at stop → get_or s at 0 ≡ 0x70 → tree_at s at stop ≡ field 0x70 (atom_at s (at + 3)) none
 name-whole s at stop w q = go (fixed_at s (get_or s at 0) (at + 3) stop) refl
   where
-    go : (r : Reach) → fixed_at s (get_or s at 0) (at + 3) stop ≡ r → treeAt s at stop ≡ field 0x70 (atomAt s (at + 3)) none
+    go : (r : Reach) → fixed_at s (get_or s at 0) (at + 3) stop ≡ r → tree_at s at stop ≡ field 0x70 (atom_at s (at + 3)) none
     go Short e = read_short w.read e
     go (Upto b) e =
         let z = tree-upto s at stop b e in
@@ -137,10 +137,10 @@ pub record Named (s : List ℕ) (at stop : ℕ) : Type 0 where
   pub object-regular : Regular object
   pub name-regular : Regular name
   pub object-is : object ≡ field 0x60 (id_at s (at + 6)) none
-  pub name-is : name ≡ field 0x70 (atomAt s (at + 15)) none
+  pub name-is : name ≡ field 0x70 (atom_at s (at + 15)) none
 
 pub named : (s : List ℕ) (at stop : ℕ) → at + 3 ≤ stop → Sound s at stop → NameIs s at true → Named s at stop
-named s at stop h w (a, b, c, _) = go (extentAt s (at + 3) stop) refl
+named s at stop h w (a, b, c, _) = go (extent_at s (at + 3) stop) refl
   where
     two : Two (row_at s (at + 3) stop)
     two = (subst Regular (tree-bare 0x63 refl s at stop h a) w.regular).0.member-two refl
@@ -148,7 +148,7 @@ named s at stop h w (a, b, c, _) = go (extentAt s (at + 3) stop) refl
     all : SoundAll s (at + 3) stop
     all = sound-parts w (bare-upto 0x63 refl s (get_or s at 0) (at + 3) stop a h)
 
-    second_at : (m : ℕ) → extentAt s (at + 3) stop ≡ Upto m → (r : Reach) → extentAt s m stop ≡ r → Named s at stop
+    second_at : (m : ℕ) → extent_at s (at + 3) stop ≡ Upto m → (r : Reach) → extent_at s m stop ≡ r → Named s at stop
     second_at m e Short e2 =
         let i = extent-upto s (at + 3) stop h e in
         let x = two.2 in
@@ -157,8 +157,8 @@ named s at stop h w (a, b, c, _) = go (extentAt s (at + 3) stop) refl
         absurd (let n : ◌≡◌ {A = ℕ} 0 1 = cc in omega arith)
     second_at m e (Upto k) e2 =
         let i = extent-upto s (at + 3) stop h e in
-        let f = soundAll-first h all e in
-        let g = soundAll-first i.1 (soundAll-rest h all e) e2 in
+        let f = sound_all-first h all e in
+        let g = sound_all-first i.1 (sound_all-rest h all e) e2 in
         let n = ident-ends s (at + 3) m f b in
         let l : m ≡ at + 12 = omega arith in
         let x = two.2 in
@@ -166,26 +166,26 @@ named s at stop h w (a, b, c, _) = go (extentAt s (at + 3) stop) refl
         let z = row_more s m stop k i.1 e2 in
         let r : row_at s k stop ≡ none = cc in
         record {
-          object = treeAt s (at + 3) m;
-          name = treeAt s m k;
-          row = y ∙ ap (more (treeAt s (at + 3) m)) (z ∙ ap (more (treeAt s m k)) r);
+          object = tree_at s (at + 3) m;
+          name = tree_at s m k;
+          row = y ∙ ap (more (tree_at s (at + 3) m)) (z ∙ ap (more (tree_at s m k)) r);
           object-regular = f.regular;
           name-regular = g.regular;
           object-is = let j : at + 3 + 3 ≡ at + 6 = omega arith in ident-whole s (at + 3) m f b ∙ ap (λ (d : ℕ). field 0x60 (id_at s d) none) j;
           name-is =
               let j : m + 3 ≡ at + 15 = omega arith in
-              name-whole s m k g (ap (λ (d : ℕ). get_or s d 0) l ∙ c) ∙ ap (λ (d : ℕ). field 0x70 (atomAt s d) none) j;
+              name-whole s m k g (ap (λ (d : ℕ). get_or s d 0) l ∙ c) ∙ ap (λ (d : ℕ). field 0x70 (atom_at s d) none) j;
         }
 
-    go : (r : Reach) → extentAt s (at + 3) stop ≡ r → Named s at stop
+    go : (r : Reach) → extent_at s (at + 3) stop ≡ r → Named s at stop
     go Short e =
         let x = two.2 in
         let y = row-none s (at + 3) stop h e in
         absurd (let n : ◌≡◌ {A = ℕ} 0 1 = cc in omega arith)
-    go (Upto m) e = second_at m e (extentAt s m stop) refl
+    go (Upto m) e = second_at m e (extent_at s m stop) refl
 
 member-stays : (e : Setting) (s : List ℕ) (at stop : ℕ) (u : State) → at + 3 ≤ stop → get_or s at 0 ≡ 0x63 → Named s at stop →
-    node_by Member (treeAt s at stop) e at u ≡ done (treeAt s at stop, u)
+    node_by Member (tree_at s at stop) e at u ≡ done (tree_at s at stop, u)
 unfolding node_by row_by
 member-stays e s at stop u h a d =
     let z = tree-bare 0x63 refl s at stop h a ∙ ap (field 0x63 []) d.row in
@@ -195,6 +195,6 @@ member-stays e s at stop u h a d =
     ∙ ap (λ (f : Field). done (f, u)) (sym z)
 
 pub node-name : (s : List ℕ) (bytes : Bytes s) (at stop : ℕ) {t out out' : List ℕ} {o p : ℕ} → at + 3 ≤ stop → NameIs s at true → Good t → Wrote out o (slice at stop s) out' p →
-    FieldSteps s at stop (λ y. node_by Member (treeAt s at stop) y.setting at) t out o t out' (Done p)
+    FieldSteps s at stop (λ y. node_by Member (tree_at s at stop) y.setting at) t out o t out' (Done p)
 node-name s bytes at stop h n g v =
-    as-stands (λ y. node_by Member (treeAt s at stop) y.setting at) bytes g v (λ y u _ w. member-stays y.setting s at stop u h n.0 (named s at stop h w n))
+    as-stands (λ y. node_by Member (tree_at s at stop) y.setting at) bytes g v (λ y u _ w. member-stays y.setting s at stop u h n.0 (named s at stop h w n))

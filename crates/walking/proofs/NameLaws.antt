@@ -9,24 +9,24 @@ use lib.ListN.{length, get_or}
 use lib.Seq.{slice}
 use Rattle.scope.specs.declared.id.Id.{Id}
 use Rattle.scope.specs.declared.id.SyntaxContext.{SyntaxContext}
-use Rattle.tree.specs.Layout.{Bytes, two, four, twoAt, atomAt, id_at}
+use Rattle.tree.specs.Layout.{Bytes, two, four, two_at, atom_at, id_at}
 use Rattle.tree.specs.Tree.{Field, field, Fields, none, more, encode, tag_of}
-use Rattle.tree.specs.Standing.{treeAt, row_at}
-use Rattle.tree.proofs.LayoutLaws.{two_at}
+use Rattle.tree.specs.Standing.{tree_at, row_at}
+use Rattle.tree.proofs.LayoutLaws.{two_at-is}
 use Rattle.tree.proofs.WidthLaws.{tree-bare}
 use Rattle.writer.specs.Wrote.{Wrote}
 use Rattle.inputs.specs.Outcome.{Outcome, done, onto}
 use Rattle.inputs.specs.Fields.{inside}
 use Rattle.extraction_rules.specs.State.{Usage, State, Pass, first, second, Setting}
-use Rattle.extraction_rules.specs.First.{importedAs, onIdent, useImported, usage}
-use Rattle.extraction_rules.specs.Second.{usagesOf}
+use Rattle.extraction_rules.specs.First.{imported_as, on_ident, use_imported, usage}
+use Rattle.extraction_rules.specs.Second.{usages_of}
 use Rattle.extraction_rules.specs.Walk.{walk}
 use Rattle.extraction_rules.proofs.AlikeLaws.{Regular}
-use Rattle.state.specs.Cells.{Env, Good, idBy, Shows}
-use Rattle.state.specs.Does.{Tells, any, contextBy}
+use Rattle.state.specs.Cells.{Env, Good, id_by, Shows}
+use Rattle.state.specs.Does.{Tells, any, context_by}
 use Rattle.state.specs.declared.Context.{Context}
 use Rattle.state.specs.declared.Context.TheVariants.{Of, Nowhere}
-use Rattle.expressions.specs.After.{asIdent, becomes, identAfter}
+use Rattle.expressions.specs.After.{as_ident, becomes, ident_after}
 use Rattle.steps.specs.declared.Step.{Step}
 use Rattle.steps.specs.declared.Step.TheVariants.{Done}
 use Rattle.steps.specs.Step.{Sound, Steps}
@@ -39,88 +39,88 @@ use Rattle.walking.proofs.ExpressionLaws.{member-used}
 
 -- ---- What it becomes
 
-abbrev nameOn : List ℕ → List ℕ → Field
-nameOn i a = field 0x63 [] (more (field 0x60 i none) (more (field 0x70 a none) none))
+abbrev name_on : List ℕ → List ℕ → Field
+name_on i a = field 0x63 [] (more (field 0x60 i none) (more (field 0x70 a none) none))
 
-name-after : (i a : List ℕ) (u : State) → identAfter (nameOn i a) second u ≡ asIdent (usagesOf i u.usages) (importedAs i u.imported) (field 0x70 a none)
-unfolding identAfter becomes
+name-after : (i a : List ℕ) (u : State) → ident_after (name_on i a) second u ≡ as_ident (usages_of i u.usages) (imported_as i u.imported) (field 0x70 a none)
+unfolding ident_after becomes
 name-after i a u = refl
 
-as-unused : (us : List Usage) (c : Option (List ℕ)) (q : Field) → any us ≡ false → asIdent us c q ≡ nothing
-unfolding asIdent
+as-unused : (us : List Usage) (c : Option (List ℕ)) (q : Field) → any us ≡ false → as_ident us c q ≡ nothing
+unfolding as_ident
 as-unused [] c q h = refl
 as-unused (u ∷ us) c q h = absurd (let z : ◌≡◌ {A = ℕ} 0 1 = cc in omega arith)
 
-as-nowhere : (us : List Usage) (q : Field) → asIdent us nothing q ≡ nothing
-unfolding asIdent
+as-nowhere : (us : List Usage) (q : Field) → as_ident us nothing q ≡ nothing
+unfolding as_ident
 as-nowhere [] q = refl
 as-nowhere (u ∷ us) q = refl
 
-as-used : (us : List Usage) (c a : List ℕ) → any us ≡ true → asIdent us (some c) (field 0x70 a none) ≡ some (a ++ c)
-unfolding asIdent
+as-used : (us : List Usage) (c a : List ℕ) → any us ≡ true → as_ident us (some c) (field 0x70 a none) ≡ some (a ++ c)
+unfolding as_ident
 as-used [] c a h = absurd (let z : ◌≡◌ {A = ℕ} 0 1 = cc in omega arith)
 as-used (u ∷ us) c a h = refl
 
-unimported : (e : Setting) (i a : List ℕ) (p : ℕ) (u : State) → importedAs i u.imported ≡ nothing → usage (onIdent (nameOn i a)) e p u ≡ done (tt, u)
-unfolding onIdent usage useImported
+unimported : (e : Setting) (i a : List ℕ) (p : ℕ) (u : State) → imported_as i u.imported ≡ nothing → usage (on_ident (name_on i a)) e p u ≡ done (tt, u)
+unfolding on_ident usage use_imported
 unimported e i a p u h = rw h refl
 
 -- ---- As it stands in the tree
 
-module _ (s : List ℕ) (bytes : Bytes s) (at stop : ℕ) (h : at + 3 ≤ stop) (n : NameIs s at true) (id : Id) (i : idBy id ≡ id_at s (at + 6)) where
-  name-tree : Sound s at stop → treeAt s at stop ≡ nameOn (idBy id) (atomAt s (at + 15))
+module _ (s : List ℕ) (bytes : Bytes s) (at stop : ℕ) (h : at + 3 ≤ stop) (n : NameIs s at true) (id : Id) (i : id_by id ≡ id_at s (at + 6)) where
+  name-tree : Sound s at stop → tree_at s at stop ≡ name_on (id_by id) (atom_at s (at + 15))
   name-tree w =
       let d = named s at stop h w n in
       tree-bare 0x63 refl s at stop h n.0 ∙ ap (field 0x63 []) d.row
       ∙ ap (λ (f : Field). field 0x63 [] (more f (more d.name none))) (d.object-is ∙ ap (λ (x : List ℕ). field 0x60 x none) (sym i))
-      ∙ ap (λ (f : Field). field 0x63 [] (more (field 0x60 (idBy id) none) (more f none))) d.name-is
+      ∙ ap (λ (f : Field). field 0x63 [] (more (field 0x60 (id_by id) none) (more f none))) d.name-is
 
   module _ {t : List ℕ} (g : Good t) where
     -- in the second pass it stays
     stays : (object : Bool) {out out' : List ℕ} {o p : ℕ} → InPass second t → Wrote out o (slice at stop s) out' p →
-        ((y : Env) (u : State) → Sound s at stop → Shows y t u → identAfter (nameOn (idBy id) (atomAt s (at + 15))) second u ≡ nothing) →
-        FieldSteps s at stop (λ y. walk (treeAt s at stop) y.setting object at) t out o t out' (Done p)
+        ((y : Env) (u : State) → Sound s at stop → Shows y t u → ident_after (name_on (id_by id) (atom_at s (at + 15))) second u ≡ nothing) →
+        FieldSteps s at stop (λ y. walk (tree_at s at stop) y.setting object at) t out o t out' (Done p)
     stays object two v k =
-        as-stands (λ y. walk (treeAt s at stop) y.setting object at) bytes g v (λ y u r w.
+        as-stands (λ y. walk (tree_at s at stop) y.setting object at) bytes g v (λ y u r w.
         let d = named s at stop h w n in
         let z = tree-bare 0x63 refl s at stop h n.0 ∙ ap (field 0x63 []) d.row in
         ap (λ (f : Field). walk f y.setting object at u) z
         ∙ member-stays y.setting (two y u r) [] (more d.object (more d.name none)) object at u (subst Regular z w.regular)
-        (ap (λ (f : Field). identAfter f second u) (sym z ∙ name-tree w) ∙ k y u w r)
+        (ap (λ (f : Field). ident_after f second u) (sym z ∙ name-tree w) ∙ k y u w r)
         ∙ ap (λ (m : Outcome (Fields × State)). onto m (λ r. done (field 0x63 [] r.0, r.1)))
         (both-stay y.setting d.object d.name (inside at []) u d.object-regular d.name-regular (ap tag_of d.object-is) (ap tag_of d.name-is))
         ∙ ap (λ (f : Field). done (f, u)) (sym z))
 
-    pub name-unused : (object : Bool) {b : Bool} {out out' : List ℕ} {o p : ℕ} → InPass second t → Tells (λ u. any (usagesOf (idBy id) u.usages)) t b → b ≡ false →
-        Wrote out o (slice at stop s) out' p → FieldSteps s at stop (λ y. walk (treeAt s at stop) y.setting object at) t out o t out' (Done p)
+    pub name-unused : (object : Bool) {b : Bool} {out out' : List ℕ} {o p : ℕ} → InPass second t → Tells (λ u. any (usages_of (id_by id) u.usages)) t b → b ≡ false →
+        Wrote out o (slice at stop s) out' p → FieldSteps s at stop (λ y. walk (tree_at s at stop) y.setting object at) t out o t out' (Done p)
     name-unused object {b} two m e v =
         stays object two v (λ y u w r.
-        name-after (idBy id) (atomAt s (at + 15)) u
-        ∙ as-unused (usagesOf (idBy id) u.usages) (importedAs (idBy id) u.imported) (field 0x70 (atomAt s (at + 15)) none)
+        name-after (id_by id) (atom_at s (at + 15)) u
+        ∙ as-unused (usages_of (id_by id) u.usages) (imported_as (id_by id) u.imported) (field 0x70 (atom_at s (at + 15)) none)
         (sym (m.is u r) ∙ e))
 
-    pub name-nowhere : (object : Bool) {c : Context} {out out' : List ℕ} {o p : ℕ} → InPass second t → Tells (λ u. importedAs (idBy id) u.imported) t (contextBy c) → c ≡ Nowhere →
-        Wrote out o (slice at stop s) out' p → FieldSteps s at stop (λ y. walk (treeAt s at stop) y.setting object at) t out o t out' (Done p)
+    pub name-nowhere : (object : Bool) {c : Context} {out out' : List ℕ} {o p : ℕ} → InPass second t → Tells (λ u. imported_as (id_by id) u.imported) t (context_by c) → c ≡ Nowhere →
+        Wrote out o (slice at stop s) out' p → FieldSteps s at stop (λ y. walk (tree_at s at stop) y.setting object at) t out o t out' (Done p)
     name-nowhere object two m e v =
         stays object two v (λ y u w r.
-        name-after (idBy id) (atomAt s (at + 15)) u
-        ∙ ap (λ (c : Option (List ℕ)). asIdent (usagesOf (idBy id) u.usages) c (field 0x70 (atomAt s (at + 15)) none)) (sym (m.is u r) ∙ ap contextBy e)
-        ∙ as-nowhere (usagesOf (idBy id) u.usages) (field 0x70 (atomAt s (at + 15)) none))
+        name-after (id_by id) (atom_at s (at + 15)) u
+        ∙ ap (λ (c : Option (List ℕ)). as_ident (usages_of (id_by id) u.usages) c (field 0x70 (atom_at s (at + 15)) none)) (sym (m.is u r) ∙ ap context_by e)
+        ∙ as-nowhere (usages_of (id_by id) u.usages) (field 0x70 (atom_at s (at + 15)) none))
 
     -- or becomes a 60
     pub name-becomes : (object : Bool) {b : Bool} {c : Context} {a : ℕ} {d : SyntaxContext} {out out' : List ℕ} {o p : ℕ} → InPass second t →
-        Tells (λ u. any (usagesOf (idBy id) u.usages)) t b → b ≡ true → Tells (λ u. importedAs (idBy id) u.imported) t (contextBy c) → c ≡ Of d → a ≡ twoAt s (at + 15) →
-        Wrote out o (encode (field 0x60 (two a ++ four d.0) none)) out' p → FieldSteps s at stop (λ y. walk (treeAt s at stop) y.setting object at) t out o t out' (Done p)
+        Tells (λ u. any (usages_of (id_by id) u.usages)) t b → b ≡ true → Tells (λ u. imported_as (id_by id) u.imported) t (context_by c) → c ≡ Of d → a ≡ two_at s (at + 15) →
+        Wrote out o (encode (field 0x60 (two a ++ four d.0) none)) out' p → FieldSteps s at stop (λ y. walk (tree_at s at stop) y.setting object at) t out o t out' (Done p)
     name-becomes object {b} {a = a} {d} again m e k f z v =
         steps-done g v.size (λ y u r w. record {
           value = field 0x60 (two a ++ four d.0) none;
           state = u;
           is =
-              ident-walks y.setting (again y u r) (treeAt s at stop) object at u (two a ++ four d.0) w.0.regular
-              (ap (λ (f : Field). identAfter f second u) (name-tree w.0) ∙ name-after (idBy id) (atomAt s (at + 15)) u
-              ∙ ap (λ (c : Option (List ℕ)). asIdent (usagesOf (idBy id) u.usages) c (field 0x70 (atomAt s (at + 15)) none)) (sym (k.is u r) ∙ ap contextBy f)
-              ∙ as-used (usagesOf (idBy id) u.usages) (four d.0) (atomAt s (at + 15)) (sym (m.is u r) ∙ e)
-              ∙ ap (λ (l : List ℕ). some (l ++ four d.0)) (sym (ap two z ∙ two_at s (at + 15) bytes (fits n.3))));
+              ident-walks y.setting (again y u r) (tree_at s at stop) object at u (two a ++ four d.0) w.0.regular
+              (ap (λ (f : Field). ident_after f second u) (name-tree w.0) ∙ name-after (id_by id) (atom_at s (at + 15)) u
+              ∙ ap (λ (c : Option (List ℕ)). as_ident (usages_of (id_by id) u.usages) c (field 0x70 (atom_at s (at + 15)) none)) (sym (k.is u r) ∙ ap context_by f)
+              ∙ as-used (usages_of (id_by id) u.usages) (four d.0) (atom_at s (at + 15)) (sym (m.is u r) ∙ e)
+              ∙ ap (λ (l : List ℕ). some (l ++ four d.0)) (sym (ap two z ∙ two_at-is s (at + 15) bytes (fits n.3))));
           wrote = v;
           shows = r;
         })
@@ -130,17 +130,17 @@ module _ (s : List ℕ) (bytes : Bytes s) (at stop : ℕ) (h : at + 3 ≤ stop) 
 
     -- in the first pass its usage follows
     pub name-first : (object : Bool) {out out1 t2 : List ℕ} {o p : ℕ} {k : Step} → InPass first t → Wrote out o (slice at stop s) out1 p →
-        Steps (λ _. []) (λ y u. Sound s at stop) (λ y. usage (onIdent (treeAt s at stop)) y.setting at) t out1 p t2 out1 k →
-        FieldSteps s at stop (λ y. walk (treeAt s at stop) y.setting object at) t out o t2 out1 k
+        Steps (λ _. []) (λ y u. Sound s at stop) (λ y. usage (on_ident (tree_at s at stop)) y.setting at) t out1 p t2 out1 k →
+        FieldSteps s at stop (λ y. walk (tree_at s at stop) y.setting object at) t out o t2 out1 k
     name-first object one v = member-used object s at stop h n.0 one (as-target (node-name s bytes at stop h n g v))
 
-    pub name-unimported : {c : Context} {out : List ℕ} {p : ℕ} → Tells (λ u. importedAs (idBy id) u.imported) t (contextBy c) → c ≡ Nowhere →
-        Steps (λ _. []) (λ y u. Sound s at stop) (λ y. usage (onIdent (treeAt s at stop)) y.setting at) t out p t out (Done p)
+    pub name-unimported : {c : Context} {out : List ℕ} {p : ℕ} → Tells (λ u. imported_as (id_by id) u.imported) t (context_by c) → c ≡ Nowhere →
+        Steps (λ _. []) (λ y u. Sound s at stop) (λ y. usage (on_ident (tree_at s at stop)) y.setting at) t out p t out (Done p)
     name-unimported m e =
         steps-did g (λ y u r w. record {
           state = u;
           is =
-              ap (λ (f : Field). usage (onIdent f) y.setting at u) (name-tree w)
-              ∙ unimported y.setting (idBy id) (atomAt s (at + 15)) at u (sym (m.is u r) ∙ ap contextBy e);
+              ap (λ (f : Field). usage (on_ident f) y.setting at u) (name-tree w)
+              ∙ unimported y.setting (id_by id) (atom_at s (at + 15)) at u (sym (m.is u r) ∙ ap context_by e);
           shows = r;
         })

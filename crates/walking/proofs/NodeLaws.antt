@@ -14,24 +14,24 @@ use Rattle.tree.specs.declared.grammar.Rule.{Rule}
 use Rattle.tree.specs.declared.grammar.Step.TheVariants.{Go}
 use Rattle.tree.specs.declared.grammar.Slot.TheVariants.{Nothing, Maybe}
 use Rattle.tree.specs.declared.grammar.Set.TheVariants.{Pattern, Expression}
-use Rattle.tree.specs.Grammar.{within, parts0, parts1, ruleOf, stepAt}
-use Rattle.tree.specs.Access.{fixed_at, extentAt}
-use Rattle.tree.specs.Standing.{treeAt, row_at, Row}
+use Rattle.tree.specs.Grammar.{within, parts0, parts1, rule_of, step_at}
+use Rattle.tree.specs.Access.{fixed_at, extent_at}
+use Rattle.tree.specs.Standing.{tree_at, row_at, Row}
 use Rattle.tree.proofs.AccessLaws.{extent-upto, upto-in}
 use Rattle.tree.proofs.GrammarLaws.{no_step, step-one}
 use Rattle.tree.proofs.StandingLaws.{tree-upto, row-cases}
 use Rattle.tree.proofs.WidthLaws.{bare-upto}
 use Rattle.inputs.specs.Outcome.{Outcome, done, refused, onto}
 use Rattle.inputs.specs.Fields.{inside}
-use Rattle.extraction_rules.specs.State.{State, Setting, Act, setTop}
-use Rattle.extraction_rules.specs.First.{exportSpecifier, declarator}
-use Rattle.extraction_rules.specs.Walk.{walk, walkAll, walkTarget}
+use Rattle.extraction_rules.specs.State.{State, Setting, Act, set_top}
+use Rattle.extraction_rules.specs.First.{export_specifier, declarator}
+use Rattle.extraction_rules.specs.Walk.{walk, walk_all, walk_target}
 use Rattle.extraction_rules.proofs.RuleLaws.{maybe-step}
 use Rattle.extraction_rules.proofs.AlikeLaws.{Regular}
 use Rattle.state.specs.Cells.{Env, Good}
 use Rattle.state.specs.Does.{Turns}
 use Rattle.steps.specs.declared.Step.{Step}
-use Rattle.steps.specs.Step.{Reads, Sound, SoundAll, Steps, Begun, Ended, withParts}
+use Rattle.steps.specs.Step.{Reads, Sound, SoundAll, Steps, Begun, Ended, with_parts}
 use Rattle.steps.proofs.SoundLaws.{read_short, read-inside, read-tag, read-parts, row_read, inside-fixed, sound-parts}
 use Rattle.steps.proofs.StepsLaws.{steps-as, steps-changed, steps-never, steps-field}
 use Rattle.walking.specs.declared.Way.{Way}
@@ -45,86 +45,86 @@ pub walk-short : (act : Env → Act Field) {s : List ℕ} {at stop : ℕ} {t out
 walk-short act k g x = steps-never encode _ act k g (λ y u w. read_short w.0.read x)
 
 -- no field stands in no bytes
-pub none_left : (s : List ℕ) (at : ℕ) → extentAt s at at ≡ Short
-none_left s at = go (extentAt s at at) refl
+pub none_left : (s : List ℕ) (at : ℕ) → extent_at s at at ≡ Short
+none_left s at = go (extent_at s at at) refl
   where
-    go : (r : Reach) → extentAt s at at ≡ r → extentAt s at at ≡ Short
+    go : (r : Reach) → extent_at s at at ≡ r → extent_at s at at ≡ Short
     go Short e = e
     go (Upto k) e = let i = extent-upto s at at (omega arith) e in absurd (omega arith)
 
 -- ---- A field from its row
 
 module _ (s : List ℕ) (at from stop : ℕ) (h : at + 3 ≤ stop) (len : stop ≤ length s) (x : fixed_at s (get_or s at 0) (at + 3) stop ≡ Upto from) where
-  abbrev fixedBytes : List ℕ
-  fixedBytes = slice (at + 3) from s
+  abbrev fixed_bytes : List ℕ
+  fixed_bytes = slice (at + 3) from s
 
   -- where the parts start, as the rules count
-  here : inside at fixedBytes ≡ from
+  here : inside at fixed_bytes ≡ from
   here = let i = upto-in s (get_or s at 0) (at + 3) stop h x in inside-fixed s at from i.0 (omega arith)
 
   -- a rule for the field, from a step on its row
   from_row : (rule : Env → Act Field) {P : Env → State → Type 0} {act : Env → Act Fields} {t t' out out1 out2 out3 : List ℕ} {o c : ℕ} (r : Step) {k : Step} →
-      Begun out o (get_or s at 0) fixedBytes out1 c → Steps encodes P act t out1 c t' out2 r → Ended o r out2 out3 k →
-      ((y : Env) (u : State) → rule y u ≡ withParts (get_or s at 0) fixedBytes act y u) → ((y : Env) (u : State) → Sound s at stop → Reads y s → P y u) →
+      Begun out o (get_or s at 0) fixed_bytes out1 c → Steps encodes P act t out1 c t' out2 r → Ended o r out2 out3 k →
+      ((y : Env) (u : State) → rule y u ≡ with_parts (get_or s at 0) fixed_bytes act y u) → ((y : Env) (u : State) → Sound s at stop → Reads y s → P y u) →
       FieldSteps s at stop rule t out o t' out3 k
   from_row rule r b m e q to = steps-as rule (steps-field r b m e) (λ y u w. (to y u w.0 w.1, q y u))
 
   pub node-field : (way : Way) {t t' out out1 out2 out3 : List ℕ} {o c : ℕ} (r : Step) {k : Step} →
-      Begun out o (get_or s at 0) fixedBytes out1 c → RowSteps s from stop (λ y. row_by way (row_at s from stop) y.setting from) t out1 c t' out2 r → Ended o r out2 out3 k →
-      FieldSteps s at stop (λ y. node_by way (treeAt s at stop) y.setting at) t out o t' out3 k
+      Begun out o (get_or s at 0) fixed_bytes out1 c → RowSteps s from stop (λ y. row_by way (row_at s from stop) y.setting from) t out1 c t' out2 r → Ended o r out2 out3 k →
+      FieldSteps s at stop (λ y. node_by way (tree_at s at stop) y.setting at) t out o t' out3 k
   unfolding node_by
   node-field way r b m e =
-      from_row (λ y. node_by way (treeAt s at stop) y.setting at) r b m e
+      from_row (λ y. node_by way (tree_at s at stop) y.setting at) r b m e
       (λ y u. ap (λ (f : Field). node_by way f y.setting at u) (tree-upto s at stop from x)
-      ∙ ap (λ (p : ℕ). around (get_or s at 0) fixedBytes (row_by way (row_at s from stop) y.setting p) u) here)
+      ∙ ap (λ (p : ℕ). around (get_or s at 0) fixed_bytes (row_by way (row_at s from stop) y.setting p) u) here)
       (λ y u w z. (sound-parts w x, z))
 
   -- a 23 has its own rule, and no other
   pub node-23 : (object : Bool) {t out t' out' : List ℕ} {o : ℕ} {k : Step} → get_or s at 0 ≡ 0x23 →
-      Steps encode (λ y u. Unit {0}) (λ y. exportSpecifier y.setting (fixed_of (treeAt s at stop)) at) t out o t' out' k →
-      FieldSteps s at stop (λ y. walk (treeAt s at stop) y.setting object at) t out o t' out' k
+      Steps encode (λ y u. Unit {0}) (λ y. export_specifier y.setting (fixed_of (tree_at s at stop)) at) t out o t' out' k →
+      FieldSteps s at stop (λ y. walk (tree_at s at stop) y.setting object at) t out o t' out' k
   node-23 object q m =
       steps-as _ m (λ y u w. (
         tt,
         ap (λ (f : Field). walk f y.setting object at u) (tree-upto s at stop from x)
-            ∙ ap (λ (n : ℕ). walk (field n fixedBytes (row_at s from stop)) y.setting object at u) q ∙ walk-23 y.setting fixedBytes (row_at s from stop) object at u
-            ∙ ap (λ (f : Field). exportSpecifier y.setting (fixed_of f) at u) (sym (tree-upto s at stop from x)),
+            ∙ ap (λ (n : ℕ). walk (field n fixed_bytes (row_at s from stop)) y.setting object at u) q ∙ walk-23 y.setting fixed_bytes (row_at s from stop) object at u
+            ∙ ap (λ (f : Field). export_specifier y.setting (fixed_of f) at u) (sym (tree-upto s at stop from x)),
       ))
 
 -- a 42 has a pattern and at most an initialiser
-declarator-first : (t : ℕ) (q : Rule) → stepAt (ruleOf 0x42) t ≡ Go q → q ≡ parts1 (Maybe Expression)
-unfolding ruleOf within
+declarator-first : (t : ℕ) (q : Rule) → step_at (rule_of 0x42) t ≡ Go q → q ≡ parts1 (Maybe Expression)
+unfolding rule_of within
 declarator-first t q e = (step-one Pattern (Maybe Expression) Nothing Nothing t q e).1
 
-declarator-second : (t : ℕ) (q : Rule) → stepAt (parts1 (Maybe Expression)) t ≡ Go q → q ≡ parts0
+declarator-second : (t : ℕ) (q : Rule) → step_at (parts1 (Maybe Expression)) t ≡ Go q → q ≡ parts0
 declarator-second t q e = ⊎_elim (λ v. v.1) (λ v. absurd (no_step t v)) (maybe-step Expression Nothing Nothing Nothing t q e)
 
 row-over : (s : List ℕ) (at end : ℕ) → at ≤ end → Row s at end parts0 → at ≡ end
 row-over s at end le w = ⊎_elim (λ d. d.0) (λ f. absurd (no_step (get_or s at 0) f.2)) (row-cases s at end parts0 le w)
 
 sole-behind : {s : List ℕ} {at stop : ℕ} → Sound s at stop → get_or s at 0 ≡ 0x42 → fixed_at s (get_or s at 0) (at + 3) stop ≡ Upto (at + 3) → at + 3 ≤ stop →
-    (m : ℕ) → extentAt s (at + 3) stop ≡ Upto m → Sole s m stop
+    (m : ℕ) → extent_at s (at + 3) stop ≡ Upto m → Sole s m stop
 sole-behind {s} {at} {stop} w q x h m e n f =
     let len = (read-inside w.read).1 in
     let i = extent-upto s (at + 3) stop h e in
     let j = extent-upto s m stop i.1 f in
-    let a = (row_read (ruleOf 0x42) h len (subst (λ (k : ℕ). Row s (at + 3) stop (ruleOf k)) q (read-parts w.read x)) e).1 in
+    let a = (row_read (rule_of 0x42) h len (subst (λ (k : ℕ). Row s (at + 3) stop (rule_of k)) q (read-parts w.read x)) e).1 in
     let b = (row_read (parts1 (Maybe Expression)) i.1 len (subst (Row s m stop) (declarator-first (get_or s (at + 3) 0) a.0 a.1) a.2) f).1 in
     let z = row-over s n stop j.1 (subst (Row s n stop) (declarator-second (get_or s m 0) b.0 b.1) b.2) in
-    subst (λ (k : ℕ). extentAt s n k ≡ Short) z (none_left s n)
+    subst (λ (k : ℕ). extent_at s n k ≡ Short) z (none_left s n)
 
 -- a 42, once its parts are declared
 pub node-42 : (object : Bool) (s : List ℕ) (at stop : ℕ) → at + 3 ≤ stop → stop ≤ length s → get_or s at 0 ≡ 0x42 → {t t' out out1 out2 out3 : List ℕ} {o c : ℕ} (r : Step) {k : Step} →
     Begun out o (get_or s at 0) (slice (at + 3) (at + 3) s) out1 c → Steps encodes (λ y u. Declares s (at + 3) stop y) (λ y. declared y.setting object s (at + 3) stop at) t out1 c t' out2 r →
-    Ended o r out2 out3 k → FieldSteps s at stop (λ y. walk (treeAt s at stop) y.setting object at) t out o t' out3 k
+    Ended o r out2 out3 k → FieldSteps s at stop (λ y. walk (tree_at s at stop) y.setting object at) t out o t' out3 k
 node-42 object s at stop h len q r b m e =
-    from_row s at (at + 3) stop h len x (λ y. walk (treeAt s at stop) y.setting object at) r b m e
+    from_row s at (at + 3) stop h len x (λ y. walk (tree_at s at stop) y.setting object at) r b m e
     (λ y u. ap (λ (f : Field). walk f y.setting object at u) (tree-upto s at stop (at + 3) x)
     ∙ ap (λ (n : ℕ). walk (field n (slice (at + 3) (at + 3) s) (row_at s (at + 3) stop)) y.setting object at u) q
     ∙ walk-42 y.setting (slice (at + 3) (at + 3) s) (row_at s (at + 3) stop) object at u
-    ∙ ap (λ (p : ℕ). onto (walkAll (row_at s (at + 3) stop) y.setting object p u)
+    ∙ ap (λ (p : ℕ). onto (walk_all (row_at s (at + 3) stop) y.setting object p u)
     (λ r. onto (declarator y.setting r.0 at r.1) (λ d. done (field 0x42 (slice (at + 3) (at + 3) s) d.0, d.1)))) (here s at (at + 3) stop h len x)
-    ∙ joined y.setting (walkAll (row_at s (at + 3) stop) y.setting object (at + 3) u)
+    ∙ joined y.setting (walk_all (row_at s (at + 3) stop) y.setting object (at + 3) u)
     ∙ ap (λ (n : ℕ). around n (slice (at + 3) (at + 3) s) (declared y.setting object s (at + 3) stop at) u) (sym q))
     (λ y u w z. (sound-parts w x, z, sole-behind w q x h))
   where
@@ -141,42 +141,42 @@ node-42 object s at stop h len q r b m e =
 
 module _ (object : Bool) (s : List ℕ) (at stop : ℕ) {t out t' out' : List ℕ} {o : ℕ} {k : Step} where
   -- a rule that does the same as a way
-  as-walk : (way : Way) → ((e : Setting) (u : State) → Sound s at stop → walk (treeAt s at stop) e object at u ≡ node_by way (treeAt s at stop) e at u) →
-      FieldSteps s at stop (λ y. node_by way (treeAt s at stop) y.setting at) t out o t' out' k →
-      FieldSteps s at stop (λ y. walk (treeAt s at stop) y.setting object at) t out o t' out' k
+  as-walk : (way : Way) → ((e : Setting) (u : State) → Sound s at stop → walk (tree_at s at stop) e object at u ≡ node_by way (tree_at s at stop) e at u) →
+      FieldSteps s at stop (λ y. node_by way (tree_at s at stop) y.setting at) t out o t' out' k →
+      FieldSteps s at stop (λ y. walk (tree_at s at stop) y.setting object at) t out o t' out' k
   as-walk way q m = steps-as _ m (λ y u w. (w, q y.setting u w.0))
 
   pub node-plain : (get_or s at 0 ≡ 0x23 → ⊥) → (get_or s at 0 ≡ 0x42 → ⊥) → (get_or s at 0 ≡ 0x45 → ⊥) → (get_or s at 0 ≡ 0x60 → ⊥) →
       (get_or s at 0 ≡ 0x63 → ⊥) → (get_or s at 0 ≡ 0x64 → ⊥) → (get_or s at 0 ≡ 0x65 → ⊥) → (get_or s at 0 ≡ 0x66 → ⊥) →
-      FieldSteps s at stop (λ y. node_by (Children object) (treeAt s at stop) y.setting at) t out o t' out' k →
-      FieldSteps s at stop (λ y. walk (treeAt s at stop) y.setting object at) t out o t' out' k
+      FieldSteps s at stop (λ y. node_by (Children object) (tree_at s at stop) y.setting at) t out o t' out' k →
+      FieldSteps s at stop (λ y. walk (tree_at s at stop) y.setting object at) t out o t' out' k
   node-plain b d f g i j l n =
       as-walk (Children object) (λ e u w.
       let v = sym (read-tag w.read) in
-      plain_by e object at u (treeAt s at stop) (no-import (treeAt s at stop) w.regular) (λ z. b (v ∙ z)) (λ z. d (v ∙ z)) (λ z. f (v ∙ z)) (λ z. g (v ∙ z)) (λ z. i (v ∙ z))
+      plain_by e object at u (tree_at s at stop) (no-import (tree_at s at stop) w.regular) (λ z. b (v ∙ z)) (λ z. d (v ∙ z)) (λ z. f (v ∙ z)) (λ z. g (v ∙ z)) (λ z. i (v ∙ z))
       (λ z. j (v ∙ z)) (λ z. l (v ∙ z)) (λ z. n (v ∙ z)))
     where
       no-import : (f : Field) → Regular f → tag_of f ≡ 0x10 → ⊥
       no-import (field t x cs) w = w.0.no-import
 
-  pub node-64 : get_or s at 0 ≡ 0x64 → FieldSteps s at stop (λ y. node_by (Children false) (treeAt s at stop) y.setting at) t out o t' out' k →
-      FieldSteps s at stop (λ y. walk (treeAt s at stop) y.setting object at) t out o t' out' k
-  node-64 q = as-walk (Children false) (λ e u w. super-by e object at u (treeAt s at stop) (read-tag w.read ∙ q))
+  pub node-64 : get_or s at 0 ≡ 0x64 → FieldSteps s at stop (λ y. node_by (Children false) (tree_at s at stop) y.setting at) t out o t' out' k →
+      FieldSteps s at stop (λ y. walk (tree_at s at stop) y.setting object at) t out o t' out' k
+  node-64 q = as-walk (Children false) (λ e u w. super-by e object at u (tree_at s at stop) (read-tag w.read ∙ q))
 
-  pub node-66 : get_or s at 0 ≡ 0x66 → FieldSteps s at stop (λ y. node_by (Assignment object) (treeAt s at stop) y.setting at) t out o t' out' k →
-      FieldSteps s at stop (λ y. walk (treeAt s at stop) y.setting object at) t out o t' out' k
-  node-66 q = as-walk (Assignment object) (λ e u w. assignment-by e object at u (treeAt s at stop) (read-tag w.read ∙ q))
+  pub node-66 : get_or s at 0 ≡ 0x66 → FieldSteps s at stop (λ y. node_by (Assignment object) (tree_at s at stop) y.setting at) t out o t' out' k →
+      FieldSteps s at stop (λ y. walk (tree_at s at stop) y.setting object at) t out o t' out' k
+  node-66 q = as-walk (Assignment object) (λ e u w. assignment-by e object at u (tree_at s at stop) (read-tag w.read ∙ q))
 
   -- after *top* is cleared
-  pub node-45 : {t1 : List ℕ} → get_or s at 0 ≡ 0x45 → Turns (setTop false) t t1 →
-      FieldSteps s at stop (λ y. node_by (Children object) (treeAt s at stop) y.setting at) t1 out o t' out' k →
-      FieldSteps s at stop (λ y. walk (treeAt s at stop) y.setting object at) t out o t' out' k
+  pub node-45 : {t1 : List ℕ} → get_or s at 0 ≡ 0x45 → Turns (set_top false) t t1 →
+      FieldSteps s at stop (λ y. node_by (Children object) (tree_at s at stop) y.setting at) t1 out o t' out' k →
+      FieldSteps s at stop (λ y. walk (tree_at s at stop) y.setting object at) t out o t' out' k
   node-45 q g m =
-      steps-as _ (steps-changed (setTop false) g m (λ y u w. w))
-      (λ y u w. (w, block-by y.setting object at u (treeAt s at stop) (read-tag w.0.read ∙ q)))
+      steps-as _ (steps-changed (set_top false) g m (λ y u w. w))
+      (λ y u w. (w, block-by y.setting object at u (tree_at s at stop) (read-tag w.0.read ∙ q)))
 
 -- the target of a 66 is a field by the way of a 63
 pub as-target : {s : List ℕ} {at stop : ℕ} {t out t' out' : List ℕ} {o : ℕ} {k : Step} →
-    FieldSteps s at stop (λ y. node_by Member (treeAt s at stop) y.setting at) t out o t' out' k →
-    FieldSteps s at stop (λ y. walkTarget (treeAt s at stop) y.setting at) t out o t' out' k
-as-target {s} {at} {stop} m = steps-as _ m (λ y u w. (w, target-by y.setting at u (treeAt s at stop)))
+    FieldSteps s at stop (λ y. node_by Member (tree_at s at stop) y.setting at) t out o t' out' k →
+    FieldSteps s at stop (λ y. walk_target (tree_at s at stop) y.setting at) t out o t' out' k
+as-target {s} {at} {stop} m = steps-as _ m (λ y u w. (w, target-by y.setting at u (tree_at s at stop)))

@@ -8,39 +8,39 @@ use lib.ListN.{length}
 use Rattle.tree.specs.declared.layout.Reach.TheVariants.{Upto, Short}
 use Rattle.tree.specs.Layout.{Bytes}
 use Rattle.tree.specs.Tree.{Field, field, Fields, none, more, encode, encodes, size}
-use Rattle.tree.specs.Access.{extentAt}
-use Rattle.tree.specs.Standing.{treeAt, row_at}
+use Rattle.tree.specs.Access.{extent_at}
+use Rattle.tree.specs.Standing.{tree_at, row_at}
 use Rattle.tree.proofs.AccessLaws.{extent-upto}
 use Rattle.tree.proofs.StandingLaws.{row_more, row-none}
 use Rattle.tree.proofs.TreeLaws.{encodes-none, encodes_more}
 use Rattle.inputs.specs.Outcome.{done}
 use Rattle.extraction_rules.specs.State.{State, Setting, Act}
-use Rattle.extraction_rules.specs.Walk.{walk, walkAll, walkTarget}
+use Rattle.extraction_rules.specs.Walk.{walk, walk_all, walk_target}
 use Rattle.state.specs.Cells.{Env, Good}
 use Rattle.steps.specs.declared.Why.{Why}
 use Rattle.steps.specs.declared.Step.{Step}
 use Rattle.steps.specs.declared.Step.TheVariants.{Done, Refused}
 use Rattle.steps.specs.Step.{Reads, SoundAll}
-use Rattle.steps.proofs.SoundLaws.{read-size, read-inside, soundAll-first, soundAll-rest}
+use Rattle.steps.proofs.SoundLaws.{read-size, read-inside, sound_all-first, sound_all-rest}
 use Rattle.steps.proofs.StepsLaws.{steps-is, steps-give, steps-as, pair_of, steps-pair, steps-turned}
 use Rattle.walking.specs.declared.Way.{Way}
 use Rattle.walking.specs.declared.Way.TheVariants.{Children, Member, Assignment}
-use Rattle.walking.specs.Walking.{FieldSteps, RowSteps, firstBy, othersBy, row_by}
+use Rattle.walking.specs.Walking.{FieldSteps, RowSteps, first_by, others_by, row_by}
 
 -- ---- Ways
 
 pub all_more : (b : Bool) (x : Env) (f : Field) (fs : Fields) (p : ℕ) (s : State) →
-    walkAll (more f fs) x.setting b p s ≡ pair_of more (λ y. walk f y.setting b p) (λ _ y. walkAll fs y.setting b (p + size f)) x s
+    walk_all (more f fs) x.setting b p s ≡ pair_of more (λ y. walk f y.setting b p) (λ _ y. walk_all fs y.setting b (p + size f)) x s
 unfolding walk
 all_more b x f fs p s = refl
 
-pub all_none : (b : Bool) (e : Setting) (p : ℕ) (s : State) → walkAll none e b p s ≡ done (none, s)
+pub all_none : (b : Bool) (e : Setting) (p : ℕ) (s : State) → walk_all none e b p s ≡ done (none, s)
 unfolding walk
 all_none b e p s = refl
 
 by-more : (w : Way) (x : Env) (f : Field) (fs : Fields) (p : ℕ) (s : State) →
-    row_by w (more f fs) x.setting p s ≡ pair_of more (λ y. firstBy w f y.setting p) (λ _ y. row_by (Children (othersBy w)) fs y.setting (p + size f)) x s
-unfolding walk row_by firstBy othersBy
+    row_by w (more f fs) x.setting p s ≡ pair_of more (λ y. first_by w f y.setting p) (λ _ y. row_by (Children (others_by w)) fs y.setting (p + size f)) x s
+unfolding walk row_by first_by others_by
 by-more (Children b) x f fs p s = refl
 by-more Member x f fs p s = refl
 by-more (Assignment b) x f fs p s = refl
@@ -53,57 +53,57 @@ by-none (Assignment b) e p s = refl
 
 -- the first of them, by the way
 pub first-child : {s : List ℕ} {at stop : ℕ} {w : Way} {b : Bool} {t out t' out' : List ℕ} {o : ℕ} {k : Step} → w ≡ Children b →
-    FieldSteps s at stop (λ x. walk (treeAt s at stop) x.setting b at) t out o t' out' k → FieldSteps s at stop (λ x. firstBy w (treeAt s at stop) x.setting at) t out o t' out' k
-unfolding firstBy
-first-child {s} {at} {stop} e m = steps-as _ m (λ x u c. (c, ap (λ (w : Way). firstBy w (treeAt s at stop) x.setting at u) e))
+    FieldSteps s at stop (λ x. walk (tree_at s at stop) x.setting b at) t out o t' out' k → FieldSteps s at stop (λ x. first_by w (tree_at s at stop) x.setting at) t out o t' out' k
+unfolding first_by
+first-child {s} {at} {stop} e m = steps-as _ m (λ x u c. (c, ap (λ (w : Way). first_by w (tree_at s at stop) x.setting at u) e))
 
 pub first_member : {s : List ℕ} {at stop : ℕ} {w : Way} {t out t' out' : List ℕ} {o : ℕ} {k : Step} → w ≡ Member →
-    FieldSteps s at stop (λ x. walk (treeAt s at stop) x.setting true at) t out o t' out' k → FieldSteps s at stop (λ x. firstBy w (treeAt s at stop) x.setting at) t out o t' out' k
-unfolding firstBy
-first_member {s} {at} {stop} e m = steps-as _ m (λ x u c. (c, ap (λ (w : Way). firstBy w (treeAt s at stop) x.setting at u) e))
+    FieldSteps s at stop (λ x. walk (tree_at s at stop) x.setting true at) t out o t' out' k → FieldSteps s at stop (λ x. first_by w (tree_at s at stop) x.setting at) t out o t' out' k
+unfolding first_by
+first_member {s} {at} {stop} e m = steps-as _ m (λ x u c. (c, ap (λ (w : Way). first_by w (tree_at s at stop) x.setting at u) e))
 
 pub first-target : {s : List ℕ} {at stop : ℕ} {w : Way} {b : Bool} {t out t' out' : List ℕ} {o : ℕ} {k : Step} → w ≡ Assignment b →
-    FieldSteps s at stop (λ x. walkTarget (treeAt s at stop) x.setting at) t out o t' out' k → FieldSteps s at stop (λ x. firstBy w (treeAt s at stop) x.setting at) t out o t' out' k
-unfolding firstBy
-first-target {s} {at} {stop} e m = steps-as _ m (λ x u c. (c, ap (λ (w : Way). firstBy w (treeAt s at stop) x.setting at u) e))
+    FieldSteps s at stop (λ x. walk_target (tree_at s at stop) x.setting at) t out o t' out' k → FieldSteps s at stop (λ x. first_by w (tree_at s at stop) x.setting at) t out o t' out' k
+unfolding first_by
+first-target {s} {at} {stop} e m = steps-as _ m (λ x u c. (c, ap (λ (w : Way). first_by w (tree_at s at stop) x.setting at u) e))
 
 -- ---- A row, a field at a time
 
 -- the rest of a row
-abbrev restBy : Way → List ℕ → ℕ → ℕ → Env → Act Fields
-restBy way s stop end = λ v. row_by (Children (othersBy way)) (row_at s stop end) v.setting stop
+abbrev rest_by : Way → List ℕ → ℕ → ℕ → Env → Act Fields
+rest_by way s stop end = λ v. row_by (Children (others_by way)) (row_at s stop end) v.setting stop
 
 module _ (way : Way) {s : List ℕ} (bytes : Bytes s) {at end : ℕ} (le : at ≤ end) where
   -- no field is left
-  row-over : extentAt s at end ≡ Short → {t out : List ℕ} {o : ℕ} → Good t → RowSteps s at end (λ y. row_by way (row_at s at end) y.setting at) t out o t out (Done o)
+  row-over : extent_at s at end ≡ Short → {t out : List ℕ} {o : ℕ} → Good t → RowSteps s at end (λ y. row_by way (row_at s at end) y.setting at) t out o t out (Done o)
   row-over x g =
       steps-give encodes (λ y u. SoundAll s at end × Reads y s) (λ y. row_by way (row_at s at end) y.setting at) none g encodes-none
       (λ y u w. ap (λ (fs : Fields). row_by way fs y.setting at u) (row-none s at end le x) ∙ by-none way y.setting at u)
 
-  module _ {stop : ℕ} (x : extentAt s at end ≡ Upto stop) where
+  module _ {stop : ℕ} (x : extent_at s at end ≡ Upto stop) where
     split-here : SoundAll s at end → (y : Env) (u : State) →
-        row_by way (row_at s at end) y.setting at u ≡ pair_of more (λ v. firstBy way (treeAt s at stop) v.setting at) (λ _. restBy way s stop end) y u
+        row_by way (row_at s at end) y.setting at u ≡ pair_of more (λ v. first_by way (tree_at s at stop) v.setting at) (λ _. rest_by way s stop end) y u
     split-here w y u =
-        let i = read-inside (soundAll-first le w x).read in
-        let n = read-size (soundAll-first le w x).read bytes in
-        let z : at + size (treeAt s at stop) ≡ stop = omega arith in
-        ap (λ (fs : Fields). row_by way fs y.setting at u) (row_more s at end stop le x) ∙ by-more way y (treeAt s at stop) (row_at s stop end) at u
-        ∙ ap (λ (p : ℕ). pair_of more (λ v. firstBy way (treeAt s at stop) v.setting at) (λ _ v. row_by (Children (othersBy way)) (row_at s stop end) v.setting p) y u) z
+        let i = read-inside (sound_all-first le w x).read in
+        let n = read-size (sound_all-first le w x).read bytes in
+        let z : at + size (tree_at s at stop) ≡ stop = omega arith in
+        ap (λ (fs : Fields). row_by way fs y.setting at u) (row_more s at end stop le x) ∙ by-more way y (tree_at s at stop) (row_at s stop end) at u
+        ∙ ap (λ (p : ℕ). pair_of more (λ v. first_by way (tree_at s at stop) v.setting at) (λ _ v. row_by (Children (others_by way)) (row_at s stop end) v.setting p) y u) z
 
     -- the first field, then the rest
-    row-then : {t out t1 out1 t2 out2 : List ℕ} {o p : ℕ} {k : Step} → FieldSteps s at stop (λ y. firstBy way (treeAt s at stop) y.setting at) t out o t1 out1 (Done p) →
-        RowSteps s stop end (restBy way s stop end) t1 out1 p t2 out2 k → RowSteps s at end (λ y. row_by way (row_at s at end) y.setting at) t out o t2 out2 k
+    row-then : {t out t1 out1 t2 out2 : List ℕ} {o p : ℕ} {k : Step} → FieldSteps s at stop (λ y. first_by way (tree_at s at stop) y.setting at) t out o t1 out1 (Done p) →
+        RowSteps s stop end (rest_by way s stop end) t1 out1 p t2 out2 k → RowSteps s at end (λ y. row_by way (row_at s at end) y.setting at) t out o t2 out2 k
     row-then first others =
         steps-as (λ y. row_by way (row_at s at end) y.setting at)
-        (steps-pair encode encodes encodes more encodes_more (λ y u. SoundAll s at end × Reads y s) (λ _. restBy way s stop end) first (λ _. others) (field 0 [] none)
-        (λ y u w. (soundAll-first le w.0 x, w.1)) (λ y u w f v q. (soundAll-rest le w.0 x, w.1)))
+        (steps-pair encode encodes encodes more encodes_more (λ y u. SoundAll s at end × Reads y s) (λ _. rest_by way s stop end) first (λ _. others) (field 0 [] none)
+        (λ y u w. (sound_all-first le w.0 x, w.1)) (λ y u w f v q. (sound_all-rest le w.0 x, w.1)))
         (λ y u w. (w, split-here w.0 y u))
 
-    row-turned : {t out t1 out1 : List ℕ} {o q : ℕ} {v : Why} → FieldSteps s at stop (λ y. firstBy way (treeAt s at stop) y.setting at) t out o t1 out1 (Refused v q) →
+    row-turned : {t out t1 out1 : List ℕ} {o q : ℕ} {v : Why} → FieldSteps s at stop (λ y. first_by way (tree_at s at stop) y.setting at) t out o t1 out1 (Refused v q) →
         RowSteps s at end (λ y. row_by way (row_at s at end) y.setting at) t out o t1 out1 (Refused v q)
     row-turned first =
         steps-as (λ y. row_by way (row_at s at end) y.setting at)
-        (steps-turned encode encodes encodes more encodes_more (λ y u. SoundAll s at end × Reads y s) (λ _. restBy way s stop end) first (λ y u w. (soundAll-first le w.0 x, w.1)))
+        (steps-turned encode encodes encodes more encodes_more (λ y u. SoundAll s at end × Reads y s) (λ _. rest_by way s stop end) first (λ y u w. (sound_all-first le w.0 x, w.1)))
         (λ y u w. (w, split-here w.0 y u))
 
 -- ---- A row in a loop
@@ -123,12 +123,12 @@ going_start g le = record { good = g; kept = refl; size = refl; after = omega ar
 
 module _ {way : Way} {s : List ℕ} {from end : ℕ} {t₀ out₀ : List ℕ} {o : ℕ} {by : Way} {t out : List ℕ} {at to : ℕ} (bytes : Bytes s)
     (g : Going way s from end t₀ out₀ o by t out at to) where
-  pub going-over : extentAt s at end ≡ Short → RowSteps s from end (λ y. row_by way (row_at s from end) y.setting from) t₀ out₀ o t out (Done to)
+  pub going-over : extent_at s at end ≡ Short → RowSteps s from end (λ y. row_by way (row_at s from end) y.setting from) t₀ out₀ o t out (Done to)
   going-over x = g.rest t out (Done to) (row-over by bytes g.inside x g.good)
 
-  module _ {stop : ℕ} (x : extentAt s at end ≡ Upto stop) {t1 out1 : List ℕ} {k : Step}
-      (m : FieldSteps s at stop (λ y. firstBy by (treeAt s at stop) y.setting at) t out to t1 out1 k) where
-    pub going_more : {p : ℕ} {b : Bool} → k ≡ Done p → b ≡ othersBy by → length t1 ≡ length t → Going way s from end t₀ out₀ o (Children b) t1 out1 stop p
+  module _ {stop : ℕ} (x : extent_at s at end ≡ Upto stop) {t1 out1 : List ℕ} {k : Step}
+      (m : FieldSteps s at stop (λ y. first_by by (tree_at s at stop) y.setting at) t out to t1 out1 k) where
+    pub going_more : {p : ℕ} {b : Bool} → k ≡ Done p → b ≡ others_by by → length t1 ≡ length t → Going way s from end t₀ out₀ o (Children b) t1 out1 stop p
     going_more {p} {b} z e n =
         let i = extent-upto s at end g.inside x in
         let a = g.after in

@@ -3,20 +3,20 @@ use Rattle.std.specs.Prelude.{ℕ, ◌+◌, ◌≤◌, ◌≡◌, Bool, true, fa
 use Rattle.writer.specs.Wrote.{Wrote}
 use Rattle.tree.specs.Tree.{Field, field, Fields, none, more, encode, encodes}
 use Rattle.tree.specs.declared.layout.Reach.TheVariants.{Upto, Short}
-use Rattle.tree.specs.Access.{extentAt}
+use Rattle.tree.specs.Access.{extent_at}
 use Rattle.tree.specs.Standing.{row_at}
 use Rattle.inputs.specs.Outcome.{done, refused, onto}
 use Rattle.inputs.specs.Fields.{inside}
 use Rattle.extraction_rules.specs.State.{State, Pass, first, second, Setting, Act, ◌>>=◌, give}
-use Rattle.extraction_rules.specs.First.{forceId, bindings, required, collect, addLazy, requireLazily, declarator}
-use Rattle.extraction_rules.specs.Walk.{walk, walkAll, walkMember, walkAssignment, walkTarget}
+use Rattle.extraction_rules.specs.First.{force_id, bindings, required, collect, add_lazy, require_lazily, declarator}
+use Rattle.extraction_rules.specs.Walk.{walk, walk_all, walk_member, walk_assignment, walk_target}
 use Rattle.state.specs.Cells.{Env, Good, Shows}
 use Rattle.state.specs.Does.{place_in}
 use Rattle.steps.specs.declared.Why.{Why}
 use Rattle.steps.specs.declared.Step.{Step}
 use Rattle.steps.specs.declared.Step.TheVariants.{Done, Refused}
 use Rattle.steps.specs.Step.{Reads, Sound, SoundAll, Made, Steps}
-use Rattle.steps.specs.Refusal.{refusalOf}
+use Rattle.steps.specs.Refusal.{refusal_of}
 use Rattle.walking.specs.declared.Way.{Way}
 use Rattle.walking.specs.declared.Way.TheVariants.{Children, Member, Assignment}
 
@@ -31,21 +31,21 @@ RowSteps s at end act t out o t' out' k = Steps encodes (λ x u. SoundAll s at e
 -- ---- The parts of a field
 
 -- the first of a row by a way, and the way of the others
-unfoldable pub firstBy : Way → Field → Setting → ℕ → Act Field
-firstBy (Children object) f e p = walk f e object p
-firstBy Member f e p = walk f e true p
-firstBy (Assignment object) f e p = walkTarget f e p
+unfoldable pub first_by : Way → Field → Setting → ℕ → Act Field
+first_by (Children object) f e p = walk f e object p
+first_by Member f e p = walk f e true p
+first_by (Assignment object) f e p = walk_target f e p
 
-unfoldable pub othersBy : Way → Bool
-othersBy (Children object) = object
-othersBy Member = false
-othersBy (Assignment object) = object
+unfoldable pub others_by : Way → Bool
+others_by (Children object) = object
+others_by Member = false
+others_by (Assignment object) = object
 
 -- a row, and the field around it
 unfoldable pub row_by : Way → Fields → Setting → ℕ → Act Fields
-row_by (Children object) cs e p = walkAll cs e object p
-row_by Member cs e p = walkMember cs e p
-row_by (Assignment object) cs e p = walkAssignment cs e object p
+row_by (Children object) cs e p = walk_all cs e object p
+row_by Member cs e p = walk_member cs e p
+row_by (Assignment object) cs e p = walk_assignment cs e object p
 
 unfoldable pub node_by : Way → Field → Setting → ℕ → Act Field
 node_by way (field n x cs) e p = λ s. onto (row_by way cs e (inside p x) s) (λ r. done (field n x r.0, r.1))
@@ -61,23 +61,23 @@ NameIs s at false = Unit {0}
 unfoldable pub initialised : Setting → Field → Fields → ℕ → Act Fields
 initialised e q none p = give none
 initialised e q (more i rest) p = do
-  j ← requireLazily (required e i) e q i p
+  j ← require_lazily (required e i) e q i p
   give (more j rest)
 
 -- the walked parts behind a pattern q of the 42 at p, and all its parts
 abbrev pub behind : Setting → Bool → List ℕ → ℕ → ℕ → ℕ → Field → Act Fields
-behind e object s at end p q = λ u. onto (walkAll (row_at s at end) e object at u) (λ b. initialised e q b.0 p b.1)
+behind e object s at end p q = λ u. onto (walk_all (row_at s at end) e object at u) (λ b. initialised e q b.0 p b.1)
 
 abbrev pub declared : Setting → Bool → List ℕ → ℕ → ℕ → ℕ → Act Fields
-declared e object s at end p = λ u. onto (walkAll (row_at s at end) e object at u) (λ r. declarator e r.0 p r.1)
+declared e object s at end p = λ u. onto (walk_all (row_at s at end) e object at u) (λ r. declarator e r.0 p r.1)
 
 -- at most one field stands there
 abbrev pub Sole : List ℕ → ℕ → ℕ → Type 0
-Sole s at end = (stop : ℕ) → extentAt s at end ≡ Upto stop → extentAt s stop end ≡ Short
+Sole s at end = (stop : ℕ) → extent_at s at end ≡ Upto stop → extent_at s stop end ≡ Short
 
 -- a pattern, and at most an initialiser
 abbrev pub Declares : List ℕ → ℕ → ℕ → Env → Type 0
-Declares s at end x = SoundAll s at end × Reads x s × ((stop : ℕ) → extentAt s at end ≡ Upto stop → Sole s stop end)
+Declares s at end x = SoundAll s at end × Reads x s × ((stop : ℕ) → extent_at s at end ≡ Upto stop → Sole s stop end)
 
 -- where the pattern binds what stands at a place
 abbrev pub Behind : List ℕ → ℕ → ℕ → ℕ → Field → Env → State → Type 0
@@ -90,19 +90,19 @@ InPass k t = (x : Env) (u : State) → Shows x t u → x.setting.pass ≡ k
 -- ---- A 60
 
 -- 'with *object* clear is forced', in the first pass
-unfoldable pub forcedBy : Pass → Bool → List ℕ → State → State
-forcedBy first object i s = cond object s (forceId i s)
-forcedBy second object i s = s
+unfoldable pub forced_by : Pass → Bool → List ℕ → State → State
+forced_by first object i s = cond object s (force_id i s)
+forced_by second object i s = s
 
 pub record ForcedFirst (object : Bool) (i : List ℕ) (t t' : List ℕ) : Type 0 where
   pub good : Good t'
-  pub shows : {x : Env} (s : State) → Shows x t s → Shows x t' (forcedBy x.setting.pass object i s)
+  pub shows : {x : Env} (s : State) → Shows x t s → Shows x t' (forced_by x.setting.pass object i s)
 
 -- ---- Calls of require
 
 -- 'Record without specifiers: collected if *top*, else lazy.'
 abbrev pub recorded : List ℕ → ℕ → Act (Unit {0})
-recorded l p = λ s. cond s.top (collect (record { literal = l; specifiers = none }) p) (addLazy (record { literal = l; specifiers = none }) p) s
+recorded l p = λ s. cond s.top (collect (record { literal = l; specifiers = none }) p) (add_lazy (record { literal = l; specifiers = none }) p) s
 
 -- a call whose callee is a 60
 abbrev pub Called : Field → Type 0
@@ -114,4 +114,4 @@ pub record Amends (P : Env → Type 0) (act : Env → Field → Act Field) (o p 
   pub size : length out' ≡ length out
   pub made : (q : ℕ) → k ≡ Done q → {x : Env} (s : State) → Shows x t s → P x → (l : List ℕ) (f : Field) (bs : List ℕ) → Called f → Wrote l o (encode f ++ bs) out p →
       Made (λ g. encode g ++ bs) x (act x f s) l o t' out' q
-  pub turned : (w : Why) (q : ℕ) → k ≡ Refused w q → {x : Env} (s : State) → Shows x t s → P x → (f : Field) → act x f s ≡ refused (refusalOf w) q
+  pub turned : (w : Why) (q : ℕ) → k ≡ Refused w q → {x : Env} (s : State) → Shows x t s → P x → (f : Field) → act x f s ≡ refused (refusal_of w) q

@@ -1,18 +1,20 @@
 // The walk over a tree, one for both passes: each function walks a field or a row of fields of s, and writes at o what becomes of it.
 // Where a field is not whole, which cannot be in a tree that was read, nothing is written.
+#![tactic(auto)]
+
 ghost use Rattle.std.specs.Prelude.{◌≡◌, Bool, true, false, List, [], ℕ, ◌+◌, ◌≤◌, length, get_or};
 ghost use Rattle.std.proofs.Math.Option.{some};
-ghost use Rattle.tree.specs.Access.{extentAt};
+ghost use Rattle.tree.specs.Access.{extent_at};
 ghost use Rattle.tree.specs.Tree.{Field, Fields, encodes};
-ghost use Rattle.tree.specs.Standing.{treeAt, row_at};
+ghost use Rattle.tree.specs.Standing.{tree_at, row_at};
 ghost use Rattle.tree.specs.declared.layout.Reach.TheVariants.{Upto};
-ghost use Rattle.extraction_rules.specs.First.{addLazy, require as require-rule, requireLazily, bindings};
+ghost use Rattle.extraction_rules.specs.First.{add_lazy, require as require-rule, require_lazily, bindings};
 ghost use Rattle.extraction_rules.specs.Walk.{walk as walk-rule};
-ghost use Rattle.state.specs.Cells.{Good, idBy, literalBy, Valued};
+ghost use Rattle.state.specs.Cells.{Good, id_by, literal_by, Valued};
 ghost use Rattle.state.specs.Does.{place_in};
 ghost use Rattle.steps.specs.Step.{Steps};
 ghost use Rattle.walking.specs.declared.Way.TheVariants.{Member as member-way};
-ghost use Rattle.walking.specs.Walking.{recorded, FieldSteps, RowSteps, othersBy, firstBy, row_by, node_by, NameIs, Declares, Amends, Behind, behind, declared, ForcedFirst};
+ghost use Rattle.walking.specs.Walking.{recorded, FieldSteps, RowSteps, others_by, first_by, row_by, node_by, NameIs, Declares, Amends, Behind, behind, declared, ForcedFirst};
 
 use expressions::ident::ident_after;
 use expressions::require::{Required, Source, mark_required, required_at, set_callee};
@@ -51,7 +53,7 @@ pub fn walk(
     o: usize,
 ) -> Step
     requires { (at + 3 ≤ stop) × (stop ≤ length s.now) × Good t.old }
-    ensures { FieldSteps s.now at stop (λ x. walk-rule (treeAt s.now at stop) x.setting object at)
+    ensures { FieldSteps s.now at stop (λ x. walk-rule (tree_at s.now at stop) x.setting object at)
         t.old out.old o t.new out.new result }
 {
     match s[at] {
@@ -85,7 +87,7 @@ pub fn walk(
 fn node(s: &[u8], at: usize, stop: usize, way: Way, t: &mut [u64], out: &mut [u8], o: usize) -> Step
     requires { (at + 3 ≤ stop) × (stop ≤ length s.now) × Good t.old }
     ensures { FieldSteps s.now at stop
-        (λ x. node_by way (treeAt s.now at stop) x.setting at)
+        (λ x. node_by way (tree_at s.now at stop) x.setting at)
         t.old out.old o t.new out.new result }
 {
     let Reach::Upto(from) = fixed(s, s[at], at + 3, stop) else {
@@ -135,7 +137,7 @@ fn parts(
 
 // Whether *object* is set for all parts but the first.
 fn others(way: Way) -> bool
-    ensures { result ≡ othersBy way }
+    ensures { result ≡ others_by way }
 {
     match way {
         Way::Children(object) => object,
@@ -149,7 +151,7 @@ fn others(way: Way) -> bool
 fn part(s: &[u8], at: usize, stop: usize, way: Way, t: &mut [u64], out: &mut [u8], o: usize) -> Step
     requires { (at + 3 ≤ stop) × (stop ≤ length s.now) × Good t.old }
     ensures { FieldSteps s.now at stop
-        (λ x. firstBy way (treeAt s.now at stop) x.setting at)
+        (λ x. first_by way (tree_at s.now at stop) x.setting at)
         t.old out.old o t.new out.new result }
 {
     match way {
@@ -164,7 +166,7 @@ fn part(s: &[u8], at: usize, stop: usize, way: Way, t: &mut [u64], out: &mut [u8
 fn exported(s: &[u8], at: usize, stop: usize, t: &mut [u64], out: &mut [u8], o: usize) -> Step
     requires { (get_or s.now at 0 ≡ 0x23) × (at + 3 ≤ stop) × (stop ≤ length s.now) × Good t.old }
     ensures { (object : Bool) → FieldSteps s.now at stop
-        (λ x. walk-rule (treeAt s.now at stop) x.setting object at)
+        (λ x. walk-rule (tree_at s.now at stop) x.setting object at)
         t.old out.old o t.new out.new result }
 {
     let Reach::Upto(from) = fixed(s, 0x23, at + 3, stop) else {
@@ -184,7 +186,7 @@ fn ident(
     o: usize,
 ) -> Step
     requires { (get_or s.now at 0 ≡ 0x60) × (at + 3 ≤ stop) × (stop ≤ length s.now) × Good t.old }
-    ensures { FieldSteps s.now at stop (λ x. walk-rule (treeAt s.now at stop) x.setting object at)
+    ensures { FieldSteps s.now at stop (λ x. walk-rule (tree_at s.now at stop) x.setting object at)
         t.old out.old o t.new out.new result }
 {
     if stop < at + 9 {
@@ -207,7 +209,7 @@ fn member(
     o: usize,
 ) -> Step
     requires { (get_or s.now at 0 ≡ 0x63) × (at + 3 ≤ stop) × (stop ≤ length s.now) × Good t.old }
-    ensures { FieldSteps s.now at stop (λ x. walk-rule (treeAt s.now at stop) x.setting object at)
+    ensures { FieldSteps s.now at stop (λ x. walk-rule (tree_at s.now at stop) x.setting object at)
         t.old out.old o t.new out.new result }
 {
     if is_name(s, at, stop) {
@@ -232,7 +234,7 @@ fn member(
 fn name(s: &[u8], at: usize, stop: usize, t: &mut [u64], out: &mut [u8], o: usize) -> Step
     requires { NameIs s.now at true × (at + 3 ≤ stop) × (stop ≤ length s.now) × Good t.old }
     ensures { (object : Bool) → FieldSteps s.now at stop
-        (λ x. walk-rule (treeAt s.now at stop) x.setting object at)
+        (λ x. walk-rule (tree_at s.now at stop) x.setting object at)
         t.old out.old o t.new out.new result }
 {
     let id = id_at(s, at + 6);
@@ -260,7 +262,7 @@ fn name(s: &[u8], at: usize, stop: usize, t: &mut [u64], out: &mut [u8], o: usiz
 fn chain(s: &[u8], at: usize, stop: usize, t: &mut [u64], out: &mut [u8], o: usize) -> Step
     requires { (at + 3 ≤ stop) × (stop ≤ length s.now) × Good t.old }
     ensures { FieldSteps s.now at stop
-        (λ x. node_by member-way (treeAt s.now at stop) x.setting at)
+        (λ x. node_by member-way (tree_at s.now at stop) x.setting at)
         t.old out.old o t.new out.new result }
 {
     if is_name(s, at, stop) {
@@ -301,7 +303,7 @@ fn call(
     o: usize,
 ) -> Step
     requires { (get_or s.now at 0 ≡ 0x65) × (at + 3 ≤ stop) × (stop ≤ length s.now) × Good t.old }
-    ensures { FieldSteps s.now at stop (λ x. walk-rule (treeAt s.now at stop) x.setting object at)
+    ensures { FieldSteps s.now at stop (λ x. walk-rule (tree_at s.now at stop) x.setting object at)
         t.old out.old o t.new out.new result }
 {
     if is_second(t) {
@@ -328,7 +330,7 @@ fn declarator(
     o: usize,
 ) -> Step
     requires { (get_or s.now at 0 ≡ 0x42) × (at + 3 ≤ stop) × (stop ≤ length s.now) × Good t.old }
-    ensures { FieldSteps s.now at stop (λ x. walk-rule (treeAt s.now at stop) x.setting object at)
+    ensures { FieldSteps s.now at stop (λ x. walk-rule (tree_at s.now at stop) x.setting object at)
         t.old out.old o t.new out.new result }
 {
     let content = begin_field(s, at, at + 3, out, o);
@@ -372,7 +374,7 @@ fn initialiser(
     o: usize,
 ) -> Step
     requires { (at + 3 ≤ stop) × (stop ≤ length s.now) × Good t.old }
-    ensures { (q : Field) (from : ℕ) → extentAt s.now (at + 3) stop ≡ Upto from →
+    ensures { (q : Field) (from : ℕ) → extent_at s.now (at + 3) stop ≡ Upto from →
         Steps encodes (Behind s.now from stop (at + 3) q)
         (λ x. behind x.setting object s.now from stop at q) t.old out.old o t.new out.new result }
 {
@@ -394,7 +396,7 @@ fn initialiser(
 // In the first pass the id of a 60 is forced, with *object* clear.
 fn force_first(t: &mut [u64], id: Id, object: bool)
     requires { Good t.old }
-    ensures { ForcedFirst object (idBy id) t.old t.new }
+    ensures { ForcedFirst object (id_by id) t.old t.new }
 {
     if object {
         return;
@@ -408,7 +410,7 @@ fn force_first(t: &mut [u64], id: Id, object: bool)
 // The call at `at`, written from o up to p, requires a literal: the module is marked, the callee set, the record made.
 fn require(literal: Literal, at: usize, t: &mut [u64], out: &mut [u8], o: usize, p: usize) -> Step
     requires { Good t.old }
-    ensures { Amends (λ x. (x.bound 0 ≡ Fields.none) × Valued x literal) (λ x f. require-rule (some (literalBy x literal)) x.setting f at) o p
+    ensures { Amends (λ x. (x.bound 0 ≡ Fields.none) × Valued x literal) (λ x f. require-rule (some (literal_by x literal)) x.setting f at) o p
         t.old out.old t.new out.new result }
 {
     match mark_required(literal, t) {
@@ -424,7 +426,7 @@ fn require(literal: Literal, at: usize, t: &mut [u64], out: &mut [u8], o: usize,
 // 'Record without specifiers: collected if *top*, else lazy.'
 fn make_record(literal: Literal, at: usize, t: &mut [u64], p: usize) -> Step
     requires { Good t.old }
-    ensures { (out : List ℕ) → Steps (λ _. []) (λ x u. (x.bound 0 ≡ Fields.none) × Valued x literal) (λ x. recorded (literalBy x literal) at) t.old out p t.new out result }
+    ensures { (out : List ℕ) → Steps (λ _. []) (λ x u. (x.bound 0 ≡ Fields.none) × Valued x literal) (λ x. recorded (literal_by x literal) at) t.old out p t.new out result }
 {
     if !is_top(t) {
         return make_lazy(literal, 0, at, t, p);
@@ -439,7 +441,7 @@ fn make_record(literal: Literal, at: usize, t: &mut [u64], p: usize) -> Step
 fn make_lazy(literal: Literal, place: u32, at: usize, t: &mut [u64], p: usize) -> Step
     requires { Good t.old }
     ensures { (out : List ℕ) →
-        Steps (λ _. []) (λ x u. Unit {0}) (λ x. addLazy (record { literal = literalBy x literal; specifiers = x.bound place }) at) t.old out p
+        Steps (λ _. []) (λ x u. Unit {0}) (λ x. add_lazy (record { literal = literal_by x literal; specifiers = x.bound place }) at) t.old out p
         t.new out result }
 {
     match add_lazy(t, literal, place) {
@@ -461,7 +463,7 @@ fn require_lazily(
     requires { Good t.old }
     ensures { (q : Field) →
         Amends (λ x. (bindings q ≡ x.bound (place_in x.setting.pass pattern)) × Valued x literal)
-        (λ x f. requireLazily (some (literalBy x literal)) x.setting q f at) o p t.old
+        (λ x f. require_lazily (some (literal_by x literal)) x.setting q f at) o p t.old
         out.old t.new out.new result }
 {
     let place = place_of(t, pattern);

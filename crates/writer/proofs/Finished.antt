@@ -9,62 +9,62 @@ use borrow.Author.Tests.{leb-true, leb-false, le-leb, lt-leb}
 use lib.ListN.{length, take, drop, replicate, set, length-set}
 use lib.Seq.{sets-eq, take_all, take-suc-set, take-append_seam, append_snoc}
 use Rattle.writer.specs.Wrote.{Wrote}
-use Rattle.writer.specs.Finished.{hasRoom, zeroedFrom, zeroed, Finished, delivered, Delivered}
+use Rattle.writer.specs.Finished.{has_room, zeroed_from, zeroed, Finished, delivered, Delivered}
 
 -- zeros from i on are one at i, and zeros behind it
-pub zeroed-next : (l : List ℕ) (i : ℕ) → i < length l → zeroedFrom (i + 1) (set l i 0) ≡ zeroedFrom i l
-unfolding zeroedFrom
+pub zeroed-next : (l : List ℕ) (i : ℕ) → i < length l → zeroed_from (i + 1) (set l i 0) ≡ zeroed_from i l
+unfolding zeroed_from
 zeroed-next l i h =
     let e : length l - i ≡ suc (length l - suc i) = omega arith in
     rw (add-one, length-set, take-suc-set l i 0 h, e) (append_snoc (take i l) 0 (replicate (length l - suc i) 0))
 
 -- past the end there is nothing to zero
-pub zeroed-end : (l : List ℕ) (i : ℕ) → length l ≤ i → zeroedFrom i l ≡ l
-unfolding zeroedFrom
+pub zeroed-end : (l : List ℕ) (i : ℕ) → length l ≤ i → zeroed_from i l ≡ l
+unfolding zeroed_from
 zeroed-end l i h = let e : length l - i ≡ 0 = omega arith in rw (e, take_all i l h) (append-nil l)
 
-pub zeroed-all : (l : List ℕ) → zeroedFrom 0 l ≡ zeroed l
-unfolding zeroedFrom zeroed
+pub zeroed-all : (l : List ℕ) → zeroed_from 0 l ≡ zeroed l
+unfolding zeroed_from zeroed
 zeroed-all l = let e : length l - 0 ≡ length l = omega arith in ap (λ (n : ℕ). replicate n 0) e
 
--- what each answer of `hasRoom` says, and when it is given
-pub room-true : (n room : ℕ) → hasRoom n room ≡ true → (n ≤ 65538) × (n ≤ room)
-unfolding hasRoom
+-- what each answer of `has_room` says, and when it is given
+pub room-true : (n room : ℕ) → has_room n room ≡ true → (n ≤ 65538) × (n ≤ room)
+unfolding has_room
 room-true n room e = let h = leb-true n (min 65538 room) e in (omega arith, omega arith)
 
-pub room-false : (n room : ℕ) → hasRoom n room ≡ false → min 65538 room < n
-unfolding hasRoom
+pub room-false : (n room : ℕ) → has_room n room ≡ false → min 65538 room < n
+unfolding has_room
 room-false n room e = leb-false n (min 65538 room) e
 
-pub has_room : (n room : ℕ) → n ≤ 65538 → n ≤ room → hasRoom n room ≡ true
-unfolding hasRoom
-has_room n room a b = le-leb n (min 65538 room) (omega arith)
+pub has_room-true : (n room : ℕ) → n ≤ 65538 → n ≤ room → has_room n room ≡ true
+unfolding has_room
+has_room-true n room a b = le-leb n (min 65538 room) (omega arith)
 
-pub no_room : (n room : ℕ) → min 65538 room < n → hasRoom n room ≡ false
-unfolding hasRoom
+pub no_room : (n room : ℕ) → min 65538 room < n → has_room n room ≡ false
+unfolding has_room
 no_room n room h = lt-leb n (min 65538 room) h
 
 -- a field's buffer by the answer: the field and zeros behind it, or zeros
-pub delivered-field : (bs : List ℕ) (room : ℕ) → hasRoom (length bs) room ≡ true →
+pub delivered-field : (bs : List ℕ) (room : ℕ) → has_room (length bs) room ≡ true →
     delivered bs room ≡ bs ++ replicate (room - length bs) 0
 unfolding delivered
 delivered-field bs room e = rw e
 
-pub delivered-none : (bs : List ℕ) (room : ℕ) → hasRoom (length bs) room ≡ false → delivered bs room ≡ replicate room 0
+pub delivered-none : (bs : List ℕ) (room : ℕ) → has_room (length bs) room ≡ false → delivered bs room ≡ replicate room 0
 unfolding delivered
 delivered-none bs room e = rw e
 
 -- the position reached has room exactly where the bytes have, in this buffer or in another
-pub room-written : {l m bs : List ℕ} {p : ℕ} → Wrote l 0 bs m p → (room : ℕ) → hasRoom p room ≡ hasRoom (length bs) room
-room-written {l} {m} {bs} {p} w room = by (hasRoom (length bs) room) refl
+pub room-written : {l m bs : List ℕ} {p : ℕ} → Wrote l 0 bs m p → (room : ℕ) → has_room p room ≡ has_room (length bs) room
+room-written {l} {m} {bs} {p} w room = by (has_room (length bs) room) refl
   where
-    by : (b : Bool) → hasRoom (length bs) room ≡ b → hasRoom p room ≡ b
-    by true e = let a = w.at in let h = room-true (length bs) room e in has_room p room (omega arith) (omega arith)
+    by : (b : Bool) → has_room (length bs) room ≡ b → has_room p room ≡ b
+    by true e = let a = w.at in let h = room-true (length bs) room e in has_room-true p room (omega arith) (omega arith)
     by false e = let a = w.at in let h = room-false (length bs) room e in no_room p room (omega arith)
 
 module _ {l m bs : List ℕ} {p : ℕ} (w : Wrote l 0 bs m p) where
-  zeros-behind : length bs ≤ 65538 → length bs ≤ length l → zeroedFrom p m ≡ bs ++ replicate (length l - length bs) 0
-  unfolding zeroedFrom
+  zeros-behind : length bs ≤ 65538 → length bs ≤ length l → zeroed_from p m ≡ bs ++ replicate (length l - length bs) 0
+  unfolding zeroed_from
   zeros-behind g h =
       let a = w.at in
       let e : p ≡ length bs = omega arith in
@@ -72,8 +72,8 @@ module _ {l m bs : List ℕ} {p : ℕ} (w : Wrote l 0 bs m p) where
       rw (e, w.size)
       (ap (λ (x : List ℕ). take (length bs) x ++ replicate (length l - length bs) 0) f ∙ rw take-append_seam)
 
-  buffer-written : (r : Bool) → hasRoom (length bs) (length l) ≡ r →
-      cond r (zeroedFrom p m) (zeroed m) ≡ delivered bs (length l)
+  buffer-written : (r : Bool) → has_room (length bs) (length l) ≡ r →
+      cond r (zeroed_from p m) (zeroed m) ≡ delivered bs (length l)
   unfolding zeroed
   buffer-written true e =
       let h = room-true (length bs) (length l) e in zeros-behind h.0 h.1 ∙ sym (delivered-field bs (length l) e)
@@ -82,5 +82,5 @@ module _ {l m bs : List ℕ} {p : ℕ} (w : Wrote l 0 bs m p) where
 -- bs is written from 0 on, and the output is finished at the position reached: bs is delivered
 pub delivers : {l m bs k : List ℕ} {p : ℕ} {r : Bool} → Wrote l 0 bs m p → Finished p m r k → Delivered bs l r k
 delivers {l} {m} {bs} {k} {p} {r} w f =
-    let e = f.room ∙ ap (hasRoom p) w.size ∙ room-written w (length l) in
+    let e = f.room ∙ ap (has_room p) w.size ∙ room-written w (length l) in
     record { room = e; buffer = f.buffer ∙ buffer-written w r (sym e) }

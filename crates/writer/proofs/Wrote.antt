@@ -11,7 +11,7 @@ use borrow.Author.Tests.{le-leb, leb-true}
 use lib.Dec.{leb}
 use lib.ListN.{length, take, get_or, set, length-append, length-set, length-take, drop_of_length-le}
 use lib.Seq.{sets, length-sets, set_comm, slice, slice-cons}
-use Rattle.writer.specs.Bytes.{twoBytes, framed}
+use Rattle.writer.specs.Bytes.{two_bytes, framed}
 use Rattle.writer.specs.Wrote.{capped, Wrote, Opened, closed}
 
 -- a run of stores is one part of it after the other
@@ -77,11 +77,11 @@ pub length-closed : (l : List ℕ) (o p : ℕ) → length (closed l o p) ≡ len
 unfolding closed
 length-closed l o p =
     length-cond (leb (o + 3) p) _ l
-    (length-cond (leb p 65538) _ l (length-sets l (o + 1) (twoBytes (p - (o + 3)))) refl) refl
+    (length-cond (leb p 65538) _ l (length-sets l (o + 1) (two_bytes (p - (o + 3)))) refl) refl
 
 -- the content starts at c: its length is what lies between c and p
 pub closed-fills : (l : List ℕ) (o c p : ℕ) → capped c ≡ capped (o + 3) → c ≤ p → p ≤ 65538 →
-    closed l o p ≡ sets l (o + 1) (twoBytes (p - c))
+    closed l o p ≡ sets l (o + 1) (two_bytes (p - c))
 unfolding closed
 closed-fills l o c p a g h =
     let e : c ≡ o + 3 = omega arith in rw (le-leb (o + 3) p (omega arith), le-leb p 65538 h, e)
@@ -92,7 +92,7 @@ unfolding closed
 closed-long l o p h = by (leb (o + 3) p) (leb p 65538) refl refl
   where
     by : (a b : Bool) → leb (o + 3) p ≡ a → leb p 65538 ≡ b →
-        cond a (cond b (sets l (o + 1) (twoBytes (p - (o + 3)))) l) l ≡ l
+        cond a (cond b (sets l (o + 1) (two_bytes (p - (o + 3)))) l) l ≡ l
     by true true e f = absurd (h (leb-true (o + 3) p e) (leb-true p 65538 f))
     by true false e f = refl
     by false b e f = refl
@@ -110,8 +110,8 @@ wrote-field {l} {m} {n} {k} {body} {o} {t} {c} {p} u v w =
           let d : c ≡ o + 3 = omega arith in
           let e : p - c ≡ length body = omega arith in
           w ∙ closed-fills n o c p a (omega arith) (omega arith)
-          ∙ ap (λ (i : ℕ). sets n (o + 1) (twoBytes i)) e
-          ∙ ap (λ (x : List ℕ). sets x (o + 1) (twoBytes (length body)))
+          ∙ ap (λ (i : ℕ). sets n (o + 1) (two_bytes i)) e
+          ∙ ap (λ (x : List ℕ). sets x (o + 1) (two_bytes (length body)))
           (v.bytes (omega arith) ∙ ap (λ (i : ℕ). sets m i body) d
           ∙ ap (λ (x : List ℕ). sets x (o + 3) body) u.tag)
           ∙ sets-patch l body o t _ _;

@@ -3,7 +3,7 @@
 -- one is refused whole once the walk is done (document 01, 'Where a call turns back', 9), so positions count only so far.
 use Rattle.std.specs.Prelude.{cond, List, ◌≡◌, ℕ, ◌+◌, ◌-◌, ◌≤◌, min, leb, length, set}
 use Rattle.std.proofs.lemmas.List.Edits.{sets}
-use Rattle.writer.specs.Bytes.{twoBytes}
+use Rattle.writer.specs.Bytes.{two_bytes}
 
 -- positions from 65,539 on are all one: an output that has come so far is too long, whatever follows
 abbrev pub capped : ℕ → ℕ
@@ -23,4 +23,4 @@ pub record Opened (l : List ℕ) (o t : ℕ) (l' : List ℕ) (c : ℕ) : Type 0 
 
 -- The field at o is closed: the length of its content, which ends at p, is filled in. One that is too long is left so.
 unfoldable pub closed : List ℕ → ℕ → ℕ → List ℕ
-closed l o p = cond (leb (o + 3) p) (cond (leb p 65538) (sets l (o + 1) (twoBytes (p - (o + 3)))) l) l
+closed l o p = cond (leb (o + 3) p) (cond (leb p 65538) (sets l (o + 1) (two_bytes (p - (o + 3)))) l) l

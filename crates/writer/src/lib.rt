@@ -1,11 +1,13 @@
 // The field writer. A field is opened, its content written, and then it is closed, which fills its length in. Positions go on
 // where a buffer has no room left, so that a walk measures what it does not write, and never stops for lack of room: `finish`
 // tests, once, whether the whole stands in the buffer.
+#![tactic(auto)]
+
 ghost use Rattle.std.specs.Prelude.{◌≡◌, [], ◌∷◌, ◌+◌, ◌-◌, ◌≤◌, length, set};
 ghost use Rattle.std.proofs.Math.Seq.{slice};
-ghost use Rattle.writer.specs.Bytes.{twoBytes, fourBytes};
+ghost use Rattle.writer.specs.Bytes.{two_bytes, four_bytes};
 ghost use Rattle.writer.specs.Wrote.{capped, Wrote, Opened, closed};
-ghost use Rattle.writer.specs.Finished.{hasRoom, zeroedFrom, zeroed, Finished};
+ghost use Rattle.writer.specs.Finished.{has_room, zeroed_from, zeroed, Finished};
 
 // The longest field: 3 bytes of head, and 65,535 of content.
 const LONGEST: usize = 65538;
@@ -45,7 +47,7 @@ pub fn put(out: &mut [u8], o: usize, b: u8) -> usize
 
 // Writes n in two bytes.
 pub fn put_u16(out: &mut [u8], o: usize, n: u16) -> usize
-    ensures { Wrote out.old o (twoBytes n) out.new result }
+    ensures { Wrote out.old o (two_bytes n) out.new result }
 {
     let low = put(out, o, (n / 256) as u8);
     put(out, low, (n % 256) as u8)
@@ -53,7 +55,7 @@ pub fn put_u16(out: &mut [u8], o: usize, n: u16) -> usize
 
 // Writes n in four bytes.
 pub fn put_u32(out: &mut [u8], o: usize, n: u32) -> usize
-    ensures { Wrote out.old o (fourBytes n) out.new result }
+    ensures { Wrote out.old o (four_bytes n) out.new result }
 {
     let low = put_u16(out, o, (n / 65536) as u16);
     put_u16(out, low, (n % 65536) as u16)
@@ -132,7 +134,7 @@ pub fn close_field(out: &mut [u8], o: usize, p: usize)
 
 // Whether a field of n bytes is no longer than a field can be and than `room`: else refusal 9.
 pub fn has_room(n: usize, room: usize) -> bool
-    ensures { result ≡ hasRoom n room }
+    ensures { result ≡ has_room n room }
 {
     if LONGEST < n {
         return false;
@@ -145,7 +147,7 @@ pub fn has_room(n: usize, room: usize) -> bool
 
 // Zeros every byte from n on.
 pub fn clear_from(out: &mut [u8], n: usize)
-    ensures { out.new ≡ zeroedFrom n out.old }
+    ensures { out.new ≡ zeroed_from n out.old }
 {
     let mut i = n;
     while i < out.len() {

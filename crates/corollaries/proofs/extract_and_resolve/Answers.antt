@@ -1,7 +1,7 @@
 -- `extract_and_resolve`: by both answers. If both calls accept, `pairs-both` is the theorem on namespace imports, from their contracts.
 -- `pairs-unlisted` and `pairs-unextracted` say that any other answer is a refusal of the rules.
 use lib.ListN.{length}
-use Rattle.extraction.specs.Answer.{lent_as, roomIn}
+use Rattle.extraction.specs.Answer.{lent_as, room_in}
 use Rattle.corollaries.proofs.PairLaws.{pairs-both, pairs-unlisted, pairs-unextracted}
 use borrow.Author.Rules.{rules}
 use Rattle.corollaries.proofs.extract_and_resolve.Goals as goal
@@ -9,20 +9,20 @@ use Rattle.corollaries.proofs.extract_and_resolve.Goals as goal
 pub returns-in-Listed : goal.returns-in-Listed
 returns-in-Listed c =
     pairs-both (lent_as c.args.file.0 c.args.modes c.args.externals.now c.args.table.now c.args.tree.now)
-    (roomIn c.args.work.now c.args.out.now c.args.records.now) (length c.args.list.now) c.args.scope
+    (room_in c.args.work.now c.args.out.now c.args.records.now) (length c.args.list.now) c.args.scope
     c.extract_import_info-r.result c.extract_import_info-r.ensures.0 c.resolve_front-q.result c.in-Extracted.is
     c.resolve_front-q.ensures c.in-Listed.is (λ i. (c.shared_slice_known-3-1.given i).fits)
 
 pub returns-in_default-listed : goal.returns-in_default-listed
 returns-in_default-listed c =
     pairs-unlisted (lent_as c.args.file.0 c.args.modes c.args.externals.now c.args.table.now c.args.tree.now)
-    (roomIn c.args.work.now c.args.out.now c.args.records.now) (length c.args.list.now) c.args.scope
+    (room_in c.args.work.now c.args.out.now c.args.records.now) (length c.args.list.now) c.args.scope
     c.extract_import_info-r.result c.extract_import_info-r.ensures.0 c.resolve_front-q.result c.resolve_front-q.ensures
     c.in_default-listed.not-Listed
 
 pub returns-in_default : goal.returns-in_default
 returns-in_default c =
     pairs-unextracted (lent_as c.args.file.0 c.args.modes c.args.externals.now c.args.table.now c.args.tree.now)
-    (roomIn c.args.work.now c.args.out.now c.args.records.now) (length c.args.list.now) c.args.scope
+    (room_in c.args.work.now c.args.out.now c.args.records.now) (length c.args.list.now) c.args.scope
     c.extract_import_info-r.result c.extract_import_info-r.ensures.0 c.extract_import_info-r.result.scope
     c.in_default.not-Extracted

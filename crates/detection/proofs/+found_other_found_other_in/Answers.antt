@@ -7,7 +7,7 @@ use native.Mathlib.Omega.{arith}
 use borrow.Author.Rules.{rules}
 use Rattle.tree.specs.Standing.{row_at}
 use Rattle.tree.proofs.AccessLaws.{extent-upto, upto-in}
-use Rattle.detection.specs.Detection.{foundOtherIn}
+use Rattle.detection.specs.Detection.{found_other_in}
 use Rattle.detection.proofs.DetectionLaws.{found_none, found-more, found-short, found-upto}
 use Rattle.detection.proofs.+found_other_found_other_in.Goals as goal
 

@@ -7,7 +7,7 @@ use native.Mathlib.Omega.{arith}
 use borrow.Author.Rules.{rules}
 use Rattle.tree.specs.Standing.{row_at}
 use Rattle.tree.proofs.AccessLaws.{extent-upto, upto-in}
-use Rattle.detection.specs.Detection.{foundOtherIn}
+use Rattle.detection.specs.Detection.{found_other_in}
 use Rattle.detection.proofs.DetectionLaws.{found_none, found-more, found-short, found-upto}
 use Rattle.detection.proofs.+found_other_found_other_in.Given as goal
 
@@ -18,7 +18,7 @@ abbrev pub decreases-found_other_in : goal.decreases-found_other_in
 decreases-found_other_in l = l.end - l.from + 1
 
 abbrev pub invariant-found_other_in-loop-stop : goal.invariant-found_other_in-loop-stop
-invariant-found_other_in-loop-stop l = (l.from ≤ l.at) × (l.at ≤ l.end) × (foundOtherIn (row_at l.s l.from l.end) ≡ foundOtherIn (row_at l.s l.at l.end))
+invariant-found_other_in-loop-stop l = (l.from ≤ l.at) × (l.at ≤ l.end) × (found_other_in (row_at l.s l.from l.end) ≡ found_other_in (row_at l.s l.at l.end))
 
 abbrev pub decreases-found_other_in-loop-stop : goal.decreases-found_other_in-loop-stop
 decreases-found_other_in-loop-stop l = l.end - l.at

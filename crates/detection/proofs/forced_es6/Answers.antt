@@ -8,7 +8,7 @@ use lib.ListN.{get_or}
 use borrow.Author.Rules.{rules}
 use Rattle.tree.specs.Standing.{row_at}
 use Rattle.tree.proofs.AccessLaws.{extent-upto}
-use Rattle.detection.specs.Detection.{forcedEs6, Accepted}
+use Rattle.detection.specs.Detection.{forced_es6, Accepted}
 use Rattle.detection.proofs.DetectionLaws.{forced-none, forced-more, accepted-next}
 use Rattle.detection.proofs.forced_es6.Goals as goal
 

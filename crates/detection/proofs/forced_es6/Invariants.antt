@@ -7,12 +7,12 @@ use native.Mathlib.Omega.{arith}
 use borrow.Author.Rules.{rules}
 use Rattle.tree.specs.Standing.{row_at}
 use Rattle.tree.proofs.AccessLaws.{extent-upto}
-use Rattle.detection.specs.Detection.{forcedEs6, Accepted}
+use Rattle.detection.specs.Detection.{forced_es6, Accepted}
 use Rattle.detection.proofs.DetectionLaws.{forced-none, forced-more, accepted-next}
 use Rattle.detection.proofs.forced_es6.Given as goal
 
 abbrev pub invariant-loop-stop : goal.invariant-loop-stop
-invariant-loop-stop l = (l.from ≤ l.at) × (l.at ≤ l.end) × (forcedEs6 (row_at l.s l.from l.end) ≡ forcedEs6 (row_at l.s l.at l.end)) × Accepted l.s l.at l.end
+invariant-loop-stop l = (l.from ≤ l.at) × (l.at ≤ l.end) × (forced_es6 (row_at l.s l.from l.end) ≡ forced_es6 (row_at l.s l.at l.end)) × Accepted l.s l.at l.end
 
 abbrev pub decreases-loop-stop : goal.decreases-loop-stop
 decreases-loop-stop l = l.end - l.at

@@ -1,7 +1,7 @@
 -- `run`: the refusals of `prepare` are passed on; then by what each pass and the records gave. Each return has its law in TopLaws,
 -- which puts the steps before it together.
 use native.Mathlib.Omega.{arith}
-use Rattle.extraction.specs.Answer.{roomIn}
+use Rattle.extraction.specs.Answer.{room_in}
 use Rattle.extraction.proofs.TopLaws.{inside-fits, run-bad, run-twice, run-unread, run-full, run-turned, run_short, run-turned-again, run-short-again, run-accepted, run-unwritten}
 use borrow.Author.Rules.{rules}
 use Rattle.extraction.proofs.run.Goals as goal
@@ -28,19 +28,19 @@ use Rattle.extraction.proofs.run.Goals as goal
 
 pub returns-in-Bad : goal.returns-in-Bad
 returns-in-Bad c =
-    λ l ms q p. run-bad l ms q p (roomIn c.args.work.now c.args.out.now c.args.records.now) c.in-Bad.is
+    λ l ms q p. run-bad l ms q p (room_in c.args.work.now c.args.out.now c.args.records.now) c.in-Bad.is
 
 pub returns-in-NamedTwice : goal.returns-in-NamedTwice
 returns-in-NamedTwice c =
-    λ l ms q p. run-twice l ms q p (roomIn c.args.work.now c.args.out.now c.args.records.now) c.in-NamedTwice.is
+    λ l ms q p. run-twice l ms q p (room_in c.args.work.now c.args.out.now c.args.records.now) c.in-NamedTwice.is
 
 pub returns-in-Unread : goal.returns-in-Unread
 returns-in-Unread c =
-    λ l ms q p. run-unread l ms q p (roomIn c.args.work.now c.args.out.now c.args.records.now) c.in-Unread.is
+    λ l ms q p. run-unread l ms q p (room_in c.args.work.now c.args.out.now c.args.records.now) c.in-Unread.is
 
 pub returns-in-TooManyFiles : goal.returns-in-TooManyFiles
 returns-in-TooManyFiles c =
-    λ l ms q p. run-full l ms q p (roomIn c.args.work.now c.args.out.now c.args.records.now) c.in-TooManyFiles.is
+    λ l ms q p. run-full l ms q p (room_in c.args.work.now c.args.out.now c.args.records.now) c.in-TooManyFiles.is
 
 pub first_pass-requires : goal.first_pass-requires
 first_pass-requires c =

@@ -6,7 +6,7 @@ use native.Mathlib.Omega.{arith}
 use lib.ListN.{length, drop}
 use Rattle.tree.specs.Layout.{two}
 use Rattle.inputs.specs.Lists.{among}
-use Rattle.inputs.specs.Table.{atomsIn}
+use Rattle.inputs.specs.Table.{atoms_in}
 use Rattle.inputs.proofs.TableLaws.{external-here, external-on, external-end}
 use Rattle.inputs.proofs.is_external.Goals as goal
 
@@ -37,13 +37,12 @@ loop-i-smaller c =
     omega arith
 
 pub loop-i-preserved : goal.loop-i-preserved
-loop-i-preserved c =
-    (
-      c.loop-i.invariant.0
-          ∙ external-on c.args.externals.now c.loop-i.i c.args.atom.0 (omega arith) (c.shared_slice_known-1.given c.loop-i.i).fits
-          (c.shared_slice_known-1.given (c.loop-i.i + 1)).fits (omega arith) (λ e. c.if-atom-atom_at.false (e ∙ sym c.atom_at.ensures)),
-      omega arith,
-    )
+loop-i-preserved c = (
+  c.loop-i.invariant.0
+      ∙ external-on c.args.externals.now c.loop-i.i c.args.atom.0 (omega arith) (c.shared_slice_known-1.given c.loop-i.i).fits
+      (c.shared_slice_known-1.given (c.loop-i.i + 1)).fits (omega arith) (λ e. c.if-atom-atom_at.false (e ∙ sym c.atom_at.ensures)),
+  omega arith,
+)
 
 pub returns : goal.returns
 returns c =

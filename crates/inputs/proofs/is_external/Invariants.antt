@@ -6,12 +6,12 @@ use native.Mathlib.Omega.{arith}
 use lib.ListN.{length, drop}
 use Rattle.tree.specs.Layout.{two}
 use Rattle.inputs.specs.Lists.{among}
-use Rattle.inputs.specs.Table.{atomsIn}
+use Rattle.inputs.specs.Table.{atoms_in}
 use Rattle.inputs.proofs.TableLaws.{external-here, external-on, external-end}
 use Rattle.inputs.proofs.is_external.Given as goal
 
 abbrev pub invariant-loop-i : goal.invariant-loop-i
-invariant-loop-i l = (among (two l.atom.0) (atomsIn l.externals) ≡ among (two l.atom.0) (atomsIn (drop l.i l.externals))) × (l.i ≤ length l.externals)
+invariant-loop-i l = (among (two l.atom.0) (atoms_in l.externals) ≡ among (two l.atom.0) (atoms_in (drop l.i l.externals))) × (l.i ≤ length l.externals)
 
 abbrev pub decreases-loop-i : goal.decreases-loop-i
 decreases-loop-i l = length l.externals - l.i

@@ -1,5 +1,5 @@
 -- `names_twice_in`: the invariant says that this half names a source twice in the table just where one of its rows from i on has a source
--- that was met before, so that its bit is set, or two of them have the same (`twiceFrom`). A row of the other half is passed (`twice-past`);
+-- that was met before, so that its bit is set, or two of them have the same (`twice_from`). A row of the other half is passed (`twice-past`);
 -- one of this half is a hit (`twice-here`), or its bit is set now and it is passed (`twice-on`); with fewer than four bytes left there is no
 -- row (`twice-end`).
 use mathlib.Core.Path.{◌≡◌, refl, sym, ap, ◌∙◌}
@@ -7,13 +7,13 @@ use Prim.Native.Nat.{◌-◌, ◌≤◌}
 use native.Mathlib.Omega.{arith}
 use lib.ListN.{length, drop}
 use Rattle.inputs.specs.Bitmap.{half_of}
-use Rattle.inputs.specs.Table.{rowsIn, repeats}
-use Rattle.inputs.proofs.SeenLaws.{twiceFrom, twice-first, twice-past, twice-here, twice-on, twice-end}
+use Rattle.inputs.specs.Table.{rows_in, repeats}
+use Rattle.inputs.proofs.SeenLaws.{twice_from, twice-first, twice-past, twice-here, twice-on, twice-end}
 use Rattle.inputs.proofs.names_twice_in.Goals as goal
 
 pub loop-i-init : goal.loop-i-init
 loop-i-init c =
-    (twice-first 512 (half_of c.args.half (rowsIn c.args.table.now)), omega arith, refl)
+    (twice-first 512 (half_of c.args.half (rows_in c.args.table.now)), omega arith, refl)
 
 pub overflow_sub-table : goal.overflow_sub-table
 overflow_sub-table c =
@@ -37,7 +37,7 @@ loop-i-preserved-then-source-half c =
     let a = c.args in
     let source = c.atom_at-source in
     let past = twice-past a.table.now here.i source.result (omega arith) source.ensures a.half here.seen c.if-source-half.true in
-    (here.invariant.0 ∙ ap (twiceFrom here.seen) past, omega arith, here.invariant.2)
+    (here.invariant.0 ∙ ap (twice_from here.seen) past, omega arith, here.invariant.2)
 
 pub is_set-requires : goal.is_set-requires
 is_set-requires c =

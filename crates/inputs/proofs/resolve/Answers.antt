@@ -6,7 +6,7 @@ use Prim.Native.Nat.{◌≤◌, ◌-◌, ◌+◌}
 use native.Mathlib.Omega.{arith}
 use lib.ListN.{length, drop}
 use Rattle.tree.specs.Layout.{two}
-use Rattle.inputs.specs.Table.{rowsIn, fileOf}
+use Rattle.inputs.specs.Table.{rows_in, file_of}
 use Rattle.inputs.proofs.TableLaws.{file-here, file-on, file-end}
 use Rattle.inputs.proofs.resolve.Goals as goal
 
@@ -46,13 +46,12 @@ loop-i-smaller c =
     omega arith
 
 pub loop-i-preserved : goal.loop-i-preserved
-loop-i-preserved c =
-    (
-      c.loop-i.invariant.0
-          ∙ file-on c.args.table.now c.loop-i.i c.args.source.0 (omega arith) (c.shared_slice_known-1.given c.loop-i.i).fits
-          (c.shared_slice_known-1.given (c.loop-i.i + 1)).fits (omega arith) (λ e. c.if-atom_at-source.false (c.atom_at.ensures ∙ e)),
-      omega arith,
-    )
+loop-i-preserved c = (
+  c.loop-i.invariant.0
+      ∙ file-on c.args.table.now c.loop-i.i c.args.source.0 (omega arith) (c.shared_slice_known-1.given c.loop-i.i).fits
+      (c.shared_slice_known-1.given (c.loop-i.i + 1)).fits (omega arith) (λ e. c.if-atom_at-source.false (c.atom_at.ensures ∙ e)),
+  omega arith,
+)
 
 pub returns : goal.returns
 returns c =

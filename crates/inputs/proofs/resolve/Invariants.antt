@@ -6,12 +6,12 @@ use Prim.Native.Nat.{◌≤◌, ◌-◌, ◌+◌}
 use native.Mathlib.Omega.{arith}
 use lib.ListN.{length, drop}
 use Rattle.tree.specs.Layout.{two}
-use Rattle.inputs.specs.Table.{rowsIn, fileOf}
+use Rattle.inputs.specs.Table.{rows_in, file_of}
 use Rattle.inputs.proofs.TableLaws.{file-here, file-on, file-end}
 use Rattle.inputs.proofs.resolve.Given as goal
 
 abbrev pub invariant-loop-i : goal.invariant-loop-i
-invariant-loop-i l = (fileOf (two l.source.0) (rowsIn l.table) ≡ fileOf (two l.source.0) (rowsIn (drop l.i l.table))) × (l.i ≤ length l.table)
+invariant-loop-i l = (file_of (two l.source.0) (rows_in l.table) ≡ file_of (two l.source.0) (rows_in (drop l.i l.table))) × (l.i ≤ length l.table)
 
 abbrev pub decreases-loop-i : goal.decreases-loop-i
 decreases-loop-i l = length l.table - l.i

@@ -1,7 +1,7 @@
 -- `context_in`: by whether the content starts with the key, and by what parses.
 use mathlib.Core.Path.{sym, ap, ◌∙◌}
 use native.Mathlib.Omega.{arith}
-use Rattle.metadata.specs.MetadataValue.{numberBy}
+use Rattle.metadata.specs.MetadataValue.{number_by}
 use Rattle.metadata.proofs.DecodeLaws.{context-told, context-untold}
 use borrow.Author.Rules.{rules}
 use Rattle.metadata.proofs.context_in.Goals as goal
@@ -29,7 +29,7 @@ returns-in-Number c =
     let w =
     context-told a.s.now a.from a.end c.requires.1
     (sym c.starts_with.ensures ∙ c.if-not-starts_with.false) in
-    sym (ap numberBy c.in-Number.is) ∙ c.parse.ensures ∙ sym w.1
+    sym (ap number_by c.in-Number.is) ∙ c.parse.ensures ∙ sym w.1
 
 pub returns-in-Nothing : goal.returns-in-Nothing
 returns-in-Nothing c =
@@ -37,4 +37,4 @@ returns-in-Nothing c =
     let w =
     context-told a.s.now a.from a.end c.requires.1
     (sym c.starts_with.ensures ∙ c.if-not-starts_with.false) in
-    sym (ap numberBy c.in-Nothing.is) ∙ c.parse.ensures ∙ sym w.1
+    sym (ap number_by c.in-Nothing.is) ∙ c.parse.ensures ∙ sym w.1

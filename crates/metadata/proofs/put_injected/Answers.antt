@@ -1,12 +1,12 @@
 -- `put_injected`: a field, or nothing.
 use Rattle.writer.proofs.Wrote.{wrote_none, wrote_as, wrote-field}
-use Rattle.metadata.specs.Metadata.{injectedAttribute}
+use Rattle.metadata.specs.Metadata.{injected_attribute}
 use Rattle.metadata.proofs.EncodeLaws.{injected-none, injected-bytes}
 use borrow.Author.Rules.{rules}
 use Rattle.metadata.proofs.put_injected.Goals as goal
 
 pub returns-then-injected : goal.returns-then-injected
-unfolding injectedAttribute
+unfolding injected_attribute
 returns-then-injected c =
     wrote_as (wrote-field c.open_field-content.ensures c.put_all-p.ensures c.close_field.ensures) (injected-bytes c.args.injected c.if-injected.true)
 

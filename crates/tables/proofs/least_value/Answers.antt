@@ -4,7 +4,7 @@ use mathlib.Core.Path.{◌≡◌, sym, ap, ◌∙◌}
 use Prim.Native.Nat.{ℕ, ◌≤◌, ◌+◌, ◌*◌, ◌-◌}
 use native.Mathlib.Omega.{arith}
 use borrow.Author.Rules.{rules}
-use Rattle.tables.specs.Rows.{rows_from, lesser, leastBy, leastOf}
+use Rattle.tables.specs.Rows.{rows_from, lesser, least_by, least_of}
 use Rattle.tables.proofs.RowLaws.{least_start, least-here, least_other, least-end, back}
 use Rattle.tables.proofs.least_value.Goals as goal
 
@@ -37,7 +37,7 @@ loop-i-preserved-then-key_in-key c =
     let rest = c.loop-i.invariant.0 ∙ back c.args.key c.count_of-i.result c.loop-i.i c.args.b.base c.args.t.now c.loop-i-test.true in
     let here = least-here c.args.key c.count_of-i.result (c.loop-i.i - 1) c.args.b.base c.args.t.now (omega arith)
     (sym c.key_in.ensures ∙ c.if-key_in-key.true) in
-    (c.lesser_of-best.ensures ∙ ap (λ (v : ℕ). lesser v (leastBy c.loop-i.best)) c.value_in.ensures ∙ ap (lesser _) rest ∙ sym here, omega arith)
+    (c.lesser_of-best.ensures ∙ ap (λ (v : ℕ). lesser v (least_by c.loop-i.best)) c.value_in.ensures ∙ ap (lesser _) rest ∙ sym here, omega arith)
 
 pub loop-i-smaller : goal.loop-i-smaller
 loop-i-smaller c =

@@ -4,12 +4,12 @@ use mathlib.Core.Path.{◌≡◌, sym, ap, ◌∙◌}
 use Prim.Native.Nat.{ℕ, ◌≤◌, ◌+◌, ◌*◌, ◌-◌}
 use native.Mathlib.Omega.{arith}
 use borrow.Author.Rules.{rules}
-use Rattle.tables.specs.Rows.{rows_from, lesser, leastBy, leastOf}
+use Rattle.tables.specs.Rows.{rows_from, lesser, least_by, least_of}
 use Rattle.tables.proofs.RowLaws.{least_start, least-here, least_other, least-end, back}
 use Rattle.tables.proofs.least_value.Given as goal
 
 abbrev pub invariant-loop-i : goal.invariant-loop-i
-invariant-loop-i l = (leastBy l.best ≡ leastOf l.key (rows_from (l.initial.i - l.i) (l.base + 2 * l.i) l.t)) × (l.i ≤ l.initial.i)
+invariant-loop-i l = (least_by l.best ≡ least_of l.key (rows_from (l.initial.i - l.i) (l.base + 2 * l.i) l.t)) × (l.i ≤ l.initial.i)
 
 abbrev pub decreases-loop-i : goal.decreases-loop-i
 decreases-loop-i l = l.i

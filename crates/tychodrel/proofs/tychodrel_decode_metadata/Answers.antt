@@ -2,22 +2,20 @@
 use mathlib.Core.Path.{sym, ◌∙◌, ap}
 use Rattle.metadata.specs.declared.Decoded.{Decoded}
 use Rattle.metadata.specs.Calls.{decoded}
-use Rattle.tychodrel.specs.Answer.{decodeAnswerOf, metadataBytes}
+use Rattle.tychodrel.specs.Answer.{decode_answer_of, metadata_bytes}
 use borrow.Author.Rules.{rules}
 use Rattle.tychodrel.proofs.tychodrel_decode_metadata.Goals as goal
 
 pub returns-in-Done : goal.returns-in-Done
-returns-in-Done c =
-    (
-  sym (ap (λ (r : Decoded). decodeAnswerOf (decoded r)) c.in-Done.is) ∙ ap decodeAnswerOf c.decode.ensures,
-  c.bytes_of.ensures ∙ sym (ap (λ (r : Decoded). metadataBytes (decoded r)) c.in-Done.is) ∙ ap metadataBytes c.decode.ensures,
+returns-in-Done c = (
+  sym (ap (λ (r : Decoded). decode_answer_of (decoded r)) c.in-Done.is) ∙ ap decode_answer_of c.decode.ensures,
+  c.bytes_of.ensures ∙ sym (ap (λ (r : Decoded). metadata_bytes (decoded r)) c.in-Done.is) ∙ ap metadata_bytes c.decode.ensures,
 )
 
 pub returns-in-Broken : goal.returns-in-Broken
-returns-in-Broken c =
-    (
+returns-in-Broken c = (
   rw c.number_of.ensures at c.pack.ensures
-      ∙ sym (ap (λ (r : Decoded). decodeAnswerOf (decoded r)) c.in-Broken.is)
-      ∙ ap decodeAnswerOf c.decode.ensures,
-  sym (ap (λ (r : Decoded). metadataBytes (decoded r)) c.in-Broken.is) ∙ ap metadataBytes c.decode.ensures,
+      ∙ sym (ap (λ (r : Decoded). decode_answer_of (decoded r)) c.in-Broken.is)
+      ∙ ap decode_answer_of c.decode.ensures,
+  sym (ap (λ (r : Decoded). metadata_bytes (decoded r)) c.in-Broken.is) ∙ ap metadata_bytes c.decode.ensures,
 )

@@ -8,7 +8,7 @@ use lib.ListN.{get_or}
 use Prim.Native.Nat.{◌+◌, ◌-◌, ◌*◌}
 use Rattle.tree.proofs.FixedLaws.{no-upto}
 use Rattle.tree.proofs.AccessLaws.{extent-upto, upto-in}
-use Rattle.steps.specs.Step.{identBy}
+use Rattle.steps.specs.Step.{ident_by}
 use Rattle.steps.proofs.StepsLaws.{steps-is, effects-fine, effects-turned}
 use Rattle.walking.proofs.RowLaws.{first-child, first_member, first-target, Going, going_start, going-over, going_more, going-turned}
 use Rattle.walking.proofs.NodeLaws.{walk-short, node-field, node-42, node-plain, node-64, node-66, node-45, as-target}
@@ -199,12 +199,12 @@ member-chain-requires t c =
 pub member-returns-in-Is : goal.member-returns-in-Is
 member-returns-in-Is t c =
     member-ident c.args.s.now c.args.at c.args.stop c.args.object c.in-Is.id c.requires.3 (pass-second c.is_second.ensures c.if-is_second.true)
-    (tells_as c.ident_after.ensures (ap identBy c.in-Is.is)) c.put_ident.ensures
+    (tells_as c.ident_after.ensures (ap ident_by c.in-Is.is)) c.put_ident.ensures
 
 pub member-returns-in-Other : goal.member-returns-in-Other
 member-returns-in-Other t c =
     member-other c.args.object c.args.s.now c.args.at c.args.stop c.requires.1 c.requires.0 (pass-second c.is_second.ensures c.if-is_second.true)
-    (tells_as c.ident_after.ensures (ap identBy c.in-Other.is)) (as-target c.chain.ensures)
+    (tells_as c.ident_after.ensures (ap ident_by c.in-Other.is)) (as-target c.chain.ensures)
 
 pub member-chain-requires-2 : goal.member-chain-requires-2
 member-chain-requires-2 t c =

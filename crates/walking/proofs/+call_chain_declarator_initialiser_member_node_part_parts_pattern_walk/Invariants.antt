@@ -8,7 +8,7 @@ use lib.ListN.{get_or}
 use Prim.Native.Nat.{◌+◌, ◌-◌, ◌*◌}
 use Rattle.tree.proofs.FixedLaws.{no-upto}
 use Rattle.tree.proofs.AccessLaws.{extent-upto, upto-in}
-use Rattle.steps.specs.Step.{identBy}
+use Rattle.steps.specs.Step.{ident_by}
 use Rattle.steps.proofs.StepsLaws.{steps-is, effects-fine, effects-turned}
 use Rattle.walking.proofs.RowLaws.{first-child, first_member, first-target, Going, going_start, going-over, going_more, going-turned}
 use Rattle.walking.proofs.NodeLaws.{walk-short, node-field, node-42, node-plain, node-64, node-66, node-45, as-target}

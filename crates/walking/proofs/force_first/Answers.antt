@@ -6,19 +6,19 @@
 -- src/lib.rt:377:5
 -- src/lib.rt:367:1
 -- src/lib.rt:367:1
-use Rattle.state.specs.Cells.{idBy}
+use Rattle.state.specs.Cells.{id_by}
 use Rattle.walking.proofs.ExpressionLaws.{pass-second, pass-first, forced-object, forced-again, forced-first}
 use borrow.Author.Rules.{rules}
 use Rattle.walking.proofs.force_first.Goals as goal
 
 pub returns-then-object : goal.returns-then-object
 returns-then-object c =
-    forced-object (idBy c.args.id) c.requires c.if-object.true
+    forced-object (id_by c.args.id) c.requires c.if-object.true
 
 pub returns-then-is_second : goal.returns-then-is_second
 returns-then-is_second c =
-    forced-again (idBy c.args.id) c.args.object c.requires (pass-second c.is_second.ensures c.if-is_second.true)
+    forced-again (id_by c.args.id) c.args.object c.requires (pass-second c.is_second.ensures c.if-is_second.true)
 
 pub returns : goal.returns
 returns c =
-    forced-first (idBy c.args.id) c.if-object.false (pass-first c.is_second.ensures c.if-is_second.false) c.force_id.ensures
+    forced-first (id_by c.args.id) c.if-object.false (pass-first c.is_second.ensures c.if-is_second.false) c.force_id.ensures

@@ -6,21 +6,21 @@
 -- src/lib.rt:153:1
 -- src/lib.rt:153:1
 use mathlib.Core.Path.{sym, ap}
-use Rattle.walking.specs.Walking.{othersBy}
+use Rattle.walking.specs.Walking.{others_by}
 use borrow.Author.Rules.{rules}
 use Rattle.walking.proofs.others.Goals as goal
 
 pub returns-in-Children : goal.returns-in-Children
-unfolding othersBy
+unfolding others_by
 returns-in-Children c =
-    sym (ap othersBy c.in-Children.is)
+    sym (ap others_by c.in-Children.is)
 
 pub returns-in-Member : goal.returns-in-Member
-unfolding othersBy
+unfolding others_by
 returns-in-Member c =
-    sym (ap othersBy c.in-Member.is)
+    sym (ap others_by c.in-Member.is)
 
 pub returns-in-Assignment : goal.returns-in-Assignment
-unfolding othersBy
+unfolding others_by
 returns-in-Assignment c =
-    sym (ap othersBy c.in-Assignment.is)
+    sym (ap others_by c.in-Assignment.is)

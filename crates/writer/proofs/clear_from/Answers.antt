@@ -3,7 +3,7 @@ use mathlib.Core.Path.{◌≡◌, refl, sym, ◌∙◌}
 use Prim.Native.Nat.{◌-◌}
 use native.Mathlib.Omega.{arith}
 use lib.ListN.{length, length-set}
-use Rattle.writer.specs.Finished.{zeroedFrom}
+use Rattle.writer.specs.Finished.{zeroed_from}
 use Rattle.writer.proofs.Finished.{zeroed-next, zeroed-end}
 use Rattle.writer.proofs.clear_from.Goals as goal
 

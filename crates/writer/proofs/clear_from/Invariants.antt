@@ -3,12 +3,12 @@ use mathlib.Core.Path.{◌≡◌, refl, sym, ◌∙◌}
 use Prim.Native.Nat.{◌-◌}
 use native.Mathlib.Omega.{arith}
 use lib.ListN.{length, length-set}
-use Rattle.writer.specs.Finished.{zeroedFrom}
+use Rattle.writer.specs.Finished.{zeroed_from}
 use Rattle.writer.proofs.Finished.{zeroed-next, zeroed-end}
 use Rattle.writer.proofs.clear_from.Given as goal
 
 abbrev pub invariant-loop-i : goal.invariant-loop-i
-invariant-loop-i l = (zeroedFrom l.i l.out ≡ zeroedFrom l.n l.initial.out) × (length l.out ≡ length l.initial.out)
+invariant-loop-i l = (zeroed_from l.i l.out ≡ zeroed_from l.n l.initial.out) × (length l.out ≡ length l.initial.out)
 
 abbrev pub decreases-loop-i : goal.decreases-loop-i
 decreases-loop-i l = length l.out - l.i

@@ -1,7 +1,7 @@
--- `has_room`: the two tests together say that n is at most the lesser of 65,538 and the room (`has_room`, else `no_room`).
+-- `has_room`: the two tests together say that n is at most the lesser of 65,538 and the room (`has_room-true`, else `no_room`).
 use mathlib.Core.Path.{sym}
 use native.Mathlib.Omega.{arith}
-use Rattle.writer.proofs.Finished.{has_room, no_room}
+use Rattle.writer.proofs.Finished.{has_room-true, no_room}
 use Rattle.writer.proofs.has_room.Goals as goal
 
 pub returns-then-n-gt-LONGEST : goal.returns-then-n-gt-LONGEST
@@ -14,4 +14,4 @@ returns-then-room-n c =
 
 pub returns : goal.returns
 returns c =
-    sym (has_room c.args.n c.args.room (omega arith) (omega arith))
+    sym (has_room-true c.args.n c.args.room (omega arith) (omega arith))

@@ -7,7 +7,7 @@ use native.Mathlib.Omega.{arith}
 use lib.ListN.{length}
 use borrow.Author.Rules.{rules}
 use Rattle.writer.specs.Wrote.{Wrote}
-use Rattle.corollaries.specs.Hosts.{filesFrom, filesBack}
+use Rattle.corollaries.specs.Hosts.{files_from, files_back}
 use Rattle.corollaries.proofs.FilesLaws.{file-written, all-files, no-files}
 use Rattle.corollaries.proofs.exported.put_files.Goals as goal
 

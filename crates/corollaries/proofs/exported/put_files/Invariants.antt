@@ -7,12 +7,12 @@ use native.Mathlib.Omega.{arith}
 use lib.ListN.{length}
 use borrow.Author.Rules.{rules}
 use Rattle.writer.specs.Wrote.{Wrote}
-use Rattle.corollaries.specs.Hosts.{filesFrom, filesBack}
+use Rattle.corollaries.specs.Hosts.{files_from, files_back}
 use Rattle.corollaries.proofs.FilesLaws.{file-written, all-files, no-files}
 use Rattle.corollaries.proofs.exported.put_files.Given as goal
 
 abbrev pub invariant-loop-i : goal.invariant-loop-i
-invariant-loop-i it = ((l : List ℕ) (p : ℕ) → Wrote it.files it.to (filesFrom (it.n - it.i) it.i it.scope) l p → Wrote it.initial.files 0 (filesBack it.scope) l p)
+invariant-loop-i it = ((l : List ℕ) (p : ℕ) → Wrote it.files it.to (files_from (it.n - it.i) it.i it.scope) l p → Wrote it.initial.files 0 (files_back it.scope) l p)
     × (length it.files ≡ length it.initial.files)
     × (it.n ≤ 256)
 

@@ -1,6 +1,6 @@
 -- `resolve_with`: one way; `lent-part` says that the part up to n is the files in the scope's bytes, and the part up to `end` the field at the
 -- front of the records' buffer.
-use Rattle.modes.specs.Bits.{modesOf}
+use Rattle.modes.specs.Bits.{modes_of}
 use native.Mathlib.Omega.{arith}
 use lib.ListN.{length}
 use Rattle.corollaries.proofs.FilesLaws.{lent_fits, lent-part}
@@ -13,5 +13,5 @@ slice_bounds-tychodrel_resolve-end c = let h = lent_fits c.args.scope.now c.requ
 pub returns : goal.returns
 returns c =
     let a = c.args in
-    lent-part (modesOf a.modes) a.scope.now a.table.now a.records.now c.put_files-n.result c.front-end.result (length a.list.now) c.requires.0
+    lent-part (modes_of a.modes) a.scope.now a.table.now a.records.now c.put_files-n.result c.front-end.result (length a.list.now) c.requires.0
     c.put_files-n.ensures c.front-end.ensures.0 c.tychodrel_resolve.ensures

@@ -16,31 +16,31 @@
 -- src/usages.rt:60:1
 -- src/usages.rt:60:1
 -- src/usages.rt:60:1
-use Rattle.tree.specs.Standing.{treeAt}
+use Rattle.tree.specs.Standing.{tree_at}
 use Rattle.expressions.proofs.PropertyLaws.{from-none, from-number, from-unresolved, from-full}
 use borrow.Author.Rules.{rules}
 use Rattle.expressions.proofs.usages.use_from.Goals as goal
 
 pub returns-in_default : goal.returns-in_default
 returns-in_default c =
-    from-none (treeAt c.args.s.now c.args.member c.args.end) c.args.at c.args.member c.args.id
+    from-none (tree_at c.args.s.now c.args.member c.args.end) c.args.at c.args.member c.args.id
     c.own_module.ensures c.used_record.ensures
     c.requires.2 c.in_default.is
 
 pub returns-in-Is : goal.returns-in-Is
 returns-in-Is c =
-    from-number (treeAt c.args.s.now c.args.member c.args.end) c.args.at c.args.member c.args.id
+    from-number (tree_at c.args.s.now c.args.member c.args.end) c.args.at c.args.member c.args.id
     c.own_module.ensures c.used_record.ensures
     c.in-From.is c.module_for.ensures c.in-Is.is c.use_property.ensures
 
 pub returns-in-Unresolved : goal.returns-in-Unresolved
 returns-in-Unresolved c =
-    from-unresolved (treeAt c.args.s.now c.args.member c.args.end) c.args.at c.args.member c.args.id
+    from-unresolved (tree_at c.args.s.now c.args.member c.args.end) c.args.at c.args.member c.args.id
     c.own_module.ensures c.used_record.ensures
     c.in-From.is c.module_for.ensures c.in-Unresolved.is
 
 pub returns-in-TooMany : goal.returns-in-TooMany
 returns-in-TooMany c =
-    from-full (treeAt c.args.s.now c.args.member c.args.end) c.args.at c.args.member c.args.id
+    from-full (tree_at c.args.s.now c.args.member c.args.end) c.args.at c.args.member c.args.id
     c.own_module.ensures c.used_record.ensures
     c.in-From.is c.module_for.ensures c.in-TooMany.is

@@ -1,13 +1,13 @@
 -- `gather_namespace`: by whether the field is a 22: then its id is the record's next namespace (`extending-is`).
 -- `extending-other` says that another field adds none.
-use Rattle.tree.specs.Standing.{treeAt}
+use Rattle.tree.specs.Standing.{tree_at}
 use Rattle.imports.proofs.GatherLaws.{extending-is, extending-other}
 use borrow.Author.Rules.{rules}
 use Rattle.imports.proofs.first.gather_namespace.Goals as goal
 
 pub returns-in_default : goal.returns-in_default
 returns-in_default c =
-    extending-other c.args.i (treeAt c.args.s.now c.args.at c.args.stop) c.namespace_at.result
+    extending-other c.args.i (tree_at c.args.s.now c.args.at c.args.stop) c.namespace_at.result
     c.namespace_at.ensures c.requires.2 c.in_default.is
 
 pub add_namespace-requires : goal.add_namespace-requires
@@ -16,5 +16,5 @@ add_namespace-requires c =
 
 pub returns : goal.returns
 returns c =
-    extending-is c.args.i (treeAt c.args.s.now c.args.at c.args.stop) c.namespace_at.result
+    extending-is c.args.i (tree_at c.args.s.now c.args.at c.args.stop) c.namespace_at.result
     c.namespace_at.ensures c.in-Is.id c.in-Is.is c.add_namespace.ensures

@@ -2,7 +2,7 @@
 -- bytes are the encoding of a field that was read.
 use native.Mathlib.Omega.{arith}
 use Rattle.tree.specs.Layout.{four}
-use Rattle.tree.specs.Standing.{treeAt}
+use Rattle.tree.specs.Standing.{tree_at}
 use Rattle.imports.proofs.MadeLaws.{acts-made, acts-full}
 use Rattle.imports.proofs.NoteLaws.{noted-as, other-copied}
 use borrow.Author.Rules.{rules}
@@ -14,9 +14,9 @@ id_at-requires c =
 
 pub returns-in-Made : goal.returns-in-Made
 returns-in-Made c =
-    acts-made c.args.at (treeAt c.args.s.now c.args.at c.args.stop) (noted-as (four c.args.c.0) c.id_at.ensures c.note_id.ensures) c.in-Made.is
+    acts-made c.args.at (tree_at c.args.s.now c.args.at c.args.stop) (noted-as (four c.args.c.0) c.id_at.ensures c.note_id.ensures) c.in-Made.is
     c.copy.ensures.size (other-copied (λ i. (c.shared_slice_known-1.given i).fits) c.copy.ensures)
 
 pub returns-in-Full : goal.returns-in-Full
 returns-in-Full c =
-    acts-full c.args.at (treeAt c.args.s.now c.args.at c.args.stop) (noted-as (four c.args.c.0) c.id_at.ensures c.note_id.ensures) c.in-Full.is
+    acts-full c.args.at (tree_at c.args.s.now c.args.at c.args.stop) (noted-as (four c.args.c.0) c.id_at.ensures c.note_id.ensures) c.in-Full.is

@@ -1,8 +1,8 @@
--- `outside_at`: by the kind byte: 0, 1 or another. The precondition has room for a name unless it is 0; for a 1 `two_at` gives the name.
+-- `outside_at`: by the kind byte: 0, 1 or another. The precondition has room for a name unless it is 0; for a 1 `two_at-is` gives the name.
 use native.Mathlib.Omega.{arith}
 use mathlib.Core.Path.{◌∙◌, ap}
 use Rattle.tree.specs.Layout.{two}
-use Rattle.tree.proofs.LayoutLaws.{two_at}
+use Rattle.tree.proofs.LayoutLaws.{two_at-is}
 use Rattle.imports.proofs.note.outside_at.Goals as goal
 
 pub bounds-s-at : goal.bounds-s-at
@@ -34,7 +34,7 @@ returns-in-1 c =
     let h = c.requires.1 (λ z. let k = c.in-1.is in omega arith) in (
       c.in-1.is,
       ap two c.atom_at.ensures
-          ∙ two_at c.args.s.now _ (λ i. (c.shared_slice_known-1.given i).fits) (omega arith),
+          ∙ two_at-is c.args.s.now _ (λ i. (c.shared_slice_known-1.given i).fits) (omega arith),
     )
 
 pub returns-in_default : goal.returns-in_default

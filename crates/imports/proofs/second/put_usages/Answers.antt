@@ -2,7 +2,7 @@
 -- `usages-end` says that from n on there is none.
 use native.Mathlib.Omega.{arith}
 use Prim.Native.Nat.{◌-◌}
-use Rattle.state.specs.Cells.{idBy}
+use Rattle.state.specs.Cells.{id_by}
 use Rattle.imports.proofs.TakenLaws.{Listing, listing_start, listing-more, usages-end}
 use Rattle.imports.proofs.second.put_usages.Goals as goal
 
@@ -12,7 +12,7 @@ count_usages-n-requires c =
 
 pub loop-i-init : goal.loop-i-init
 loop-i-init c =
-    listing_start (idBy c.args.id)
+    listing_start (id_by c.args.id)
 
 pub put_usage-to-requires : goal.put_usage-to-requires
 put_usage-to-requires c =
@@ -32,4 +32,4 @@ loop-i-preserved c =
 
 pub returns : goal.returns
 returns c =
-    c.loop-i.invariant.rest _ _ (usages-end (idBy c.args.id) c.loop-i.i c.count_usages-n.ensures.0 (omega arith))
+    c.loop-i.invariant.rest _ _ (usages-end (id_by c.args.id) c.loop-i.i c.count_usages-n.ensures.0 (omega arith))

@@ -2,12 +2,12 @@
 -- `usages-end` says that from n on there is none.
 use native.Mathlib.Omega.{arith}
 use Prim.Native.Nat.{◌-◌}
-use Rattle.state.specs.Cells.{idBy}
+use Rattle.state.specs.Cells.{id_by}
 use Rattle.imports.proofs.TakenLaws.{Listing, listing_start, listing-more, usages-end}
 use Rattle.imports.proofs.second.put_usages.Given as goal
 
 abbrev pub invariant-loop-i : goal.invariant-loop-i
-invariant-loop-i l = Listing (idBy l.id) l.t l.initial.out l.o l.out l.i l.to
+invariant-loop-i l = Listing (id_by l.id) l.t l.initial.out l.o l.out l.i l.to
 
 abbrev pub decreases-loop-i : goal.decreases-loop-i
 decreases-loop-i l = l.n - l.i

@@ -6,7 +6,7 @@ use borrow.Author.Rules.{rules}
 use Rattle.tree.specs.Standing.{row_at}
 use Rattle.tree.proofs.AccessLaws.{extent-upto}
 use Rattle.metadata.specs.Metadata.{Metadata, merged, decode_from, decode}
-use Rattle.metadata.specs.MetadataValue.{metadataOf}
+use Rattle.metadata.specs.MetadataValue.{metadata_of}
 use Rattle.metadata.proofs.DecodeLaws.{decode-more, decode-none}
 use Rattle.metadata.proofs.ExportMetadata.decode_row.Goals as goal
 
@@ -42,7 +42,7 @@ loop-stop-preserved c =
     let here = c.loop-stop in
     let e = sym c.extent.ensures ∙ c.in-Upto.is in
     let i = extent-upto a.s.now here.at a.end here.invariant.1 e in
-    let m = metadataOf here.m in
+    let m = metadata_of here.m in
     let new = c.merge-m.ensures ∙ ap (merged m) c.told_at.ensures in (
       ap (λ (x : Metadata). decode_from x (row_at a.s.now c.in-Upto.stop a.end)) new
           ∙ sym (decode-more a.s.now m here.at a.end here.invariant.1 _ e) ∙ here.invariant.0,
@@ -53,4 +53,4 @@ pub returns-in-Short : goal.returns-in-Short
 returns-in-Short c =
     let a = c.args in
     let here = c.loop-stop in
-    sym (decode-none a.s.now (metadataOf here.m) here.at a.end here.invariant.1 (sym c.extent.ensures ∙ c.in-Short.is)) ∙ here.invariant.0
+    sym (decode-none a.s.now (metadata_of here.m) here.at a.end here.invariant.1 (sym c.extent.ensures ∙ c.in-Short.is)) ∙ here.invariant.0

@@ -6,12 +6,12 @@ use borrow.Author.Rules.{rules}
 use Rattle.tree.specs.Standing.{row_at}
 use Rattle.tree.proofs.AccessLaws.{extent-upto}
 use Rattle.metadata.specs.Metadata.{Metadata, merged, decode_from, decode}
-use Rattle.metadata.specs.MetadataValue.{metadataOf}
+use Rattle.metadata.specs.MetadataValue.{metadata_of}
 use Rattle.metadata.proofs.DecodeLaws.{decode-more, decode-none}
 use Rattle.metadata.proofs.ExportMetadata.decode_row.Given as goal
 
 abbrev pub invariant-loop-stop : goal.invariant-loop-stop
-invariant-loop-stop l = (decode_from (metadataOf l.m) (row_at l.s l.at l.end) ≡ decode (row_at l.s l.from l.end)) × (l.at ≤ l.end)
+invariant-loop-stop l = (decode_from (metadata_of l.m) (row_at l.s l.at l.end) ≡ decode (row_at l.s l.from l.end)) × (l.at ≤ l.end)
 
 abbrev pub decreases-loop-stop : goal.decreases-loop-stop
 decreases-loop-stop l = l.end - l.at

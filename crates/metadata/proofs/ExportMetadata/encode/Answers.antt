@@ -1,7 +1,7 @@
 -- `encode`: by the verdict on what was lent, and by the room.
 use mathlib.Core.Path.{sym, ◌∙◌}
 use Rattle.tree.specs.Layout.{Bytes}
-use Rattle.metadata.specs.MetadataValue.{metadataOf}
+use Rattle.metadata.specs.MetadataValue.{metadata_of}
 use Rattle.metadata.proofs.CallsLaws.{encode-done, encode-short, encode-refused}
 use borrow.Author.Rules.{rules}
 use Rattle.metadata.proofs.ExportMetadata.encode.Goals as goal
@@ -12,7 +12,7 @@ returns-then-finish c =
     let bytes : Bytes a.attributes.now = λ i. (c.shared_slice_known-1.given i).fits in
     let good = sym c.read_lent.ensures
     ∙ c.in-Good.is in
-    encode-done a.attributes.now (metadataOf a.self) bytes good c.write-n.ensures
+    encode-done a.attributes.now (metadata_of a.self) bytes good c.write-n.ensures
     c.finish.ensures c.if-finish.true
 
 pub returns-else-finish : goal.returns-else-finish
@@ -21,12 +21,12 @@ returns-else-finish c =
     let bytes : Bytes a.attributes.now = λ i. (c.shared_slice_known-1.given i).fits in
     let good = sym c.read_lent.ensures
     ∙ c.in-Good.is in
-    encode-short a.attributes.now (metadataOf a.self) bytes good c.write-n.ensures
+    encode-short a.attributes.now (metadata_of a.self) bytes good c.write-n.ensures
     c.finish.ensures c.if-finish.false
 
 pub returns-in-Refused : goal.returns-in-Refused
 returns-in-Refused c =
     let a = c.args in
-    encode-refused a.attributes.now (metadataOf a.self) c.clear.ensures _ _
+    encode-refused a.attributes.now (metadata_of a.self) c.clear.ensures _ _
     (sym c.read_lent.ensures
     ∙ c.in-Refused.is)

@@ -6,7 +6,7 @@ use native.Mathlib.Omega.{arith}
 use borrow.Author.Rules.{rules}
 use borrow.Author.Tests.{le-leb}
 use lib.Seq.{slice}
-use Rattle.metadata.specs.Decimal.{numberFrom, limited}
+use Rattle.metadata.specs.Decimal.{number_from, limited}
 use Rattle.metadata.proofs.DecimalLaws.{digit-is, number_more, number-other, number-end, too_large}
 use Rattle.metadata.proofs.decimal.number_at.Goals as goal
 

@@ -6,12 +6,12 @@ use native.Mathlib.Omega.{arith}
 use borrow.Author.Rules.{rules}
 use borrow.Author.Tests.{not-true, not-false, le-leb}
 use lib.Seq.{slice}
-use Rattle.metadata.specs.Decimal.{numberFrom, limited}
+use Rattle.metadata.specs.Decimal.{number_from, limited}
 use Rattle.metadata.proofs.DecimalLaws.{digit-is, number_more, number-other, number-end, too_large}
 use Rattle.metadata.proofs.decimal.number_at.Given as goal
 
 abbrev pub invariant-loop-at : goal.invariant-loop-at
-invariant-loop-at l = (limited (numberFrom l.n (slice l.at l.end l.s)) ≡ limited (numberFrom 0 (slice l.from l.end l.s))) × (l.n ≤ 4294967295) × (l.at ≤ l.end)
+invariant-loop-at l = (limited (number_from l.n (slice l.at l.end l.s)) ≡ limited (number_from 0 (slice l.from l.end l.s))) × (l.n ≤ 4294967295) × (l.at ≤ l.end)
 
 abbrev pub decreases-loop-at : goal.decreases-loop-at
 decreases-loop-at l = l.end - l.at

@@ -11,7 +11,7 @@ use Rattle.tree.specs.Tree.{encodes}
 use Rattle.tree.specs.Standing.{row_at}
 use Rattle.tree.proofs.AccessLaws.{upto-in, extent-upto}
 use Rattle.writer.specs.Wrote.{Wrote}
-use Rattle.extraction_rules.specs.First.{bindingsAll}
+use Rattle.extraction_rules.specs.First.{bindings_all}
 use Rattle.records.proofs.PatternLaws.{bindings-short, bound-ends, bindings-bound, bindings-left, bindings-below, first-none, first_more, all_none, all_more}
 use Prim.Native.Nat.{ℕ, ◌<◌}
 use Rattle.records.proofs.bindings.+put_below_put_bindings_put_left.Given as goal
@@ -26,8 +26,8 @@ abbrev pub decreases-put_left : goal.decreases-put_left
 decreases-put_left l = l.end - l.from + 1
 
 abbrev pub invariant-put_below-loop-stop : goal.invariant-put_below-loop-stop
-invariant-put_below-loop-stop it = ((p : ℕ) (l : List ℕ) → Wrote it.records it.to (encodes (bindingsAll (row_at it.s it.at it.end))) l p →
-    Wrote it.initial.records it.o (encodes (bindingsAll (row_at it.s it.from it.end))) l p) × (it.from ≤ it.at) × (it.at ≤ it.end) × (length it.records ≡ length it.initial.records)
+invariant-put_below-loop-stop it = ((p : ℕ) (l : List ℕ) → Wrote it.records it.to (encodes (bindings_all (row_at it.s it.at it.end))) l p →
+    Wrote it.initial.records it.o (encodes (bindings_all (row_at it.s it.from it.end))) l p) × (it.from ≤ it.at) × (it.at ≤ it.end) × (length it.records ≡ length it.initial.records)
 
 abbrev pub decreases-put_below-loop-stop : goal.decreases-put_below-loop-stop
 decreases-put_below-loop-stop l = l.end - l.at

@@ -5,7 +5,7 @@ use Prim.Native.Nat.{◌-◌, ◌≤◌}
 use lib.ListN.{drop}
 use native.Mathlib.Omega.{arith}
 use Rattle.tree.specs.Tree.{encodes}
-use Rattle.extraction_rules.specs.Records.{recordFields}
+use Rattle.extraction_rules.specs.Records.{record_fields}
 use Rattle.records.specs.Model.{rebuilt}
 use Rattle.records.specs.Writes.{Placing, BothRead, Onward, items_in, retold}
 use Rattle.records.proofs.OnwardLaws.{onward-start, onward-end, drop-end}

@@ -5,7 +5,7 @@ use Prim.Native.Nat.{◌-◌, ◌≤◌}
 use lib.ListN.{drop}
 use native.Mathlib.Omega.{arith}
 use Rattle.tree.specs.Tree.{encodes}
-use Rattle.extraction_rules.specs.Records.{recordFields}
+use Rattle.extraction_rules.specs.Records.{record_fields}
 use Rattle.records.specs.Model.{rebuilt}
 use Rattle.records.specs.Writes.{Placing, BothRead, Onward, items_in, retold}
 use Rattle.records.proofs.OnwardLaws.{onward-start, onward-end, drop-end}
@@ -13,8 +13,8 @@ use Rattle.records.proofs.CollectedLaws.{onward-if, valued_by, collected-more, c
 use Rattle.records.proofs.collected.put_each.Given as goal
 
 abbrev pub invariant-loop-i : goal.invariant-loop-i
-invariant-loop-i l = Onward (λ x. Placing l.tree l.work x × BothRead l.work l.out) (λ s. encodes (recordFields 0x80 (retold l.work l.out s)))
-    (λ s. encodes (recordFields 0x80 (map (rebuilt (items_in l.work) (items_in l.out) s.forced) (drop l.i s.collected)))) l.t l.initial.records l.o l.records l.to
+invariant-loop-i l = Onward (λ x. Placing l.tree l.work x × BothRead l.work l.out) (λ s. encodes (record_fields 0x80 (retold l.work l.out s)))
+    (λ s. encodes (record_fields 0x80 (map (rebuilt (items_in l.work) (items_in l.out) s.forced) (drop l.i s.collected)))) l.t l.initial.records l.o l.records l.to
     × (l.i ≤ l.n)
 
 abbrev pub decreases-loop-i : goal.decreases-loop-i

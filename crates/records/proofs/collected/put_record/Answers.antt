@@ -1,6 +1,6 @@
 -- `put_record`: one way; `record-written` joins the literal, the imports' specifiers and what was taken into the record's encoding.
 use native.Mathlib.Omega.{arith}
-use Rattle.records.specs.Writes.{literalIn}
+use Rattle.records.specs.Writes.{literal_in}
 use Rattle.records.proofs.CollectedLaws.{record-written}
 use borrow.Author.Rules.{rules}
 use Rattle.records.proofs.collected.put_record.Goals as goal
@@ -16,5 +16,5 @@ put_taken-p-requires c =
 pub returns : goal.returns
 returns c =
     let a = c.args in
-    record-written a.wanted.namespaces a.work.now a.out.now (literalIn a.tree.now a.work.now a.wanted.place) a.wanted.value.0
+    record-written a.wanted.namespaces a.work.now a.out.now (literal_in a.tree.now a.work.now a.wanted.place) a.wanted.value.0
     c.open_field-content.ensures c.put_literal-c.ensures c.put_gathered-q.ensures c.put_taken-p.ensures c.close_field.ensures (omega arith)

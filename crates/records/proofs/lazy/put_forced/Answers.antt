@@ -6,7 +6,7 @@ use native.Mathlib.Omega.{arith}
 use borrow.Author.Rules.{rules}
 use Rattle.tree.specs.Tree.{encodes}
 use Rattle.writer.proofs.Wrote.{wrote_as, wrote-field}
-use Rattle.extraction_rules.specs.Records.{forcedFields}
+use Rattle.extraction_rules.specs.Records.{forced_fields}
 use Rattle.records.specs.Writes.{Onward}
 use Rattle.records.proofs.OnwardLaws.{onward-start, onward-step, onward-end, drop-end}
 use Rattle.records.proofs.LazyLaws.{forced-more, forced-none, forced-field}
@@ -33,13 +33,12 @@ loop-i-smaller c =
     omega arith
 
 pub loop-i-preserved : goal.loop-i-preserved
-loop-i-preserved c =
-    (
-      onward-step c.loop-i.invariant.0 (λ x s w k. forced-more c.forced_at.result.0 c.forced_at.ensures x s w)
-          (wrote_as (wrote-field c.open_field-source.ensures c.put_u16-p.ensures c.close_field.ensures)
-          (forced-field c.forced_at.result.0 (omega arith))),
-      omega arith,
-    )
+loop-i-preserved c = (
+  onward-step c.loop-i.invariant.0 (λ x s w k. forced-more c.forced_at.result.0 c.forced_at.ensures x s w)
+      (wrote_as (wrote-field c.open_field-source.ensures c.put_u16-p.ensures c.close_field.ensures)
+      (forced-field c.forced_at.result.0 (omega arith))),
+  omega arith,
+)
 
 pub returns : goal.returns
 returns c =

@@ -6,14 +6,14 @@ use native.Mathlib.Omega.{arith}
 use borrow.Author.Rules.{rules}
 use Rattle.tree.specs.Tree.{encodes}
 use Rattle.writer.proofs.Wrote.{wrote_as, wrote-field}
-use Rattle.extraction_rules.specs.Records.{forcedFields}
+use Rattle.extraction_rules.specs.Records.{forced_fields}
 use Rattle.records.specs.Writes.{Onward}
 use Rattle.records.proofs.OnwardLaws.{onward-start, onward-step, onward-end, drop-end}
 use Rattle.records.proofs.LazyLaws.{forced-more, forced-none, forced-field}
 use Rattle.records.proofs.lazy.put_forced.Given as goal
 
 abbrev pub invariant-loop-i : goal.invariant-loop-i
-invariant-loop-i l = Onward (λ _. Unit {0}) (λ s. encodes (forcedFields s.forced)) (λ s. encodes (forcedFields (drop l.i s.forced))) l.t l.initial.records l.o l.records l.to
+invariant-loop-i l = Onward (λ _. Unit {0}) (λ s. encodes (forced_fields s.forced)) (λ s. encodes (forced_fields (drop l.i s.forced))) l.t l.initial.records l.o l.records l.to
     × (l.i ≤ l.n)
 
 abbrev pub decreases-loop-i : goal.decreases-loop-i

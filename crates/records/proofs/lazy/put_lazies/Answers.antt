@@ -5,7 +5,7 @@ use lib.ListN.{drop}
 use native.Mathlib.Omega.{arith}
 use borrow.Author.Rules.{rules}
 use Rattle.tree.specs.Tree.{encodes}
-use Rattle.extraction_rules.specs.Records.{recordFields}
+use Rattle.extraction_rules.specs.Records.{record_fields}
 use Rattle.records.specs.Writes.{Placing, Onward}
 use Rattle.records.proofs.OnwardLaws.{onward-start, onward-step, onward-end, drop-end}
 use Rattle.records.proofs.LazyLaws.{lazy-more, record-none}
@@ -36,13 +36,12 @@ loop-i-smaller c =
     omega arith
 
 pub loop-i-preserved : goal.loop-i-preserved
-loop-i-preserved c =
-    (
-      onward-step c.loop-i.invariant.0
-          (lazy-more c.args.tree.now c.args.work.now c.lazy_literal-literal.result c.lazy_place-place.result c.lazy_literal-literal.ensures
-          c.lazy_place-place.ensures) c.put_lazy-to.ensures,
-      omega arith,
-    )
+loop-i-preserved c = (
+  onward-step c.loop-i.invariant.0
+      (lazy-more c.args.tree.now c.args.work.now c.lazy_literal-literal.result c.lazy_place-place.result c.lazy_literal-literal.ensures
+      c.lazy_place-place.ensures) c.put_lazy-to.ensures,
+  omega arith,
+)
 
 pub returns : goal.returns
 returns c =

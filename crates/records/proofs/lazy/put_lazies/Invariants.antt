@@ -5,14 +5,14 @@ use lib.ListN.{drop}
 use native.Mathlib.Omega.{arith}
 use borrow.Author.Rules.{rules}
 use Rattle.tree.specs.Tree.{encodes}
-use Rattle.extraction_rules.specs.Records.{recordFields}
+use Rattle.extraction_rules.specs.Records.{record_fields}
 use Rattle.records.specs.Writes.{Placing, Onward}
 use Rattle.records.proofs.OnwardLaws.{onward-start, onward-step, onward-end, drop-end}
 use Rattle.records.proofs.LazyLaws.{lazy-more, record-none}
 use Rattle.records.proofs.lazy.put_lazies.Given as goal
 
 abbrev pub invariant-loop-i : goal.invariant-loop-i
-invariant-loop-i l = Onward (Placing l.tree l.work) (λ s. encodes (recordFields 0x81 s.lazy)) (λ s. encodes (recordFields 0x81 (drop l.i s.lazy))) l.t l.initial.records l.o l.records
+invariant-loop-i l = Onward (Placing l.tree l.work) (λ s. encodes (record_fields 0x81 s.lazy)) (λ s. encodes (record_fields 0x81 (drop l.i s.lazy))) l.t l.initial.records l.o l.records
     l.to × (l.i ≤ l.n)
 
 abbrev pub decreases-loop-i : goal.decreases-loop-i

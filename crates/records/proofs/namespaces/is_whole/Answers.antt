@@ -2,14 +2,14 @@
 -- another (`whole-differs`).
 use mathlib.Core.Path.{sym, ◌∙◌}
 use native.Mathlib.Omega.{arith}
-use Rattle.records.specs.Writes.{literalIn}
+use Rattle.records.specs.Writes.{literal_in}
 use Rattle.records.proofs.CollectedLaws.{whole-other, whole_is, whole-differs}
 use borrow.Author.Rules.{rules}
 use Rattle.records.proofs.namespaces.is_whole.Goals as goal
 
 pub returns-in_default : goal.returns-in_default
 returns-in_default c =
-    whole-other c.args.work.now c.args.at (literalIn c.args.tree.now c.args.work.now c.args.place) (c.import_end.ensures.other c.in_default.is)
+    whole-other c.args.work.now c.args.at (literal_in c.args.tree.now c.args.work.now c.args.place) (c.import_end.ensures.other c.in_default.is)
 
 pub overflow_add-at : goal.overflow_add-at
 overflow_add-at c =
@@ -30,10 +30,10 @@ is_namespace-requires c =
 pub returns-then-same_literal : goal.returns-then-same_literal
 returns-then-same_literal c =
     c.is_namespace.ensures
-    ∙ whole_is c.args.work.now c.args.at (literalIn c.args.tree.now c.args.work.now c.args.place) _ (c.import_end.ensures.is _ c.in-Upto.is)
+    ∙ whole_is c.args.work.now c.args.at (literal_in c.args.tree.now c.args.work.now c.args.place) _ (c.import_end.ensures.is _ c.in-Upto.is)
     (sym c.same_literal.ensures ∙ c.if-same_literal.true)
 
 pub returns-else-same_literal : goal.returns-else-same_literal
 returns-else-same_literal c =
-    whole-differs c.args.work.now c.args.at (literalIn c.args.tree.now c.args.work.now c.args.place) _ (c.import_end.ensures.is _ c.in-Upto.is)
+    whole-differs c.args.work.now c.args.at (literal_in c.args.tree.now c.args.work.now c.args.place) _ (c.import_end.ensures.is _ c.in-Upto.is)
     (sym c.same_literal.ensures ∙ c.if-same_literal.false)

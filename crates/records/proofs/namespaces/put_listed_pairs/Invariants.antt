@@ -3,13 +3,13 @@
 use Prim.Native.Nat.{◌-◌, ◌<◌}
 use native.Mathlib.Omega.{arith}
 use borrow.Author.Rules.{rules}
-use Rattle.records.specs.Writes.{literalIn}
-use Rattle.records.specs.Listing.{countIn}
+use Rattle.records.specs.Writes.{literal_in}
+use Rattle.records.specs.Listing.{count_in}
 use Rattle.records.proofs.ChainLaws.{PairsOn, pairs_start, pairs_next, pairs-last, goes_later}
 use Rattle.records.proofs.namespaces.put_listed_pairs.Given as goal
 
 abbrev pub invariant-loop-i : goal.invariant-loop-i
-invariant-loop-i l = PairsOn l.wanted.namespaces l.wanted.value.0 (literalIn l.tree l.work l.wanted.place) l.work l.out l.imports l.initial.records l.o l.i l.records l.to
+invariant-loop-i l = PairsOn l.wanted.namespaces l.wanted.value.0 (literal_in l.tree l.work l.wanted.place) l.work l.out l.imports l.initial.records l.o l.i l.records l.to
 
 abbrev pub decreases-loop-i : goal.decreases-loop-i
 decreases-loop-i l = l.n - l.i

@@ -9,15 +9,15 @@ use Rattle.tree.specs.Tree.{encodes}
 use Rattle.tree.specs.Standing.{row_at}
 use Rattle.tree.proofs.AccessLaws.{extent-upto}
 use Rattle.records.specs.Model.{taken}
-use Rattle.records.specs.Writes.{sieve, literalIn, RowOnward}
+use Rattle.records.specs.Writes.{sieve, literal_in, RowOnward}
 use Rattle.records.proofs.SpecifierLaws.{if_none, item-read, row-start, row_step, row-stop}
 use Rattle.records.proofs.CollectedLaws.{if-from, taken-past, taken-past-out, taken_none, taken-none-out, taken_more}
 use Rattle.records.proofs.namespaces.put_pairs.Given as goal
 
 abbrev pub invariant-loop-stop : goal.invariant-loop-stop
 invariant-loop-stop l = RowOnward l.out l.initial.made l.made (length l.out)
-    (encodes (sieve l.wanted.namespaces (taken (literalIn l.tree l.work l.wanted.place) (row_at l.work l.initial.at (length l.work)) (row_at l.out l.initial.made (length l.out)))))
-    (encodes (sieve l.wanted.namespaces (taken (literalIn l.tree l.work l.wanted.place) (row_at l.work l.at (length l.work)) (row_at l.out l.made (length l.out))))) l.initial.records l.o l.records l.to
+    (encodes (sieve l.wanted.namespaces (taken (literal_in l.tree l.work l.wanted.place) (row_at l.work l.initial.at (length l.work)) (row_at l.out l.initial.made (length l.out)))))
+    (encodes (sieve l.wanted.namespaces (taken (literal_in l.tree l.work l.wanted.place) (row_at l.work l.at (length l.work)) (row_at l.out l.made (length l.out))))) l.initial.records l.o l.records l.to
     × (l.at ≤ length l.work) × (l.made ≤ length l.out)
 
 abbrev pub decreases-loop-stop : goal.decreases-loop-stop

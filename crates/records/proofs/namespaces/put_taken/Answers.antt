@@ -1,8 +1,8 @@
 -- `put_taken`: the listed imports, then those behind them (`pairs-joined`).
 use mathlib.Core.Path.{sym, subst}
 use Prim.Native.Nat.{ℕ}
-use Rattle.records.specs.Writes.{literalIn}
-use Rattle.records.specs.Listing.{Paired, importsIn}
+use Rattle.records.specs.Writes.{literal_in}
+use Rattle.records.specs.Listing.{Paired, imports_in}
 use Rattle.records.proofs.ListingLaws.{pairs-joined}
 use borrow.Author.Rules.{rules}
 use Rattle.records.proofs.namespaces.put_taken.Goals as goal
@@ -10,7 +10,7 @@ use Rattle.records.proofs.namespaces.put_taken.Goals as goal
 pub returns : goal.returns
 returns c =
     let a = c.args in
-    pairs-joined a.wanted.namespaces (literalIn a.tree.now a.work.now a.wanted.place)
-    (subst (λ (x : ℕ). Paired a.work.now a.out.now (importsIn a.imports.now) x c.behind.result.made) (sym c.behind.ensures.0)
-    (subst (Paired a.work.now a.out.now (importsIn a.imports.now) _) (sym c.behind.ensures.1) c.requires.paired))
+    pairs-joined a.wanted.namespaces (literal_in a.tree.now a.work.now a.wanted.place)
+    (subst (λ (x : ℕ). Paired a.work.now a.out.now (imports_in a.imports.now) x c.behind.result.made) (sym c.behind.ensures.0)
+    (subst (Paired a.work.now a.out.now (imports_in a.imports.now) _) (sym c.behind.ensures.1) c.requires.paired))
     c.put_listed_pairs-q.ensures c.put_pairs.ensures

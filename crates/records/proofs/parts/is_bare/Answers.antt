@@ -6,7 +6,7 @@ use native.Mathlib.Omega.{arith}
 use borrow.Author.Rules.{rules}
 use Rattle.tree.specs.Standing.{row_at}
 use Rattle.tree.proofs.AccessLaws.{extent-upto}
-use Rattle.extraction_rules.specs.First.{specifiersIn}
+use Rattle.extraction_rules.specs.First.{specifiers_in}
 use Rattle.records.specs.Writes.{is_none}
 use Rattle.records.proofs.SpecifierLaws.{row_ends, row-skips, row-takes}
 use Rattle.records.proofs.parts.is_bare.Goals as goal

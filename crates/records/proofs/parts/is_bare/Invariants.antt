@@ -6,13 +6,13 @@ use native.Mathlib.Omega.{arith}
 use borrow.Author.Rules.{rules}
 use Rattle.tree.specs.Standing.{row_at}
 use Rattle.tree.proofs.AccessLaws.{extent-upto}
-use Rattle.extraction_rules.specs.First.{specifiersIn}
+use Rattle.extraction_rules.specs.First.{specifiers_in}
 use Rattle.records.specs.Writes.{is_none}
 use Rattle.records.proofs.SpecifierLaws.{row_ends, row-skips, row-takes}
 use Rattle.records.proofs.parts.is_bare.Given as goal
 
 abbrev pub invariant-loop-stop : goal.invariant-loop-stop
-invariant-loop-stop l = (is_none (specifiersIn (row_at l.s l.from l.end)) ≡ is_none (specifiersIn (row_at l.s l.at l.end))) × (l.from ≤ l.at) × (l.at ≤ l.end)
+invariant-loop-stop l = (is_none (specifiers_in (row_at l.s l.from l.end)) ≡ is_none (specifiers_in (row_at l.s l.at l.end))) × (l.from ≤ l.at) × (l.at ≤ l.end)
 
 abbrev pub decreases-loop-stop : goal.decreases-loop-stop
 decreases-loop-stop l = l.end - l.at

@@ -5,11 +5,11 @@ use Prim.Native.Nat.{◌-◌, ◌≤◌}
 use native.Mathlib.Omega.{arith}
 use borrow.Author.Rules.{rules}
 use Rattle.tree.specs.Tree.{Fields}
-use Rattle.tree.specs.Standing.{treeAt, row_at}
+use Rattle.tree.specs.Standing.{tree_at, row_at}
 use Rattle.tree.proofs.AccessLaws.{extent-upto}
 use Rattle.inputs.specs.Fields.{sole}
-use Rattle.extraction_rules.specs.First.{specifiersIn}
-use Rattle.records.specs.Model.{isNamespace}
+use Rattle.extraction_rules.specs.First.{specifiers_in}
+use Rattle.records.specs.Model.{is_namespace}
 use Rattle.records.proofs.SpecifierLaws.{row_ends, row-skips, row-takes, sole_none, namespace-then, namespace-no}
 use Rattle.records.proofs.parts.is_namespace.Goals as goal
 
@@ -24,7 +24,7 @@ extent-requires c =
 pub returns-in_default : goal.returns-in_default
 returns-in_default c =
     sym (c.loop-stop.invariant.0
-    ∙ row_ends c.args.s.now c.loop-stop.at c.args.end c.loop-stop.invariant.2 (λ (fs : Fields). isNamespace (sole fs))
+    ∙ row_ends c.args.s.now c.loop-stop.at c.args.end c.loop-stop.invariant.2 (λ (fs : Fields). is_namespace (sole fs))
     (sym c.extent.ensures ∙ c.in_default.is) ∙ sole_none)
 
 pub tag_of-tag-requires : goal.tag_of-tag-requires
@@ -38,20 +38,20 @@ is_bare-requires c =
 pub returns-then-tag-eq34 : goal.returns-then-tag-eq34
 returns-then-tag-eq34 c =
     c.is_bare.ensures
-    ∙ namespace-then (treeAt c.args.s.now c.loop-stop.at c.in-Upto.stop)
-    (specifiersIn (row_at c.args.s.now c.in-Upto.stop c.args.end)) (sym c.tag_of-tag.ensures ∙ c.if-tag-eq34.true)
+    ∙ namespace-then (tree_at c.args.s.now c.loop-stop.at c.in-Upto.stop)
+    (specifiers_in (row_at c.args.s.now c.in-Upto.stop c.args.end)) (sym c.tag_of-tag.ensures ∙ c.if-tag-eq34.true)
     ∙
     sym (c.loop-stop.invariant.0
-    ∙ row-takes c.args.s.now c.loop-stop.at c.args.end c.loop-stop.invariant.2 (λ (fs : Fields). isNamespace (sole fs)) _
+    ∙ row-takes c.args.s.now c.loop-stop.at c.args.end c.loop-stop.invariant.2 (λ (fs : Fields). is_namespace (sole fs)) _
     (sym c.extent.ensures ∙ c.in-Upto.is) (λ e. c.if-tag-ne47.true (c.tag_of-tag.ensures ∙ e)))
 
 pub returns-then-tag-ne47 : goal.returns-then-tag-ne47
 returns-then-tag-ne47 c =
-    namespace-no (treeAt c.args.s.now c.loop-stop.at c.in-Upto.stop)
-    (specifiersIn (row_at c.args.s.now c.in-Upto.stop c.args.end)) (λ e. c.if-tag-eq34.false (c.tag_of-tag.ensures ∙ e))
+    namespace-no (tree_at c.args.s.now c.loop-stop.at c.in-Upto.stop)
+    (specifiers_in (row_at c.args.s.now c.in-Upto.stop c.args.end)) (λ e. c.if-tag-eq34.false (c.tag_of-tag.ensures ∙ e))
     ∙
     sym (c.loop-stop.invariant.0
-    ∙ row-takes c.args.s.now c.loop-stop.at c.args.end c.loop-stop.invariant.2 (λ (fs : Fields). isNamespace (sole fs)) _
+    ∙ row-takes c.args.s.now c.loop-stop.at c.args.end c.loop-stop.invariant.2 (λ (fs : Fields). is_namespace (sole fs)) _
     (sym c.extent.ensures ∙ c.in-Upto.is) (λ e. c.if-tag-ne47.true (c.tag_of-tag.ensures ∙ e)))
 
 pub loop-stop-smaller : goal.loop-stop-smaller
@@ -62,7 +62,7 @@ pub loop-stop-preserved : goal.loop-stop-preserved
 loop-stop-preserved c =
     let i = extent-upto c.args.s.now c.loop-stop.at c.args.end c.loop-stop.invariant.2 (sym c.extent.ensures ∙ c.in-Upto.is) in (
       c.loop-stop.invariant.0
-          ∙ row-skips c.args.s.now c.loop-stop.at c.args.end c.loop-stop.invariant.2 (λ (fs : Fields). isNamespace (sole fs)) _
+          ∙ row-skips c.args.s.now c.loop-stop.at c.args.end c.loop-stop.invariant.2 (λ (fs : Fields). is_namespace (sole fs)) _
           (sym c.extent.ensures ∙ c.in-Upto.is) (sym c.tag_of-tag.ensures ∙ c.if-tag-ne47.false),
       omega arith,
       omega arith,

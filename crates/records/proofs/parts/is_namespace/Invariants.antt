@@ -5,16 +5,16 @@ use Prim.Native.Nat.{◌-◌, ◌≤◌}
 use native.Mathlib.Omega.{arith}
 use borrow.Author.Rules.{rules}
 use Rattle.tree.specs.Tree.{Fields}
-use Rattle.tree.specs.Standing.{treeAt, row_at}
+use Rattle.tree.specs.Standing.{tree_at, row_at}
 use Rattle.tree.proofs.AccessLaws.{extent-upto}
 use Rattle.inputs.specs.Fields.{sole}
-use Rattle.extraction_rules.specs.First.{specifiersIn}
-use Rattle.records.specs.Model.{isNamespace}
+use Rattle.extraction_rules.specs.First.{specifiers_in}
+use Rattle.records.specs.Model.{is_namespace}
 use Rattle.records.proofs.SpecifierLaws.{row_ends, row-skips, row-takes, sole_none, namespace-then, namespace-no}
 use Rattle.records.proofs.parts.is_namespace.Given as goal
 
 abbrev pub invariant-loop-stop : goal.invariant-loop-stop
-invariant-loop-stop l = (isNamespace (sole (specifiersIn (row_at l.s l.from l.end))) ≡ isNamespace (sole (specifiersIn (row_at l.s l.at l.end)))) × (l.from ≤ l.at) × (l.at ≤ l.end)
+invariant-loop-stop l = (is_namespace (sole (specifiers_in (row_at l.s l.from l.end))) ≡ is_namespace (sole (specifiers_in (row_at l.s l.at l.end)))) × (l.from ≤ l.at) × (l.at ≤ l.end)
 
 abbrev pub decreases-loop-stop : goal.decreases-loop-stop
 decreases-loop-stop l = l.end - l.at

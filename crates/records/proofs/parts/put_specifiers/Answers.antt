@@ -7,7 +7,7 @@ use borrow.Author.Rules.{rules}
 use Rattle.tree.specs.Tree.{encodes}
 use Rattle.tree.specs.Standing.{row_at}
 use Rattle.tree.proofs.AccessLaws.{extent-upto}
-use Rattle.extraction_rules.specs.First.{specifiersIn}
+use Rattle.extraction_rules.specs.First.{specifiers_in}
 use Rattle.records.specs.Writes.{sieve, RowOnward}
 use Rattle.records.proofs.SpecifierLaws.{bytes-none, bytes-more, row-start, row_step, row-stop}
 use Rattle.records.proofs.parts.put_specifiers.Goals as goal

@@ -7,14 +7,14 @@ use borrow.Author.Rules.{rules}
 use Rattle.tree.specs.Tree.{encodes}
 use Rattle.tree.specs.Standing.{row_at}
 use Rattle.tree.proofs.AccessLaws.{extent-upto}
-use Rattle.extraction_rules.specs.First.{specifiersIn}
+use Rattle.extraction_rules.specs.First.{specifiers_in}
 use Rattle.records.specs.Writes.{sieve, RowOnward}
 use Rattle.records.proofs.SpecifierLaws.{bytes-none, bytes-more, row-start, row_step, row-stop}
 use Rattle.records.proofs.parts.put_specifiers.Given as goal
 
 abbrev pub invariant-loop-stop : goal.invariant-loop-stop
-invariant-loop-stop l = RowOnward l.s l.from l.at l.end (encodes (sieve l.namespaces (specifiersIn (row_at l.s l.from l.end))))
-    (encodes (sieve l.namespaces (specifiersIn (row_at l.s l.at l.end)))) l.initial.records l.o l.records l.to × (l.from ≤ l.at) × (l.at ≤ l.end)
+invariant-loop-stop l = RowOnward l.s l.from l.at l.end (encodes (sieve l.namespaces (specifiers_in (row_at l.s l.from l.end))))
+    (encodes (sieve l.namespaces (specifiers_in (row_at l.s l.at l.end)))) l.initial.records l.o l.records l.to × (l.from ≤ l.at) × (l.at ≤ l.end)
 
 abbrev pub decreases-loop-stop : goal.decreases-loop-stop
 decreases-loop-stop l = l.end - l.at

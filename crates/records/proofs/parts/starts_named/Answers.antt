@@ -7,8 +7,8 @@ use borrow.Author.Rules.{rules}
 use borrow.Author.Tests.{eq-eqb, ne_eqb}
 use Rattle.tree.specs.Standing.{row_at}
 use Rattle.tree.proofs.AccessLaws.{extent-upto}
-use Rattle.extraction_rules.specs.First.{specifiersIn}
-use Rattle.records.specs.Model.{startsNamed}
+use Rattle.extraction_rules.specs.First.{specifiers_in}
+use Rattle.records.specs.Model.{starts_named}
 use Rattle.records.proofs.SpecifierLaws.{row_ends, row-skips, row-takes}
 use Rattle.records.proofs.parts.starts_named.Goals as goal
 
@@ -22,7 +22,7 @@ extent-requires c =
 
 pub returns-in_default : goal.returns-in_default
 returns-in_default c =
-    sym (c.loop-stop.invariant.0 ∙ row_ends c.args.s.now c.loop-stop.at c.args.end c.loop-stop.invariant.2 startsNamed (sym c.extent.ensures ∙ c.in_default.is))
+    sym (c.loop-stop.invariant.0 ∙ row_ends c.args.s.now c.loop-stop.at c.args.end c.loop-stop.invariant.2 starts_named (sym c.extent.ensures ∙ c.in_default.is))
 
 pub tag_of-tag-requires : goal.tag_of-tag-requires
 tag_of-tag-requires c =
@@ -31,14 +31,14 @@ tag_of-tag-requires c =
 pub returns-then-tag-eq32 : goal.returns-then-tag-eq32
 returns-then-tag-eq32 c =
     sym (c.loop-stop.invariant.0
-    ∙ row-takes c.args.s.now c.loop-stop.at c.args.end c.loop-stop.invariant.2 startsNamed _
+    ∙ row-takes c.args.s.now c.loop-stop.at c.args.end c.loop-stop.invariant.2 starts_named _
     (sym c.extent.ensures ∙ c.in-Upto.is) (λ e. c.if-tag-ne47.true (c.tag_of-tag.ensures ∙ e))
     ∙ eq-eqb _ 0x20 (sym c.tag_of-tag.ensures ∙ c.if-tag-eq32.true))
 
 pub returns-then-tag-ne47 : goal.returns-then-tag-ne47
 returns-then-tag-ne47 c =
     sym (c.loop-stop.invariant.0
-    ∙ row-takes c.args.s.now c.loop-stop.at c.args.end c.loop-stop.invariant.2 startsNamed _
+    ∙ row-takes c.args.s.now c.loop-stop.at c.args.end c.loop-stop.invariant.2 starts_named _
     (sym c.extent.ensures ∙ c.in-Upto.is) (λ e. c.if-tag-ne47.true (c.tag_of-tag.ensures ∙ e))
     ∙ ne_eqb _ 0x20 (λ e. c.if-tag-eq32.false (c.tag_of-tag.ensures ∙ e)))
 
@@ -50,7 +50,7 @@ pub loop-stop-preserved : goal.loop-stop-preserved
 loop-stop-preserved c =
     let i = extent-upto c.args.s.now c.loop-stop.at c.args.end c.loop-stop.invariant.2 (sym c.extent.ensures ∙ c.in-Upto.is) in (
       c.loop-stop.invariant.0
-          ∙ row-skips c.args.s.now c.loop-stop.at c.args.end c.loop-stop.invariant.2 startsNamed _
+          ∙ row-skips c.args.s.now c.loop-stop.at c.args.end c.loop-stop.invariant.2 starts_named _
           (sym c.extent.ensures ∙ c.in-Upto.is) (sym c.tag_of-tag.ensures ∙ c.if-tag-ne47.false),
       omega arith,
       omega arith,

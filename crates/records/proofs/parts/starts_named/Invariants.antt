@@ -7,13 +7,13 @@ use borrow.Author.Rules.{rules}
 use borrow.Author.Tests.{eq-eqb, ne_eqb}
 use Rattle.tree.specs.Standing.{row_at}
 use Rattle.tree.proofs.AccessLaws.{extent-upto}
-use Rattle.extraction_rules.specs.First.{specifiersIn}
-use Rattle.records.specs.Model.{startsNamed}
+use Rattle.extraction_rules.specs.First.{specifiers_in}
+use Rattle.records.specs.Model.{starts_named}
 use Rattle.records.proofs.SpecifierLaws.{row_ends, row-skips, row-takes}
 use Rattle.records.proofs.parts.starts_named.Given as goal
 
 abbrev pub invariant-loop-stop : goal.invariant-loop-stop
-invariant-loop-stop l = (startsNamed (specifiersIn (row_at l.s l.from l.end)) ≡ startsNamed (specifiersIn (row_at l.s l.at l.end))) × (l.from ≤ l.at) × (l.at ≤ l.end)
+invariant-loop-stop l = (starts_named (specifiers_in (row_at l.s l.from l.end)) ≡ starts_named (specifiers_in (row_at l.s l.at l.end))) × (l.from ≤ l.at) × (l.at ≤ l.end)
 
 abbrev pub decreases-loop-stop : goal.decreases-loop-stop
 decreases-loop-stop l = l.end - l.at

@@ -3,16 +3,16 @@ use mathlib.Core.Path.{refl, ap}
 use Prim.Native.Nat.{ℕ, ◌%◌}
 use native.Mathlib.Omega.{arith}
 use borrow.Author.Tests.{le-leb, lt-leb}
-use Rattle.records.specs.Listing.{chainAt}
+use Rattle.records.specs.Listing.{chain_at}
 use borrow.Author.Rules.{rules}
 use Rattle.records.proofs.places.chain_of.Goals as goal
 
 pub returns-then-work-at : goal.returns-then-work-at
-unfolding chainAt
+unfolding chain_at
 returns-then-work-at c =
     (rw (lt-leb _ _ c.if-work-at.true) refl, omega arith)
 
 pub returns : goal.returns
-unfolding chainAt
+unfolding chain_at
 returns c =
     (rw (le-leb _ _ c.if-work-at.false) (ap (λ (n : ℕ). n % 2048) c.literal_value.ensures), omega arith)

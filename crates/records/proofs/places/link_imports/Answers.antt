@@ -4,7 +4,7 @@ use mathlib.Core.Path.{◌≡◌, refl, subst, ◌∙◌}
 use Prim.Native.Nat.{◌≤◌}
 use native.Mathlib.Omega.{arith}
 use borrow.Author.Rules.{rules}
-use Rattle.records.specs.Listing.{placesIn, Linked}
+use Rattle.records.specs.Listing.{places_in, Linked}
 use Rattle.records.proofs.ChainLaws.{linked-start, linked-step}
 use Rattle.records.proofs.places.link_imports.Goals as goal
 

@@ -4,12 +4,12 @@ use mathlib.Core.Path.{◌≡◌, refl, subst, ◌∙◌}
 use Prim.Native.Nat.{◌≤◌}
 use native.Mathlib.Omega.{arith}
 use borrow.Author.Rules.{rules}
-use Rattle.records.specs.Listing.{placesIn, Linked}
+use Rattle.records.specs.Listing.{places_in, Linked}
 use Rattle.records.proofs.ChainLaws.{linked-start, linked-step}
 use Rattle.records.proofs.places.link_imports.Given as goal
 
 abbrev pub invariant-loop-i : goal.invariant-loop-i
-invariant-loop-i l = Linked l.work l.imports l.n l.i × (placesIn l.imports l.n ≡ placesIn l.initial.imports l.n) × (l.i ≤ l.n)
+invariant-loop-i l = Linked l.work l.imports l.n l.i × (places_in l.imports l.n ≡ places_in l.initial.imports l.n) × (l.i ≤ l.n)
 
 abbrev pub decreases-loop-i : goal.decreases-loop-i
 decreases-loop-i l = l.i

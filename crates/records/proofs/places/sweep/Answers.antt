@@ -11,8 +11,7 @@ use Rattle.records.proofs.ListingLaws.{lists-start, lists-step}
 use Rattle.records.proofs.places.sweep.Goals as goal
 
 pub loop-n-init : goal.loop-n-init
-loop-n-init c =
-    (
+loop-n-init c = (
   lists-start c.args.work.now c.args.out.now
       c.args.imports.now,
   c.requires.0,

@@ -3,7 +3,7 @@
 use Prim.Native.Nat.{◌-◌, ◌<◌}
 use native.Mathlib.Omega.{arith}
 use borrow.Author.Rules.{rules}
-use Rattle.records.specs.Listing.{countIn}
+use Rattle.records.specs.Listing.{count_in}
 use Rattle.records.proofs.ChainLaws.{ImportsOn, imports-start, imports-next, imports-last, goes_later}
 use Rattle.records.proofs.sources.put_listed_imports.Goals as goal
 
@@ -29,15 +29,15 @@ next_of-i-requires c =
 pub loop-i-smaller : goal.loop-i-smaller
 loop-i-smaller c =
     let a = c.args in
-    let lt : c.loop-i.i < countIn a.imports.now = let e = c.count_imports-n.ensures in let t = c.loop-i-test.true in omega arith in
-    let g = goes_later a.work.now a.imports.now (countIn a.imports.now) c.loop-i.i c.requires.linked lt in
+    let lt : c.loop-i.i < count_in a.imports.now = let e = c.count_imports-n.ensures in let t = c.loop-i-test.true in omega arith in
+    let g = goes_later a.work.now a.imports.now (count_in a.imports.now) c.loop-i.i c.requires.linked lt in
     let f = c.next_of-i.ensures in
     omega arith
 
 pub loop-i-preserved : goal.loop-i-preserved
 loop-i-preserved c =
     let a = c.args in
-    let lt : c.loop-i.i < countIn a.imports.now = let e = c.count_imports-n.ensures in let t = c.loop-i-test.true in omega arith in
+    let lt : c.loop-i.i < count_in a.imports.now = let e = c.count_imports-n.ensures in let t = c.loop-i-test.true in omega arith in
     imports-next a.wanted.namespaces a.wanted.value.0 a.work.now a.imports.now c.requires lt c.pair_at-pair.ensures.0 c.next_of-i.ensures c.loop-i.invariant c.put_import-to.ensures
 
 pub returns : goal.returns

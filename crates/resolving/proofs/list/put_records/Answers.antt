@@ -5,11 +5,11 @@ use native.Mathlib.Omega.{arith}
 use Prim.Native.Nat.{◌-◌}
 use lib.ListN.{length}
 use borrow.Author.Rules.{rules}
-use Rattle.inputs.specs.Table.{rowsIn}
-use Rattle.scope.specs.ScopeValue.{modulesOf}
+use Rattle.inputs.specs.Table.{rows_in}
+use Rattle.scope.specs.ScopeValue.{modules_of}
 use Rattle.tree.specs.Standing.{row_at}
-use Rattle.resolving_rules.specs.Resolve.{sourcesIn, forcedIn, resolvedAll}
-use Rattle.resolving.specs.Records.{RecordsFrom, recordsIn}
+use Rattle.resolving_rules.specs.Resolve.{sources_in, forced_in, resolved_all}
+use Rattle.resolving.specs.Records.{RecordsFrom, records_in}
 use Rattle.resolving.specs.Numbers.{NumbersAll}
 use Rattle.resolving.specs.Writes.{Onward}
 use Rattle.resolving.proofs.RecordsLaws.{source-stands}
@@ -28,35 +28,33 @@ source_end-requires c =
 pub returns-in_default : goal.returns-in_default
 returns-in_default c =
     onward-end c.loop-stop.invariant.0
-    (list-end (rowsIn c.args.table.now) (forcedIn (recordsIn c.args.records.now)) (modulesOf c.args.scope) c.loop-stop.invariant.1
+    (list-end (rows_in c.args.table.now) (forced_in (records_in c.args.records.now)) (modules_of c.args.scope) c.loop-stop.invariant.1
     (sym c.source_end.ensures ∙ c.in_default.is))
 
 pub put_record-requires : goal.put_record-requires
-put_record-requires c =
-    (
-      c.requires.0,
-      (source-stands c.loop-stop.invariant.1 (sym c.source_end.ensures ∙ c.in-Upto.is)).source,
-      (numbers-next (rowsIn c.args.table.now) (forcedIn (recordsIn c.args.records.now)) (modulesOf c.args.scope) c.loop-stop.invariant.1
-          (sym c.source_end.ensures ∙ c.in-Upto.is) c.loop-stop.invariant.2).0,
-    )
+put_record-requires c = (
+  c.requires.0,
+  (source-stands c.loop-stop.invariant.1 (sym c.source_end.ensures ∙ c.in-Upto.is)).source,
+  (numbers-next (rows_in c.args.table.now) (forced_in (records_in c.args.records.now)) (modules_of c.args.scope) c.loop-stop.invariant.1
+      (sym c.source_end.ensures ∙ c.in-Upto.is) c.loop-stop.invariant.2).0,
+)
 
 pub loop-stop-smaller : goal.loop-stop-smaller
 loop-stop-smaller c =
     let w = (source-stands c.loop-stop.invariant.1 (sym c.source_end.ensures ∙ c.in-Upto.is)) in let a = w.source.wide in let b = w.source.parts.fits in omega arith
 
 pub loop-stop-preserved : goal.loop-stop-preserved
-loop-stop-preserved c =
-    (
-      onward-more c.loop-stop.invariant.0
-          (list-more (rowsIn c.args.table.now) (forcedIn (recordsIn c.args.records.now)) (modulesOf c.args.scope)
-          c.loop-stop.invariant.1 (sym c.source_end.ensures ∙ c.in-Upto.is)) c.put_record.ensures c.in-Done.is,
-      (source-stands c.loop-stop.invariant.1 (sym c.source_end.ensures ∙ c.in-Upto.is)).rest,
-      (numbers-next (rowsIn c.args.table.now) (forcedIn (recordsIn c.args.records.now)) (modulesOf c.args.scope)
-          c.loop-stop.invariant.1 (sym c.source_end.ensures ∙ c.in-Upto.is) c.loop-stop.invariant.2).1,
-    )
+loop-stop-preserved c = (
+  onward-more c.loop-stop.invariant.0
+      (list-more (rows_in c.args.table.now) (forced_in (records_in c.args.records.now)) (modules_of c.args.scope)
+      c.loop-stop.invariant.1 (sym c.source_end.ensures ∙ c.in-Upto.is)) c.put_record.ensures c.in-Done.is,
+  (source-stands c.loop-stop.invariant.1 (sym c.source_end.ensures ∙ c.in-Upto.is)).rest,
+  (numbers-next (rows_in c.args.table.now) (forced_in (records_in c.args.records.now)) (modules_of c.args.scope)
+      c.loop-stop.invariant.1 (sym c.source_end.ensures ∙ c.in-Upto.is) c.loop-stop.invariant.2).1,
+)
 
 pub returns-in-Refused : goal.returns-in-Refused
 returns-in-Refused c =
     onward-stop c.loop-stop.invariant.0
-    (list-more (rowsIn c.args.table.now) (forcedIn (recordsIn c.args.records.now)) (modulesOf c.args.scope)
+    (list-more (rows_in c.args.table.now) (forced_in (records_in c.args.records.now)) (modules_of c.args.scope)
     c.loop-stop.invariant.1 (sym c.source_end.ensures ∙ c.in-Upto.is)) c.put_record.ensures c.in-Refused.is

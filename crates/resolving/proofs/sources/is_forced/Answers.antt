@@ -9,8 +9,8 @@ use Rattle.inputs.specs.Lists.{among}
 use Rattle.tree.specs.Layout.{two}
 use Rattle.tree.specs.Standing.{row_at}
 use Rattle.tree.proofs.AccessLaws.{extent-upto}
-use Rattle.resolving_rules.specs.Resolve.{forcedIn}
-use Rattle.resolving.specs.Records.{RecordsFrom, recordsIn}
+use Rattle.resolving_rules.specs.Resolve.{forced_in}
+use Rattle.resolving.specs.Records.{RecordsFrom, records_in}
 use Rattle.resolving.proofs.RecordsLaws.{records-next, forced-end, forced-inside, forced-step}
 use Rattle.resolving.proofs.sources.is_forced.Goals as goal
 
@@ -36,7 +36,7 @@ returns-then-forces_at c =
     ∙ forced-step c.args.source.0 (omega arith) c.loop-stop.invariant.1 (sym c.extent.ensures ∙ c.in-Upto.is)
     ∙
     ap (λ (b : Bool). b || among (two c.args.source.0)
-    (forcedIn (row_at c.args.records.now c.in-Upto.stop (length c.args.records.now))))
+    (forced_in (row_at c.args.records.now c.in-Upto.stop (length c.args.records.now))))
     (sym c.forces_at.ensures ∙ c.if-forces_at.true))
 
 pub loop-stop-smaller : goal.loop-stop-smaller
@@ -44,12 +44,11 @@ loop-stop-smaller c =
     let i = extent-upto c.args.records.now c.loop-stop.at _ c.loop-stop.invariant.1.inside (sym c.extent.ensures ∙ c.in-Upto.is) in omega arith
 
 pub loop-stop-preserved : goal.loop-stop-preserved
-loop-stop-preserved c =
-    (
-      c.loop-stop.invariant.0 ∙ forced-step c.args.source.0 (omega arith) c.loop-stop.invariant.1 (sym c.extent.ensures ∙ c.in-Upto.is)
-          ∙
-          ap (λ (b : Bool). b || among (two c.args.source.0)
-          (forcedIn (row_at c.args.records.now c.in-Upto.stop (length c.args.records.now))))
-          (sym c.forces_at.ensures ∙ c.if-forces_at.false),
-      records-next c.loop-stop.invariant.1 (sym c.extent.ensures ∙ c.in-Upto.is),
-    )
+loop-stop-preserved c = (
+  c.loop-stop.invariant.0 ∙ forced-step c.args.source.0 (omega arith) c.loop-stop.invariant.1 (sym c.extent.ensures ∙ c.in-Upto.is)
+      ∙
+      ap (λ (b : Bool). b || among (two c.args.source.0)
+      (forced_in (row_at c.args.records.now c.in-Upto.stop (length c.args.records.now))))
+      (sym c.forces_at.ensures ∙ c.if-forces_at.false),
+  records-next c.loop-stop.invariant.1 (sym c.extent.ensures ∙ c.in-Upto.is),
+)

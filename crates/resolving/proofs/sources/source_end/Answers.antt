@@ -3,7 +3,7 @@ use native.Mathlib.Omega.{arith}
 use mathlib.Core.Path.{sym, ◌∙◌}
 use borrow.Author.Tests.{eq-eqb, ne_eqb}
 use Rattle.tree.proofs.AccessLaws.{extent-upto}
-use Rattle.resolving.specs.Records.{sourceOn, source_end}
+use Rattle.resolving.specs.Records.{source_on, source_end}
 use borrow.Author.Rules.{rules}
 use Rattle.resolving.proofs.sources.source_end.Goals as goal
 
@@ -12,16 +12,16 @@ bounds-records-at c =
     let i = extent-upto c.args.records.now c.args.at _ c.requires (sym c.extent.ensures ∙ c.in-Upto.is) in omega arith
 
 pub returns-then-records-at : goal.returns-then-records-at
-unfolding source_end sourceOn
+unfolding source_end source_on
 returns-then-records-at c =
     rw ((sym c.extent.ensures ∙ c.in-Upto.is), eq-eqb _ 0x83 c.if-records-at.true)
 
 pub returns-else-records-at : goal.returns-else-records-at
-unfolding source_end sourceOn
+unfolding source_end source_on
 returns-else-records-at c =
     rw ((sym c.extent.ensures ∙ c.in-Upto.is), ne_eqb _ 0x83 c.if-records-at.false)
 
 pub returns-in-Short : goal.returns-in-Short
-unfolding source_end sourceOn
+unfolding source_end source_on
 returns-in-Short c =
     rw (sym c.extent.ensures ∙ c.in-Short.is)

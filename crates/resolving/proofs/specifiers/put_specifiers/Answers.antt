@@ -6,7 +6,7 @@ use native.Mathlib.Omega.{arith}
 use Prim.Native.Nat.{◌-◌}
 use Rattle.tree.specs.Standing.{row_at}
 use Rattle.tree.proofs.AccessLaws.{extent-upto}
-use Rattle.resolving_rules.specs.Resolve.{resolvedSpecifiers}
+use Rattle.resolving_rules.specs.Resolve.{resolved_specifiers}
 use Rattle.resolving.specs.Records.{FieldsRead}
 use Rattle.resolving.specs.Writes.{Onward}
 use Rattle.resolving.proofs.RecordsLaws.{fields-next}
@@ -37,14 +37,13 @@ loop-stop-smaller c =
     let i = extent-upto c.args.s.now c.loop-stop.at c.args.end c.loop-stop.invariant.1.inside (sym c.extent.ensures ∙ c.in-Upto.is) in omega arith
 
 pub loop-stop-preserved : goal.loop-stop-preserved
-loop-stop-preserved c =
-    (
-      onward-more c.loop-stop.invariant.0
-          (specifiers-more c.args.all c.args.s.now c.loop-stop.at c.args.end c.loop-stop.invariant.1.inside
-          (sym c.extent.ensures ∙ c.in-Upto.is) (fields-next c.loop-stop.invariant.1 (sym c.extent.ensures ∙ c.in-Upto.is)).0)
-          c.put_specifier.ensures c.in-Done.is,
-      (fields-next c.loop-stop.invariant.1 (sym c.extent.ensures ∙ c.in-Upto.is)).1,
-    )
+loop-stop-preserved c = (
+  onward-more c.loop-stop.invariant.0
+      (specifiers-more c.args.all c.args.s.now c.loop-stop.at c.args.end c.loop-stop.invariant.1.inside
+      (sym c.extent.ensures ∙ c.in-Upto.is) (fields-next c.loop-stop.invariant.1 (sym c.extent.ensures ∙ c.in-Upto.is)).0)
+      c.put_specifier.ensures c.in-Done.is,
+  (fields-next c.loop-stop.invariant.1 (sym c.extent.ensures ∙ c.in-Upto.is)).1,
+)
 
 pub returns-in-Refused : goal.returns-in-Refused
 returns-in-Refused c =

@@ -6,7 +6,7 @@ use native.Mathlib.Omega.{arith}
 use Prim.Native.Nat.{◌-◌}
 use Rattle.tree.specs.Standing.{row_at}
 use Rattle.tree.proofs.AccessLaws.{extent-upto}
-use Rattle.resolving_rules.specs.Resolve.{resolvedSpecifiers}
+use Rattle.resolving_rules.specs.Resolve.{resolved_specifiers}
 use Rattle.resolving.specs.Records.{FieldsRead}
 use Rattle.resolving.specs.Writes.{Onward}
 use Rattle.resolving.proofs.RecordsLaws.{fields-next}
@@ -15,7 +15,7 @@ use Rattle.resolving.proofs.SpecifiersLaws.{specifiers-end, specifiers-more}
 use Rattle.resolving.proofs.specifiers.put_specifiers.Given as goal
 
 abbrev pub invariant-loop-stop : goal.invariant-loop-stop
-invariant-loop-stop l = Onward (resolvedSpecifiers l.all (row_at l.s l.from l.end) l.from) (resolvedSpecifiers l.all (row_at l.s l.at l.end) l.at) l.initial.list l.o l.list l.to × FieldsRead l.s l.at l.end
+invariant-loop-stop l = Onward (resolved_specifiers l.all (row_at l.s l.from l.end) l.from) (resolved_specifiers l.all (row_at l.s l.at l.end) l.at) l.initial.list l.o l.list l.to × FieldsRead l.s l.at l.end
 
 abbrev pub decreases-loop-stop : goal.decreases-loop-stop
 decreases-loop-stop l = l.end - l.at

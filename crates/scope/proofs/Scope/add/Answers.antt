@@ -2,13 +2,13 @@
 use native.Mathlib.Omega.{arith}
 use mathlib.Core.Path.{◌≡◌}
 use lib.ListN.{length}
-use Rattle.scope.specs.ScopeValue.{modulesOf}
+use Rattle.scope.specs.ScopeValue.{modules_of}
 use Rattle.scope.proofs.ScopeValueLaws.{from-added}
 use borrow.Author.Rules.{rules}
 use Rattle.scope.proofs.Scope.add.Goals as goal
 
 pub returns : goal.returns
-unfolding modulesOf
+unfolding modules_of
 returns c =
     let g : length c.args.self.marks ≡ 1024 = search rules in
     let h : length c.args.self.files ≡ 256 = search rules in

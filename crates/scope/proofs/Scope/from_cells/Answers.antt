@@ -5,12 +5,12 @@ use Prim.Native.Nat.{◌≤◌, ◌-◌, min}
 use native.Mathlib.Omega.{arith}
 use borrow.Author.Rules.{rules}
 use lib.ListN.{length, length-set}
-use Rattle.scope.specs.ScopeValue.{modulesFrom, modulesOf, modulesIn}
+use Rattle.scope.specs.ScopeValue.{modules_from, modules_of, modules_in}
 use Rattle.scope.proofs.ScopeValueLaws.{cells-taken}
 use Rattle.scope.proofs.Scope.from_cells.Goals as goal
 
 pub loop-k-init : goal.loop-k-init
-unfolding modulesFrom modulesIn
+unfolding modules_from modules_in
 loop-k-init c =
     (refl, omega arith, refl, refl)
 
@@ -91,21 +91,20 @@ loop-k-smaller c =
     omega arith
 
 pub loop-k-preserved : goal.loop-k-preserved
-loop-k-preserved c =
-    (
-      cells-taken c.args.cells.now c.loop-k.files c.loop-k.marks c.args.base c.loop-k.k c.low_file.result
-          c.slot-loaded.result c.slot-stored.result c.slot-cjs.result c.slot-wrapping.result c.last_bit.result c.last_bit-in-loop-k.result
-          c.last_bit-in-loop-k-2.result c.last_bit-in-loop-k-3.result c.loop-k.invariant.2 c.loop-k.invariant.3 (omega arith) c.low_file.ensures
-          c.last_bit.ensures c.last_bit-in-loop-k.ensures c.last_bit-in-loop-k-2.ensures c.last_bit-in-loop-k-3.ensures c.slot-loaded.ensures.0
-          c.slot-stored.ensures.0 c.slot-cjs.ensures.0 c.slot-wrapping.ensures.0 c.loop-k.invariant.0,
-      omega arith,
-      simp length-set
-          c.loop-k.invariant.2,
-      simp length-set c.loop-k.invariant.3,
-    )
+loop-k-preserved c = (
+  cells-taken c.args.cells.now c.loop-k.files c.loop-k.marks c.args.base c.loop-k.k c.low_file.result
+      c.slot-loaded.result c.slot-stored.result c.slot-cjs.result c.slot-wrapping.result c.last_bit.result c.last_bit-in-loop-k.result
+      c.last_bit-in-loop-k-2.result c.last_bit-in-loop-k-3.result c.loop-k.invariant.2 c.loop-k.invariant.3 (omega arith) c.low_file.ensures
+      c.last_bit.ensures c.last_bit-in-loop-k.ensures c.last_bit-in-loop-k-2.ensures c.last_bit-in-loop-k-3.ensures c.slot-loaded.ensures.0
+      c.slot-stored.ensures.0 c.slot-cjs.ensures.0 c.slot-wrapping.ensures.0 c.loop-k.invariant.0,
+  omega arith,
+  simp length-set
+      c.loop-k.invariant.2,
+  simp length-set c.loop-k.invariant.3,
+)
 
 pub returns : goal.returns
-unfolding modulesOf
+unfolding modules_of
 returns c =
     let e : c.loop-k.k ≡ c.args.n = omega arith in
     let m : min c.args.n 256 ≡ c.args.n = omega arith in

@@ -5,12 +5,12 @@ use Prim.Native.Nat.{◌≤◌, ◌-◌, min}
 use native.Mathlib.Omega.{arith}
 use borrow.Author.Rules.{rules}
 use lib.ListN.{length, length-set}
-use Rattle.scope.specs.ScopeValue.{modulesFrom, modulesOf, modulesIn}
+use Rattle.scope.specs.ScopeValue.{modules_from, modules_of, modules_in}
 use Rattle.scope.proofs.ScopeValueLaws.{cells-taken}
 use Rattle.scope.proofs.Scope.from_cells.Given as goal
 
 abbrev pub invariant-loop-k : goal.invariant-loop-k
-invariant-loop-k l = (modulesFrom l.k 0 l.files l.marks ≡ modulesIn l.k l.base l.cells) × (l.k ≤ l.n) × (length l.files ≡ 256) × (length l.marks ≡ 1024)
+invariant-loop-k l = (modules_from l.k 0 l.files l.marks ≡ modules_in l.k l.base l.cells) × (l.k ≤ l.n) × (length l.files ≡ 256) × (length l.marks ≡ 1024)
 
 abbrev pub decreases-loop-k : goal.decreases-loop-k
 decreases-loop-k l = l.n - l.k

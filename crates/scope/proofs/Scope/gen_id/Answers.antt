@@ -4,7 +4,7 @@ use mathlib.Core.Path.{◌≡◌, sym, ◌∙◌, ap}
 use lib.ListN.{length}
 use native.Mathlib.Omega.{arith}
 use borrow.Author.Rules.{rules}
-use Rattle.scope.specs.ScopeValue.{modulesOf, placeBy}
+use Rattle.scope.specs.ScopeValue.{modules_of, place_by}
 use Rattle.scope.proofs.Laws.{number-below, gen-known, gen-refused}
 use Rattle.scope.proofs.ScopeValueLaws.{modules-length, modules-added, found_number}
 use Rattle.scope.proofs.Scope.gen_id.Goals as goal
@@ -22,8 +22,8 @@ numbered-requires c =
     let number =
     found_number s f.0 c.counted-n.result c.find_file.result
     files c.counted-n.ensures.0 c.find_file.ensures
-    ∙ ap placeBy c.in-At.is in
-    let below = number-below f.0 (modulesOf s) number in
+    ∙ ap place_by c.in-At.is in
+    let below = number-below f.0 (modules_of s) number in
     let count = modules-length s in
     omega arith
 
@@ -35,8 +35,8 @@ returns-in-At c =
     let number =
     found_number s f.0 c.counted-n.result
     c.find_file.result files c.counted-n.ensures.0
-    c.find_file.ensures ∙ ap placeBy c.in-At.is in
-    c.numbered.ensures ∙ sym (gen-known f (modulesOf s) number)
+    c.find_file.ensures ∙ ap place_by c.in-At.is in
+    c.numbered.ensures ∙ sym (gen-known f (modules_of s) number)
 
 pub returns-then-n-lt256 : goal.returns-then-n-lt256
 returns-then-n-lt256 c =
@@ -47,7 +47,7 @@ returns-then-n-lt256 c =
     found_number s f.0 c.counted-n.result
     c.find_file.result files
     c.counted-n.ensures.0
-    c.find_file.ensures ∙ ap placeBy c.in-Nowhere.is in
+    c.find_file.ensures ∙ ap place_by c.in-Nowhere.is in
     c.numbered-then-n-lt256.ensures
     ∙ modules-added s c.add.result f c.counted-n.result
     c.counted-n.ensures.0 c.if-n-lt256.true number
@@ -62,6 +62,6 @@ returns-else-n-lt256 c =
     found_number s f.0 c.counted-n.result
     c.find_file.result files
     c.counted-n.ensures.0
-    c.find_file.ensures ∙ ap placeBy c.in-Nowhere.is in
+    c.find_file.ensures ∙ ap place_by c.in-Nowhere.is in
     let count = modules-length s in
-    cc (gen-refused f (modulesOf s) number (omega arith))
+    cc (gen-refused f (modules_of s) number (omega arith))

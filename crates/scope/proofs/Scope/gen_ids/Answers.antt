@@ -5,8 +5,8 @@ use Prim.Native.Nat.{◌≤◌, ◌-◌, ◌+◌, ◌*◌}
 use native.Mathlib.Omega.{arith}
 use borrow.Author.Rules.{rules}
 use lib.ListN.{length, drop}
-use Rattle.scope.specs.Modules.{filesIn, requestAll}
-use Rattle.scope.specs.ScopeValue.{modulesOf}
+use Rattle.scope.specs.Modules.{files_in, request_all}
+use Rattle.scope.specs.ScopeValue.{modules_of}
 use Rattle.scope.proofs.ScopeValueLaws.{list-goes-on, list-stops, list-ends}
 use Rattle.scope.proofs.Scope.gen_ids.Goals as goal
 
@@ -41,7 +41,7 @@ overflow_add-wide c =
 pub returns-in-TooManyFiles : goal.returns-in-TooManyFiles
 returns-in-TooManyFiles c =
     sym (c.loop-i.invariant.0
-    ∙ list-stops c.args.files.now c.loop-i.i (record { 0 = c.wide.result * 256 + c.wide-in-loop-i.result }) (modulesOf c.loop-i.self)
+    ∙ list-stops c.args.files.now c.loop-i.i (record { 0 = c.wide.result * 256 + c.wide-in-loop-i.result }) (modules_of c.loop-i.self)
     c.gen_id-g.result (omega arith) (omega arith) c.gen_id-g.ensures c.in-TooManyFiles.is)
 
 pub overflow_add-i-in-loop-i : goal.overflow_add-i-in-loop-i
@@ -53,14 +53,13 @@ loop-i-smaller c =
     omega arith
 
 pub loop-i-preserved : goal.loop-i-preserved
-loop-i-preserved c =
-    (
-      c.loop-i.invariant.0
-          ∙ list-goes-on c.args.files.now c.loop-i.i (record { 0 = c.wide.result * 256 + c.wide-in-loop-i.result }) (modulesOf c.loop-i.self)
-          c.gen_id-g.result (omega arith) (omega arith) c.gen_id-g.ensures c.in-Given.is,
-      omega arith,
-    )
+loop-i-preserved c = (
+  c.loop-i.invariant.0
+      ∙ list-goes-on c.args.files.now c.loop-i.i (record { 0 = c.wide.result * 256 + c.wide-in-loop-i.result }) (modules_of c.loop-i.self)
+      c.gen_id-g.result (omega arith) (omega arith) c.gen_id-g.ensures c.in-Given.is,
+  omega arith,
+)
 
 pub returns : goal.returns
 returns c =
-    sym (c.loop-i.invariant.0 ∙ list-ends c.args.files.now c.loop-i.i (modulesOf c.loop-i.self) (omega arith))
+    sym (c.loop-i.invariant.0 ∙ list-ends c.args.files.now c.loop-i.i (modules_of c.loop-i.self) (omega arith))

@@ -5,13 +5,13 @@ use Prim.Native.Nat.{◌≤◌, ◌-◌, ◌+◌, ◌*◌}
 use native.Mathlib.Omega.{arith}
 use borrow.Author.Rules.{rules}
 use lib.ListN.{length, drop}
-use Rattle.scope.specs.Modules.{filesIn, requestAll}
-use Rattle.scope.specs.ScopeValue.{modulesOf}
+use Rattle.scope.specs.Modules.{files_in, request_all}
+use Rattle.scope.specs.ScopeValue.{modules_of}
 use Rattle.scope.proofs.ScopeValueLaws.{list-goes-on, list-stops, list-ends}
 use Rattle.scope.proofs.Scope.gen_ids.Given as goal
 
 abbrev pub invariant-loop-i : goal.invariant-loop-i
-invariant-loop-i l = (requestAll (filesIn l.files) (modulesOf l.initial.self) ≡ requestAll (filesIn (drop l.i l.files)) (modulesOf l.self)) × (l.i ≤ length l.files)
+invariant-loop-i l = (request_all (files_in l.files) (modules_of l.initial.self) ≡ request_all (files_in (drop l.i l.files)) (modules_of l.self)) × (l.i ≤ length l.files)
 
 abbrev pub decreases-loop-i : goal.decreases-loop-i
 decreases-loop-i l = length l.files - l.i

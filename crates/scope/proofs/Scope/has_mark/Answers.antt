@@ -3,7 +3,7 @@
 use mathlib.Core.Path.{sym, ◌∙◌, ap}
 use native.Mathlib.Omega.{arith}
 use Rattle.scope.specs.Modules.{done}
-use Rattle.scope.specs.ScopeValue.{modulesOf}
+use Rattle.scope.specs.ScopeValue.{modules_of}
 use Rattle.scope.proofs.Laws.{read-given, read-refused}
 use Rattle.scope.proofs.ScopeValueLaws.{modules-length, modules-marked}
 use borrow.Author.Rules.{rules}
@@ -19,8 +19,8 @@ returns-then-n-counted c =
     c.args.id.0 (omega arith)))
     ∙
     sym (read-given c.args.kind c.args.id
-    (modulesOf c.args.self) (omega arith))
+    (modules_of c.args.self) (omega arith))
 
 pub returns-else-n-counted : goal.returns-else-n-counted
 returns-else-n-counted c =
-    let l = modules-length c.args.self in sym (read-refused c.args.kind c.args.id (modulesOf c.args.self) (omega arith))
+    let l = modules-length c.args.self in sym (read-refused c.args.kind c.args.id (modules_of c.args.self) (omega arith))

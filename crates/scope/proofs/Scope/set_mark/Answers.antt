@@ -4,7 +4,7 @@ use mathlib.Core.Path.{◌≡◌, sym}
 use lib.ListN.{length}
 use native.Mathlib.Omega.{arith}
 use borrow.Author.Rules.{rules}
-use Rattle.scope.specs.ScopeValue.{modulesOf}
+use Rattle.scope.specs.ScopeValue.{modules_of}
 use Rattle.scope.proofs.Laws.{marking-given, marking-refused}
 use Rattle.scope.proofs.ScopeValueLaws.{modules-length, modules-set}
 use Rattle.scope.proofs.Scope.set_mark.Goals as goal
@@ -16,8 +16,8 @@ returns-then-n-counted c =
     let m = modules-set c.args.self c.args.kind c.args.id.0 marks (omega arith) in
     rw (c.put_mark.ensures, m)
     (sym (marking-given c.args.kind c.args.id
-    (modulesOf c.args.self) (omega arith)))
+    (modules_of c.args.self) (omega arith)))
 
 pub returns-else-n-counted : goal.returns-else-n-counted
 returns-else-n-counted c =
-    let l = modules-length c.args.self in sym (marking-refused c.args.kind c.args.id (modulesOf c.args.self) (omega arith))
+    let l = modules-length c.args.self in sym (marking-refused c.args.kind c.args.id (modules_of c.args.self) (omega arith))

@@ -6,13 +6,13 @@ use Prim.Native.Nat.{ℕ, ◌≤◌, ◌<◌, ◌-◌, ◌+◌, ◌*◌}
 use native.Mathlib.Omega.{arith}
 use borrow.Author.Rules.{rules}
 use lib.ListN.{get_or, length-set}
-use Rattle.scope.specs.ScopeValue.{modulesFrom, modulesIn, Rewrites}
+use Rattle.scope.specs.ScopeValue.{modules_from, modules_in, Rewrites}
 use Rattle.scope.proofs.Laws.{rewrites-none, rewrites-set, small_put}
 use Rattle.scope.proofs.ScopeValueLaws.{cells-put, modules-length, modules-first}
 use Rattle.scope.proofs.Scope.to_cells.Goals as goal
 
 pub loop-k-init : goal.loop-k-init
-unfolding modulesFrom modulesIn
+unfolding modules_from modules_in
 loop-k-init c =
     (refl, omega arith, rewrites-none _ _ _, λ i h. absurd (omega arith))
 
@@ -93,19 +93,18 @@ loop-k-smaller c =
     omega arith
 
 pub loop-k-preserved : goal.loop-k-preserved
-loop-k-preserved c =
-    (
-      cells-put c.loop-k.cells c.args.self.files c.args.self.marks c.args.base c.loop-k.k c.wide_file.result
-          c.four_bits.result c.slot-loaded.result c.slot-stored.result c.slot-cjs.result c.slot-wrapping.result (omega arith)
-          c.wide_file.ensures.0 c.wide_file.ensures.1 c.four_bits.ensures.0 c.four_bits.ensures.1 c.four_bits.ensures.2
-          c.four_bits.ensures.3 c.slot-loaded.ensures.0 c.slot-stored.ensures.0 c.slot-cjs.ensures.0 c.slot-wrapping.ensures.0
-          c.loop-k.invariant.0,
-      omega arith,
-      rewrites-set _ _ (omega arith) (omega arith)
-          (rewrites-set _ _ (omega arith) (omega arith) c.loop-k.invariant.2),
-      small_put c.loop-k.cells c.args.base c.loop-k.k c.wide_file.result c.four_bits.result (omega arith)
-          c.wide_file.ensures.1 c.four_bits.ensures.4 c.loop-k.invariant.3,
-    )
+loop-k-preserved c = (
+  cells-put c.loop-k.cells c.args.self.files c.args.self.marks c.args.base c.loop-k.k c.wide_file.result
+      c.four_bits.result c.slot-loaded.result c.slot-stored.result c.slot-cjs.result c.slot-wrapping.result (omega arith)
+      c.wide_file.ensures.0 c.wide_file.ensures.1 c.four_bits.ensures.0 c.four_bits.ensures.1 c.four_bits.ensures.2
+      c.four_bits.ensures.3 c.slot-loaded.ensures.0 c.slot-stored.ensures.0 c.slot-cjs.ensures.0 c.slot-wrapping.ensures.0
+      c.loop-k.invariant.0,
+  omega arith,
+  rewrites-set _ _ (omega arith) (omega arith)
+      (rewrites-set _ _ (omega arith) (omega arith) c.loop-k.invariant.2),
+  small_put c.loop-k.cells c.args.base c.loop-k.k c.wide_file.result c.four_bits.result (omega arith)
+      c.wide_file.ensures.1 c.four_bits.ensures.4 c.loop-k.invariant.3,
+)
 
 pub returns : goal.returns
 returns c =

@@ -6,13 +6,13 @@ use Prim.Native.Nat.{ℕ, ◌≤◌, ◌<◌, ◌-◌, ◌+◌, ◌*◌}
 use native.Mathlib.Omega.{arith}
 use borrow.Author.Rules.{rules}
 use lib.ListN.{get_or, length-set}
-use Rattle.scope.specs.ScopeValue.{modulesFrom, modulesIn, Rewrites}
+use Rattle.scope.specs.ScopeValue.{modules_from, modules_in, Rewrites}
 use Rattle.scope.proofs.Laws.{rewrites-none, rewrites-set, small_put}
 use Rattle.scope.proofs.ScopeValueLaws.{cells-put, modules-length, modules-first}
 use Rattle.scope.proofs.Scope.to_cells.Given as goal
 
 abbrev pub invariant-loop-k : goal.invariant-loop-k
-invariant-loop-k l = (modulesIn l.k l.base l.cells ≡ modulesFrom l.k 0 l.self.files l.self.marks) × (l.k ≤ l.n) × Rewrites l.base (l.base + 512) l.initial.cells l.cells
+invariant-loop-k l = (modules_in l.k l.base l.cells ≡ modules_from l.k 0 l.self.files l.self.marks) × (l.k ≤ l.n) × Rewrites l.base (l.base + 512) l.initial.cells l.cells
     × ((i : ℕ) → i < l.k → (get_or l.cells (l.base + 2 * i) 0 < 65536) × (get_or l.cells (l.base + 2 * i + 1) 0 < 16))
 
 abbrev pub decreases-loop-k : goal.decreases-loop-k

@@ -1,6 +1,5 @@
 -- `show::fields::open_at`: the invariant: the depth only falls.
 use Prim.Native.Nat.{◌≤◌}
-use native.Mathlib.Omega.{arith}
 use Rattle.show.proofs.fields.open_at.Given as goal
 
 abbrev pub invariant-loop-d : goal.invariant-loop-d

@@ -1,14 +1,10 @@
 -- `show`: the invariant says that the depth is within the ends that are kept. The place rises, since a field's head takes three bytes
 -- (`SpotIn`): what is left of the bytes is the measure.
 use Prim.Native.Nat.{◌<◌, ◌-◌}
-use borrow.Author.Rules.{rules}
-use mathlib.Core.Path.{subst}
-use native.Mathlib.Omega.{arith}
-use Rattle.show.specs.Places.{SpotIn}
 use Rattle.show.proofs.fields.show.Given as goal
 
 abbrev pub invariant-loop-at : goal.invariant-loop-at
-invariant-loop-at l = l.depth < 66
+invariant-loop-at g l = l.depth < 66
 
 abbrev pub decreases-loop-at : goal.decreases-loop-at
-decreases-loop-at l = l.len - l.at
+decreases-loop-at g l = l.len - l.at

@@ -1,6 +1,5 @@
 -- `spot_of`: the field ends inside (`extent-in`), and its parts start within it, as `fixed_of` promises.
 use Prim.Native.Nat.{◌+◌}
-use borrow.Author.Rules.{rules}
 use mathlib.Core.Path.{sym, subst, ◌∙◌}
 use native.Mathlib.Omega.{arith}
 use Rattle.tree.proofs.AccessLaws.{ReachIn, extent-in}

@@ -2,7 +2,6 @@
 use Prim.Native.Nat.{◌≤◌, ◌-◌}
 use lib.ListN.{length}
 use mathlib.Core.Path.{◌≡◌}
-use native.Mathlib.Omega.{arith}
 use Rattle.show.proofs.line.indent.Given as goal
 
 abbrev pub invariant-loop-i : goal.invariant-loop-i

@@ -1,7 +1,6 @@
 -- `is_plain`: no contract; the loop's test keeps each index inside, and what is left of the bytes is the measure.
 use Prim.Native.Nat.{◌-◌}
 use lib.ListN.{length}
-use native.Mathlib.Omega.{arith}
 use Rattle.show.proofs.line.is_plain.Given as goal
 
 abbrev pub invariant-loop-i : goal.invariant-loop-i

@@ -2,7 +2,6 @@
 use Prim.Native.Nat.{◌≤◌, ◌-◌, ◌+◌}
 use lib.ListN.{length}
 use mathlib.Core.Path.{◌≡◌}
-use native.Mathlib.Omega.{arith}
 use Rattle.show.proofs.names.put_entry.Given as goal
 
 abbrev pub invariant-loop-at : goal.invariant-loop-at

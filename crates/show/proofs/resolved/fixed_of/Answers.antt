@@ -2,7 +2,6 @@
 use mathlib.Core.Path.{sym, subst}
 use native.Mathlib.Omega.{arith}
 use Rattle.tree.proofs.AccessLaws.{ReachIn, fixed_in}
-use borrow.Author.Rules.{rules}
 use Rattle.show.proofs.resolved.fixed_of.Goals as goal
 
 pub returns-in_default : goal.returns-in_default

@@ -3,7 +3,7 @@
 use native.Mathlib.Omega.{arith}
 use mathlib.Core.Path.{sym, ap, ◌∙◌}
 use lib.ListN.{length}
-use Rattle.state.specs.Cells.{records, namespaces, idBy}
+use Rattle.state.specs.Cells.{records, namespaces, id_by}
 use Rattle.state.proofs.FrameLaws.{room-for}
 use Rattle.state.proofs.ExtendLaws.{met-records, extended-again, extended-first, extended-full}
 use borrow.Author.Rules.{rules}
@@ -15,28 +15,26 @@ count_of-requires c =
 
 pub returns-then-count_of-ge3641 : goal.returns-then-count_of-ge3641
 returns-then-count_of-ge3641 c =
-    extended-full c.args.i (idBy c.args.id) c.requires.0 (omega arith)
+    extended-full c.args.i (id_by c.args.id) c.requires.0 (omega arith)
 
 pub add_held-requires : goal.add_held-requires
 add_held-requires c =
     (c.requires.0, c.id_number-n.ensures.1, let r = room-for records c.requires.0 in let b = c.requires.1 in omega arith, omega arith)
 
 pub value_of-requires : goal.value_of-requires
-value_of-requires c =
-    (
-      c.add_held.ensures.good.lies records,
-      let e = ap length
-          (met-records c.id_number-n.ensures.0 c.id_number-n.ensures.1 c.requires.1 c.add_held.ensures) in let b = c.requires.1 in omega arith,
-    )
+value_of-requires c = (
+  c.add_held.ensures.good.lies records,
+  let e = ap length
+      (met-records c.id_number-n.ensures.0 c.id_number-n.ensures.1 c.requires.1 c.add_held.ensures) in let b = c.requires.1 in omega arith,
+)
 
 pub set_first-requires : goal.set_first-requires
-set_first-requires c =
-    (
-      c.add_held.ensures.good,
-      let e = ap length
-          (met-records c.id_number-n.ensures.0 c.id_number-n.ensures.1 c.requires.1 c.add_held.ensures) in let b = c.requires.1 in omega arith,
-      c.id_number-n.ensures.1,
-    )
+set_first-requires c = (
+  c.add_held.ensures.good,
+  let e = ap length
+      (met-records c.id_number-n.ensures.0 c.id_number-n.ensures.1 c.requires.1 c.add_held.ensures) in let b = c.requires.1 in omega arith,
+  c.id_number-n.ensures.1,
+)
 
 pub returns-then-value_of-eq0 : goal.returns-then-value_of-eq0
 returns-then-value_of-eq0 c =

@@ -2,7 +2,7 @@
 -- (`collected-again`), none and room (`collected-new`), or none and no room, where the rule refuses with 8 (`collected-full`).
 use native.Mathlib.Omega.{arith}
 use mathlib.Core.Path.{◌∙◌, sym, ap}
-use Rattle.tables.specs.Rows.{placeBy}
+use Rattle.tables.specs.Rows.{place_by}
 use Rattle.state.specs.Cells.{records}
 use Rattle.state.proofs.CollectLaws.{collected-again, collected-new, collected-full}
 use borrow.Author.Rules.{rules}
@@ -19,15 +19,15 @@ count_of-n-requires c =
 pub returns-in-At : goal.returns-in-At
 returns-in-At c =
     collected-again c.literal_number-number.result c.args.literal c.literal_number-number.ensures.0 c.literal_number-number.ensures.1 c.literal_number-number.ensures.2 c.requires
-    (ap placeBy (sym c.in-At.is) ∙ c.find_from-found.ensures)
+    (ap place_by (sym c.in-At.is) ∙ c.find_from-found.ensures)
 
 pub returns-then-n-lt256 : goal.returns-then-n-lt256
 returns-then-n-lt256 c =
     collected-new c.literal_number-number.result c.args.literal c.literal_number-number.ensures.0 c.literal_number-number.ensures.1 c.literal_number-number.ensures.2 c.requires
-    c.count_of-n.ensures.0 (ap placeBy (sym c.in-Nowhere.is) ∙ c.find_from-found.ensures)
+    c.count_of-n.ensures.0 (ap place_by (sym c.in-Nowhere.is) ∙ c.find_from-found.ensures)
     (omega arith) c.add_record.ensures
 
 pub returns-else-n-lt256 : goal.returns-else-n-lt256
 returns-else-n-lt256 c =
     collected-full c.literal_number-number.result c.args.literal c.literal_number-number.ensures.0 c.literal_number-number.ensures.1 c.literal_number-number.ensures.2 c.requires
-    (ap placeBy (sym c.in-Nowhere.is) ∙ c.find_from-found.ensures) (omega arith)
+    (ap place_by (sym c.in-Nowhere.is) ∙ c.find_from-found.ensures) (omega arith)

@@ -2,10 +2,10 @@
 -- shown by no state (`holder-past`).
 use native.Mathlib.Omega.{arith}
 use mathlib.Core.Path.{◌≡◌, sym, ap, subst, ◌∙◌}
-use Rattle.tables.specs.Rows.{leastBy}
+use Rattle.tables.specs.Rows.{least_by}
 use Rattle.inputs.specs.Lists.{find}
-use Rattle.extraction_rules.specs.First.{holdsNamespace}
-use Rattle.state.specs.Cells.{records, idBy}
+use Rattle.extraction_rules.specs.First.{holds_namespace}
+use Rattle.state.specs.Cells.{records, id_by}
 use Rattle.state.specs.Does.{Tells, source_of}
 use Rattle.state.proofs.RecordLaws.{holder-past, holder-told}
 use borrow.Author.Rules.{rules}
@@ -21,13 +21,13 @@ source_at-requires c =
 
 pub returns-then-i-count_of : goal.returns-then-i-count_of
 returns-then-i-count_of c =
-    subst (Tells (λ s. source_of (find (holdsNamespace (idBy c.args.id)) s.collected)) c.args.t.now) (sym c.source_at.ensures)
-    (holder-told c.id_number.ensures.0 c.id_number.ensures.1 (ap leastBy (sym c.in-Some.is) ∙ c.least_holder-least.ensures))
+    subst (Tells (λ s. source_of (find (holds_namespace (id_by c.args.id)) s.collected)) c.args.t.now) (sym c.source_at.ensures)
+    (holder-told c.id_number.ensures.0 c.id_number.ensures.1 (ap least_by (sym c.in-Some.is) ∙ c.least_holder-least.ensures))
 
 pub returns-else-i-count_of : goal.returns-else-i-count_of
 returns-else-i-count_of c =
-    holder-past (idBy c.args.id) c.id_number.ensures.1 (ap leastBy (sym c.in-Some.is) ∙ c.least_holder-least.ensures) (omega arith)
+    holder-past (id_by c.args.id) c.id_number.ensures.1 (ap least_by (sym c.in-Some.is) ∙ c.least_holder-least.ensures) (omega arith)
 
 pub returns-in-None : goal.returns-in-None
 returns-in-None c =
-    holder-told c.id_number.ensures.0 c.id_number.ensures.1 (ap leastBy (sym c.in-None.is) ∙ c.least_holder-least.ensures)
+    holder-told c.id_number.ensures.0 c.id_number.ensures.1 (ap least_by (sym c.in-None.is) ∙ c.least_holder-least.ensures)

@@ -5,8 +5,8 @@ use native.Mathlib.Omega.{arith}
 use Rattle.tables.specs.Rows.{rows}
 use mathlib.Core.Path.{sym, ap, subst, ◌∙◌}
 use Rattle.scope.specs.declared.id.SyntaxContext.{SyntaxContext}
-use Rattle.extraction_rules.specs.First.{usedRecord}
-use Rattle.state.specs.Cells.{records, table_of, idBy}
+use Rattle.extraction_rules.specs.First.{used_record}
+use Rattle.state.specs.Cells.{records, table_of, id_by}
 use Rattle.state.specs.Does.{Tells, source_of}
 use Rattle.state.proofs.IndexLaws.{first-value-below}
 use Rattle.state.proofs.RecordLaws.{used-name, used-id, named_past, id-past}
@@ -31,12 +31,12 @@ source_at-requires-else-context-local c =
 
 pub returns-then-context-local : goal.returns-then-context-local
 returns-then-context-local c =
-    subst (Tells (λ s. source_of (usedRecord c.args.own.0 (idBy c.args.id) s.collected)) c.args.t.now) (sym c.source_at.ensures)
+    subst (Tells (λ s. source_of (used_record c.args.own.0 (id_by c.args.id) s.collected)) c.args.t.now) (sym c.source_at.ensures)
     (used-name c.args.own.0 c.id_number-n.result c.requires c.id_number-n.ensures.0 c.id_number-n.ensures.1
     (c.if-context-local.true ∙ ap (λ (x : SyntaxContext). x.0) c.local_ctxt-local.ensures) c.find_value-found.ensures)
 
 pub returns-else-context-local : goal.returns-else-context-local
 returns-else-context-local c =
-    subst (Tells (λ s. source_of (usedRecord c.args.own.0 (idBy c.args.id) s.collected)) c.args.t.now) (sym c.source_at-else-context-local.ensures)
+    subst (Tells (λ s. source_of (used_record c.args.own.0 (id_by c.args.id) s.collected)) c.args.t.now) (sym c.source_at-else-context-local.ensures)
     (used-id c.args.own.0 c.id_number-n.result c.requires (omega arith) c.id_number-n.ensures.0 c.id_number-n.ensures.1
     (λ e. c.if-context-local.false (e ∙ sym (ap (λ (x : SyntaxContext). x.0) c.local_ctxt-local.ensures))) c.find_value-found-else-context-local.ensures)

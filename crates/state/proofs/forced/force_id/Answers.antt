@@ -2,9 +2,9 @@
 -- forgotten: no record, and this is all (`forced-none`), or a record, whose source is forced (`forced-some`).
 use mathlib.Core.Path.{sym, ap, subst, ◌∙◌}
 use Rattle.inputs.specs.Lists.{find}
-use Rattle.extraction_rules.specs.First.{holdsNamespace}
-use Rattle.state.specs.Cells.{idBy}
-use Rattle.state.specs.Does.{Tells, source_of, sourceBy}
+use Rattle.extraction_rules.specs.First.{holds_namespace}
+use Rattle.state.specs.Cells.{id_by}
+use Rattle.state.specs.Does.{Tells, source_of, source_by}
 use Rattle.state.proofs.ForcedLaws.{forced-none, forced-some, forced-nowhere}
 use borrow.Author.Rules.{rules}
 use Rattle.state.proofs.forced.force_id.Goals as goal
@@ -16,12 +16,12 @@ returns-then-hint_of-eq0 c =
 
 pub returns-in_default : goal.returns-in_default
 returns-in_default c =
-    forced-none (idBy c.args.id) c.forget.ensures
-    (subst (Tells (λ s. source_of (find (holdsNamespace (idBy c.args.id)) s.collected)) c.forget.new.t)
-    (ap sourceBy c.in_default.is) c.holder.ensures)
+    forced-none (id_by c.args.id) c.forget.ensures
+    (subst (Tells (λ s. source_of (find (holds_namespace (id_by c.args.id)) s.collected)) c.forget.new.t)
+    (ap source_by c.in_default.is) c.holder.ensures)
 
 pub returns : goal.returns
 returns c =
-    forced-some (idBy c.args.id) c.forget.ensures
-    (subst (Tells (λ s. source_of (find (holdsNamespace (idBy c.args.id)) s.collected)) c.forget.new.t)
-    (ap sourceBy c.in-From.is) c.holder.ensures) c.force_source.ensures
+    forced-some (id_by c.args.id) c.forget.ensures
+    (subst (Tells (λ s. source_of (find (holds_namespace (id_by c.args.id)) s.collected)) c.forget.new.t)
+    (ap source_by c.in-From.is) c.holder.ensures) c.force_source.ensures

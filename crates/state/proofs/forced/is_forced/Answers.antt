@@ -1,7 +1,7 @@
 -- `is_forced`: `forced-told` says that a row with this key is found just where the source is among the forced ones, in both cases.
 use native.Mathlib.Omega.{arith}
 use mathlib.Core.Path.{sym, ap, ◌∙◌}
-use Rattle.tables.specs.Rows.{placeBy}
+use Rattle.tables.specs.Rows.{place_by}
 use Rattle.state.specs.Cells.{forces}
 use Rattle.state.proofs.ForcedLaws.{forced-told}
 use borrow.Author.Rules.{rules}
@@ -13,8 +13,8 @@ find-found-requires c =
 
 pub returns-in-At : goal.returns-in-At
 returns-in-At c =
-    forced-told c.requires (omega arith) (ap placeBy (sym c.in-At.is) ∙ c.find-found.ensures)
+    forced-told c.requires (omega arith) (ap place_by (sym c.in-At.is) ∙ c.find-found.ensures)
 
 pub returns-in-Nowhere : goal.returns-in-Nowhere
 returns-in-Nowhere c =
-    forced-told c.requires (omega arith) (ap placeBy (sym c.in-Nowhere.is) ∙ c.find-found.ensures)
+    forced-told c.requires (omega arith) (ap place_by (sym c.in-Nowhere.is) ∙ c.find-found.ensures)

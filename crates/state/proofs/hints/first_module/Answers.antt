@@ -1,15 +1,15 @@
 -- `first_module`: a module before the hint has no file with this remainder (`reached-none`).
 use Prim.Native.Nat.{ℕ, ◌%◌}
 use native.Mathlib.Omega.{arith}
-use Rattle.state.specs.Cells.{modules, moduleHint}
+use Rattle.state.specs.Cells.{modules, module_hint}
 use Rattle.state.proofs.HintLaws.{reached-none}
 use borrow.Author.Rules.{rules}
 use Rattle.state.proofs.hints.first_module.Goals as goal
 
 pub returns-then-hint-ge256 : goal.returns-then-hint-ge256
 returns-then-hint-ge256 c =
-    reached-none 256 (λ (a : ℕ). moduleHint c.args.t.now (a % 256)) c.args.file _ (c.requires.hinted modules) (omega arith)
+    reached-none 256 (λ (a : ℕ). module_hint c.args.t.now (a % 256)) c.args.file _ (c.requires.hinted modules) (omega arith)
 
 pub returns : goal.returns
 returns c =
-    reached-none 256 (λ (a : ℕ). moduleHint c.args.t.now (a % 256)) c.args.file _ (c.requires.hinted modules) (omega arith)
+    reached-none 256 (λ (a : ℕ). module_hint c.args.t.now (a % 256)) c.args.file _ (c.requires.hinted modules) (omega arith)

@@ -1,7 +1,7 @@
 -- `first_of`: no record stands before the hint of its literal's value (`opens`).
 use native.Mathlib.Omega.{arith}
 use mathlib.Core.Path.{ap}
-use Rattle.state.specs.Cells.{sourceIn}
+use Rattle.state.specs.Cells.{source_in}
 use Rattle.state.proofs.ChangeLaws.{opens}
 use borrow.Author.Rules.{rules}
 use Rattle.state.proofs.hints.first_of.Goals as goal
@@ -12,4 +12,4 @@ returns-then-hint-ge256 c =
 
 pub returns : goal.returns
 returns c =
-    opens c.args.literal c.requires (let e = ap sourceIn c.cell_of.ensures in omega arith)
+    opens c.args.literal c.requires (let e = ap source_in c.cell_of.ensures in omega arith)

@@ -1,6 +1,6 @@
 -- `first_row`: a row before the hint has no source with this remainder (`reached-none`).
 use Prim.Native.Nat.{ℕ, ◌%◌}
-use Rattle.state.specs.Cells.{table, rowHint}
+use Rattle.state.specs.Cells.{table, row_hint}
 use Rattle.state.proofs.HintLaws.{reached-none}
 use native.Mathlib.Omega.{arith}
 use borrow.Author.Rules.{rules}
@@ -8,8 +8,8 @@ use Rattle.state.proofs.hints.first_row.Goals as goal
 
 pub returns-then-hint-ge1024 : goal.returns-then-hint-ge1024
 returns-then-hint-ge1024 c =
-    reached-none 1024 (λ (a : ℕ). rowHint c.args.t.now (a % 1024)) c.args.source _ (c.requires.hinted table) (omega arith)
+    reached-none 1024 (λ (a : ℕ). row_hint c.args.t.now (a % 1024)) c.args.source _ (c.requires.hinted table) (omega arith)
 
 pub returns : goal.returns
 returns c =
-    reached-none 1024 (λ (a : ℕ). rowHint c.args.t.now (a % 1024)) c.args.source _ (c.requires.hinted table) (omega arith)
+    reached-none 1024 (λ (a : ℕ). row_hint c.args.t.now (a % 1024)) c.args.source _ (c.requires.hinted table) (omega arith)

@@ -41,13 +41,12 @@ loop-i-smaller c =
     omega arith
 
 pub loop-i-preserved : goal.loop-i-preserved
-loop-i-preserved c =
-    (
-      hints-more c.loop-i.invariant.0 (let h = c.requires.1 in omega arith) refl c.hint_module.ensures.0 c.hint_module.ensures.1
-          c.hint_module.ensures.2,
-      omega arith,
-      let z = c.hint_module.auto in let y = c.loop-i.invariant.2 in omega arith,
-    )
+loop-i-preserved c = (
+  hints-more c.loop-i.invariant.0 (let h = c.requires.1 in omega arith) refl c.hint_module.ensures.0 c.hint_module.ensures.1
+      c.hint_module.ensures.2,
+  omega arith,
+  let z = c.hint_module.auto in let y = c.loop-i.invariant.2 in omega arith,
+)
 
 pub returns : goal.returns
 returns c =

@@ -2,7 +2,7 @@
 use native.Mathlib.Omega.{arith}
 use Prim.Native.Nat.{◌-◌}
 use mathlib.Core.Path.{ap}
-use Rattle.state.specs.Cells.{sourceIn}
+use Rattle.state.specs.Cells.{source_in}
 use Rattle.state.proofs.ChangeLaws.{cell_stays, source-grows}
 use borrow.Author.Rules.{rules}
 use Rattle.state.proofs.hints.hint_source.Goals as goal
@@ -13,8 +13,8 @@ set_cell-requires c =
 
 pub returns-then-v-hint : goal.returns-then-v-hint
 returns-then-v-hint c =
-    (c.set_cell.ensures.0, let e = ap sourceIn c.set_cell.ensures.1 in let b = c.requires.1 in omega arith)
+    (c.set_cell.ensures.0, let e = ap source_in c.set_cell.ensures.1 in let b = c.requires.1 in omega arith)
 
 pub returns-else-v-hint : goal.returns-else-v-hint
 returns-else-v-hint c =
-    (cell_stays c.requires.0, let e = ap sourceIn c.cell_of-v.ensures in let b = c.requires.1 in omega arith)
+    (cell_stays c.requires.0, let e = ap source_in c.cell_of-v.ensures in let b = c.requires.1 in omega arith)

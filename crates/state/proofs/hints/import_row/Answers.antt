@@ -4,7 +4,7 @@ use native.Mathlib.Omega.{arith}
 use mathlib.Core.Path.{sym, ap, ◌∙◌}
 use Prim.Native.Nat.{◌-◌, ◌%◌}
 use Rattle.tables.specs.Rows.{rows}
-use Rattle.state.specs.Cells.{imports, table_of, importHint}
+use Rattle.state.specs.Cells.{imports, table_of, import_hint}
 use Rattle.state.proofs.HintLaws.{distinct-at}
 use Rattle.state.proofs.ChangeLaws.{not-imported}
 use borrow.Author.Rules.{rules}
@@ -12,7 +12,7 @@ use Rattle.state.proofs.hints.import_row.Goals as goal
 
 pub returns-then-hint-eq0 : goal.returns-then-hint-eq0
 returns-then-hint-eq0 c =
-    sym (not-imported c.args.id c.requires (ap importHint (sym c.hint_of.ensures) ∙ c.if-hint-eq0.true))
+    sym (not-imported c.args.id c.requires (ap import_hint (sym c.hint_of.ensures) ∙ c.if-hint-eq0.true))
 
 pub count_of-requires : goal.count_of-requires
 count_of-requires c =

@@ -4,9 +4,9 @@ use native.Mathlib.Omega.{arith}
 use mathlib.Core.Path.{sym, ap, ◌∙◌}
 use mathlib.Core.Option.{Option}
 use Prim.Native.Nat.{ℕ, ◌-◌, ◌/◌}
-use Rattle.tables.specs.Rows.{rows, placeBy}
+use Rattle.tables.specs.Rows.{rows, place_by}
 use Rattle.inputs.specs.Lists.{is_some}
-use Rattle.state.specs.Cells.{uses, table_of, useHint}
+use Rattle.state.specs.Cells.{uses, table_of, use_hint}
 use Rattle.state.proofs.HintLaws.{some_at}
 use Rattle.state.proofs.ChangeLaws.{not-used}
 use borrow.Author.Rules.{rules}
@@ -14,7 +14,7 @@ use Rattle.state.proofs.hints.is_used.Goals as goal
 
 pub returns-then-hint-eq0 : goal.returns-then-hint-eq0
 returns-then-hint-eq0 c =
-    sym (ap (λ (o : Option ℕ). is_some o) (not-used c.args.id c.requires (ap useHint (sym c.hint_of.ensures) ∙ c.if-hint-eq0.true)))
+    sym (ap (λ (o : Option ℕ). is_some o) (not-used c.args.id c.requires (ap use_hint (sym c.hint_of.ensures) ∙ c.if-hint-eq0.true)))
 
 pub count_of-requires : goal.count_of-requires
 count_of-requires c =
@@ -34,8 +34,8 @@ find-requires c =
 
 pub returns-in-At : goal.returns-in-At
 returns-in-At c =
-    ap (λ (o : Option ℕ). is_some o) (ap placeBy (sym c.in-At.is) ∙ c.find.ensures)
+    ap (λ (o : Option ℕ). is_some o) (ap place_by (sym c.in-At.is) ∙ c.find.ensures)
 
 pub returns-in-Nowhere : goal.returns-in-Nowhere
 returns-in-Nowhere c =
-    ap (λ (o : Option ℕ). is_some o) (ap placeBy (sym c.in-Nowhere.is) ∙ c.find.ensures)
+    ap (λ (o : Option ℕ). is_some o) (ap place_by (sym c.in-Nowhere.is) ∙ c.find.ensures)

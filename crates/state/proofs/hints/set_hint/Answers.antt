@@ -2,7 +2,7 @@
 use native.Mathlib.Omega.{arith}
 use mathlib.Core.Path.{ap, ◌∙◌}
 use Prim.Native.Nat.{ℕ}
-use Rattle.state.specs.Cells.{hintIn}
+use Rattle.state.specs.Cells.{hint_in}
 use Rattle.state.proofs.HintLaws.{cell-grows, cell-hint}
 use borrow.Author.Rules.{rules}
 use Rattle.state.proofs.hints.set_hint.Goals as goal
@@ -19,4 +19,4 @@ returns c =
     let hint =
     cell-hint c.cell_of-v.result _ c.args.id c.tag_for.result c.args.hint c.cell_of-v.ensures c.tag_for.ensures.0
     c.requires.2 c.requires.3 in
-    (c.set_cell.ensures.0, ap (λ (v : ℕ). hintIn v c.args.id) c.set_cell.ensures.1 ∙ hint)
+    (c.set_cell.ensures.0, ap (λ (v : ℕ). hint_in v c.args.id) c.set_cell.ensures.1 ∙ hint)

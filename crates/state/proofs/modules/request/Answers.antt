@@ -2,7 +2,7 @@
 -- the new module (`request-new`), without room the rule refuses with 5 (`request-full`).
 use native.Mathlib.Omega.{arith}
 use mathlib.Core.Path.{refl, sym, ap, ◌∙◌}
-use Rattle.tables.specs.Rows.{placeBy}
+use Rattle.tables.specs.Rows.{place_by}
 use Rattle.state.specs.Cells.{modules}
 use Rattle.state.proofs.ListLaws.{first_below}
 use Rattle.state.proofs.FrameLaws.{room-for}
@@ -18,7 +18,7 @@ find_from-found-requires c =
 
 pub overflow_cast-result : goal.overflow_cast-result
 overflow_cast-result c =
-    let i = first_below _ _ _ _ (sym (ap placeBy (sym c.in-At.is) ∙ c.find_from-found.ensures)) in let r = room-for modules c.requires in omega arith
+    let i = first_below _ _ _ _ (sym (ap place_by (sym c.in-At.is) ∙ c.find_from-found.ensures)) in let r = room-for modules c.requires in omega arith
 
 pub count_of-n-requires : goal.count_of-n-requires
 count_of-n-requires c =
@@ -30,15 +30,15 @@ push-requires c =
 
 pub returns-in-At : goal.returns-in-At
 returns-in-At c =
-    request-known c.args.file.0 c.requires _ refl (ap placeBy (sym c.in-At.is) ∙ c.find_from-found.ensures)
+    request-known c.args.file.0 c.requires _ refl (ap place_by (sym c.in-At.is) ∙ c.find_from-found.ensures)
 
 pub returns-then-n-lt256 : goal.returns-then-n-lt256
 returns-then-n-lt256 c =
     request-new c.args.file.0 c.requires _ c.count_of-n.ensures.0 (let f = c.struct_known-1.given in omega arith)
-    (ap placeBy (sym c.in-Nowhere.is) ∙ c.find_from-found.ensures) (let n = c.count_of-n.ensures.0 in let k = c.if-n-lt256.true in omega arith)
+    (ap place_by (sym c.in-Nowhere.is) ∙ c.find_from-found.ensures) (let n = c.count_of-n.ensures.0 in let k = c.if-n-lt256.true in omega arith)
     (module-added c.requires c.hint_module.ensures.0 (let f = c.struct_known-1.given in omega arith) (let n = c.count_of-n.ensures.0 in let k = c.if-n-lt256.true in omega arith)
     (let h = c.hint_module.ensures.2 in let n = c.count_of-n.ensures.0 in omega arith) c.push.ensures.0 c.push.ensures.1)
 
 pub returns-else-n-lt256 : goal.returns-else-n-lt256
 returns-else-n-lt256 c =
-    request-full c.args.file.0 c.requires (ap placeBy (sym c.in-Nowhere.is) ∙ c.find_from-found.ensures) (omega arith)
+    request-full c.args.file.0 c.requires (ap place_by (sym c.in-Nowhere.is) ∙ c.find_from-found.ensures) (omega arith)

@@ -4,7 +4,7 @@ use native.Mathlib.Omega.{arith}
 use mathlib.Core.Path.{subst, sym}
 use mathlib.Core.Bool.{Bool, true, false}
 use lib.ListN.{set}
-use Rattle.extraction_rules.specs.State.{setTop}
+use Rattle.extraction_rules.specs.State.{set_top}
 use Rattle.state.specs.Cells.{imports}
 use Rattle.state.specs.Does.{Turns}
 use borrow.Author.Rules.{rules}
@@ -20,8 +20,8 @@ bounds-t-7-else-top c =
 
 pub returns-then-top : goal.returns-then-top
 returns-then-top c =
-    subst (λ (b : Bool). Turns (setTop b) c.args.t.now (set c.args.t.now 7 1)) (sym c.if-top.true) (top_set true c.requires)
+    subst (λ (b : Bool). Turns (set_top b) c.args.t.now (set c.args.t.now 7 1)) (sym c.if-top.true) (top_set true c.requires)
 
 pub returns-else-top : goal.returns-else-top
 returns-else-top c =
-    subst (λ (b : Bool). Turns (setTop b) c.args.t.now (set c.args.t.now 7 0)) (sym c.if-top.false) (top_set false c.requires)
+    subst (λ (b : Bool). Turns (set_top b) c.args.t.now (set c.args.t.now 7 0)) (sym c.if-top.false) (top_set false c.requires)

@@ -1,7 +1,7 @@
 -- `is_external`: the search finds a row just where the atom is among the externals, since atoms are below 2^16 (`external-told`).
 use native.Mathlib.Omega.{arith}
 use mathlib.Core.Path.{◌∙◌, sym, ap}
-use Rattle.tables.specs.Rows.{placeBy}
+use Rattle.tables.specs.Rows.{place_by}
 use Rattle.state.specs.Cells.{externals}
 use Rattle.state.proofs.SettingLaws.{external-told}
 use borrow.Author.Rules.{rules}
@@ -13,8 +13,8 @@ find-requires c =
 
 pub returns-in-At : goal.returns-in-At
 returns-in-At c =
-    external-told c.requires (omega arith) (ap placeBy (sym c.in-At.is) ∙ c.find.ensures)
+    external-told c.requires (omega arith) (ap place_by (sym c.in-At.is) ∙ c.find.ensures)
 
 pub returns-in-Nowhere : goal.returns-in-Nowhere
 returns-in-Nowhere c =
-    external-told c.requires (omega arith) (ap placeBy (sym c.in-Nowhere.is) ∙ c.find.ensures)
+    external-told c.requires (omega arith) (ap place_by (sym c.in-Nowhere.is) ∙ c.find.ensures)

@@ -1,12 +1,12 @@
 -- `lend_externals`: the invariant says that the rows put so far, with the atoms from i on, are the atoms of the list (`Lending`), and that
 -- there is a row for two bytes each: so there is room. At the end less than two bytes are left, and no atom (`externals-lent`).
 use Rattle.tables.specs.Rows.{rows}
-use Rattle.state.specs.Cells.{externals as kind, held, table_of, atomOf}
+use Rattle.state.specs.Cells.{externals as kind, held, table_of, atom_of}
 use mathlib.Core.Path.{◌≡◌, ap}
 use Prim.Native.Nat.{◌*◌, ◌-◌, ◌≤◌}
 use native.Mathlib.Omega.{arith}
 use lib.ListN.{length}
-use Rattle.inputs.specs.Table.{atomsIn}
+use Rattle.inputs.specs.Table.{atoms_in}
 use Rattle.state.proofs.ListLaws.{length_more}
 use Rattle.state.proofs.SettingLaws.{Lending, lend-start, external-more, externals-lent}
 use Rattle.state.proofs.setting.lend_externals.Goals as goal
@@ -40,14 +40,13 @@ loop-i-smaller c =
     omega arith
 
 pub loop-i-preserved : goal.loop-i-preserved
-loop-i-preserved c =
-    (
-      external-more c.loop-i.invariant.0 (λ i. (c.shared_slice_known-1.given i).fits) (omega arith) (let h = c.requires.1 in omega arith) (omega arith) c.atom_at.ensures
-          c.push.ensures.0
-          c.push.ensures.1,
-      let e = ap length c.push.ensures.0 in let m = length_more (rows (table_of kind) c.loop-i.t) (c.atom_at.result, 0) in omega arith,
-      omega arith,
-    )
+loop-i-preserved c = (
+  external-more c.loop-i.invariant.0 (λ i. (c.shared_slice_known-1.given i).fits) (omega arith) (let h = c.requires.1 in omega arith) (omega arith) c.atom_at.ensures
+      c.push.ensures.0
+      c.push.ensures.1,
+  let e = ap length c.push.ensures.0 in let m = length_more (rows (table_of kind) c.loop-i.t) (c.atom_at.result, 0) in omega arith,
+  omega arith,
+)
 
 pub returns : goal.returns
 returns c =

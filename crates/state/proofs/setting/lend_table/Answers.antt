@@ -6,7 +6,7 @@ use Prim.Native.Nat.{◌*◌, ◌-◌, ◌≤◌}
 use native.Mathlib.Omega.{arith}
 use lib.ListN.{length}
 use Rattle.tables.specs.Rows.{rows}
-use Rattle.inputs.specs.Table.{rowsIn}
+use Rattle.inputs.specs.Table.{rows_in}
 use Rattle.state.specs.Cells.{table as kind, table_of, held, lent_of}
 use Rattle.state.proofs.ListLaws.{length_more}
 use Rattle.state.proofs.SettingLaws.{Lending, lend-start, row_more, table-lent}
@@ -57,15 +57,14 @@ loop-i-smaller c =
     omega arith
 
 pub loop-i-preserved : goal.loop-i-preserved
-loop-i-preserved c =
-    (
-      row_more c.loop-i.invariant.0 (λ i. (c.shared_slice_known-1.given i).fits) (omega arith) (let h = c.requires.1 in omega arith) (omega arith) (omega arith) c.atom_at-source.ensures
-          c.atom_at.ensures c.hint_row.ensures.0 (let z = c.hint_row.auto in omega arith) (let r = c.hint_row.ensures.1 in omega arith) c.push.ensures.0
-          c.push.ensures.1,
-      let x = ap length (c.hint_row.ensures.0.same_rows kind) in let e = ap length c.push.ensures.0 in let m = length_more
-          (rows (table_of kind) c.hint_row.new.t) (c.atom_at-source.result, c.atom_at.result) in omega arith,
-      omega arith,
-    )
+loop-i-preserved c = (
+  row_more c.loop-i.invariant.0 (λ i. (c.shared_slice_known-1.given i).fits) (omega arith) (let h = c.requires.1 in omega arith) (omega arith) (omega arith) c.atom_at-source.ensures
+      c.atom_at.ensures c.hint_row.ensures.0 (let z = c.hint_row.auto in omega arith) (let r = c.hint_row.ensures.1 in omega arith) c.push.ensures.0
+      c.push.ensures.1,
+  let x = ap length (c.hint_row.ensures.0.same_rows kind) in let e = ap length c.push.ensures.0 in let m = length_more
+      (rows (table_of kind) c.hint_row.new.t) (c.atom_at-source.result, c.atom_at.result) in omega arith,
+  omega arith,
+)
 
 pub returns : goal.returns
 returns c =

@@ -6,14 +6,14 @@ use Prim.Native.Nat.{◌*◌, ◌-◌, ◌≤◌}
 use native.Mathlib.Omega.{arith}
 use lib.ListN.{length}
 use Rattle.tables.specs.Rows.{rows}
-use Rattle.inputs.specs.Table.{rowsIn}
+use Rattle.inputs.specs.Table.{rows_in}
 use Rattle.state.specs.Cells.{table as kind, table_of, held, lent_of}
 use Rattle.state.proofs.ListLaws.{length_more}
 use Rattle.state.proofs.SettingLaws.{Lending, lend-start, row_more, table-lent}
 use Rattle.state.proofs.setting.lend_table.Given as goal
 
 abbrev pub invariant-loop-i : goal.invariant-loop-i
-invariant-loop-i l = Lending kind lent_of rowsIn l.table l.i l.initial.t l.t × (4 * held kind l.t ≡ l.i) × (l.i ≤ length l.table)
+invariant-loop-i l = Lending kind lent_of rows_in l.table l.i l.initial.t l.t × (4 * held kind l.t ≡ l.i) × (l.i ≤ length l.table)
 
 abbrev pub decreases-loop-i : goal.decreases-loop-i
 decreases-loop-i l = length l.table - l.i

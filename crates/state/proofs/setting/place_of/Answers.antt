@@ -1,14 +1,14 @@
 -- `place_of`: by the pass, which the cell tells (`place-second`, `place-first`).
 use mathlib.Core.Path.{subst}
-use Rattle.state.specs.Does.{Says, isSecond}
+use Rattle.state.specs.Does.{Says, is_second}
 use Rattle.state.proofs.SettingLaws.{place-second, place-first}
 use borrow.Author.Rules.{rules}
 use Rattle.state.proofs.setting.place_of.Goals as goal
 
 pub returns-then-is_second : goal.returns-then-is_second
 returns-then-is_second c =
-    place-second c.args.at (subst (Says (λ e. isSecond e.pass) c.args.t.now) c.if-is_second.true c.is_second.ensures)
+    place-second c.args.at (subst (Says (λ e. is_second e.pass) c.args.t.now) c.if-is_second.true c.is_second.ensures)
 
 pub returns : goal.returns
 returns c =
-    place-first c.args.at (subst (Says (λ e. isSecond e.pass) c.args.t.now) c.if-is_second.false c.is_second.ensures)
+    place-first c.args.at (subst (Says (λ e. is_second e.pass) c.args.t.now) c.if-is_second.false c.is_second.ensures)

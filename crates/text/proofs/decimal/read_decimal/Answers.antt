@@ -9,10 +9,6 @@ pub returns-then-from-to : goal.returns-then-from-to
 returns-then-from-to c =
     λ n short e. omega arith
 
-pub overflow_sub-to : goal.overflow_sub-to
-overflow_sub-to c =
-    omega arith
-
 pub returns-then-to-from-gt9 : goal.returns-then-to-from-gt9
 returns-then-to-from-gt9 c =
     λ n short e. omega arith
@@ -21,10 +17,6 @@ pub loop-i-init : goal.loop-i-init
 loop-i-init c =
     number-none c.args.s.now c.args.from c.args.to (omega arith) (omega arith)
 
-pub bounds-s-i : goal.bounds-s-i
-bounds-s-i c =
-    omega arith
-
 pub returns-in_default : goal.returns-in_default
 returns-in_default c =
     let a = c.args in let l = c.loop-i in
@@ -32,21 +24,17 @@ returns-in_default c =
     c.loop-i-test.true
     (other-no-decimal (subst (DigitIs _) c.in_default.is c.digit_of.ensures))
 
-pub returns-then-v-gt9 : goal.returns-then-v-gt9
-returns-then-v-gt9 c =
+pub returns-then-v-gt-NINE : goal.returns-then-v-gt-NINE
+returns-then-v-gt-NINE c =
     let a = c.args in let l = c.loop-i in
     let d = subst (DigitIs _) c.in-Value.is c.digit_of.ensures in
     number-bad a.s.now a.from a.to c.requires.1
-    l.i l.invariant.2 c.loop-i-test.true (high-no-decimal d c.if-v-gt9.true)
+    l.i l.invariant.2 c.loop-i-test.true (high-no-decimal d (omega arith))
 
 pub overflow_mul-n : goal.overflow_mul-n
 overflow_mul-n c =
     let a = c.args in let l = c.loop-i in
     let f = number_fits a.s.now a.from l.i (omega arith) l.invariant.1 in
-    omega arith
-
-pub overflow_cast-n : goal.overflow_cast-n
-overflow_cast-n c =
     omega arith
 
 pub overflow_add-n : goal.overflow_add-n
@@ -55,20 +43,12 @@ overflow_add-n c =
     let f = number_fits a.s.now a.from l.i (omega arith) l.invariant.1 in
     omega arith
 
-pub overflow_add-i : goal.overflow_add-i
-overflow_add-i c =
-    omega arith
-
-pub loop-i-smaller : goal.loop-i-smaller
-loop-i-smaller c =
-    omega arith
-
 pub loop-i-preserved : goal.loop-i-preserved
 loop-i-preserved c =
     let a = c.args in let l = c.loop-i in
     let d = subst (DigitIs _) c.in-Value.is c.digit_of.ensures in (
-      number_more a.s.now a.from l.i l.n l.invariant.2 (omega arith) d c.if-v-gt9.false l.invariant.0,
-      number-grows a.s.now a.from l.i l.invariant.2 c.if-v-gt9.false l.invariant.1,
+      number_more a.s.now a.from l.i l.n l.invariant.2 (omega arith) d (omega arith) l.invariant.0,
+      number-grows a.s.now a.from l.i l.invariant.2 (omega arith) l.invariant.1,
       omega arith,
       omega arith,
       l.invariant.4,

@@ -1,10 +1,10 @@
 -- `extent`: two length bytes, each below 256, and the definition's test.
-use Rattle.tree.specs.Access.{extentAt, length_at}
+use Rattle.tree.specs.Access.{extent_at, length_at}
 use mathlib.Core.Path.{sym}
 use Prim.Native.Nat.{◌+◌}
 use native.Mathlib.Omega.{arith}
 use borrow.Author.Tests.{le-leb, lt-leb}
-use Rattle.tree.specs.Access.{extentAt}
+use Rattle.tree.specs.Access.{extent_at}
 use borrow.Author.Rules.{rules}
 use Rattle.tree.proofs.access.extent.Goals as goal
 
@@ -17,11 +17,11 @@ overflow_add-n c =
     omega (arith, c.shared_slice_known-1.given (c.args.at + 1), c.shared_slice_known-1.given (c.args.at + 2), c.wide.ensures, c.wide-then-end-at-ge3.ensures)
 
 pub returns-then-end-at-ge3 : goal.returns-then-end-at-ge3
-unfolding extentAt length_at
+unfolding extent_at length_at
 returns-then-end-at-ge3 c =
     rw (le-leb _ _ c.if-end-at-ge3.true, sym c.wide.ensures, sym c.wide-then-end-at-ge3.ensures) c.skip.ensures
 
 pub returns-else-end-at-ge3 : goal.returns-else-end-at-ge3
-unfolding extentAt
+unfolding extent_at
 returns-else-end-at-ge3 c =
     rw (lt-leb _ _ c.if-end-at-ge3.false)

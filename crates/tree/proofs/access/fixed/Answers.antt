@@ -1,7 +1,7 @@
 -- `fixed`: a width below 9 is the number of bytes to skip; else the pieces are gone through.
 use mathlib.Core.Path.{sym, ap, ◌∙◌, subst}
 use Prim.Native.Nat.{ℕ, ◌<◌}
-use Rattle.tree.specs.Layout.{skipAt}
+use Rattle.tree.specs.Layout.{skip_at}
 use Rattle.tree.proofs.TagWidthLaws.{fixed-skip}
 use borrow.Author.Rules.{rules}
 use Rattle.tree.proofs.access.fixed.Goals as goal
@@ -11,5 +11,5 @@ returns-then-width-lt9 c =
     let a = c.args in
     let w = c.width_of-width.ensures in
     c.skip.ensures
-    ∙ ap (λ (n : ℕ). skipAt a.at n a.stop) w
+    ∙ ap (λ (n : ℕ). skip_at a.at n a.stop) w
     ∙ sym (fixed-skip a.s.now a.at a.stop c.requires.0 a.tag (subst (λ (n : ℕ). n < 9) w c.if-width-lt9.true))

@@ -1,17 +1,17 @@
 -- `kind_end`: the definition makes the same test and the same choice.
 use mathlib.Core.Path.{sym, ◌∙◌}
 use borrow.Author.Tests.{lt-ltb, le-ltb}
-use Rattle.tree.specs.Access.{kind_at, onChoice}
+use Rattle.tree.specs.Access.{kind_at, on_choice}
 use borrow.Author.Rules.{rules}
 use Rattle.tree.proofs.access.kind_end.Goals as goal
 
 pub returns-in-Take : goal.returns-in-Take
-unfolding kind_at onChoice
+unfolding kind_at on_choice
 returns-in-Take c =
     rw (lt-ltb _ _ c.if-at-stop.true, sym c.choice_of.ensures ∙ c.in-Take.is) c.value_end.ensures
 
 pub returns-in-Bad : goal.returns-in-Bad
-unfolding kind_at onChoice
+unfolding kind_at on_choice
 returns-in-Bad c =
     rw (lt-ltb _ _ c.if-at-stop.true, sym c.choice_of.ensures ∙ c.in-Bad.is)
 

@@ -2,7 +2,7 @@
 use mathlib.Core.Path.{sym, ap, ◌∙◌, subst}
 use Prim.Native.Nat.{ℕ}
 use native.Mathlib.Omega.{arith}
-use Rattle.tree.specs.Access.{fixed_at, thenPiece}
+use Rattle.tree.specs.Access.{fixed_at, then_piece}
 use Rattle.tree.proofs.AccessLaws.{ReachIn, piece-in}
 use borrow.Author.Rules.{rules}
 use Rattle.tree.proofs.access.pieces_end.Goals as goal
@@ -16,11 +16,11 @@ piece_end-requires-in-Upto c =
     let r = subst (ReachIn c.args.at c.args.stop) (sym c.piece_end.ensures ∙ c.in-Upto.is) (piece-in _ _ _ _ c.requires.0) in omega arith
 
 pub returns-in-Upto : goal.returns-in-Upto
-unfolding fixed_at thenPiece
+unfolding fixed_at then_piece
 returns-in-Upto c =
     rw (sym c.pieces_of-ps.ensures, sym c.piece_end.ensures ∙ c.in-Upto.is) c.piece_end-in-Upto.ensures
 
 pub returns-in-Short : goal.returns-in-Short
-unfolding fixed_at thenPiece
+unfolding fixed_at then_piece
 returns-in-Short c =
     rw (sym c.pieces_of-ps.ensures, sym c.piece_end.ensures ∙ c.in-Short.is)

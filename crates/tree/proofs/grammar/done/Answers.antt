@@ -4,8 +4,8 @@ use mathlib.Core.Path.{◌≡◌, refl, sym, ap, ◌∙◌}
 use Prim.Native.Nat.{ℕ, ◌<◌, ◌^◌}
 use native.Mathlib.Omega.{arith}
 use borrow.Author.Rules.{rules}
-use Rattle.tree.specs.Grammar.{doneAt}
-use Rattle.tree.specs.Packed.{unpackRule}
+use Rattle.tree.specs.Grammar.{done_at}
+use Rattle.tree.specs.Packed.{unpack_rule}
 use Rattle.tree.proofs.PackedLaws.{done-nothing, done-lacks, done-over, done_end}
 use Rattle.tree.proofs.grammar.done.Goals as goal
 
@@ -35,4 +35,4 @@ loop-rule-preserved c =
 
 pub returns : goal.returns
 returns c =
-    sym (c.loop-rule.invariant.0 ∙ ap (λ (n : ℕ). doneAt (unpackRule n)) c.loop-rule-test.false ∙ done_end)
+    sym (c.loop-rule.invariant.0 ∙ ap (λ (n : ℕ). done_at (unpack_rule n)) c.loop-rule-test.false ∙ done_end)

@@ -4,13 +4,13 @@ use mathlib.Core.Path.{◌≡◌, refl, sym, ap, ◌∙◌}
 use Prim.Native.Nat.{ℕ, ◌<◌, ◌^◌}
 use native.Mathlib.Omega.{arith}
 use borrow.Author.Rules.{rules}
-use Rattle.tree.specs.Grammar.{doneAt}
-use Rattle.tree.specs.Packed.{unpackRule}
+use Rattle.tree.specs.Grammar.{done_at}
+use Rattle.tree.specs.Packed.{unpack_rule}
 use Rattle.tree.proofs.PackedLaws.{done-nothing, done-lacks, done-over, done_end}
 use Rattle.tree.proofs.grammar.done.Given as goal
 
 abbrev pub invariant-loop-rule : goal.invariant-loop-rule
-invariant-loop-rule l = (doneAt (unpackRule l.initial.rule) ≡ doneAt (unpackRule l.rule)) × (l.rule < 2 ^ 32)
+invariant-loop-rule l = (done_at (unpack_rule l.initial.rule) ≡ done_at (unpack_rule l.rule)) × (l.rule < 2 ^ 32)
 
 abbrev pub decreases-loop-rule : goal.decreases-loop-rule
 decreases-loop-rule l = l.rule

@@ -1,9 +1,9 @@
 -- `sets_of`: the lower half of the entry.
-use Rattle.tree.specs.Packed.{setsAt}
+use Rattle.tree.specs.Packed.{sets_at}
 use borrow.Author.Rules.{rules}
 use Rattle.tree.proofs.grammar.sets_of.Goals as goal
 
 pub returns : goal.returns
-unfolding setsAt
+unfolding sets_at
 returns c =
     rw c.entry_of.ensures

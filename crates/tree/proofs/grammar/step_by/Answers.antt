@@ -4,8 +4,8 @@ use borrow.Author.Rules.{rules}
 use mathlib.Core.Path.{◌≡◌, refl, sym, ap, ◌∙◌}
 use Prim.Native.Nat.{ℕ, ◌<◌, ◌^◌}
 use native.Mathlib.Omega.{arith}
-use Rattle.tree.specs.Grammar.{stepAt}
-use Rattle.tree.specs.Packed.{unpackRule}
+use Rattle.tree.specs.Grammar.{step_at}
+use Rattle.tree.specs.Packed.{unpack_rule}
 use Rattle.tree.proofs.PackedLaws.{step-nothing, step-used, step-stay, step-off, step-over, step_end}
 use Rattle.tree.proofs.grammar.step_by.Goals as goal
 
@@ -62,4 +62,4 @@ loop-rule-preserved c =
 
 pub returns : goal.returns
 returns c =
-    sym (c.loop-rule.invariant.0 ∙ ap (λ (n : ℕ). stepAt (unpackRule n) c.args.tag) c.loop-rule-test.false ∙ step_end c.args.tag)
+    sym (c.loop-rule.invariant.0 ∙ ap (λ (n : ℕ). step_at (unpack_rule n) c.args.tag) c.loop-rule-test.false ∙ step_end c.args.tag)

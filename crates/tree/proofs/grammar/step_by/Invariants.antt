@@ -4,13 +4,13 @@ use borrow.Author.Rules.{rules}
 use mathlib.Core.Path.{◌≡◌, refl, sym, ap, ◌∙◌}
 use Prim.Native.Nat.{ℕ, ◌<◌, ◌^◌}
 use native.Mathlib.Omega.{arith}
-use Rattle.tree.specs.Grammar.{stepAt}
-use Rattle.tree.specs.Packed.{unpackRule}
+use Rattle.tree.specs.Grammar.{step_at}
+use Rattle.tree.specs.Packed.{unpack_rule}
 use Rattle.tree.proofs.PackedLaws.{step-nothing, step-used, step-stay, step-off, step-over, step_end}
 use Rattle.tree.proofs.grammar.step_by.Given as goal
 
 abbrev pub invariant-loop-rule : goal.invariant-loop-rule
-invariant-loop-rule l = (stepAt (unpackRule l.initial.rule) l.tag ≡ stepAt (unpackRule l.rule) l.tag) × (l.rule < 2 ^ 32)
+invariant-loop-rule l = (step_at (unpack_rule l.initial.rule) l.tag ≡ step_at (unpack_rule l.rule) l.tag) × (l.rule < 2 ^ 32)
 
 abbrev pub decreases-loop-rule : goal.decreases-loop-rule
 decreases-loop-rule l = l.rule

@@ -10,9 +10,9 @@ use Rattle.tree.proofs.layout.same_run.Goals as goal
 pub loop-i-init : goal.loop-i-init
 loop-i-init c =
     let ea : c.args.a ≡ c.args.a + 0 = omega arith in let eb : c.args.b ≡ c.args.b + 0 = omega arith in (
-  ap₂ (λ (x y : ℕ). same (slice x (c.args.a + c.args.n) c.args.s.now) (slice y (c.args.b + c.args.n) c.args.t.now)) ea eb,
-  omega arith,
-)
+      ap₂ (λ (x y : ℕ). same (slice x (c.args.a + c.args.n) c.args.s.now) (slice y (c.args.b + c.args.n) c.args.t.now)) ea eb,
+      omega arith,
+    )
 
 pub overflow_add-a : goal.overflow_add-a
 overflow_add-a c =
@@ -45,13 +45,12 @@ loop-i-smaller c =
     omega arith
 
 pub loop-i-preserved : goal.loop-i-preserved
-loop-i-preserved c =
-    (
-      c.loop-i.invariant.0
-          ∙ same_more c.args.s.now c.args.t.now c.args.a c.args.b c.loop-i.i (c.args.a + c.args.n)
-          (c.args.b + c.args.n) (omega arith) (omega arith) (omega arith) (omega arith) c.if-s-a.false,
-      omega arith,
-    )
+loop-i-preserved c = (
+  c.loop-i.invariant.0
+      ∙ same_more c.args.s.now c.args.t.now c.args.a c.args.b c.loop-i.i (c.args.a + c.args.n)
+      (c.args.b + c.args.n) (omega arith) (omega arith) (omega arith) (omega arith) c.if-s-a.false,
+  omega arith,
+)
 
 pub returns : goal.returns
 returns c =

@@ -7,8 +7,8 @@ use mathlib.Core.Path.{◌≡◌, refl, sym, ◌∙◌, ap}
 use Prim.Native.Nat.{◌+◌, ◌-◌, ◌≤◌}
 use native.Mathlib.Omega.{arith}
 use Rattle.tree.specs.declared.read.Head.TheVariants.{Done, Missing}
-use Rattle.tree.specs.Packed.{unpackRule, unpackHead}
-use Rattle.tree.specs.Read.{verdict, childrenAt}
+use Rattle.tree.specs.Packed.{unpack_rule, unpack_head}
+use Rattle.tree.specs.Read.{verdict, children_at}
 use Rattle.tree.proofs.AccessLaws.{upto-in}
 use Rattle.tree.proofs.ReadLaws.{child-in, content-short, children-verdict, after-good, after-refused}
 use Rattle.tree.proofs.LeafLaws.{parts-read, leaf-good, leaf-bad}
@@ -28,57 +28,57 @@ children-returns-in-Done t c =
     let l = c.loop-why in
     let a = c.args in
     sym (l.invariant.0
-    ∙ children-verdict a.s.now l.at a.end a.depth (unpackRule l.rule) a.place Done l.invariant.2
-    (sym c.head_of.ensures ∙ ap unpackHead c.in-Done.is))
+    ∙ children-verdict a.s.now l.at a.end a.depth (unpack_rule l.rule) a.place Done l.invariant.2
+    (sym c.head_of.ensures ∙ ap unpack_head c.in-Done.is))
 
 pub children-returns-in-Missing : goal.children-returns-in-Missing
 children-returns-in-Missing t c =
     let l = c.loop-why in
     let a = c.args in
     sym (l.invariant.0
-    ∙ children-verdict a.s.now l.at a.end a.depth (unpackRule l.rule) a.place Missing l.invariant.2
-    (sym c.head_of.ensures ∙ ap unpackHead c.in-Missing.is))
+    ∙ children-verdict a.s.now l.at a.end a.depth (unpack_rule l.rule) a.place Missing l.invariant.2
+    (sym c.head_of.ensures ∙ ap unpack_head c.in-Missing.is))
 
 pub children-returns-in-Bad : goal.children-returns-in-Bad
 children-returns-in-Bad t c =
     let l = c.loop-why in
     let a = c.args in
     sym (l.invariant.0
-    ∙ children-verdict a.s.now l.at a.end a.depth (unpackRule l.rule) a.place _ l.invariant.2
-    (sym c.head_of.ensures ∙ ap unpackHead c.in-Bad.is))
+    ∙ children-verdict a.s.now l.at a.end a.depth (unpack_rule l.rule) a.place _ l.invariant.2
+    (sym c.head_of.ensures ∙ ap unpack_head c.in-Bad.is))
 
 pub children-overflow_add-depth : goal.children-overflow_add-depth
 children-overflow_add-depth t c =
     let l = c.loop-why in
     let a = c.args in
-    let e = sym c.head_of.ensures ∙ ap unpackHead c.in-Child.is in
-    let i = child-in a.s.now l.at a.end a.depth (unpackRule l.rule) l.invariant.2 e in
+    let e = sym c.head_of.ensures ∙ ap unpack_head c.in-Child.is in
+    let i = child-in a.s.now l.at a.end a.depth (unpack_rule l.rule) l.invariant.2 e in
     omega arith
 
 pub children-content-requires : goal.children-content-requires
 children-content-requires t c =
     let l = c.loop-why in
     let a = c.args in
-    let e = sym c.head_of.ensures ∙ ap unpackHead c.in-Child.is in
-    let i = child-in a.s.now l.at a.end a.depth (unpackRule l.rule) l.invariant.2 e in
+    let e = sym c.head_of.ensures ∙ ap unpack_head c.in-Child.is in
+    let i = child-in a.s.now l.at a.end a.depth (unpack_rule l.rule) l.invariant.2 e in
     omega arith
 
 pub children-loop-why-smaller : goal.children-loop-why-smaller
 children-loop-why-smaller t c =
     let l = c.loop-why in
     let a = c.args in
-    let e = sym c.head_of.ensures ∙ ap unpackHead c.in-Child.is in
-    let i = child-in a.s.now l.at a.end a.depth (unpackRule l.rule) l.invariant.2 e in
+    let e = sym c.head_of.ensures ∙ ap unpack_head c.in-Child.is in
+    let i = child-in a.s.now l.at a.end a.depth (unpack_rule l.rule) l.invariant.2 e in
     omega arith
 
 pub children-loop-why-preserved : goal.children-loop-why-preserved
 children-loop-why-preserved t c =
     let l = c.loop-why in
     let a = c.args in
-    let e = sym c.head_of.ensures ∙ ap unpackHead c.in-Child.is in
-    let i = child-in a.s.now l.at a.end a.depth (unpackRule l.rule) l.invariant.2 e in (
+    let e = sym c.head_of.ensures ∙ ap unpack_head c.in-Child.is in
+    let i = child-in a.s.now l.at a.end a.depth (unpack_rule l.rule) l.invariant.2 e in (
       l.invariant.0
-          ∙ children-verdict a.s.now l.at a.end a.depth (unpackRule l.rule) a.place _ l.invariant.2 e
+          ∙ children-verdict a.s.now l.at a.end a.depth (unpack_rule l.rule) a.place _ l.invariant.2 e
           ∙ after-good _ (sym c.content.ensures ∙ c.in-Good.is),
       omega arith,
       omega arith,
@@ -89,8 +89,8 @@ children-returns-in-Refused t c =
     let l = c.loop-why in
     let a = c.args in
     sym (l.invariant.0
-    ∙ children-verdict a.s.now l.at a.end a.depth (unpackRule l.rule) a.place _ l.invariant.2
-    (sym c.head_of.ensures ∙ ap unpackHead c.in-Child.is)
+    ∙ children-verdict a.s.now l.at a.end a.depth (unpack_rule l.rule) a.place _ l.invariant.2
+    (sym c.head_of.ensures ∙ ap unpack_head c.in-Child.is)
     ∙ after-refused _ (sym c.content.ensures ∙ c.in-Refused.is))
 
 pub content-bounds-s-at : goal.content-bounds-s-at

@@ -7,8 +7,8 @@ use mathlib.Core.Path.{◌≡◌, refl, sym, ◌∙◌, ap}
 use Prim.Native.Nat.{◌+◌, ◌-◌, ◌≤◌}
 use native.Mathlib.Omega.{arith}
 use Rattle.tree.specs.declared.read.Head.TheVariants.{Done, Missing}
-use Rattle.tree.specs.Packed.{unpackRule, unpackHead}
-use Rattle.tree.specs.Read.{verdict, childrenAt}
+use Rattle.tree.specs.Packed.{unpack_rule, unpack_head}
+use Rattle.tree.specs.Read.{verdict, children_at}
 use Rattle.tree.proofs.AccessLaws.{upto-in}
 use Rattle.tree.proofs.ReadLaws.{child-in, content-short, children-verdict, after-good, after-refused}
 use Rattle.tree.proofs.LeafLaws.{parts-read, leaf-good, leaf-bad}
@@ -22,7 +22,7 @@ abbrev pub decreases-content : goal.decreases-content
 decreases-content l = l.stop - l.at
 
 abbrev pub invariant-children-loop-why : goal.invariant-children-loop-why
-invariant-children-loop-why l = (verdict (childrenAt l.s l.from l.end l.depth (unpackRule l.initial.rule) l.place) ≡ verdict (childrenAt l.s l.at l.end l.depth (unpackRule l.rule) l.place))
+invariant-children-loop-why l = (verdict (children_at l.s l.from l.end l.depth (unpack_rule l.initial.rule) l.place) ≡ verdict (children_at l.s l.at l.end l.depth (unpack_rule l.rule) l.place))
     × (l.from ≤ l.at)
     × (l.at ≤ l.end)
 

@@ -1,37 +1,37 @@
 -- `head_of`: the definition makes the same tests in the same order; what the packed rule says, unpacked, is what the rule says.
 use mathlib.Core.Path.{sym, ap, ◌∙◌}
 use borrow.Author.Tests.{lt-ltb, le-ltb, eq-eqb, ne_eqb}
-use Rattle.tree.specs.Packed.{unpackStep}
-use Rattle.tree.specs.Read.{headAt, onStep, onExtent}
+use Rattle.tree.specs.Packed.{unpack_step}
+use Rattle.tree.specs.Read.{head_at, on_step, on_extent}
 use borrow.Author.Rules.{rules}
 use Rattle.tree.proofs.read.head_of.Goals as goal
 
 pub returns-then-done : goal.returns-then-done
-unfolding headAt
+unfolding head_at
 returns-then-done c =
     rw (eq-eqb _ _ c.if-at-end.true, sym c.done.ensures ∙ c.if-done.true)
 
 pub returns-else-done : goal.returns-else-done
-unfolding headAt
+unfolding head_at
 returns-else-done c =
     rw (eq-eqb _ _ c.if-at-end.true, sym c.done.ensures ∙ c.if-done.false)
 
 pub returns-in_default : goal.returns-in_default
-unfolding headAt onStep onExtent
+unfolding head_at on_step on_extent
 returns-in_default c =
-    rw (ne_eqb _ _ c.if-at-end.false, sym c.step_by.ensures ∙ ap unpackStep c.in_default.is)
+    rw (ne_eqb _ _ c.if-at-end.false, sym c.step_by.ensures ∙ ap unpack_step c.in_default.is)
 
 pub returns-in_default-extent : goal.returns-in_default-extent
-unfolding headAt onStep onExtent
+unfolding head_at on_step on_extent
 returns-in_default-extent c =
-    rw (ne_eqb _ _ c.if-at-end.false, sym c.step_by.ensures ∙ ap unpackStep c.in-Go.is, sym c.extent.ensures ∙ c.in_default-extent.is)
+    rw (ne_eqb _ _ c.if-at-end.false, sym c.step_by.ensures ∙ ap unpack_step c.in-Go.is, sym c.extent.ensures ∙ c.in_default-extent.is)
 
 pub returns-then-depth-lt64 : goal.returns-then-depth-lt64
-unfolding headAt onStep onExtent
+unfolding head_at on_step on_extent
 returns-then-depth-lt64 c =
-    rw (ne_eqb _ _ c.if-at-end.false, sym c.step_by.ensures ∙ ap unpackStep c.in-Go.is, sym c.extent.ensures ∙ c.in-Upto.is, lt-ltb _ _ c.if-depth-lt64.true)
+    rw (ne_eqb _ _ c.if-at-end.false, sym c.step_by.ensures ∙ ap unpack_step c.in-Go.is, sym c.extent.ensures ∙ c.in-Upto.is, lt-ltb _ _ c.if-depth-lt64.true)
 
 pub returns-else-depth-lt64 : goal.returns-else-depth-lt64
-unfolding headAt onStep onExtent
+unfolding head_at on_step on_extent
 returns-else-depth-lt64 c =
-    rw (ne_eqb _ _ c.if-at-end.false, sym c.step_by.ensures ∙ ap unpackStep c.in-Go.is, sym c.extent.ensures ∙ c.in-Upto.is, le-ltb _ _ c.if-depth-lt64.false)
+    rw (ne_eqb _ _ c.if-at-end.false, sym c.step_by.ensures ∙ ap unpack_step c.in-Go.is, sym c.extent.ensures ∙ c.in-Upto.is, le-ltb _ _ c.if-depth-lt64.false)

@@ -6,9 +6,9 @@ use mathlib.Core.List.{List}
 use native.Mathlib.Omega.{arith}
 use lib.ListN.{length}
 use borrow.Author.Rules.{rules}
-use Rattle.scope.specs.ScopeValue.{modulesIn}
+use Rattle.scope.specs.ScopeValue.{modules_in}
 use Rattle.writer.specs.Wrote.{Wrote}
-use Rattle.tychodrel.specs.Answer.{modulesBytes}
+use Rattle.tychodrel.specs.Answer.{modules_bytes}
 use Rattle.tychodrel.proofs.ListingLaws.{module-written, all_left, none_left}
 use Rattle.tychodrel.proofs.listing.put_modules.Goals as goal
 
@@ -53,14 +53,13 @@ loop-i-smaller c =
     omega arith
 
 pub loop-i-preserved : goal.loop-i-preserved
-loop-i-preserved c =
-    (
-      λ l p w. c.loop-i.invariant.0 l p
-          (module-written c.args.cells.now c.args.n c.loop-i.i c.loop-i-test.true c.low_file.ensures c.low_marks.ensures
-          c.put_u16-to.ensures c.put-to.ensures w),
-      c.put-to.ensures.size ∙ c.put_u16-to.ensures.size
-          ∙ c.loop-i.invariant.1,
-    )
+loop-i-preserved c = (
+  λ l p w. c.loop-i.invariant.0 l p
+      (module-written c.args.cells.now c.args.n c.loop-i.i c.loop-i-test.true c.low_file.ensures c.low_marks.ensures
+      c.put_u16-to.ensures c.put-to.ensures w),
+  c.put-to.ensures.size ∙ c.put_u16-to.ensures.size
+      ∙ c.loop-i.invariant.1,
+)
 
 pub returns : goal.returns
 returns c =

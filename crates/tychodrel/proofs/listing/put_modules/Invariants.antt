@@ -6,14 +6,14 @@ use mathlib.Core.List.{List}
 use native.Mathlib.Omega.{arith}
 use lib.ListN.{length}
 use borrow.Author.Rules.{rules}
-use Rattle.scope.specs.ScopeValue.{modulesIn}
+use Rattle.scope.specs.ScopeValue.{modules_in}
 use Rattle.writer.specs.Wrote.{Wrote}
-use Rattle.tychodrel.specs.Answer.{modulesBytes}
+use Rattle.tychodrel.specs.Answer.{modules_bytes}
 use Rattle.tychodrel.proofs.ListingLaws.{module-written, all_left, none_left}
 use Rattle.tychodrel.proofs.listing.put_modules.Given as goal
 
 abbrev pub invariant-loop-i : goal.invariant-loop-i
-invariant-loop-i it = ((l : List ℕ) (p : ℕ) → Wrote it.out it.to (modulesBytes (modulesIn (it.n - it.i) (2 * it.i) it.cells)) l p → Wrote it.initial.out it.o (modulesBytes (modulesIn it.n 0 it.cells)) l p)
+invariant-loop-i it = ((l : List ℕ) (p : ℕ) → Wrote it.out it.to (modules_bytes (modules_in (it.n - it.i) (2 * it.i) it.cells)) l p → Wrote it.initial.out it.o (modules_bytes (modules_in it.n 0 it.cells)) l p)
     × (length it.out ≡ length it.initial.out)
 
 abbrev pub decreases-loop-i : goal.decreases-loop-i
