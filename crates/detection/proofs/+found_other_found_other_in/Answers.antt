@@ -11,18 +11,6 @@ use Rattle.detection.specs.Detection.{found_other_in}
 use Rattle.detection.proofs.DetectionLaws.{found_none, found-more, found-short, found-upto}
 use Rattle.detection.proofs.+found_other_found_other_in.Goals as goal
 
-pub found_other-bounds-s-at : goal.found_other-bounds-s-at
-found_other-bounds-s-at t c =
-    omega arith
-
-pub found_other-overflow_add-at : goal.found_other-overflow_add-at
-found_other-overflow_add-at t c =
-    omega arith
-
-pub found_other-fixed-requires : goal.found_other-fixed-requires
-found_other-fixed-requires t c =
-    omega arith
-
 pub found_other-returns-in_default : goal.found_other-returns-in_default
 found_other-returns-in_default t c =
     let a = c.args in
@@ -59,14 +47,6 @@ found_other-returns-else-other_here t c =
     sym (found-upto a.s.now a.at a.stop _
     (sym c.fixed.ensures ∙ c.in-Upto.is)
     ∙ rw (sym c.other_here.ensures ∙ c.if-other_here.false))
-
-pub found_other_in-loop-stop-init : goal.found_other_in-loop-stop-init
-found_other_in-loop-stop-init t c =
-    (omega arith, omega arith, refl)
-
-pub found_other_in-extent-requires : goal.found_other_in-extent-requires
-found_other_in-extent-requires t c =
-    omega arith
 
 pub found_other_in-returns-in_default : goal.found_other_in-returns-in_default
 found_other_in-returns-in_default t c =

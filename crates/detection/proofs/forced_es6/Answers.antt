@@ -16,10 +16,6 @@ pub loop-stop-init : goal.loop-stop-init
 loop-stop-init c =
     (omega arith, omega arith, refl, c.requires.2)
 
-pub extent-requires : goal.extent-requires
-extent-requires c =
-    omega arith
-
 pub returns-in_default : goal.returns-in_default
 returns-in_default c =
     let a = c.args in

@@ -10,31 +10,11 @@ use Rattle.inputs.specs.Table.{atoms_in}
 use Rattle.inputs.proofs.TableLaws.{external-here, external-on, external-end}
 use Rattle.inputs.proofs.is_external.Goals as goal
 
-pub loop-i-init : goal.loop-i-init
-loop-i-init c =
-    (refl, omega arith)
-
-pub overflow_sub-externals : goal.overflow_sub-externals
-overflow_sub-externals c =
-    omega arith
-
-pub atom_at-requires : goal.atom_at-requires
-atom_at-requires c =
-    omega arith
-
 pub returns-then-atom-atom_at : goal.returns-then-atom-atom_at
 returns-then-atom-atom_at c =
     sym (c.loop-i.invariant.0
     ∙ external-here c.args.externals.now c.loop-i.i c.args.atom.0 (omega arith) (c.shared_slice_known-1.given c.loop-i.i).fits
     (c.shared_slice_known-1.given (c.loop-i.i + 1)).fits (omega arith) (c.if-atom-atom_at.true ∙ c.atom_at.ensures))
-
-pub overflow_add-i : goal.overflow_add-i
-overflow_add-i c =
-    omega arith
-
-pub loop-i-smaller : goal.loop-i-smaller
-loop-i-smaller c =
-    omega arith
 
 pub loop-i-preserved : goal.loop-i-preserved
 loop-i-preserved c = (

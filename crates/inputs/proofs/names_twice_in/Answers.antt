@@ -15,22 +15,6 @@ pub loop-i-init : goal.loop-i-init
 loop-i-init c =
     (twice-first 512 (half_of c.args.half (rows_in c.args.table.now)), omega arith, refl)
 
-pub overflow_sub-table : goal.overflow_sub-table
-overflow_sub-table c =
-    omega arith
-
-pub atom_at-source-requires : goal.atom_at-source-requires
-atom_at-source-requires c =
-    omega arith
-
-pub overflow_add-i : goal.overflow_add-i
-overflow_add-i c =
-    omega arith
-
-pub loop-i-smaller-then-source-half : goal.loop-i-smaller-then-source-half
-loop-i-smaller-then-source-half c =
-    omega arith
-
 pub loop-i-preserved-then-source-half : goal.loop-i-preserved-then-source-half
 loop-i-preserved-then-source-half c =
     let here = c.loop-i in
@@ -38,10 +22,6 @@ loop-i-preserved-then-source-half c =
     let source = c.atom_at-source in
     let past = twice-past a.table.now here.i source.result (omega arith) source.ensures a.half here.seen c.if-source-half.true in
     (here.invariant.0 ∙ ap (twice_from here.seen) past, omega arith, here.invariant.2)
-
-pub is_set-requires : goal.is_set-requires
-is_set-requires c =
-    omega arith
 
 pub returns-then-is_set : goal.returns-then-is_set
 returns-then-is_set c =
@@ -51,14 +31,6 @@ returns-then-is_set c =
     let source = c.atom_at-source in
     let hit = twice-here a.table.now here.i source.result (omega arith) source.ensures a.half here.seen c.if-source-half.false found in
     sym (here.invariant.0 ∙ hit)
-
-pub set_bit-requires : goal.set_bit-requires
-set_bit-requires c =
-    omega arith
-
-pub loop-i-smaller : goal.loop-i-smaller
-loop-i-smaller c =
-    omega arith
 
 pub loop-i-preserved : goal.loop-i-preserved
 loop-i-preserved c =

@@ -10,40 +10,12 @@ use Rattle.inputs.specs.Table.{rows_in, file_of}
 use Rattle.inputs.proofs.TableLaws.{file-here, file-on, file-end}
 use Rattle.inputs.proofs.resolve.Goals as goal
 
-pub loop-i-init : goal.loop-i-init
-loop-i-init c =
-    (refl, omega arith)
-
-pub overflow_sub-table : goal.overflow_sub-table
-overflow_sub-table c =
-    omega arith
-
-pub atom_at-requires : goal.atom_at-requires
-atom_at-requires c =
-    omega arith
-
-pub overflow_add-i : goal.overflow_add-i
-overflow_add-i c =
-    omega arith
-
-pub atom_at-requires-then-atom_at-source : goal.atom_at-requires-then-atom_at-source
-atom_at-requires-then-atom_at-source c =
-    omega arith
-
 pub returns-then-atom_at-source : goal.returns-then-atom_at-source
 returns-then-atom_at-source c =
     sym (c.loop-i.invariant.0
     ∙ file-here c.args.table.now c.loop-i.i c.args.source.0 (omega arith) (c.shared_slice_known-1.given c.loop-i.i).fits
     (c.shared_slice_known-1.given (c.loop-i.i + 1)).fits (omega arith)
     (sym c.atom_at.ensures ∙ c.if-atom_at-source.true) ∙ ap some (sym c.atom_at-then-atom_at-source.ensures))
-
-pub overflow_add-i-in-loop-i : goal.overflow_add-i-in-loop-i
-overflow_add-i-in-loop-i c =
-    omega arith
-
-pub loop-i-smaller : goal.loop-i-smaller
-loop-i-smaller c =
-    omega arith
 
 pub loop-i-preserved : goal.loop-i-preserved
 loop-i-preserved c = (

@@ -12,25 +12,9 @@ pub loop-i-init : goal.loop-i-init
 loop-i-init c =
     (sym (shifted_none _), omega arith)
 
-pub offset_bounds-files-i : goal.offset_bounds-files-i
-offset_bounds-files-i c =
-    omega arith
-
-pub bounds-files-i : goal.bounds-files-i
-bounds-files-i c =
-    omega arith
-
 pub returns-then-file-files : goal.returns-then-file-files
 returns-then-file-files c =
     sym (c.loop-i.invariant.0 ∙ place_here c.args.file c.args.n c.loop-i.i c.args.files.now c.loop-i-test.true c.requires.1 c.if-file-files.true)
-
-pub overflow_add-i : goal.overflow_add-i
-overflow_add-i c =
-    omega arith
-
-pub loop-i-smaller : goal.loop-i-smaller
-loop-i-smaller c =
-    omega arith
 
 pub loop-i-preserved : goal.loop-i-preserved
 loop-i-preserved c =

@@ -16,52 +16,16 @@ pub loop-i-init : goal.loop-i-init
 loop-i-init c =
     drop-starts c.args.key c.args.b.base c.count_of-n.result c.args.t.now
 
-pub key_in-k-requires : goal.key_in-k-requires
-key_in-k-requires c =
-    omega arith
-
-pub value_in-v-requires : goal.value_in-v-requires
-value_in-v-requires c =
-    omega arith
-
-pub overflow_add-i : goal.overflow_add-i
-overflow_add-i c =
-    omega arith
-
-pub loop-i-smaller-then-k-key : goal.loop-i-smaller-then-k-key
-loop-i-smaller-then-k-key c =
-    omega arith
-
 pub loop-i-preserved-then-k-key : goal.loop-i-preserved-then-k-key
 loop-i-preserved-then-k-key c =
     drop-skips c.args.key c.args.b.base c.count_of-n.result c.args.t.now c.loop-i.i c.loop-i.kept c.loop-i.t
     c.loop-i.invariant c.loop-i-test.true (sym c.key_in-k.ensures ∙ c.if-k-key.true)
-
-pub put_row-requires : goal.put_row-requires
-put_row-requires c =
-    omega arith
-
-pub overflow_add-kept : goal.overflow_add-kept
-overflow_add-kept c =
-    omega arith
-
-pub loop-i-smaller : goal.loop-i-smaller
-loop-i-smaller c =
-    omega arith
 
 pub loop-i-preserved : goal.loop-i-preserved
 loop-i-preserved c =
     drop_keeps c.args.key c.args.b.base c.count_of-n.result c.args.t.now c.loop-i.i c.loop-i.kept c.loop-i.t
     c.loop-i.invariant c.loop-i-test.true c.key_in-k.result c.value_in-v.result _ c.key_in-k.ensures c.value_in-v.ensures
     c.if-k-key.false c.put_row.ensures
-
-pub offset_bounds-t-cell : goal.offset_bounds-t-cell
-offset_bounds-t-cell c =
-    omega arith
-
-pub bounds-t-cell : goal.bounds-t-cell
-bounds-t-cell c =
-    omega arith
 
 pub returns : goal.returns
 returns c =

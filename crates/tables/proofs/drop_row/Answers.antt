@@ -15,51 +15,11 @@ pub loop-k-init : goal.loop-k-init
 loop-k-init c =
     closing-starts c.args.i c.args.b.base c.count_of-n.result c.args.t.now (omega arith)
 
-pub overflow_add-k : goal.overflow_add-k
-overflow_add-k c =
-    omega arith
-
-pub overflow_add-k-in-loop-k : goal.overflow_add-k-in-loop-k
-overflow_add-k-in-loop-k c =
-    omega arith
-
-pub key_in-key-requires : goal.key_in-key-requires
-key_in-key-requires c =
-    omega arith
-
-pub overflow_add-k-in-loop-k-2 : goal.overflow_add-k-in-loop-k-2
-overflow_add-k-in-loop-k-2 c =
-    omega arith
-
-pub value_in-value-requires : goal.value_in-value-requires
-value_in-value-requires c =
-    omega arith
-
-pub put_row-requires : goal.put_row-requires
-put_row-requires c =
-    omega arith
-
-pub overflow_add-k-in-loop-k-3 : goal.overflow_add-k-in-loop-k-3
-overflow_add-k-in-loop-k-3 c =
-    omega arith
-
-pub loop-k-smaller : goal.loop-k-smaller
-loop-k-smaller c =
-    omega arith
-
 pub loop-k-preserved : goal.loop-k-preserved
 loop-k-preserved c =
     closes-one c.args.i c.args.b.base c.count_of-n.result c.args.t.now c.loop-k.k c.loop-k.t c.loop-k.invariant
     c.loop-k-test.true c.key_in-key.result c.value_in-value.result _ c.key_in-key.ensures c.value_in-value.ensures
     c.put_row.ensures
-
-pub offset_bounds-t-cell : goal.offset_bounds-t-cell
-offset_bounds-t-cell c =
-    omega arith
-
-pub bounds-t-cell : goal.bounds-t-cell
-bounds-t-cell c =
-    omega arith
 
 pub returns : goal.returns
 returns c =

@@ -16,22 +16,10 @@ pub loop-i-init : goal.loop-i-init
 loop-i-init c =
     found-begin _ _ _ c.args.b _ _ c.count_of-n.ensures.0 c.requires.1
 
-pub key_in-k-requires : goal.key_in-k-requires
-key_in-k-requires c =
-    omega arith
-
 pub returns-then-k-hi : goal.returns-then-k-hi
 returns-then-k-hi c =
     sym (found-start c.args.lo c.args.hi c.args.b c.count_of-n.result c.args.t.now c.count_of-n.ensures.0 ∙ c.loop-i.invariant
     ∙ found_here c.args.lo c.args.hi c.count_of-n.result c.loop-i.i c.args.b.base c.args.t.now c.loop-i-test.true (omega arith) (omega arith))
-
-pub overflow_add-i : goal.overflow_add-i
-overflow_add-i c =
-    omega arith
-
-pub loop-i-smaller : goal.loop-i-smaller
-loop-i-smaller c =
-    omega arith
 
 pub loop-i-preserved : goal.loop-i-preserved
 loop-i-preserved c =

@@ -16,32 +16,12 @@ pub loop-i-init : goal.loop-i-init
 loop-i-init c =
     (sym (least_start c.args.key c.count_of-i.result c.args.b.base c.args.t.now), omega arith)
 
-pub overflow_sub-i : goal.overflow_sub-i
-overflow_sub-i c =
-    omega arith
-
-pub key_in-requires : goal.key_in-requires
-key_in-requires c =
-    omega arith
-
-pub value_in-requires : goal.value_in-requires
-value_in-requires c =
-    omega arith
-
-pub loop-i-smaller-then-key_in-key : goal.loop-i-smaller-then-key_in-key
-loop-i-smaller-then-key_in-key c =
-    omega arith
-
 pub loop-i-preserved-then-key_in-key : goal.loop-i-preserved-then-key_in-key
 loop-i-preserved-then-key_in-key c =
     let rest = c.loop-i.invariant.0 ∙ back c.args.key c.count_of-i.result c.loop-i.i c.args.b.base c.args.t.now c.loop-i-test.true in
     let here = least-here c.args.key c.count_of-i.result (c.loop-i.i - 1) c.args.b.base c.args.t.now (omega arith)
     (sym c.key_in.ensures ∙ c.if-key_in-key.true) in
     (c.lesser_of-best.ensures ∙ ap (λ (v : ℕ). lesser v (least_by c.loop-i.best)) c.value_in.ensures ∙ ap (lesser _) rest ∙ sym here, omega arith)
-
-pub loop-i-smaller : goal.loop-i-smaller
-loop-i-smaller c =
-    omega arith
 
 pub loop-i-preserved : goal.loop-i-preserved
 loop-i-preserved c =

@@ -66,14 +66,6 @@ call-returns-in-Refused t c =
     call-turned c.args.object c.args.s.now (λ i. omega (arith, c.shared_slice_known-1.given i)) c.args.at c.args.stop c.requires.1 c.requires.0
     (pass-first c.is_second.ensures c.if-is_second.false) (steps-is c.node-2.ensures c.in-Refused.is)
 
-pub chain-is_name-requires : goal.chain-is_name-requires
-chain-is_name-requires t c =
-    omega arith
-
-pub chain-copy-requires : goal.chain-copy-requires
-chain-copy-requires t c =
-    omega arith
-
 pub chain-returns-then-is_name : goal.chain-returns-then-is_name
 chain-returns-then-is_name t c =
     node-name c.args.s.now (λ i. omega (arith, c.shared_slice_known-1.given i)) c.args.at c.args.stop c.requires.0
@@ -87,14 +79,6 @@ pub chain-returns : goal.chain-returns
 chain-returns t c =
     c.node.ensures
 
-pub declarator-overflow_add-at : goal.declarator-overflow_add-at
-declarator-overflow_add-at t c =
-    omega arith
-
-pub declarator-begin_field-content-requires : goal.declarator-begin_field-content-requires
-declarator-begin_field-content-requires t c =
-    omega arith
-
 pub declarator-pattern-r-requires : goal.declarator-pattern-r-requires
 declarator-pattern-r-requires t c =
     (omega arith, (omega arith, omega arith, c.requires.3))
@@ -103,14 +87,6 @@ pub declarator-returns : goal.declarator-returns
 declarator-returns t c =
     node-42 c.args.object c.args.s.now c.args.at c.args.stop c.requires.1 c.requires.2 c.requires.0 c.pattern-r.result c.begin_field-content.ensures
     c.pattern-r.ensures c.end_field.ensures
-
-pub initialiser-overflow_add-at : goal.initialiser-overflow_add-at
-initialiser-overflow_add-at t c =
-    omega arith
-
-pub initialiser-extent-requires : goal.initialiser-extent-requires
-initialiser-extent-requires t c =
-    omega arith
 
 pub initialiser-returns-in_default : goal.initialiser-returns-in_default
 initialiser-returns-in_default t c =
@@ -149,10 +125,6 @@ initialiser-walk-requires-2 t c =
     let i = extent-upto c.args.s.now (c.args.at + 3) c.args.stop c.requires.0 (sym c.extent.ensures ∙ c.in-Upto.is) in let j = extent-upto
     c.args.s.now c.in-Upto.from c.args.stop i.1 (sym c.extent-2.ensures ∙ c.in-Upto-extent.is) in (omega arith, (omega arith, omega arith, c.requires.2))
 
-pub initialiser-overflow_add-at-in-Done : goal.initialiser-overflow_add-at-in-Done
-initialiser-overflow_add-at-in-Done t c =
-    omega arith
-
 pub initialiser-require_lazily-requires : goal.initialiser-require_lazily-requires
 initialiser-require_lazily-requires t c =
     c.walk-2.ensures.good
@@ -171,10 +143,6 @@ initialiser-returns-in-Refused t c =
     (λ q. behind-turned c.args.object c.args.s.now (λ i. omega (arith, c.shared_slice_known-1.given i)) c.in-Upto.from c.args.stop c.args.at
     (c.args.at + 3) (extent-upto c.args.s.now (c.args.at + 3) c.args.stop c.requires.0 (sym c.extent.ensures ∙ c.in-Upto.is)).1 q
     c.in-Upto-extent.end (sym c.extent-2.ensures ∙ c.in-Upto-extent.is) (steps-is c.walk-2.ensures c.in-Refused.is))
-
-pub member-is_name-requires : goal.member-is_name-requires
-member-is_name-requires t c =
-    (omega arith, omega arith)
 
 pub member-name-requires : goal.member-name-requires
 member-name-requires t c =
@@ -229,25 +197,9 @@ member-returns-in-Refused t c =
     member-turned c.args.object c.args.s.now c.args.at c.args.stop c.requires.1 c.requires.0 (pass-first c.is_second.ensures c.if-is_second.false)
     (steps-is (as-target c.chain-2.ensures) c.in-Refused.is)
 
-pub node-bounds-s-at : goal.node-bounds-s-at
-node-bounds-s-at t c =
-    omega arith
-
-pub node-overflow_add-at : goal.node-overflow_add-at
-node-overflow_add-at t c =
-    omega arith
-
-pub node-fixed-requires : goal.node-fixed-requires
-node-fixed-requires t c =
-    omega arith
-
 pub node-returns-in_default : goal.node-returns-in_default
 node-returns-in_default t c =
     walk-short _ _ c.requires.2 (sym c.fixed.ensures ∙ c.in_default.is)
-
-pub node-copy-requires : goal.node-copy-requires
-node-copy-requires t c =
-    omega arith
 
 pub node-returns-then-from-stop : goal.node-returns-then-from-stop
 node-returns-then-from-stop t c =
@@ -324,22 +276,10 @@ pub parts-returns-in-Refused : goal.parts-returns-in-Refused
 parts-returns-in-Refused t c =
     going-turned (λ i. omega (arith, c.shared_slice_known-1.given i)) c.loop-stop.invariant (sym c.extent.ensures ∙ c.in-Upto.is) c.part.ensures c.in-Refused.is
 
-pub pattern-overflow_add-at : goal.pattern-overflow_add-at
-pattern-overflow_add-at t c =
-    omega arith
-
-pub pattern-extent-requires : goal.pattern-extent-requires
-pattern-extent-requires t c =
-    omega arith
-
 pub pattern-returns-in_default : goal.pattern-returns-in_default
 pattern-returns-in_default t c =
     declared-over c.args.object c.args.s.now (λ i. omega (arith, c.shared_slice_known-1.given i)) (c.args.at + 3) c.args.stop c.args.at c.requires.0
     (sym c.extent.ensures ∙ c.in_default.is) c.requires.2
-
-pub pattern-overflow_add-at-2 : goal.pattern-overflow_add-at-2
-pattern-overflow_add-at-2 t c =
-    omega arith
 
 pub pattern-walk-requires : goal.pattern-walk-requires
 pattern-walk-requires t c =
@@ -360,10 +300,6 @@ pub pattern-returns-in-Refused : goal.pattern-returns-in-Refused
 pattern-returns-in-Refused t c =
     declared-turned c.args.object c.args.s.now (λ i. omega (arith, c.shared_slice_known-1.given i)) (c.args.at + 3) c.args.stop c.args.at c.requires.0
     c.in-Upto.end (sym c.extent.ensures ∙ c.in-Upto.is) (steps-is c.walk.ensures c.in-Refused.is)
-
-pub walk-bounds-s-at : goal.walk-bounds-s-at
-walk-bounds-s-at t c =
-    omega arith
 
 pub walk-exported-requires : goal.walk-exported-requires
 walk-exported-requires t c =

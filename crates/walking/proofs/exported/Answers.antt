@@ -18,10 +18,6 @@ use Rattle.walking.proofs.NodeLaws.{walk-short, node-23}
 use borrow.Author.Rules.{rules}
 use Rattle.walking.proofs.exported.Goals as goal
 
-pub overflow_add-at : goal.overflow_add-at
-overflow_add-at c =
-    omega arith
-
 pub returns-in_default : goal.returns-in_default
 returns-in_default c =
     λ object. walk-short _ _ c.requires.3 (ap (λ (n : ℕ). fixed_at c.args.s.now n (c.args.at + 3) c.args.stop) c.requires.0 ∙ sym c.fixed.ensures

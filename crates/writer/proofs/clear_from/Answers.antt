@@ -7,18 +7,6 @@ use Rattle.writer.specs.Finished.{zeroed_from}
 use Rattle.writer.proofs.Finished.{zeroed-next, zeroed-end}
 use Rattle.writer.proofs.clear_from.Goals as goal
 
-pub loop-i-init : goal.loop-i-init
-loop-i-init c =
-    (refl, refl)
-
-pub bounds-out-i : goal.bounds-out-i
-bounds-out-i c =
-    omega arith
-
-pub overflow_add-i : goal.overflow_add-i
-overflow_add-i c =
-    omega arith
-
 pub loop-i-smaller : goal.loop-i-smaller
 loop-i-smaller c =
     simp length-set (omega arith)

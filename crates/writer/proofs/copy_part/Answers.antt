@@ -14,18 +14,6 @@ pub loop-at-init : goal.loop-at-init
 loop-at-init c =
     (λ l p w. w, refl)
 
-pub bounds-s-at : goal.bounds-s-at
-bounds-s-at c =
-    omega arith
-
-pub overflow_add-at : goal.overflow_add-at
-overflow_add-at c =
-    omega arith
-
-pub loop-at-smaller : goal.loop-at-smaller
-loop-at-smaller c =
-    omega arith
-
 pub loop-at-preserved : goal.loop-at-preserved
 loop-at-preserved c =
     let a = c.args in

@@ -11,37 +11,9 @@ use Rattle.writer.specs.Wrote.{Wrote}
 use Rattle.writer.proofs.Wrote.{wrote_none, wrote-byte, wrote-slice, slice-none}
 use Rattle.writer.proofs.copy_whole.Goals as goal
 
-pub overflow_sub-n : goal.overflow_sub-n
-overflow_sub-n c =
-    omega arith
-
 pub loop-i-init : goal.loop-i-init
 loop-i-init c =
     (λ l p w. simp add-zero at w, refl, omega arith)
-
-pub overflow_add-out : goal.overflow_add-out
-overflow_add-out c =
-    omega arith
-
-pub bounds-s-from : goal.bounds-s-from
-bounds-s-from c =
-    omega arith
-
-pub overflow_add-out-in-loop-i : goal.overflow_add-out-in-loop-i
-overflow_add-out-in-loop-i c =
-    omega arith
-
-pub bounds-out-o : goal.bounds-out-o
-bounds-out-o c =
-    omega arith
-
-pub overflow_add-i : goal.overflow_add-i
-overflow_add-i c =
-    omega arith
-
-pub loop-i-smaller : goal.loop-i-smaller
-loop-i-smaller c =
-    omega arith
 
 pub loop-i-preserved : goal.loop-i-preserved
 loop-i-preserved c =
@@ -56,10 +28,6 @@ loop-i-preserved c =
       byte.size ∙ here.invariant.1,
       omega arith,
     )
-
-pub overflow_add-result : goal.overflow_add-result
-overflow_add-result c =
-    omega arith
 
 pub returns : goal.returns
 returns c =

@@ -11,22 +11,6 @@ use Rattle.corollaries.specs.Hosts.{files_from, files_back}
 use Rattle.corollaries.proofs.FilesLaws.{file-written, all-files, no-files}
 use Rattle.corollaries.proofs.exported.put_files.Goals as goal
 
-pub bounds-scope-0 : goal.bounds-scope-0
-bounds-scope-0 c =
-    omega arith
-
-pub overflow_mul-n : goal.overflow_mul-n
-overflow_mul-n c =
-    omega arith
-
-pub bounds-scope-1 : goal.bounds-scope-1
-bounds-scope-1 c =
-    omega arith
-
-pub overflow_add-n : goal.overflow_add-n
-overflow_add-n c =
-    omega arith
-
 pub loop-i-init : goal.loop-i-init
 loop-i-init c =
     let s = c.args.scope.now in (
@@ -34,38 +18,6 @@ loop-i-init c =
       refl,
       omega (arith, c.wide.ensures, c.wide-2.ensures),
     )
-
-pub overflow_mul-i : goal.overflow_mul-i
-overflow_mul-i c =
-    omega arith
-
-pub overflow_add-i : goal.overflow_add-i
-overflow_add-i c =
-    omega arith
-
-pub bounds-scope-i : goal.bounds-scope-i
-bounds-scope-i c =
-    omega arith
-
-pub overflow_mul-i-in-loop-i : goal.overflow_mul-i-in-loop-i
-overflow_mul-i-in-loop-i c =
-    omega arith
-
-pub overflow_add-i-in-loop-i : goal.overflow_add-i-in-loop-i
-overflow_add-i-in-loop-i c =
-    omega arith
-
-pub bounds-scope-i-in-loop-i : goal.bounds-scope-i-in-loop-i
-bounds-scope-i-in-loop-i c =
-    omega arith
-
-pub overflow_add-i-in-loop-i-2 : goal.overflow_add-i-in-loop-i-2
-overflow_add-i-in-loop-i-2 c =
-    omega arith
-
-pub loop-i-smaller : goal.loop-i-smaller
-loop-i-smaller c =
-    omega arith
 
 pub loop-i-preserved : goal.loop-i-preserved
 loop-i-preserved c =

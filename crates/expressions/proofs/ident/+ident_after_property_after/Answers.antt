@@ -15,25 +15,9 @@ use Rattle.tree.proofs.WidthLaws.{plain-ends}
 use Rattle.tree.specs.declared.grammar.Value.TheVariants.{Id}
 use Rattle.expressions.proofs.ident.+ident_after_property_after.Goals as goal
 
-pub ident_after-bounds-s-at : goal.ident_after-bounds-s-at
-ident_after-bounds-s-at t c =
-    omega arith
-
-pub ident_after-overflow_add-at : goal.ident_after-overflow_add-at
-ident_after-overflow_add-at t c =
-    omega arith
-
-pub ident_after-fixed-requires : goal.ident_after-fixed-requires
-ident_after-fixed-requires t c =
-    omega arith
-
 pub ident_after-returns-in_default : goal.ident_after-returns-in_default
 ident_after-returns-in_default t c =
     after-short c.args.s.now c.args.at c.args.stop _ (sym c.fixed.ensures ∙ c.in_default.is)
-
-pub ident_after-overflow_add-at-in-96 : goal.ident_after-overflow_add-at-in-96
-ident_after-overflow_add-at-in-96 t c =
-    omega arith
 
 pub ident_after-id_at-requires : goal.ident_after-id_at-requires
 ident_after-id_at-requires t c =
@@ -62,10 +46,6 @@ ident_after-returns-else-second t c =
 pub ident_after-returns-in_default-tag : goal.ident_after-returns-in_default-tag
 ident_after-returns-in_default-tag t c =
     after-rest c.args.s.now c.args.at c.args.stop _ (sym c.fixed.ensures ∙ c.in-Upto.is) c.in_default-tag.in_default-tag-own.rest.0.1 c.in_default-tag.in_default-tag-own.rest.1
-
-pub property_after-extent-requires : goal.property_after-extent-requires
-property_after-extent-requires t c =
-    omega arith
 
 pub property_after-returns-in_default : goal.property_after-returns-in_default
 property_after-returns-in_default t c =

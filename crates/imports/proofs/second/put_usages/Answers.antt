@@ -18,14 +18,6 @@ pub put_usage-to-requires : goal.put_usage-to-requires
 put_usage-to-requires c =
     let k = c.count_usages-n.ensures.1 in (c.requires, omega arith)
 
-pub overflow_add-i : goal.overflow_add-i
-overflow_add-i c =
-    omega arith
-
-pub loop-i-smaller : goal.loop-i-smaller
-loop-i-smaller c =
-    omega arith
-
 pub loop-i-preserved : goal.loop-i-preserved
 loop-i-preserved c =
     listing-more c.loop-i.invariant c.put_usage-to.ensures c.put_usage-to.auto.out

@@ -16,10 +16,6 @@ loop-stop-init c =
     let a = c.args in
     (ap (λ (x : Metadata). decode_from x (row_at a.s.now a.from a.end)) c.unset-m.ensures, c.requires.0)
 
-pub extent-requires : goal.extent-requires
-extent-requires c =
-    omega arith
-
 pub told_at-requires : goal.told_at-requires
 told_at-requires c =
     let a = c.args in

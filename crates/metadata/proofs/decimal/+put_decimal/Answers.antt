@@ -7,14 +7,6 @@ use Rattle.metadata.proofs.DecimalLaws.{decimal_digit, decimal-more}
 use Prim.Native.Nat.{ℕ, ◌<◌}
 use Rattle.metadata.proofs.decimal.+put_decimal.Goals as goal
 
-pub overflow_cast-n : goal.overflow_cast-n
-overflow_cast-n t c =
-    omega arith
-
-pub overflow_add-n : goal.overflow_add-n
-overflow_add-n t c =
-    omega arith
-
 pub returns-then-n-lt10 : goal.returns-then-n-lt10
 returns-then-n-lt10 t c =
     wrote_as c.put.ensures (sym (decimal_digit c.args.n c.if-n-lt10.true))
@@ -22,14 +14,6 @@ returns-then-n-lt10 t c =
 pub put_decimal-last-requires : goal.put_decimal-last-requires
 put_decimal-last-requires t c =
     (omega arith, tt)
-
-pub overflow_cast-n-2 : goal.overflow_cast-n-2
-overflow_cast-n-2 t c =
-    omega arith
-
-pub overflow_add-n-2 : goal.overflow_add-n-2
-overflow_add-n-2 t c =
-    omega arith
 
 pub returns : goal.returns
 returns t c =

@@ -14,10 +14,6 @@ pub loop-at-init : goal.loop-at-init
 loop-at-init c =
     (refl, omega arith, c.requires.0)
 
-pub bounds-s-at : goal.bounds-s-at
-bounds-s-at c =
-    omega arith
-
 pub returns-then-not-is_digit : goal.returns-then-not-is_digit
 returns-then-not-is_digit c =
     let a = c.args in
@@ -26,10 +22,6 @@ returns-then-not-is_digit c =
     (number-other a.s.now here.at a.end c.loop-at-test.true
     c.requires.1 here.n (sym c.is_digit.ensures ∙ c.if-not-is_digit.true)))
     ∙ here.invariant.0
-
-pub overflow_mul-n : goal.overflow_mul-n
-overflow_mul-n c =
-    omega arith
 
 pub overflow_sub-n : goal.overflow_sub-n
 overflow_sub-n c =
@@ -64,14 +56,6 @@ returns-then-n-gt4294967295 c =
     let large : 4294967295 < here.n * 10 + (get_or a.s.now here.at 0 - 48) = omega arith in
     sym (ap limited more ∙ too_large _ _ large) ∙ here.invariant.0
 
-pub overflow_add-at : goal.overflow_add-at
-overflow_add-at c =
-    omega arith
-
-pub loop-at-smaller : goal.loop-at-smaller
-loop-at-smaller c =
-    omega arith
-
 pub loop-at-preserved : goal.loop-at-preserved
 loop-at-preserved c =
     let a = c.args in
@@ -79,10 +63,6 @@ loop-at-preserved c =
     let digit = sym c.is_digit.ensures ∙ c.if-not-is_digit.false in
     let more = number_more a.s.now here.at a.end c.loop-at-test.true c.requires.1 here.n digit in
     (sym (ap limited more) ∙ here.invariant.0, omega arith, omega arith)
-
-pub overflow_cast-result : goal.overflow_cast-result
-overflow_cast-result c =
-    omega arith
 
 pub returns : goal.returns
 returns c =

@@ -20,10 +20,6 @@ pub put_below-loop-stop-init : goal.put_below-loop-stop-init
 put_below-loop-stop-init t c =
     (λ p l w. w, omega arith, omega arith, refl)
 
-pub put_below-extent-requires : goal.put_below-extent-requires
-put_below-extent-requires t c =
-    omega arith
-
 pub put_below-returns-in_default : goal.put_below-returns-in_default
 put_below-returns-in_default t c =
     c.loop-stop.invariant.0 _ _ (all_none c.args.s.now c.loop-stop.at c.args.end c.loop-stop.invariant.2 (sym c.extent.ensures ∙ c.in_default.is))
@@ -47,25 +43,9 @@ put_below-loop-stop-preserved t c =
       c.put_bindings-to.ensures.size ∙ c.loop-stop.invariant.3,
     )
 
-pub put_bindings-bounds-s-at : goal.put_bindings-bounds-s-at
-put_bindings-bounds-s-at t c =
-    omega arith
-
-pub put_bindings-overflow_add-at : goal.put_bindings-overflow_add-at
-put_bindings-overflow_add-at t c =
-    omega arith
-
-pub put_bindings-fixed-requires : goal.put_bindings-fixed-requires
-put_bindings-fixed-requires t c =
-    omega arith
-
 pub put_bindings-returns-in_default : goal.put_bindings-returns-in_default
 put_bindings-returns-in_default t c =
     bindings-short c.args.s.now c.args.at c.args.stop (sym c.fixed.ensures ∙ c.in_default.is)
-
-pub put_bindings-overflow_add-at-in-80 : goal.put_bindings-overflow_add-at-in-80
-put_bindings-overflow_add-at-in-80 t c =
-    omega arith
 
 pub put_bindings-id_at-requires : goal.put_bindings-id_at-requires
 put_bindings-id_at-requires t c =
@@ -94,10 +74,6 @@ pub put_bindings-returns-in_default-tag : goal.put_bindings-returns-in_default-t
 put_bindings-returns-in_default-tag t c =
     bindings-below c.args.s.now c.args.at c.args.stop _ (sym c.fixed.ensures ∙ c.in-Upto.is) (λ e. c.in_default-tag.in_default-tag-own.rest.0.1 (inl e))
     (λ e. c.in_default-tag.in_default-tag-own.rest.0.1 (inr e)) c.in_default-tag.in_default-tag-own.rest.1 c.put_below.ensures
-
-pub put_left-extent-requires : goal.put_left-extent-requires
-put_left-extent-requires t c =
-    omega arith
 
 pub put_left-put_bindings-requires : goal.put_left-put_bindings-requires
 put_left-put_bindings-requires t c =

@@ -32,14 +32,6 @@ pub put_record-to-requires : goal.put_record-to-requires
 put_record-to-requires c =
     c.requires.1
 
-pub overflow_add-i : goal.overflow_add-i
-overflow_add-i c =
-    omega arith
-
-pub loop-i-smaller : goal.loop-i-smaller
-loop-i-smaller c =
-    omega arith
-
 pub loop-i-preserved : goal.loop-i-preserved
 loop-i-preserved c =
     let a = c.args in (

@@ -24,14 +24,6 @@ pub forced_at-requires : goal.forced_at-requires
 forced_at-requires c =
     (c.requires, let e = c.count_forced-n.ensures.1 in omega arith)
 
-pub overflow_add-i : goal.overflow_add-i
-overflow_add-i c =
-    omega arith
-
-pub loop-i-smaller : goal.loop-i-smaller
-loop-i-smaller c =
-    omega arith
-
 pub loop-i-preserved : goal.loop-i-preserved
 loop-i-preserved c = (
   onward-step c.loop-i.invariant.0 (λ x s w k. forced-more c.forced_at.result.0 c.forced_at.ensures x s w)

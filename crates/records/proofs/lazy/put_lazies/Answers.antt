@@ -27,14 +27,6 @@ pub lazy_place-place-requires : goal.lazy_place-place-requires
 lazy_place-place-requires c =
     (c.requires, let e = c.count_lazies-n.ensures.1 in omega arith)
 
-pub overflow_add-i : goal.overflow_add-i
-overflow_add-i c =
-    omega arith
-
-pub loop-i-smaller : goal.loop-i-smaller
-loop-i-smaller c =
-    omega arith
-
 pub loop-i-preserved : goal.loop-i-preserved
 loop-i-preserved c = (
   onward-step c.loop-i.invariant.0

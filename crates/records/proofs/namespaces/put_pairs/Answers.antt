@@ -30,10 +30,6 @@ pub loop-stop-init : goal.loop-stop-init
 loop-stop-init c =
     (row-start, omega arith, omega arith)
 
-pub extent-requires : goal.extent-requires
-extent-requires c =
-    omega arith
-
 pub returns-in_default : goal.returns-in_default
 returns-in_default c =
     let a = c.args in
@@ -41,10 +37,6 @@ returns-in_default c =
     (taken_none a.wanted.namespaces (literal_in a.tree.now a.work.now a.wanted.place) a.work.now c.loop-stop.at (length a.work.now) a.out.now
     c.loop-stop.made (length a.out.now) c.loop-stop.invariant.1
     (sym c.extent.ensures ∙ c.in_default.is))
-
-pub extent-requires-in-loop-stop : goal.extent-requires-in-loop-stop
-extent-requires-in-loop-stop c =
-    omega arith
 
 pub returns-in_default-extent : goal.returns-in_default-extent
 returns-in_default-extent c =

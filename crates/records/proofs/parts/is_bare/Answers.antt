@@ -11,14 +11,6 @@ use Rattle.records.specs.Writes.{is_none}
 use Rattle.records.proofs.SpecifierLaws.{row_ends, row-skips, row-takes}
 use Rattle.records.proofs.parts.is_bare.Goals as goal
 
-pub loop-stop-init : goal.loop-stop-init
-loop-stop-init c =
-    (refl, omega arith, omega arith)
-
-pub extent-requires : goal.extent-requires
-extent-requires c =
-    omega arith
-
 pub returns-in_default : goal.returns-in_default
 returns-in_default c =
     sym (c.loop-stop.invariant.0 ∙ row_ends c.args.s.now c.loop-stop.at c.args.end c.loop-stop.invariant.2 is_none (sym c.extent.ensures ∙ c.in_default.is))

@@ -13,14 +13,6 @@ use Rattle.records.specs.Model.{is_namespace}
 use Rattle.records.proofs.SpecifierLaws.{row_ends, row-skips, row-takes, sole_none, namespace-then, namespace-no}
 use Rattle.records.proofs.parts.is_namespace.Goals as goal
 
-pub loop-stop-init : goal.loop-stop-init
-loop-stop-init c =
-    (refl, omega arith, omega arith)
-
-pub extent-requires : goal.extent-requires
-extent-requires c =
-    omega arith
-
 pub returns-in_default : goal.returns-in_default
 returns-in_default c =
     sym (c.loop-stop.invariant.0

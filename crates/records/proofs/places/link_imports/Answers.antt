@@ -12,66 +12,6 @@ pub loop-i-init : goal.loop-i-init
 loop-i-init c =
     (linked-start c.args.work.now c.args.imports.now c.args.n c.requires.0 c.requires.1, refl, omega arith)
 
-pub overflow_sub-i : goal.overflow_sub-i
-overflow_sub-i c =
-    omega arith
-
-pub overflow_mul-i : goal.overflow_mul-i
-overflow_mul-i c =
-    omega arith
-
-pub overflow_add-i : goal.overflow_add-i
-overflow_add-i c =
-    omega arith
-
-pub offset_bounds-imports-i : goal.offset_bounds-imports-i
-offset_bounds-imports-i c =
-    omega arith
-
-pub bounds-imports-i : goal.bounds-imports-i
-bounds-imports-i c =
-    omega arith
-
-pub offset_bounds-imports-chain : goal.offset_bounds-imports-chain
-offset_bounds-imports-chain c =
-    omega arith
-
-pub bounds-imports-chain : goal.bounds-imports-chain
-bounds-imports-chain c =
-    omega arith
-
-pub overflow_mul-imports : goal.overflow_mul-imports
-overflow_mul-imports c =
-    omega arith
-
-pub overflow_add-imports : goal.overflow_add-imports
-overflow_add-imports c =
-    omega arith
-
-pub offset_bounds-imports-i-in-loop-i : goal.offset_bounds-imports-i-in-loop-i
-offset_bounds-imports-i-in-loop-i c =
-    omega arith
-
-pub bounds-imports-i-in-loop-i : goal.bounds-imports-i-in-loop-i
-bounds-imports-i-in-loop-i c =
-    omega arith
-
-pub overflow_cast-imports : goal.overflow_cast-imports
-overflow_cast-imports c =
-    omega arith
-
-pub offset_bounds-imports-chain-in-loop-i : goal.offset_bounds-imports-chain-in-loop-i
-offset_bounds-imports-chain-in-loop-i c =
-    omega arith
-
-pub bounds-imports-chain-in-loop-i : goal.bounds-imports-chain-in-loop-i
-bounds-imports-chain-in-loop-i c =
-    omega arith
-
-pub loop-i-smaller : goal.loop-i-smaller
-loop-i-smaller c =
-    omega arith
-
 pub loop-i-preserved : goal.loop-i-preserved
 loop-i-preserved c =
     let a = c.args in

@@ -19,17 +19,9 @@ loop-n-init c = (
   c.requires.3,
 )
 
-pub extent-requires : goal.extent-requires
-extent-requires c =
-    omega arith
-
 pub returns-in_default : goal.returns-in_default
 returns-in_default c =
     (c.loop-n.invariant.0, c.loop-n.invariant.1)
-
-pub extent-requires-in-loop-n : goal.extent-requires-in-loop-n
-extent-requires-in-loop-n c =
-    omega arith
 
 pub returns-in_default-extent : goal.returns-in_default-extent
 returns-in_default-extent c =

@@ -10,47 +10,11 @@ use Rattle.scope.specs.ScopeValue.{modules_of}
 use Rattle.scope.proofs.ScopeValueLaws.{list-goes-on, list-stops, list-ends}
 use Rattle.scope.proofs.Scope.gen_ids.Goals as goal
 
-pub loop-i-init : goal.loop-i-init
-loop-i-init c =
-    (refl, omega arith)
-
-pub overflow_sub-files : goal.overflow_sub-files
-overflow_sub-files c =
-    omega arith
-
-pub bounds-files-i : goal.bounds-files-i
-bounds-files-i c =
-    omega arith
-
-pub overflow_mul-wide : goal.overflow_mul-wide
-overflow_mul-wide c =
-    omega arith
-
-pub overflow_add-i : goal.overflow_add-i
-overflow_add-i c =
-    omega arith
-
-pub bounds-files-i-in-loop-i : goal.bounds-files-i-in-loop-i
-bounds-files-i-in-loop-i c =
-    omega arith
-
-pub overflow_add-wide : goal.overflow_add-wide
-overflow_add-wide c =
-    omega arith
-
 pub returns-in-TooManyFiles : goal.returns-in-TooManyFiles
 returns-in-TooManyFiles c =
     sym (c.loop-i.invariant.0
     ∙ list-stops c.args.files.now c.loop-i.i (record { 0 = c.wide.result * 256 + c.wide-in-loop-i.result }) (modules_of c.loop-i.self)
     c.gen_id-g.result (omega arith) (omega arith) c.gen_id-g.ensures c.in-TooManyFiles.is)
-
-pub overflow_add-i-in-loop-i : goal.overflow_add-i-in-loop-i
-overflow_add-i-in-loop-i c =
-    omega arith
-
-pub loop-i-smaller : goal.loop-i-smaller
-loop-i-smaller c =
-    omega arith
 
 pub loop-i-preserved : goal.loop-i-preserved
 loop-i-preserved c = (

@@ -16,81 +16,9 @@ unfolding modules_from modules_in
 loop-k-init c =
     (refl, omega arith, rewrites-none _ _ _, λ i h. absurd (omega arith))
 
-pub overflow_mul-at : goal.overflow_mul-at
-overflow_mul-at c =
-    omega arith
-
-pub overflow_add-at : goal.overflow_add-at
-overflow_add-at c =
-    omega arith
-
-pub slot-loaded-requires : goal.slot-loaded-requires
-slot-loaded-requires c =
-    omega arith
-
-pub slot-stored-requires : goal.slot-stored-requires
-slot-stored-requires c =
-    omega arith
-
-pub slot-cjs-requires : goal.slot-cjs-requires
-slot-cjs-requires c =
-    omega arith
-
-pub slot-wrapping-requires : goal.slot-wrapping-requires
-slot-wrapping-requires c =
-    omega arith
-
-pub offset_bounds-self-k : goal.offset_bounds-self-k
-offset_bounds-self-k c =
-    omega arith
-
-pub bounds-self-k : goal.bounds-self-k
-bounds-self-k c =
-    omega arith
-
-pub offset_bounds-cells-at : goal.offset_bounds-cells-at
-offset_bounds-cells-at c =
-    omega arith
-
-pub bounds-cells-at : goal.bounds-cells-at
-bounds-cells-at c =
-    omega arith
-
-pub bounds-self-loaded : goal.bounds-self-loaded
-bounds-self-loaded c =
-    omega arith
-
-pub bounds-self-stored : goal.bounds-self-stored
-bounds-self-stored c =
-    omega arith
-
-pub bounds-self-cjs : goal.bounds-self-cjs
-bounds-self-cjs c =
-    omega arith
-
-pub bounds-self-wrapping : goal.bounds-self-wrapping
-bounds-self-wrapping c =
-    omega arith
-
-pub overflow_add-cells : goal.overflow_add-cells
-overflow_add-cells c =
-    omega arith
-
-pub offset_bounds-cells-at-in-loop-k : goal.offset_bounds-cells-at-in-loop-k
-offset_bounds-cells-at-in-loop-k c =
-    omega arith
-
 pub bounds-cells-at-in-loop-k : goal.bounds-cells-at-in-loop-k
 bounds-cells-at-in-loop-k c =
     simp length-set (omega arith)
-
-pub overflow_add-k : goal.overflow_add-k
-overflow_add-k c =
-    omega arith
-
-pub loop-k-smaller : goal.loop-k-smaller
-loop-k-smaller c =
-    omega arith
 
 pub loop-k-preserved : goal.loop-k-preserved
 loop-k-preserved c = (

@@ -32,14 +32,6 @@ pub hint_module-requires : goal.hint_module-requires
 hint_module-requires c =
     (c.loop-i.invariant.0.aside.good, let h = c.requires.1 in omega arith)
 
-pub overflow_add-i : goal.overflow_add-i
-overflow_add-i c =
-    omega arith
-
-pub loop-i-smaller : goal.loop-i-smaller
-loop-i-smaller c =
-    omega arith
-
 pub loop-i-preserved : goal.loop-i-preserved
 loop-i-preserved c = (
   hints-more c.loop-i.invariant.0 (let h = c.requires.1 in omega arith) refl c.hint_module.ensures.0 c.hint_module.ensures.1

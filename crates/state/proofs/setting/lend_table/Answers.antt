@@ -16,45 +16,13 @@ pub loop-i-init : goal.loop-i-init
 loop-i-init c =
     (lend-start c.requires.0 c.requires.2, let e = ap length c.requires.2 in omega arith, omega arith)
 
-pub overflow_sub-table : goal.overflow_sub-table
-overflow_sub-table c =
-    omega arith
-
-pub atom_at-source-requires : goal.atom_at-source-requires
-atom_at-source-requires c =
-    omega arith
-
-pub overflow_cast-source : goal.overflow_cast-source
-overflow_cast-source c =
-    omega arith
-
 pub hint_row-requires : goal.hint_row-requires
 hint_row-requires c =
     (c.loop-i.invariant.0.good, let h = c.requires.1 in omega arith)
 
-pub overflow_add-i : goal.overflow_add-i
-overflow_add-i c =
-    omega arith
-
-pub atom_at-requires : goal.atom_at-requires
-atom_at-requires c =
-    omega arith
-
-pub overflow_cast-atom_at : goal.overflow_cast-atom_at
-overflow_cast-atom_at c =
-    omega arith
-
 pub push-requires : goal.push-requires
 push-requires c =
     (c.hint_row.ensures.0.good.lies kind, let x = ap length (c.hint_row.ensures.0.same_rows kind) in let h = c.requires.1 in omega arith)
-
-pub overflow_add-i-in-loop-i : goal.overflow_add-i-in-loop-i
-overflow_add-i-in-loop-i c =
-    omega arith
-
-pub loop-i-smaller : goal.loop-i-smaller
-loop-i-smaller c =
-    omega arith
 
 pub loop-i-preserved : goal.loop-i-preserved
 loop-i-preserved c = (

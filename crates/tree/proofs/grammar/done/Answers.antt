@@ -13,10 +13,6 @@ pub loop-rule-init : goal.loop-rule-init
 loop-rule-init c =
     (refl, search rules)
 
-pub loop-rule-smaller-then-slot-eq0 : goal.loop-rule-smaller-then-slot-eq0
-loop-rule-smaller-then-slot-eq0 c =
-    omega arith
-
 pub loop-rule-preserved-then-slot-eq0 : goal.loop-rule-preserved-then-slot-eq0
 loop-rule-preserved-then-slot-eq0 c =
     (c.loop-rule.invariant.0 ∙ done-nothing c.loop-rule.rule c.loop-rule.invariant.1 c.if-slot-eq0.true, omega arith)
@@ -24,10 +20,6 @@ loop-rule-preserved-then-slot-eq0 c =
 pub returns-then-slot-lt64 : goal.returns-then-slot-lt64
 returns-then-slot-lt64 c =
     sym (c.loop-rule.invariant.0 ∙ done-lacks c.loop-rule.rule c.loop-rule.invariant.1 c.if-slot-eq0.false c.if-slot-lt64.true)
-
-pub loop-rule-smaller : goal.loop-rule-smaller
-loop-rule-smaller c =
-    omega arith
 
 pub loop-rule-preserved : goal.loop-rule-preserved
 loop-rule-preserved c =

@@ -13,20 +13,12 @@ pub loop-rule-init : goal.loop-rule-init
 loop-rule-init c =
     (refl, search rules)
 
-pub loop-rule-smaller-then-slot-eq0 : goal.loop-rule-smaller-then-slot-eq0
-loop-rule-smaller-then-slot-eq0 c =
-    omega arith
-
 pub loop-rule-preserved-then-slot-eq0 : goal.loop-rule-preserved-then-slot-eq0
 loop-rule-preserved-then-slot-eq0 c =
     let l = c.loop-rule in
     let q = c.sets_of-sets in
     let tag = c.args.tag in
     (l.invariant.0 ∙ step-nothing tag l.rule q.result (search rules) l.invariant.1 q.ensures c.if-slot-eq0.true, omega arith)
-
-pub overflow_shr-sets : goal.overflow_shr-sets
-overflow_shr-sets c =
-    omega arith
 
 pub returns-then-slot-lt96 : goal.returns-then-slot-lt96
 returns-then-slot-lt96 c =
@@ -48,10 +40,6 @@ returns-then-slot-lt64 c =
     let q = c.sets_of-sets in
     let tag = c.args.tag in
     sym (l.invariant.0 ∙ step-off tag l.rule q.result (search rules) l.invariant.1 q.ensures c.if-slot-eq0.false c.if-sets-slot-eq1.false c.if-slot-lt64.true)
-
-pub loop-rule-smaller : goal.loop-rule-smaller
-loop-rule-smaller c =
-    omega arith
 
 pub loop-rule-preserved : goal.loop-rule-preserved
 loop-rule-preserved c =

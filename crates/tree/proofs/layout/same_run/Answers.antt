@@ -14,35 +14,11 @@ loop-i-init c =
       omega arith,
     )
 
-pub overflow_add-a : goal.overflow_add-a
-overflow_add-a c =
-    omega arith
-
-pub bounds-s-a : goal.bounds-s-a
-bounds-s-a c =
-    omega arith
-
-pub overflow_add-b : goal.overflow_add-b
-overflow_add-b c =
-    omega arith
-
-pub bounds-t-b : goal.bounds-t-b
-bounds-t-b c =
-    omega arith
-
 pub returns-then-s-a : goal.returns-then-s-a
 returns-then-s-a c =
     sym (c.loop-i.invariant.0
     ∙ same-other c.args.s.now c.args.t.now c.args.a c.args.b c.loop-i.i (c.args.a + c.args.n)
     (c.args.b + c.args.n) (omega arith) (omega arith) (omega arith) (omega arith) c.if-s-a.true)
-
-pub overflow_add-i : goal.overflow_add-i
-overflow_add-i c =
-    omega arith
-
-pub loop-i-smaller : goal.loop-i-smaller
-loop-i-smaller c =
-    omega arith
 
 pub loop-i-preserved : goal.loop-i-preserved
 loop-i-preserved c = (

@@ -15,14 +15,6 @@ use Rattle.tree.proofs.LeafLaws.{parts-read, leaf-good, leaf-bad}
 use Prim.Native.Nat.{ℕ, ◌<◌}
 use Rattle.tree.proofs.read.+children_content.Goals as goal
 
-pub children-loop-why-init : goal.children-loop-why-init
-children-loop-why-init t c =
-    (refl, omega arith, omega arith)
-
-pub children-head_of-requires : goal.children-head_of-requires
-children-head_of-requires t c =
-    omega arith
-
 pub children-returns-in-Done : goal.children-returns-in-Done
 children-returns-in-Done t c =
     let l = c.loop-why in
@@ -92,18 +84,6 @@ children-returns-in-Refused t c =
     ∙ children-verdict a.s.now l.at a.end a.depth (unpack_rule l.rule) a.place _ l.invariant.2
     (sym c.head_of.ensures ∙ ap unpack_head c.in-Child.is)
     ∙ after-refused _ (sym c.content.ensures ∙ c.in-Refused.is))
-
-pub content-bounds-s-at : goal.content-bounds-s-at
-content-bounds-s-at t c =
-    omega arith
-
-pub content-overflow_add-at : goal.content-overflow_add-at
-content-overflow_add-at t c =
-    omega arith
-
-pub content-fixed-requires : goal.content-fixed-requires
-content-fixed-requires t c =
-    omega arith
 
 pub content-returns-in_default : goal.content-returns-in_default
 content-returns-in_default t c =

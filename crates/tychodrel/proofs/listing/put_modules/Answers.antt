@@ -16,42 +16,6 @@ pub loop-i-init : goal.loop-i-init
 loop-i-init c =
     (λ l p w. all_left c.args.cells.now c.args.n w, refl)
 
-pub overflow_mul-i : goal.overflow_mul-i
-overflow_mul-i c =
-    omega arith
-
-pub offset_bounds-cells-i : goal.offset_bounds-cells-i
-offset_bounds-cells-i c =
-    omega arith
-
-pub bounds-cells-i : goal.bounds-cells-i
-bounds-cells-i c =
-    omega arith
-
-pub overflow_mul-i-in-loop-i : goal.overflow_mul-i-in-loop-i
-overflow_mul-i-in-loop-i c =
-    omega arith
-
-pub overflow_add-i : goal.overflow_add-i
-overflow_add-i c =
-    omega arith
-
-pub offset_bounds-cells-i-in-loop-i : goal.offset_bounds-cells-i-in-loop-i
-offset_bounds-cells-i-in-loop-i c =
-    omega arith
-
-pub bounds-cells-i-in-loop-i : goal.bounds-cells-i-in-loop-i
-bounds-cells-i-in-loop-i c =
-    omega arith
-
-pub overflow_add-i-in-loop-i : goal.overflow_add-i-in-loop-i
-overflow_add-i-in-loop-i c =
-    omega arith
-
-pub loop-i-smaller : goal.loop-i-smaller
-loop-i-smaller c =
-    omega arith
-
 pub loop-i-preserved : goal.loop-i-preserved
 loop-i-preserved c = (
   λ l p w. c.loop-i.invariant.0 l p
