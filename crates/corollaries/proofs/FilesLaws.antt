@@ -9,7 +9,7 @@ use lib.Seq.{sets-eq, take_at}
 use Rattle.modes.specs.declared.Modes.{Modes}
 use Rattle.tree.specs.Layout.{two_at, field_in}
 use Rattle.writer.specs.Wrote.{Wrote}
-use Rattle.writer.proofs.Wrote.{wrote_none, wrote_then, wrote_as}
+use Rattle.writer.proofs.Wrote.{wrote-none, wrote-then, wrote-as}
 use Rattle.resolving.specs.Answer.{lent_as}
 use Rattle.tychodrel.specs.Calls.{resolve_call, LeavesList}
 use Rattle.corollaries.specs.Hosts.{files_from, files_back}
@@ -26,19 +26,19 @@ files-more s n i h =
 pub file-written : (s : List ℕ) (n i : ℕ) {l m k z : List ℕ} {o p q r : ℕ} → i < n →
     Wrote l o (get_or s (2 + 3 * i) 0 ∷ []) m p → Wrote m p (get_or s (3 + 3 * i) 0 ∷ []) k q → Wrote k q (files_from (n - (i + 1)) (i + 1) s) z r →
     Wrote l o (files_from (n - i) i s) z r
-file-written s n i h x y w = wrote_as (wrote_then (wrote_then x y) w) (files-more s n i h)
+file-written s n i h x y w = wrote-as (wrote-then (wrote-then x y) w) (files-more s n i h)
 
 pub all-files : (s : List ℕ) (n : ℕ) {l m : List ℕ} {o p : ℕ} → n ≡ two_at s 0 → Wrote l o (files_from (n - 0) 0 s) m p → Wrote l o (files_back s) m p
 unfolding files_back
 all-files s n e w =
     let f : n - 0 ≡ two_at s 0 = omega arith in
-    wrote_as w (ap (λ (k : ℕ). files_from k 0 s) f)
+    wrote-as w (ap (λ (k : ℕ). files_from k 0 s) f)
 
 pub no-files : (s : List ℕ) (n i : ℕ) {l : List ℕ} {o : ℕ} → n ≤ i → Wrote l o (files_from (n - i) i s) l o
 unfolding files_from
 no-files s n i h =
     let e : n - i ≡ 0 = omega arith in
-    wrote_as wrote_none (sym (ap (λ (k : ℕ). files_from k i s) e))
+    wrote-as wrote-none (sym (ap (λ (k : ℕ). files_from k i s) e))
 
 -- ---- What is lent
 
@@ -55,8 +55,8 @@ module _ (s : List ℕ) {f : List ℕ} {p : ℕ} (h : two_at s 0 ≤ 256) (w : W
   lent-end : p ≡ length (files_back s)
   lent-end = let e = back-size s in let a = w.at in omega arith
 
-  pub lent_fits : p ≤ length f
-  lent_fits =
+  pub lent-fits : p ≤ length f
+  lent-fits =
       let e = back-size s in
       let a = lent-end in
       let b = w.size ∙ length-replicate {A = ℕ} 512 0 in

@@ -11,7 +11,7 @@ use borrow.Author.Tests.{ltb-false, le-ltb}
 use Rattle.scope.specs.declared.Mark.TheVariants.{Wrapping}
 use Rattle.scope.specs.declared.Scope.{Scope}
 use Rattle.scope.specs.declared.id.ModuleId.{ModuleId}
-use Rattle.scope.specs.Modules.{Modules, Generated, Left as Requesting, done as tells, refused as untold, given, not-given, is_marked, read_mark}
+use Rattle.scope.specs.Modules.{Modules, Generated, Left as Requesting, done as tells, refused as untold, given, not_given, is_marked, read_mark}
 use Rattle.scope.specs.ScopeValue.{modules_of}
 use Rattle.tree.specs.declared.grammar.Set.TheVariants.{Module, Records}
 use Rattle.tree.specs.Layout.{value_of, Bytes}
@@ -54,17 +54,17 @@ hands-back (reads_esm m) s t h = ap modules_of h
 hands-back (extracts l room) s t h = ap modules_of h.5 ∙ ap (λ (g : Left). g.modules) h.4
 hands-back (resolves l room) s t h = ap modules_of h.3 ∙ ap (λ (g : LeftList). g.modules) h.2
 
-hand_on : (calls : List Call) (s t : Scope) → HandOn calls s t → modules_of t ≡ after_all calls (modules_of s)
+hand-on : (calls : List Call) (s t : Scope) → HandOn calls s t → modules_of t ≡ after_all calls (modules_of s)
 unfolding after_all
-hand_on [] s t h = ap modules_of h
-hand_on (c ∷ calls) s t h = hand_on calls h.0 t h.2 ∙ ap (after_all calls) (hands-back c s h.0 h.1)
+hand-on [] s t h = ap modules_of h
+hand-on (c ∷ calls) s t h = hand-on calls h.0 t h.2 ∙ ap (after_all calls) (hands-back c s h.0 h.1)
 
 -- what is read of a module's mark
 read-marked : (m : ModuleId) (ms : Modules) (b : Bool) → tells b ≡ read_mark Wrapping m ms → b ≡ is_marked Wrapping m.0 ms
 unfolding read_mark
 read-marked m ms b e = go (given m ms) e
   where
-    go : (c : Bool) → tells b ≡ cond c (tells (is_marked Wrapping m.0 ms)) (untold not-given) → b ≡ is_marked Wrapping m.0 ms
+    go : (c : Bool) → tells b ≡ cond c (tells (is_marked Wrapping m.0 ms)) (untold not_given) → b ≡ is_marked Wrapping m.0 ms
     go true e = cc
     go false e = absurd (let z : ◌≡◌ {A = ℕ} 0 1 = cc in omega arith)
 
@@ -77,23 +77,23 @@ unmarked-past (suc n) (m ∷ ms) e =
     let z = ltb-false (suc n) (length (m ∷ ms)) e in
     unmarked-past n ms (le-ltb n (length ms) (omega arith))
 
-unread-marked : (m : ModuleId) (ms : Modules) → untold not-given ≡ read_mark Wrapping m ms → is_marked Wrapping m.0 ms ≡ false
+unread-marked : (m : ModuleId) (ms : Modules) → untold not_given ≡ read_mark Wrapping m ms → is_marked Wrapping m.0 ms ≡ false
 unfolding read_mark
 unread-marked m ms e = go (given m ms) refl e
   where
-    go : (c : Bool) → given m ms ≡ c → untold not-given ≡ cond c (tells (is_marked Wrapping m.0 ms)) (untold not-given) → is_marked Wrapping m.0 ms ≡ false
+    go : (c : Bool) → given m ms ≡ c → untold not_given ≡ cond c (tells (is_marked Wrapping m.0 ms)) (untold not_given) → is_marked Wrapping m.0 ms ≡ false
     go true q e = absurd (let z : ◌≡◌ {A = ℕ} 0 1 = cc in omega arith)
     go false q e = unmarked-past m.0 ms q
 
 handed-marked : (calls : List Call) (s t : Scope) → modules_of s ≡ [] → HandOn calls s t → (n : ℕ) → is_marked Wrapping n (modules_of t) ≡ wraps_any n calls []
-handed-marked calls s t fresh h n = ap (is_marked Wrapping n) (hand_on calls s t h ∙ ap (after_all calls) fresh) ∙ marked-exactly calls n
+handed-marked calls s t fresh h n = ap (is_marked Wrapping n) (hand-on calls s t h ∙ ap (after_all calls) fresh) ∙ marked-exactly calls n
 
 pub answers-exactly : AnswersExactly
 answers-exactly calls s t fresh h m b e = read-marked m (modules_of t) b e ∙ handed-marked calls s t fresh h m.0
 
 -- and a number that was not given was wrapped by no call
 pub answers-none : (calls : List Call) (s t : Scope) → modules_of s ≡ [] → HandOn calls s t → (m : ModuleId) →
-    untold not-given ≡ read_mark Wrapping m (modules_of t) → wraps_any m.0 calls [] ≡ false
+    untold not_given ≡ read_mark Wrapping m (modules_of t) → wraps_any m.0 calls [] ≡ false
 answers-none calls s t fresh h m e = sym (handed-marked calls s t fresh h m.0) ∙ unread-marked m (modules_of t) e
 
 -- ---- What the buffers hold

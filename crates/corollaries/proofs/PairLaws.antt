@@ -32,9 +32,9 @@ use Rattle.corollaries.proofs.FunctionsLaws.{answers-exactly, answers-none, func
 
 -- ---- The field at the front of a buffer
 
-pub front_cut : (s : List ℕ) → length s ≤ 3 + two_at s 1 → take (length s) s ≡ field_in s
+pub front-cut : (s : List ℕ) → length s ≤ 3 + two_at s 1 → take (length s) s ≡ field_in s
 unfolding field_in
-front_cut s h = take-length s ∙ sym (take_all (3 + two_at s 1) s h)
+front-cut s h = take-length s ∙ sym (take_all (3 + two_at s 1) s h)
 
 pub front-whole : (s : List ℕ) (n : ℕ) → n ≡ 3 + two_at s 1 → take n s ≡ field_in s
 unfolding field_in

@@ -25,22 +25,22 @@ use Rattle.tree.proofs.SliceLaws.{get_d-slice}
 use Rattle.tree.proofs.AccessLaws.{extent-upto}
 use Rattle.tree.proofs.FixedLaws.{upto-inj}
 use Rattle.tree.proofs.ReadLaws.{good-fine, verdict-refused}
-use Rattle.tree.proofs.StandingLaws.{row_more, row-none, tree-upto, tree-short, row_next, whole-tag}
-use Rattle.tree.proofs.WidthLaws.{plain-ends, read_module}
+use Rattle.tree.proofs.StandingLaws.{row-more, row-none, tree-upto, tree-short, row-next, whole-tag}
+use Rattle.tree.proofs.WidthLaws.{plain-ends, read-module}
 use Rattle.detection.specs.declared.Ident.{Ident}
 use Rattle.detection.specs.declared.Ident.TheVariants.{Name, Other}
 use Rattle.detection.specs.Detection.{first_ident, any_name, module_or_exports, other_here, found_other, found_other_in, forced_es6, es6, items_of, answers, refuses, on_reading, detect, Accepted}
 
 -- ---- the walk
 
-pub found_none : (s : List ℕ) (at end : ℕ) → at ≤ end → extent_at s at end ≡ Short → found_other_in (row_at s at end) ≡ false
+pub found-none : (s : List ℕ) (at end : ℕ) → at ≤ end → extent_at s at end ≡ Short → found_other_in (row_at s at end) ≡ false
 unfolding found_other
-found_none s at end le e = ap found_other_in (row-none s at end le e)
+found-none s at end le e = ap found_other_in (row-none s at end le e)
 
 pub found-more : (s : List ℕ) (at end stop : ℕ) → at ≤ end → extent_at s at end ≡ Upto stop →
     found_other_in (row_at s at end) ≡ found_other (tree_at s at stop) || found_other_in (row_at s stop end)
 unfolding found_other
-found-more s at end stop le e = ap found_other_in (row_more s at end stop le e)
+found-more s at end stop le e = ap found_other_in (row-more s at end stop le e)
 
 pub found-short : (s : List ℕ) (at stop : ℕ) → fixed_at s (get_or s at 0) (at + 3) stop ≡ Short → found_other (tree_at s at stop) ≡ false
 unfolding found_other other_here
@@ -61,9 +61,9 @@ pub call-here : {t : ℕ} (cs : Fields) {i : Ident} → t ≡ 0x65 → first_ide
 unfolding other_here
 call-here cs h e = ap (λ (u : ℕ). other_here u cs) h ∙ ap any_name e
 
-pub none_here : (t : ℕ) (cs : Fields) → (t ≡ 0x63 → ⊥) → (t ≡ 0x65 → ⊥) → other_here t cs ≡ false
+pub none-here : (t : ℕ) (cs : Fields) → (t ≡ 0x63 → ⊥) → (t ≡ 0x65 → ⊥) → other_here t cs ≡ false
 unfolding other_here
-none_here t cs h k = rw (ne_eqb t 0x63 h, ne_eqb t 0x65 k)
+none-here t cs h k = rw (ne_eqb t 0x63 h, ne_eqb t 0x65 k)
 
 -- ---- the first part
 
@@ -71,18 +71,18 @@ pub first-none : (s : List ℕ) (at end : ℕ) → at ≤ end → extent_at s at
 unfolding first_ident
 first-none s at end le e = ap first_ident (row-none s at end le e)
 
-pub first_short : (s : List ℕ) (at end stop : ℕ) → at ≤ end → extent_at s at end ≡ Upto stop →
+pub first-short : (s : List ℕ) (at end stop : ℕ) → at ≤ end → extent_at s at end ≡ Upto stop →
     fixed_at s (get_or s at 0) (at + 3) stop ≡ Short → first_ident (row_at s at end) ≡ Other
 unfolding first_ident
-first_short s at end stop le e x =
-    ap first_ident (row_more s at end stop le e ∙ ap (λ (f : Field). more f (row_at s stop end)) (tree-short s at stop x))
+first-short s at end stop le e x =
+    ap first_ident (row-more s at end stop le e ∙ ap (λ (f : Field). more f (row_at s stop end)) (tree-short s at stop x))
 
 pub first-upto : (s : List ℕ) (at end stop b : ℕ) → at ≤ end → extent_at s at end ≡ Upto stop →
     fixed_at s (get_or s at 0) (at + 3) stop ≡ Upto b →
     first_ident (row_at s at end) ≡ cond (eqb (get_or s at 0) 0x60) (Name (atom (two_at (slice (at + 3) b s) 0))) Other
 unfolding first_ident
 first-upto s at end stop b le e x =
-    ap first_ident (row_more s at end stop le e ∙ ap (λ (f : Field). more f (row_at s stop end)) (tree-upto s at stop b x))
+    ap first_ident (row-more s at end stop le e ∙ ap (λ (f : Field). more f (row_at s stop end)) (tree-upto s at stop b x))
 
 name-slice : (s : List ℕ) (at b : ℕ) → b ≡ at + 6 → two_at (slice at b s) 0 ≡ two_at s at
 name-slice s at b h =
@@ -107,7 +107,7 @@ pub accepted-next : (s : List ℕ) (at end stop : ℕ) → at ≤ end → Accept
     Whole s at stop × Accepted s stop end
 accepted-next s at end stop le (q, w) x =
     let i = extent-upto s at end le x in
-    let f = row_next s at end q le w (λ z. omega arith) in
+    let f = row-next s at end q le w (λ z. omega arith) in
     let same : f.1 ≡ stop = upto-inj (sym f.3 ∙ x) in
     subst (λ (k : ℕ). Whole s at k × Accepted s k end) same (f.4, (f.0, f.5))
 
@@ -121,17 +121,17 @@ pub forced-more : (s : List ℕ) (at end stop : ℕ) → at ≤ end → Accepted
     forced_es6 (row_at s at end) ≡ within 0x10 0x14 (get_or s at 0) || forced_es6 (row_at s stop end)
 unfolding forced_es6
 forced-more s at end stop le a e =
-    ap forced_es6 (row_more s at end stop le e)
+    ap forced_es6 (row-more s at end stop le e)
     ∙ ap (λ (t : ℕ). within 0x10 0x14 t || forced_es6 (row_at s stop end))
     (whole-tag s at stop (accepted-next s at end stop le a e).0)
 
 -- ---- the whole call
 
 items-are : (s : List ℕ) (fs : Fields) → read Module s ≡ fine fs → items_of fs ≡ row_at s 3 (length s)
-items-are s fs e = ap items_of (read_module s fs e).tree
+items-are s fs e = ap items_of (read-module s fs e).tree
 
 pub items-accepted : (s : List ℕ) → verdict (read Module s) ≡ Good → (3 ≤ length s) × Accepted s 3 (length s)
-items-accepted s e = let r = good-fine (read Module s) e in let m = read_module s r.0 r.1 in (m.room, (rule_of 0x01, m.row))
+items-accepted s e = let r = good-fine (read Module s) e in let m = read-module s r.0 r.1 in (m.room, (rule_of 0x01, m.row))
 
 pub detect-long : (modes : Modes) (s : List ℕ) → 65538 < length s → detect modes s ≡ refuses 1 0
 unfolding detect

@@ -1,7 +1,7 @@
 -- Detection (document 01, 'Metadata and detection', last sentence): whether a module is an ES module, and the whole call with its refusals.
 use Rattle.std.specs.Prelude.{ℕ, ◌≡◌, Bool, true, false, not, ◌||◌, cond, List, [], ◌∷◌, ltb, eqb, length}
 use Rattle.modes.specs.declared.Modes.{Modes}
-use Rattle.scope.specs.Id.{atom, module-atom, exports-atom}
+use Rattle.scope.specs.Id.{atom, module_atom, exports_atom}
 use Rattle.tree.specs.declared.grammar.Set.TheVariants.{Module}
 use Rattle.tree.specs.declared.grammar.Rule.{Rule}
 use Rattle.tree.specs.Layout.{two_at}
@@ -27,7 +27,7 @@ any_name (Name a) = true
 -- 'module or exports', in any context
 abbrev pub module_or_exports : Ident → Bool
 module_or_exports Other = false
-module_or_exports (Name a) = eqb a.0 module-atom || eqb a.0 exports-atom
+module_or_exports (Name a) = eqb a.0 module_atom || eqb a.0 exports_atom
 
 -- a field with this tag and these parts is 'a call on ANY plain 60' or 'a member of module or exports'; 'super excepted': a 64 is no 63
 unfoldable pub other_here : ℕ → Fields → Bool

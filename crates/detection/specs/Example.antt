@@ -2,7 +2,7 @@
 use Rattle.std.specs.Prelude.{ℕ, ◌≡◌, refl, Bool, true, false, [], ◌∷◌}
 use Rattle.modes.specs.declared.Modes.{Modes}
 use Rattle.modes.specs.Bits.{modes_of}
-use Rattle.scope.specs.Id.{module-atom, exports-atom}
+use Rattle.scope.specs.Id.{module_atom, exports_atom}
 use Rattle.tree.specs.Tree.{Field, field, Fields, none, more, framed, encode}
 use Rattle.tree.specs.Grammar.{within}
 use Rattle.tree.specs.Example.{reading}
@@ -54,7 +54,7 @@ unfolding judged
 parenthesised = refl
 
 -- `module.x`, `f.x`
-member-of-module : es6 on (only (member (ident module-atom) x)) ≡ false
+member-of-module : es6 on (only (member (ident module_atom) x)) ≡ false
 unfolding judged
 member-of-module = refl
 
@@ -63,12 +63,12 @@ unfolding judged
 member-of-other = refl
 
 -- `exports.x = f`: 'targets too'
-target : es6 on (only (field 0x66 [] (more (member (ident exports-atom) x) (more f none)))) ≡ false
+target : es6 on (only (field 0x66 [] (more (member (ident exports_atom) x) (more f none)))) ≡ false
 unfolding judged
 target = refl
 
 -- `super.module`: 'super excepted'; `super[f()]`: the call in it counts
-super-module : es6 on (only (field 0x64 [] (more (name module-atom) none))) ≡ true
+super-module : es6 on (only (field 0x64 [] (more (name module_atom) none))) ≡ true
 unfolding judged
 super-module = refl
 

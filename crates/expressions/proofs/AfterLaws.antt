@@ -15,7 +15,7 @@ use Rattle.tree.specs.Tree.{Field, Fields, none, more, fixed_of}
 use Rattle.tree.specs.Access.{fixed_at, extent_at}
 use Rattle.tree.specs.Standing.{tree_at, row_at}
 use Rattle.tree.proofs.LayoutLaws.{two_at-is}
-use Rattle.tree.proofs.StandingLaws.{row_more, row-none, tree-upto, tree-short}
+use Rattle.tree.proofs.StandingLaws.{row-more, row-none, tree-upto, tree-short}
 use Rattle.tree.proofs.WidthLaws.{plain-ends}
 use Rattle.tree.specs.declared.grammar.Value.TheVariants.{Atom, Id as SixBytes}
 use Rattle.inputs.specs.Fields.{has}
@@ -69,9 +69,9 @@ module _ (s : List ℕ) (at stop : ℕ) where
       record { is = λ u v. w.is u v ∙ sym (ap (λ (p : Bool). ident_after (tree_at s at stop) (pass_of p) u) z ∙ is-tree second u b e ∙ rw (eq-eqb (get_or s at 0) 0x63 h)) }
 
   -- in the first it is no id
-  pub after_first : {b : ℕ} {c : Bool} {t : List ℕ} → fixed_at s (get_or s at 0) (at + 3) stop ≡ Upto b → get_or s at 0 ≡ 0x63 → c ≡ false →
+  pub after-first : {b : ℕ} {c : Bool} {t : List ℕ} → fixed_at s (get_or s at 0) (at + 3) stop ≡ Upto b → get_or s at 0 ≡ 0x63 → c ≡ false →
       Tells (ident_after (tree_at s at stop) (pass_of c)) t nothing
-  after_first {b} {c} e h z =
+  after-first {b} {c} e h z =
       record { is = λ u v. sym (ap (λ (p : Bool). ident_after (tree_at s at stop) (pass_of p) u) z ∙ is-tree first u b e ∙ rw (eq-eqb (get_or s at 0) 0x63 h) (first-none (row_at s b stop) u)) }
 
 -- ---- The parts of a 63, in the second pass
@@ -83,10 +83,10 @@ no-object o none u h = refl
 no-object o (more q qs) u h = ap (λ (i : Option (List ℕ)). becomes second i q u) h
 
 -- it has no usages, or it is not imported, or the member names the id
-no-usages : (us : List Usage) (c : Option (List ℕ)) (q : Field) → any us ≡ false → as_ident us c q ≡ nothing
+no_usages : (us : List Usage) (c : Option (List ℕ)) (q : Field) → any us ≡ false → as_ident us c q ≡ nothing
 unfolding as_ident
-no-usages [] c q h = refl
-no-usages (x ∷ us) c q h = absurd (let z : ◌≡◌ {A = ℕ} 0 1 = cc in omega arith)
+no_usages [] c q h = refl
+no_usages (x ∷ us) c q h = absurd (let z : ◌≡◌ {A = ℕ} 0 1 = cc in omega arith)
 
 no-context : (us : List Usage) (q : Field) → as_ident us nothing q ≡ nothing
 unfolding as_ident
@@ -106,7 +106,7 @@ on-object o q qs u i h = ap (λ (j : Option (List ℕ)). becomes second j q u) (
 object-unused : (o : Field) (r : Fields) (u : State) (i : List ℕ) → some i ≡ ident_after o second u → false ≡ any (usages_of i u.usages) → member_after (more o r) second u ≡ nothing
 unfolding ident_after
 object-unused o none u i h k = refl
-object-unused o (more q qs) u i h k = on-object o q qs u i h ∙ no-usages (usages_of i u.usages) (imported_as i u.imported) q (sym k)
+object-unused o (more q qs) u i h k = on-object o q qs u i h ∙ no_usages (usages_of i u.usages) (imported_as i u.imported) q (sym k)
 
 object-nowhere : (o : Field) (r : Fields) (u : State) (i : List ℕ) → some i ≡ ident_after o second u → nothing ≡ imported_as i u.imported → member_after (more o r) second u ≡ nothing
 unfolding ident_after
@@ -127,25 +127,25 @@ module _ (s : List ℕ) (at end : ℕ) (le : at ≤ end) where
   member-none e = record { is = λ u _. sym (ap (λ (f : Fields). member_after f second u) (row-none s at end le e)) }
 
   module _ {stop : ℕ} (e : extent_at s at end ≡ Upto stop) where
-    row_is : (u : State) → member_after (row_at s at end) second u ≡ member_after (more (tree_at s at stop) (row_at s stop end)) second u
-    row_is u = ap (λ (f : Fields). member_after f second u) (row_more s at end stop le e)
+    row-is : (u : State) → member_after (row_at s at end) second u ≡ member_after (more (tree_at s at stop) (row_at s stop end)) second u
+    row-is u = ap (λ (f : Fields). member_after f second u) (row-more s at end stop le e)
 
     pub member-other : {r : Ident} {t : List ℕ} → r ≡ Other → Tells (ident_after (tree_at s at stop) second) t (ident_by r) →
         Tells (member_after (row_at s at end) second) t nothing
     member-other h w =
-        record { is = λ u v. sym (row_is u ∙ no-object (tree_at s at stop) (row_at s stop end) u (sym (w.is u v) ∙ ap ident_by h)) }
+        record { is = λ u v. sym (row-is u ∙ no-object (tree_at s at stop) (row_at s stop end) u (sym (w.is u v) ∙ ap ident_by h)) }
 
     module _ {n : Id} {r : Ident} {t : List ℕ} (h : r ≡ Is n) (w : Tells (ident_after (tree_at s at stop) second) t (ident_by r)) where
-      object-is : {x : Env} (u : State) → Shows x t u → some (id_by n) ≡ ident_after (tree_at s at stop) second u
-      object-is u v = ap ident_by (sym h) ∙ w.is u v
+      object_is : {x : Env} (u : State) → Shows x t u → some (id_by n) ≡ ident_after (tree_at s at stop) second u
+      object_is u v = ap ident_by (sym h) ∙ w.is u v
 
       pub member-unused : {b : Bool} → b ≡ false → Tells (λ u. any (usages_of (id_by n) u.usages)) t b → Tells (member_after (row_at s at end) second) t nothing
       member-unused k p =
-          record { is = λ u v. sym (row_is u ∙ object-unused (tree_at s at stop) (row_at s stop end) u (id_by n) (object-is u v) (sym k ∙ p.is u v)) }
+          record { is = λ u v. sym (row-is u ∙ object-unused (tree_at s at stop) (row_at s stop end) u (id_by n) (object_is u v) (sym k ∙ p.is u v)) }
 
       pub member-nowhere : {c : Context} → c ≡ Nowhere → Tells (λ u. imported_as (id_by n) u.imported) t (context_by c) →
           Tells (member_after (row_at s at end) second) t nothing
-      member-nowhere k p = record { is = λ u v. sym (row_is u ∙ object-nowhere (tree_at s at stop) (row_at s stop end) u (id_by n) (object-is u v) (ap context_by (sym k) ∙ p.is u v)) }
+      member-nowhere k p = record { is = λ u v. sym (row-is u ∙ object-nowhere (tree_at s at stop) (row_at s stop end) u (id_by n) (object_is u v) (ap context_by (sym k) ∙ p.is u v)) }
 
       pub member-named : {b : Bool} {c : Context} {d : SyntaxContext} (q : Ident) → b ≡ true → Tells (λ u. any (usages_of (id_by n) u.usages)) t b → c ≡ Of d →
           Tells (λ u. imported_as (id_by n) u.imported) t (context_by c) → ident_by q ≡ named_first (row_at s stop end) (four d.0) →
@@ -155,27 +155,27 @@ module _ (s : List ℕ) (at end : ℕ) (le : at ≤ end) where
             is = λ u v.
                 f
                 ∙
-                sym (row_is u
-                ∙ object-named (tree_at s at stop) (row_at s stop end) u (id_by n) (four d.0) (object-is u v) (sym k ∙ p.is u v)
+                sym (row-is u
+                ∙ object-named (tree_at s at stop) (row_at s stop end) u (id_by n) (four d.0) (object_is u v) (sym k ∙ p.is u v)
                 (ap context_by (sym m) ∙ o.is u v));
           }
 
 -- ---- The member
 
 module _ (s : List ℕ) (at end : ℕ) (c : List ℕ) (le : at ≤ end) where
-  pub named_none : extent_at s at end ≡ Short → nothing ≡ named_first (row_at s at end) c
+  pub named-none : extent_at s at end ≡ Short → nothing ≡ named_first (row_at s at end) c
   unfolding named_first
-  named_none e = sym (ap (λ (f : Fields). named_first f c) (row-none s at end le e))
+  named-none e = sym (ap (λ (f : Fields). named_first f c) (row-none s at end le e))
 
   module _ {stop : ℕ} (e : extent_at s at end ≡ Upto stop) where
     pub named-short : fixed_at s (get_or s at 0) (at + 3) stop ≡ Short → nothing ≡ named_first (row_at s at end) c
     unfolding named_first
-    named-short x = sym (ap (λ (f : Fields). named_first f c) (row_more s at end stop le e ∙ ap (λ (f : Field). more f (row_at s stop end)) (tree-short s at stop x)))
+    named-short x = sym (ap (λ (f : Fields). named_first f c) (row-more s at end stop le e ∙ ap (λ (f : Field). more f (row_at s stop end)) (tree-short s at stop x)))
 
     named-is : (b : ℕ) → fixed_at s (get_or s at 0) (at + 3) stop ≡ Upto b →
         named_first (row_at s at end) c ≡ cond (eqb (get_or s at 0) 0x70) (some (slice (at + 3) b s ++ c)) nothing
     unfolding named_first
-    named-is b x = ap (λ (f : Fields). named_first f c) (row_more s at end stop le e ∙ ap (λ (f : Field). more f (row_at s stop end)) (tree-upto s at stop b x))
+    named-is b x = ap (λ (f : Fields). named_first f c) (row-more s at end stop le e ∙ ap (λ (f : Field). more f (row_at s stop end)) (tree-upto s at stop b x))
 
     pub named-70 : {b a : ℕ} → Bytes s → at + 5 ≤ length s → fixed_at s (get_or s at 0) (at + 3) stop ≡ Upto b → get_or s at 0 ≡ 0x70 → a ≡ two_at s (at + 3) →
         some (two a ++ c) ≡ named_first (row_at s at end) c

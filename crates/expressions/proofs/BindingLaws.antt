@@ -19,12 +19,12 @@ use Rattle.extraction_rules.specs.Second.{usages_of, as_property, rewritten}
 use Rattle.extraction_rules.specs.Walk.{Rule, import, export as exporting, declare, express, nothing as plain, after_expression, rule_for, after}
 use Rattle.extraction_rules.specs.Walk.{Parts, unwalked, member, super, assignment, children, parts_for, enter, walk, walk_all, walk_member}
 use Rattle.extraction_rules.specs.Walk.{walk_assignment, walk_target}
-use Rattle.extraction_rules.proofs.OutcomeLaws.{After, after-bind, after-if, after-weaken, after_both}
+use Rattle.extraction_rules.proofs.OutcomeLaws.{After, after-bind, after-if, after-weaken, after-both}
 use Rattle.extraction_rules.proofs.ValueLaws.{required-call, first-expression, declarator-value}
 use Rattle.extraction_rules.proofs.TagLaws.{rule-import, rule-export}
 use Rattle.extraction_rules.proofs.WalkLaws.{walk_parts}
 use Rattle.extraction_rules.proofs.AlikeLaws.{Two, RegularAt, Regular, RegularAll}
-use Rattle.extraction_rules.proofs.StayLaws.{no_member}
+use Rattle.extraction_rules.proofs.StayLaws.{no-member}
 use Rattle.extraction_rules.proofs.RecordedLaws.{bindings_by}
 use Rattle.expressions.specs.After.{ident_of}
 use Rattle.expressions.proofs.IdentLaws.{Became, walk-ident, Membered, parts-63}
@@ -80,13 +80,13 @@ export-below : binding_of 0x23 ≡ below
 unfolding binding_of
 export-below = refl
 
-name_below : binding_of 0x70 ≡ below
+name-below : binding_of 0x70 ≡ below
 unfolding binding_of
-name_below = refl
+name-below = refl
 
-member_below : binding_of 0x63 ≡ below
+member-below : binding_of 0x63 ≡ below
 unfolding binding_of
-member_below = refl
+member-below = refl
 
 member-way : parts_for 0x63 ≡ member
 unfolding parts_for
@@ -133,11 +133,11 @@ module _ (e : Setting) where
       Binds cs ds → (e.pass ≡ second → Unbound t x ds) →
       After (after r e t x ds object p s) (λ g s'. bindings g ≡ bindings (field t x cs))
   unfolding after export_specifier
-  after-binds import t x cs ds object p s q w h u = absurd (w.no-import (rule-import t q))
+  after-binds import t x cs ds object p s q w h u = absurd (w.no_import (rule-import t q))
   after-binds exporting t x cs ds object p s q w h u =
       after-if (eqb (get_or x 0 0) 2 || eqb (get_or x 7 0) 2) (refuse 6 p) _ s (λ g s'. bindings g ≡ bindings (field t x cs)) (λ _. tt)
       (λ _. below-binds 0x23 _ none export-below ∙ bare
-      ∙ sym (below-binds t x cs (ap binding_of (rule-export t q) ∙ export-below) ∙ ap bindings_all (w.export-bare (rule-export t q)) ∙ bare))
+      ∙ sym (below-binds t x cs (ap binding_of (rule-export t q) ∙ export-below) ∙ ap bindings_all (w.export_bare (rule-export t q)) ∙ bare))
   after-binds declare t x cs ds object p s q w h u =
       after-bind (declarator e ds p s) _ (λ gs s'. Binds ds gs) _ (declarator-binds ds p s) λ gs s' k. binds-field t x cs gs (k.0 ∙ h.0, k.1 ∙ h.1)
   after-binds express t x cs ds object p s q w h u =
@@ -165,10 +165,10 @@ module _ (e : Setting) where
   -- a 63 on a 60, with a 70: nothing in it binds
   pair-binds : (x : List ℕ) (o q : Field) → bindings o ≡ none → bindings q ≡ none → bindings (field 0x63 x (more o (more q none))) ≡ none
   unfolding bindings append
-  pair-binds x o q h k = below-binds 0x63 x (more o (more q none)) member_below ∙ rw (h, k) refl
+  pair-binds x o q h k = below-binds 0x63 x (more o (more q none)) member-below ∙ rw (h, k) refl
 
   name-binds : (q : Field) → Regular q → tag_of q ≡ 0x70 → bindings q ≡ none
-  name-binds (field t x cs) w k = below-binds t x cs (ap binding_of k ∙ name_below) ∙ ap bindings_all (w.0.name-bare k) ∙ bare
+  name-binds (field t x cs) w k = below-binds t x cs (ap binding_of k ∙ name-below) ∙ ap bindings_all (w.0.name_bare k) ∙ bare
 
   unbound : (x : List ℕ) (o q : Field) (o' q' : Field) (s s1 s2 : State) → e.pass ≡ second → Regular q → Became e o s o' s1 → Membered e q s1 q' s2 →
       Unbound 0x63 x (more o' (more q' none))
@@ -186,7 +186,7 @@ module _ (e : Setting) where
       go false k i = absurd (let z : ◌≡◌ {A = ℕ} 0 1 = cc in omega arith)
 
   unbound-first : (t : ℕ) (x : List ℕ) (ds : Fields) → (t ≡ 0x63 → ⊥) → Unbound t x ds
-  unbound-first t x ds h o q i k = absurd (let n = no_member t x ds h in let z : ◌≡◌ {A = ℕ} 0 1 = cc in omega arith)
+  unbound-first t x ds h o q i k = absurd (let n = no-member t x ds h in let z : ◌≡◌ {A = ℕ} 0 1 = cc in omega arith)
 
   -- what is known of the parts of a field behind them: those of a 63 that becomes a 60 bind nothing
   abbrev Bound : ℕ → List ℕ → Fields → Fields → Type 0
@@ -201,7 +201,7 @@ module _ (e : Setting) where
           let r : RegularAll (more o (more q none)) = subst RegularAll z w in
           after-weaken (walk_member cs e p s) _ (λ ds s'. Bound 0x63 x cs ds)
           (λ ds s2 k. (k.0, λ two. subst (Unbound 0x63 x) (sym k.1.3) (unbound x o q k.1.0 k.1.1 s k.1.2 s2 two r.1.0 k.1.4 k.1.5)))
-          (after_both (walk_member cs e p s) (λ ds s'. Binds cs ds)
+          (after-both (walk_member cs e p s) (λ ds s'. Binds cs ds)
           (λ ds s2. (o' q' : Field) × (s1 : State) × (ds ≡ more o' (more q' none)) × Became e o s o' s1 × Membered e q s1 q' s2) h
           (subst (λ (l : Fields). After (walk_member l e p s) (λ ds s2. (o' q' : Field) × (s1 : State) × (ds ≡ more o' (more q' none)) × Became e o s o' s1 × Membered e q s1 q' s2)) (sym z)
           (parts-63 e o q p s t r.1.0 (walk-ident e o true p s r.0))))
@@ -216,7 +216,7 @@ module _ (e : Setting) where
       go true k =
           subst (λ (u : ℕ). After (walk_parts (parts_for u) cs e object p s) (λ ds s'. Bound u x cs ds)) (sym (eqb-true t 0x63 k))
           (subst (λ (v : Parts). After (walk_parts v cs e object p s) (λ ds s'. Bound 0x63 x cs ds)) (sym member-way)
-          (member-bound x cs p s (w.0.member-two (eqb-true t 0x63 k)) w.1 (mem p s)))
+          (member-bound x cs p s (w.0.member_two (eqb-true t 0x63 k)) w.1 (mem p s)))
       go false k =
           after-weaken (walk_parts (parts_for t) cs e object p s) (λ ds s'. Binds cs ds) _ (λ ds s' h. (h, λ _. unbound-first t x ds (eqb-false t 0x63 k)))
           (parts-bind (parts_for t) cs object p s all mem asg)

@@ -16,22 +16,22 @@ use Rattle.expressions.specs.Require.{CalleeSet}
 
 -- ---- Runs of stores
 
-set_twice : (l : List ℕ) (i a b : ℕ) → set (set l i a) i b ≡ set l i b
-set_twice [] i a b = refl
-set_twice (x ∷ l) zero a b = refl
-set_twice (x ∷ l) (suc i) a b = ap (λ (m : List ℕ). x ∷ m) (set_twice l i a b)
+set-twice : (l : List ℕ) (i a b : ℕ) → set (set l i a) i b ≡ set l i b
+set-twice [] i a b = refl
+set-twice (x ∷ l) zero a b = refl
+set-twice (x ∷ l) (suc i) a b = ap (λ (m : List ℕ). x ∷ m) (set-twice l i a b)
 
 -- one part of a run after the other
 -- a store before a run may come first
 -- a run over the start of another
-sets_over : (ds cs vs l : List ℕ) (i : ℕ) → length ds ≡ length cs → sets (sets l i (cs ++ vs)) i ds ≡ sets l i (ds ++ vs)
-sets_over [] [] vs l i h = refl
-sets_over [] (c ∷ cs) vs l i h = absurd (omega arith)
-sets_over (d ∷ ds) [] vs l i h = absurd (omega arith)
-sets_over (d ∷ ds) (c ∷ cs) vs l i h =
+sets-over : (ds cs vs l : List ℕ) (i : ℕ) → length ds ≡ length cs → sets (sets l i (cs ++ vs)) i ds ≡ sets l i (ds ++ vs)
+sets-over [] [] vs l i h = refl
+sets-over [] (c ∷ cs) vs l i h = absurd (omega arith)
+sets-over (d ∷ ds) [] vs l i h = absurd (omega arith)
+sets-over (d ∷ ds) (c ∷ cs) vs l i h =
     ap (λ (x : List ℕ). sets x (suc i) ds)
-    (set-sets (cs ++ vs) (set l i c) (suc i) i d (omega arith) ∙ ap (λ (x : List ℕ). sets x (suc i) (cs ++ vs)) (set_twice l i c d))
-    ∙ sets_over ds cs vs (set l i d) (suc i) (omega arith)
+    (set-sets (cs ++ vs) (set l i c) (suc i) i d (omega arith) ∙ ap (λ (x : List ℕ). sets x (suc i) (cs ++ vs)) (set-twice l i c d))
+    ∙ sets-over ds cs vs (set l i d) (suc i) (omega arith)
 
 -- a run past the end
 sets-past : (vs l : List ℕ) (i : ℕ) → length l ≤ i → sets l i vs ≡ l
@@ -64,15 +64,15 @@ head_of a b x z =
     let k = length (0x60 ∷ 0 ∷ 0 ∷ a ∷ b ∷ 0 ∷ 0 ∷ 0 ∷ 0 ∷ (x ++ z)) in
     0x65 ∷ k / 256 ∷ k % 256 ∷ 0x60 ∷ m / 256 ∷ m % 256 ∷ a ∷ b ∷ []
 
-split_callee : (n : ℕ) (y bs : List ℕ) (ds gs : Fields) → length y ≡ 6 → Parts n (field 0x65 [] (more (field 0x60 y ds) gs)) bs
+split-callee : (n : ℕ) (y bs : List ℕ) (ds gs : Fields) → length y ≡ 6 → Parts n (field 0x65 [] (more (field 0x60 y ds) gs)) bs
 unfolding encode framed with_callee
-split_callee n [] bs ds gs h = absurd (omega arith)
-split_callee n (a ∷ []) bs ds gs h = absurd (omega arith)
-split_callee n (a ∷ (b ∷ [])) bs ds gs h = absurd (omega arith)
-split_callee n (a ∷ (b ∷ (c ∷ []))) bs ds gs h = absurd (omega arith)
-split_callee n (a ∷ (b ∷ (c ∷ (d ∷ [])))) bs ds gs h = absurd (omega arith)
-split_callee n (a ∷ (b ∷ (c ∷ (d ∷ (e ∷ []))))) bs ds gs h = absurd (omega arith)
-split_callee n (a ∷ (b ∷ (c ∷ (d ∷ (e ∷ (f ∷ [])))))) bs ds gs h =
+split-callee n [] bs ds gs h = absurd (omega arith)
+split-callee n (a ∷ []) bs ds gs h = absurd (omega arith)
+split-callee n (a ∷ (b ∷ [])) bs ds gs h = absurd (omega arith)
+split-callee n (a ∷ (b ∷ (c ∷ []))) bs ds gs h = absurd (omega arith)
+split-callee n (a ∷ (b ∷ (c ∷ (d ∷ [])))) bs ds gs h = absurd (omega arith)
+split-callee n (a ∷ (b ∷ (c ∷ (d ∷ (e ∷ []))))) bs ds gs h = absurd (omega arith)
+split-callee n (a ∷ (b ∷ (c ∷ (d ∷ (e ∷ (f ∷ [])))))) bs ds gs h =
     record {
       head = head_of a b (encodes ds) (encodes gs);
       old = c ∷ d ∷ e ∷ f ∷ [];
@@ -82,13 +82,13 @@ split_callee n (a ∷ (b ∷ (c ∷ (d ∷ (e ∷ (f ∷ [])))))) bs ds gs h =
       eight = refl;
       wide = refl;
     }
-split_callee n (a ∷ (b ∷ (c ∷ (d ∷ (e ∷ (f ∷ (g ∷ y))))))) bs ds gs h = absurd (omega arith)
+split-callee n (a ∷ (b ∷ (c ∷ (d ∷ (e ∷ (f ∷ (g ∷ y))))))) bs ds gs h = absurd (omega arith)
 
 -- ---- The stores
 
 module _ {n : ℕ} {f : Field} {bs : List ℕ} (w : Parts n f bs) where
-  as_long : length (encode (with_callee n f) ++ bs) ≡ length (encode f ++ bs)
-  as_long =
+  as-long : length (encode (with_callee n f) ++ bs) ≡ length (encode f ++ bs)
+  as-long =
       let a = length-append w.head (w.old ++ w.tail) in
       let b = length-append w.old w.tail in
       let c = length-append w.head (four (export n) ++ w.tail) in
@@ -112,7 +112,7 @@ module _ {n : ℕ} {f : Field} {bs : List ℕ} (w : Parts n f bs) where
   stored l o =
       ap (λ (x : List ℕ). sets (sets l o x) (o + 8) (four (export n))) w.before
       ∙ ap (λ (x : List ℕ). sets x (o + 8) (four (export n))) (from-eight l o (w.old ++ w.tail))
-      ∙ sets_over (four (export n)) w.old w.tail (sets l o w.head) (o + 8) (sym w.wide)
+      ∙ sets-over (four (export n)) w.old w.tail (sets l o w.head) (o + 8) (sym w.wide)
       ∙ sym (from-eight l o (four (export n) ++ w.tail)) ∙ ap (sets l o) (sym w.after)
 
   past : (l : List ℕ) (o : ℕ) → length l ≤ o + 8 → sets l o (encode f ++ bs) ≡ sets l o (encode (with_callee n f) ++ bs)
@@ -123,7 +123,7 @@ module _ {n : ℕ} {f : Field} {bs : List ℕ} (w : Parts n f bs) where
 
   wrote-stored : {l out out' : List ℕ} {o p q : ℕ} → Wrote l o (encode f ++ bs) out p → Wrote out (o + 8) (four (export n)) out' q → Wrote l o (encode (with_callee n f) ++ bs) out' p
   wrote-stored {l} {out} {out'} {o} {p} {q} u v =
-      let e = as_long in
+      let e = as-long in
       let g = long in
       record {
         at = u.at ∙ ap (λ (k : ℕ). capped (o + k)) (sym e);
@@ -133,7 +133,7 @@ module _ {n : ℕ} {f : Field} {bs : List ℕ} (w : Parts n f bs) where
 
   wrote-past : {l out : List ℕ} {o p : ℕ} → length out ≤ o + 8 → Wrote l o (encode f ++ bs) out p → Wrote l o (encode (with_callee n f) ++ bs) out p
   wrote-past {l} {out} {o} {p} k u =
-      let e = as_long in
+      let e = as-long in
       let z = u.size in
       record {
         at = u.at ∙ ap (λ (k : ℕ). capped (o + k)) (sym e);
@@ -143,10 +143,10 @@ module _ {n : ℕ} {f : Field} {bs : List ℕ} (w : Parts n f bs) where
 
 pub callee-past : (n o : ℕ) {out : List ℕ} → length out ≤ o + 8 → CalleeSet n o out out
 callee-past n o k =
-    record { size = refl; writes = λ l p y bs ds gs h u. let w = split_callee n y bs ds gs h in wrote-past w k u }
+    record { size = refl; writes = λ l p y bs ds gs h u. let w = split-callee n y bs ds gs h in wrote-past w k u }
 
 pub callee-set : (n o : ℕ) {c q : ℕ} {out out' : List ℕ} → c ≡ export n → c < 4294967296 → Wrote out (o + 8) (four_bytes c) out' q → CalleeSet n o out out'
 callee-set n o {c} {q} {out} {out'} e k v =
     let b : four_bytes c ≡ four (export n) = four-written c k ∙ ap four e in
     let v' : Wrote out (o + 8) (four (export n)) out' q = rw b at v in
-    record { size = v.size; writes = λ l p y bs ds gs h u. let w = split_callee n y bs ds gs h in wrote-stored w u v' }
+    record { size = v.size; writes = λ l p y bs ds gs h u. let w = split-callee n y bs ds gs h in wrote-stored w u v' }

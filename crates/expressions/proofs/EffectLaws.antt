@@ -14,7 +14,7 @@ use Rattle.steps.specs.declared.Why.{Why}
 use Rattle.steps.specs.declared.Why.TheVariants.{TableFull}
 use Rattle.steps.specs.declared.Effect.{Effect}
 use Rattle.steps.specs.declared.Effect.TheVariants.{Fine, Refused as Turned}
-use Rattle.steps.proofs.StepsLaws.{fine-turned, turned_as}
+use Rattle.steps.proofs.StepsLaws.{fine-turned, turned-as}
 
 module _ {P : Env → State → Type 0} {act : Env → Act (Unit {0})} {t : List ℕ} where
   -- nothing is done
@@ -28,7 +28,7 @@ module _ {P : Env → State → Type 0} {act : Env → Act (Unit {0})} {t : List
       record {
         good = g;
         fine = λ e. fine-turned (sym e);
-        turned = λ v p e {x} s k m. turned_as (h x s k m) e;
+        turned = λ v p e {x} s k m. turned-as (h x s k m) e;
       }
 
   -- the state is changed

@@ -18,7 +18,7 @@ use Rattle.extraction_rules.specs.Second.{usages_of, as_property, rewritten}
 use Rattle.extraction_rules.specs.Walk.{after_expression, rule_for, after, parts_for, walk, walk_all, walk_member}
 use Rattle.extraction_rules.proofs.OutcomeLaws.{After, after-bind, after-weaken}
 use Rattle.extraction_rules.proofs.AlikeLaws.{Two, RegularAt, Regular, RegularAll}
-use Rattle.extraction_rules.proofs.StayLaws.{Same, expression-same, walk_same}
+use Rattle.extraction_rules.proofs.StayLaws.{Same, expression-same, walk-same}
 use Rattle.expressions.specs.After.{ident_of, as_ident, becomes, ident_after, member_after}
 use Rattle.scope.proofs.Laws.{none-some}
 
@@ -72,12 +72,12 @@ module _ (e : Setting) where
     where
       go : (b : Bool) → eqb t 0x60 ≡ b → After (walk (field t x cs) e object p s) (Became (field t x cs) s)
       go true k =
-          let z : field 0x60 x none ≡ field t x cs = cc (eqb-true t 0x60 k, w.ident-bare (eqb-true t 0x60 k)) in
+          let z : field 0x60 x none ≡ field t x cs = cc (eqb-true t 0x60 k, w.ident_bare (eqb-true t 0x60 k)) in
           subst (λ (f : Field). After (walk f e object p s) (Became f s)) z
           (after-weaken (walk (field 0x60 x none) e object p s) _ (Became (field 0x60 x none) s) (λ g s'. became-60 x g s s') (walk-60 e x object p s))
       go false k =
           after-weaken (walk (field t x cs) e object p s) _ (Became (field t x cs) s)
-          (λ g s' q. became-other t x cs g s s' (eqb-false t 0x63 h) (eqb-false t 0x60 k) q.0) (walk_same e t x cs object p s w.no-import (eqb-false t 0x63 h))
+          (λ g s' q. became-other t x cs g s s' (eqb-false t 0x63 h) (eqb-false t 0x60 k) q.0) (walk-same e t x cs object p s w.no_import (eqb-false t 0x63 h))
 
   -- ---- A 63
 
@@ -87,11 +87,11 @@ module _ (e : Setting) where
 
   pub member-walk : (q : Field) (p : ℕ) (s : State) → ((tag_of q ≡ 0x70) ⊎ ((tag_of q ≡ 0x71) ⊎ (tag_of q ≡ 0x72))) → Regular q → After (walk q e false p s) (Membered q s)
   member-walk (field t x cs) p s (inl k) w =
-      let z : field 0x70 x none ≡ field t x cs = cc (k, w.0.name-bare k) in
+      let z : field 0x70 x none ≡ field t x cs = cc (k, w.0.name_bare k) in
       subst (λ (f : Field). After (walk f e false p s) (Membered f s)) z (rw (walk-70 e x false p s) (refl, λ _. (refl, refl)))
   member-walk (field t x cs) p s (inr k) w =
       after-weaken (walk (field t x cs) e false p s) (λ r s'. Same t x r) (Membered (field t x cs) s) (λ r s' h. (h.0, λ z. no k z))
-      (walk_same e t x cs false p s w.0.no-import (λ z. no63 k z))
+      (walk-same e t x cs false p s w.0.no_import (λ z. no63 k z))
     where
       no : {A : Type 0} → ((t ≡ 0x71) ⊎ (t ≡ 0x72)) → t ≡ 0x70 → A
       no (inl k) z = absurd (let v : ◌≡◌ {A = ℕ} 0x71 0x70 = sym k ∙ z in omega arith)
@@ -121,12 +121,12 @@ module _ (e : Setting) where
       go false = let n = other-ident f (λ z. let v : ◌≡◌ {A = ℕ} 0x63 0x60 = sym t ∙ z in omega arith) in (sym n, λ i w. none-some (sym n ∙ w))
 
   -- a property of what has become an id, in the state in which it has: other members are no property
-  as_member : (us : List Usage) (c : Option (List ℕ)) (q r f : Field) → tag_of f ≡ 0x63 → tag_of r ≡ tag_of q → (tag_of q ≡ 0x70 → ⊥) →
+  as-member : (us : List Usage) (c : Option (List ℕ)) (q r f : Field) → tag_of f ≡ 0x63 → tag_of r ≡ tag_of q → (tag_of q ≡ 0x70 → ⊥) →
       (as_ident us c q ≡ nothing) × (as_property us c r f ≡ f)
   unfolding as_ident as_property
-  as_member [] c q r f t h k = (refl, refl)
-  as_member (u ∷ us) nothing q r f t h k = (refl, refl)
-  as_member (u ∷ us) (some c) q r f t h k = (
+  as-member [] c q r f t h k = (refl, refl)
+  as-member (u ∷ us) nothing q r f t h k = (refl, refl)
+  as-member (u ∷ us) (some c) q r f t h k = (
     ap (λ (b : Bool). cond b (some (fixed_of q ++ c)) nothing) (ne_eqb (tag_of q) 0x70 k),
     ap (λ (b : Bool). cond b (field 0x60 (fixed_of r ++ c) none) f) (ne_eqb (tag_of r) 0x70 (λ z. k (sym h ∙ z))),
   )
@@ -163,8 +163,8 @@ module _ (e : Setting) where
           rw (u, w.0) (told ∙ a.0, λ _ j v. (a.1 j v, refl))
       go false k =
           let n = other-ident f (λ z. let v : ◌≡◌ {A = ℕ} 0x63 0x60 = sym t ∙ z in omega arith) in
-          let a = (as_member (usages_of i s2.usages) (imported_as i s2.imported) q r f t m.0 (eqb-false (tag_of q) 0x70 k)).1 in
-          let b = (as_member (usages_of i s.usages) (imported_as i s.imported) q r f t m.0 (eqb-false (tag_of q) 0x70 k)).0 in
+          let a = (as-member (usages_of i s2.usages) (imported_as i s2.imported) q r f t m.0 (eqb-false (tag_of q) 0x70 k)).1 in
+          let b = (as-member (usages_of i s.usages) (imported_as i s.imported) q r f t m.0 (eqb-false (tag_of q) 0x70 k)).0 in
           (told ∙ b ∙ sym n ∙ ap ident_of (sym a), λ _ j v. none-some (sym n ∙ ap ident_of (sym a) ∙ v))
 
   expression-63 : (k : Pass) → e.pass ≡ k → (x : List ℕ) (o q : Field) (o' q' : Field) (object : Bool) (p : ℕ) (s s1 s2 : State) → Became o s o' s1 → Membered q s1 q' s2 →
@@ -225,10 +225,10 @@ module _ (e : Setting) where
   ident-by : (t : ℕ) (x : List ℕ) (cs : Fields) (object : Bool) (p : ℕ) (s : State) → Regular (field t x cs) → FirstBecame cs → (b : Bool) → eqb t 0x63 ≡ b →
       After (walk (field t x cs) e object p s) (Became (field t x cs) s)
   ident-by t x cs object p s w h false k = other-walk t x cs object p s k w.0
-  ident-by t x none object p s w h true k = no-two none (λ o q z. let v : ◌≡◌ {A = ℕ} 0 1 = cc in omega arith) (w.0.member-two (eqb-true t 0x63 k))
-  ident-by t x (more o none) object p s w h true k = no-two (more o none) (λ a q z. let v : ◌≡◌ {A = ℕ} 0 1 = cc in omega arith) (w.0.member-two (eqb-true t 0x63 k))
+  ident-by t x none object p s w h true k = no-two none (λ o q z. let v : ◌≡◌ {A = ℕ} 0 1 = cc in omega arith) (w.0.member_two (eqb-true t 0x63 k))
+  ident-by t x (more o none) object p s w h true k = no-two (more o none) (λ a q z. let v : ◌≡◌ {A = ℕ} 0 1 = cc in omega arith) (w.0.member_two (eqb-true t 0x63 k))
   ident-by t x (more o (more q qs)) object p s w h true k =
-      let m = w.0.member-two (eqb-true t 0x63 k) in
+      let m = w.0.member_two (eqb-true t 0x63 k) in
       let r : qs ≡ none = cc m.2 in
       let u : m.1 ≡ q = cc m.2 in
       let z : field 0x63 x (more o (more q none)) ≡ field t x (more o (more q qs)) = cc (eqb-true t 0x63 k, r) in

@@ -16,7 +16,7 @@ use Rattle.tree.specs.Tree.{Field, field, Fields, none, more, fixed_of}
 use Rattle.tree.specs.Access.{fixed_at, extent_at}
 use Rattle.tree.specs.Standing.{tree_at, row_at}
 use Rattle.tree.proofs.SliceLaws.{get_d-slice}
-use Rattle.tree.proofs.StandingLaws.{row_more, row-none, tree-upto, tree-short}
+use Rattle.tree.proofs.StandingLaws.{row-more, row-none, tree-upto, tree-short}
 use Rattle.tree.proofs.WidthLaws.{plain-ends}
 use Rattle.tree.specs.declared.grammar.Value.TheVariants.{Literal as SixBytes}
 use Rattle.inputs.specs.Fields.{has, sole}
@@ -26,9 +26,9 @@ use Rattle.expressions.specs.declared.require.Standing.{Standing}
 use Rattle.expressions.specs.declared.require.Standing.TheVariants.{At, Nowhere}
 
 -- a literal that is told otherwise
-found_as : {s : List ℕ} {l m : Option (List ℕ)} (r : Standing) → m ≡ l → Found s l r → Found s m r
-found_as (At at) h f = record { is = (h ∙ f.is.0, f.is.1) }
-found_as Nowhere h f = record { is = h ∙ f.is }
+found-as : {s : List ℕ} {l m : Option (List ℕ)} (r : Standing) → m ≡ l → Found s l r → Found s m r
+found-as (At at) h f = record { is = (h ∙ f.is.0, f.is.1) }
+found-as Nowhere h f = record { is = h ∙ f.is }
 
 -- ---- The first of some fields
 
@@ -38,22 +38,22 @@ module _ (s : List ℕ) (at end : ℕ) (le : at ≤ end) where
   first-none e = record { is = ap literal_first (row-none s at end le e) }
 
   module _ {stop : ℕ} (e : extent_at s at end ≡ Upto stop) where
-    pub first_short : fixed_at s (get_or s at 0) (at + 3) stop ≡ Short → Found s (literal_first (row_at s at end)) Nowhere
+    pub first-short : fixed_at s (get_or s at 0) (at + 3) stop ≡ Short → Found s (literal_first (row_at s at end)) Nowhere
     unfolding literal_first
-    first_short x = record { is = ap literal_first (row_more s at end stop le e ∙ ap (λ (f : Field). more f (row_at s stop end)) (tree-short s at stop x)) }
+    first-short x = record { is = ap literal_first (row-more s at end stop le e ∙ ap (λ (f : Field). more f (row_at s stop end)) (tree-short s at stop x)) }
 
     first-is : (b : ℕ) → fixed_at s (get_or s at 0) (at + 3) stop ≡ Upto b →
         literal_first (row_at s at end) ≡ cond (eqb (get_or s at 0) 0x61) (some (slice (at + 3) b s)) nothing
     unfolding literal_first
-    first-is b x = ap literal_first (row_more s at end stop le e ∙ ap (λ (f : Field). more f (row_at s stop end)) (tree-upto s at stop b x))
+    first-is b x = ap literal_first (row-more s at end stop le e ∙ ap (λ (f : Field). more f (row_at s stop end)) (tree-upto s at stop b x))
 
     pub first-61 : {b : ℕ} → at + 9 ≤ length s → fixed_at s (get_or s at 0) (at + 3) stop ≡ Upto b → get_or s at 0 ≡ 0x61 → Found s (literal_first (row_at s at end)) (At (at + 3))
     first-61 {b} fits x h =
         let w = plain-ends 0x61 SixBytes refl s (get_or s at 0) (at + 3) stop b h x in
         record { is = (first-is b x ∙ rw (eq-eqb (get_or s at 0) 0x61 h) (ap (λ (k : ℕ). some (slice (at + 3) k s)) w), omega arith) }
 
-    pub first_rest : {b : ℕ} → fixed_at s (get_or s at 0) (at + 3) stop ≡ Upto b → (get_or s at 0 ≡ 0x61 → ⊥) → Found s (literal_first (row_at s at end)) Nowhere
-    first_rest {b} x h = record { is = first-is b x ∙ rw (ne_eqb (get_or s at 0) 0x61 h) }
+    pub first-rest : {b : ℕ} → fixed_at s (get_or s at 0) (at + 3) stop ≡ Upto b → (get_or s at 0 ≡ 0x61 → ⊥) → Found s (literal_first (row_at s at end)) Nowhere
+    first-rest {b} x h = record { is = first-is b x ∙ rw (ne_eqb (get_or s at 0) 0x61 h) }
 
 -- ---- An argument
 
@@ -66,10 +66,10 @@ and-middle : (a b c : Bool) → b ≡ false → (a && b && c) ≡ false
 and-middle true b c h = ap (λ (d : Bool). d && c) h
 and-middle false b c h = refl
 
-not_plain : (t : ℕ) (x : List ℕ) (cs : Fields) → same x (0 ∷ []) ≡ false → argument (some (field t x cs)) ≡ nothing
+not-plain : (t : ℕ) (x : List ℕ) (cs : Fields) → same x (0 ∷ []) ≡ false → argument (some (field t x cs)) ≡ nothing
 unfolding argument
-not_plain t x none h = refl
-not_plain t x (more f fs) h = ap (λ (b : Bool). cond b (some (fixed_of f)) nothing) (and-middle (eqb t 0x75) (same x (0 ∷ [])) (has 0x61 f) h)
+not-plain t x none h = refl
+not-plain t x (more f fs) h = ap (λ (b : Bool). cond b (some (fixed_of f)) nothing) (and-middle (eqb t 0x75) (same x (0 ∷ [])) (has 0x61 f) h)
 
 is_plain : (x : List ℕ) (cs : Fields) → same x (0 ∷ []) ≡ true → argument (some (field 0x75 x cs)) ≡ literal_first cs
 unfolding argument literal_first
@@ -77,11 +77,11 @@ is_plain x none h = refl
 is_plain x (more f fs) h = ap (λ (b : Bool). cond (b && has 0x61 f) (some (fixed_of f)) nothing) h
 
 -- one byte that is 0
-same_length : (x : List ℕ) → (length x ≡ 1 → ⊥) → same x (0 ∷ []) ≡ false
+same-length : (x : List ℕ) → (length x ≡ 1 → ⊥) → same x (0 ∷ []) ≡ false
 unfolding same
-same_length [] h = refl
-same_length (a ∷ []) h = absurd (h refl)
-same_length (a ∷ (b ∷ x)) h = and-false (eqb a 0)
+same-length [] h = refl
+same-length (a ∷ []) h = absurd (h refl)
+same-length (a ∷ (b ∷ x)) h = and-false (eqb a 0)
 
 same-zero : (x : List ℕ) (a : ℕ) → length x ≡ 1 → get_or x 0 0 ≡ a → same x (0 ∷ []) ≡ eqb a 0
 unfolding same
@@ -101,13 +101,13 @@ module _ (s : List ℕ) (at stop : ℕ) where
   argument-short e = record { is = ap (λ (f : Field). argument (some f)) (tree-short s at stop e) ∙ not-75 0 [] none (λ z. omega arith) }
 
   module _ {b : ℕ} (e : fixed_at s (get_or s at 0) (at + 3) stop ≡ Upto b) (fits : (at + 3 ≤ b) × (b ≤ length s)) where
-    argument_is : argument (some (tree_at s at stop)) ≡ argument (some (field (get_or s at 0) (slice (at + 3) b s) (row_at s b stop)))
-    argument_is = ap (λ (f : Field). argument (some f)) (tree-upto s at stop b e)
+    argument-is : argument (some (tree_at s at stop)) ≡ argument (some (field (get_or s at 0) (slice (at + 3) b s) (row_at s b stop)))
+    argument-is = ap (λ (f : Field). argument (some f)) (tree-upto s at stop b e)
 
     pub argument-wide : (b ≡ at + 4 → ⊥) → Found s (argument (some (tree_at s at stop))) Nowhere
     argument-wide h =
         let l = length-slice (at + 3) b s fits.1 in
-        record { is = argument_is ∙ not_plain (get_or s at 0) (slice (at + 3) b s) (row_at s b stop) (same_length (slice (at + 3) b s) (λ z. h (omega arith))) }
+        record { is = argument-is ∙ not-plain (get_or s at 0) (slice (at + 3) b s) (row_at s b stop) (same-length (slice (at + 3) b s) (λ z. h (omega arith))) }
 
     module _ (w : b ≡ at + 4) where
       spread : same (slice (at + 3) b s) (0 ∷ []) ≡ eqb (get_or s (at + 3) 0) 0
@@ -118,27 +118,27 @@ module _ (s : List ℕ) (at stop : ℕ) where
 
       pub argument-spread : (get_or s (at + 3) 0 ≡ 0 → ⊥) → Found s (argument (some (tree_at s at stop))) Nowhere
       argument-spread h =
-          record { is = argument_is ∙ not_plain (get_or s at 0) (slice (at + 3) b s) (row_at s b stop) (spread ∙ ne_eqb (get_or s (at + 3) 0) 0 h) }
+          record { is = argument-is ∙ not-plain (get_or s at 0) (slice (at + 3) b s) (row_at s b stop) (spread ∙ ne_eqb (get_or s (at + 3) 0) 0 h) }
 
       pub argument-plain : (r : Standing) → get_or s at 0 ≡ 0x75 → get_or s (at + 3) 0 ≡ 0 → Found s (literal_first (row_at s b stop)) r → Found s (argument (some (tree_at s at stop))) r
       argument-plain r h k f =
-          found_as r (argument_is ∙ ap (λ (t : ℕ). argument (some (field t (slice (at + 3) b s) (row_at s b stop)))) h
+          found-as r (argument-is ∙ ap (λ (t : ℕ). argument (some (field t (slice (at + 3) b s) (row_at s b stop)))) h
           ∙ is_plain (slice (at + 3) b s) (row_at s b stop) (spread ∙ eq-eqb (get_or s (at + 3) 0) 0 k)) f
 
 -- ---- The one argument
 
 module _ (s : List ℕ) (at end : ℕ) (le : at ≤ end) where
-  pub sole_none : extent_at s at end ≡ Short → Found s (argument (sole (row_at s at end))) Nowhere
+  pub sole-none : extent_at s at end ≡ Short → Found s (argument (sole (row_at s at end))) Nowhere
   unfolding sole argument
-  sole_none e = record { is = ap (λ (f : Fields). argument (sole f)) (row-none s at end le e) }
+  sole-none e = record { is = ap (λ (f : Fields). argument (sole f)) (row-none s at end le e) }
 
   module _ {stop : ℕ} (e : extent_at s at end ≡ Upto stop) (le' : stop ≤ end) where
     pub sole-two : {next : ℕ} → extent_at s stop end ≡ Upto next → Found s (argument (sole (row_at s at end))) Nowhere
     unfolding sole argument
     sole-two {next} x =
-        record { is = ap (λ (f : Fields). argument (sole f)) (row_more s at end stop le e ∙ ap (more (tree_at s at stop)) (row_more s stop end next le' x)) }
+        record { is = ap (λ (f : Fields). argument (sole f)) (row-more s at end stop le e ∙ ap (more (tree_at s at stop)) (row-more s stop end next le' x)) }
 
     pub sole-one : (r : Standing) → extent_at s stop end ≡ Short → Found s (argument (some (tree_at s at stop))) r → Found s (argument (sole (row_at s at end))) r
     unfolding sole
     sole-one r x f =
-        found_as r (ap (λ (f : Fields). argument (sole f)) (row_more s at end stop le e ∙ ap (more (tree_at s at stop)) (row-none s stop end le' x))) f
+        found-as r (ap (λ (f : Fields). argument (sole f)) (row-more s at end stop le e ∙ ap (more (tree_at s at stop)) (row-none s stop end le' x))) f

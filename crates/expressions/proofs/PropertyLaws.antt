@@ -62,16 +62,16 @@ module _ (s : List ℕ) (at member end : ℕ) (id : Id) (n : ModuleId) where
       effects-skip g (λ x u v w. absurd (⊎_elim (λ a. omega arith) (λ a. omega arith) w))
 
   module _ {b : ℕ} (e : fixed_at s (get_or s member 0) (member + 3) end ≡ Upto b) where
-    tag_is : tag_of (tree_at s member end) ≡ get_or s member 0
-    tag_is = ap tag_of (tree-upto s member end b e)
+    tag-is : tag_of (tree_at s member end) ≡ get_or s member 0
+    tag-is = ap tag_of (tree-upto s member end b e)
 
     pub property-private : {t : List ℕ} → Good t → get_or s member 0 ≡ 0x72 → Uses t t (Turned PrivateName member)
     property-private g h =
-        effects-refuse PrivateName member g (λ x u v w. private-is n.0 (id_by id) (tree_at s member end) member at u (tag_is ∙ h))
+        effects-refuse PrivateName member g (λ x u v w. private-is n.0 (id_by id) (tree_at s member end) member at u (tag-is ∙ h))
 
     pub property-other : {t : List ℕ} → Good t → (get_or s member 0 ≡ 0x72 → ⊥) → (get_or s member 0 ≡ 0x70 → ⊥) → Uses t t Fine
     property-other g h k =
-        effects-skip g (λ x u v w. absurd (⊎_elim (λ a. k (sym tag_is ∙ a)) (λ a. h (sym tag_is ∙ a)) w))
+        effects-skip g (λ x u v w. absurd (⊎_elim (λ a. k (sym tag-is ∙ a)) (λ a. h (sym tag-is ∙ a)) w))
 
     module _ {j : Id} {t t' : List ℕ} {r : Room} (bs : Bytes s) (fits : member + 5 ≤ length s) (tag : get_or s member 0 ≡ 0x70) (z : j.0.0 ≡ two_at s (member + 3))
         (m : j.1 ≡ export_ctxt n) (k : Acts Anyhow (λ _. add_usage (record { id = id_by id; property = id_by j })) t t' r) where
@@ -82,10 +82,10 @@ module _ (s : List ℕ) (at member end : ℕ) (id : Id) (n : ModuleId) where
           ap₂ ◌++◌ (y ∙ sym (ap fixed_of (tree-upto s member end b e))) (ap (λ (x : SyntaxContext). four x.0) m)
 
       pub property-made : r ≡ Made → Uses t t' Fine
-      property-made q = effects-made at k q (λ x u v w. (tt, property-is n.0 (id_by id) (tree_at s member end) member at u (id_by j) (tag_is ∙ tag) named))
+      property-made q = effects-made at k q (λ x u v w. (tt, property-is n.0 (id_by id) (tree_at s member end) member at u (id_by j) (tag-is ∙ tag) named))
 
       pub property-full : r ≡ Full → Uses t t' (Turned TableFull at)
-      property-full q = effects-full at k q (λ x u v w. (tt, property-is n.0 (id_by id) (tree_at s member end) member at u (id_by j) (tag_is ∙ tag) named))
+      property-full q = effects-full at k q (λ x u v w. (tt, property-is n.0 (id_by id) (tree_at s member end) member at u (id_by j) (tag-is ∙ tag) named))
 
 -- ---- The record
 
@@ -112,21 +112,21 @@ UsesFrom q at member id t t' k =
     Effects (λ x u. Named q) (λ x u. use_from (used_record x.setting.own (id_by id) u.collected) x.setting (id_by id) q member at u) t t' k
 
 -- the record is looked for by the own module
-record_is : (id : Id) (own : ModuleId) (r : Source) {t : List ℕ} → Says (λ e. e.own) t own.0 → Tells (λ u. source_of (used_record own.0 (id_by id) u.collected)) t (source_by r) →
+record-is : (id : Id) (own : ModuleId) (r : Source) {t : List ℕ} → Says (λ e. e.own) t own.0 → Tells (λ u. source_of (used_record own.0 (id_by id) u.collected)) t (source_by r) →
     (x : Env) (u : State) → Shows x t u → source_by r ≡ source_of (used_record x.setting.own (id_by id) u.collected)
-record_is id own r o w x u v = w.is u v ∙ ap (λ (n : ℕ). source_of (used_record n (id_by id) u.collected)) (o.is u v)
+record-is id own r o w x u v = w.is u v ∙ ap (λ (n : ℕ). source_of (used_record n (id_by id) u.collected)) (o.is u v)
 
 module _ (q : Field) (at member : ℕ) (id : Id) {t : List ℕ} {own : ModuleId} {r : Source} (o : Says (λ e. e.own) t own.0)
     (w : Tells (λ u. source_of (used_record own.0 (id_by id) u.collected)) t (source_by r)) where
   pub from-none : Good t → r ≡ Nothing → UsesFrom q at member id t t Fine
   from-none g h =
-      effects-skip g (λ x u v n. no_record (used_record x.setting.own (id_by id) u.collected) x.setting (id_by id) q member at u (ap source_by (sym h) ∙ record_is id own r o w x u v))
+      effects-skip g (λ x u v n. no_record (used_record x.setting.own (id_by id) u.collected) x.setting (id_by id) q member at u (ap source_by (sym h) ∙ record-is id own r o w x u v))
 
   module _ {a : Atom} {t1 : List ℕ} {m : Module} (h : r ≡ From a) (k : Resolves (λ e. module_for e (two a.0)) t t1 m) where
     on-module : {x : Env} (u : State) → Shows x t u → (b : Outcome (Option ℕ × State)) → module_for x.setting (two a.0) at u ≡ b →
         use_from (used_record x.setting.own (id_by id) u.collected) x.setting (id_by id) q member at u ≡ onto b (λ r. use_property r.0 (id_by id) q member at r.1)
     on-module {x} u v b z =
-        a-record (used_record x.setting.own (id_by id) u.collected) x.setting (id_by id) q member at u (two a.0) (ap source_by (sym h) ∙ record_is id own r o w x u v)
+        a-record (used_record x.setting.own (id_by id) u.collected) x.setting (id_by id) q member at u (two a.0) (ap source_by (sym h) ∙ record-is id own r o w x u v)
         ∙ ap (λ (b : Outcome (Option ℕ × State)). onto b (λ r. use_property r.0 (id_by id) q member at r.1)) z
 
     pub from-number : {n : ModuleId} {t2 : List ℕ} {f : Effect} → m ≡ Numbered n → Effects (λ x u. Named q) (λ _. use_property (some n.0) (id_by id) q member at) t1 t2 f →

@@ -16,7 +16,7 @@ use Rattle.tree.specs.Tree.{Field, field, Fields, none, more}
 use Rattle.tree.specs.Access.{fixed_at, extent_at}
 use Rattle.tree.specs.Standing.{tree_at, row_at}
 use Rattle.tree.proofs.LayoutLaws.{same-two}
-use Rattle.tree.proofs.StandingLaws.{row_more, row-none, tree-upto, tree-short}
+use Rattle.tree.proofs.StandingLaws.{row-more, row-none, tree-upto, tree-short}
 use Rattle.tree.proofs.WidthLaws.{tree-bare}
 use Rattle.inputs.specs.Lists.{among}
 use Rattle.inputs.specs.Fields.{sole}
@@ -38,23 +38,23 @@ use Rattle.expressions.specs.declared.require.Source.TheVariants.{Is as Lit, Oth
 
 -- ---- Fields
 
-not_on : (e : Setting) (f : Field) (u : State) → e.config.require ≡ false → required_after e f u ≡ nothing
+not-on : (e : Setting) (f : Field) (u : State) → e.config.require ≡ false → required_after e f u ≡ nothing
 unfolding required_after
-not_on e (field t x none) u h = refl
-not_on e (field t x (more c gs)) u h =
+not-on e (field t x none) u h = refl
+not-on e (field t x (more c gs)) u h =
     ap (λ (b : Bool). cond (b && eqb t 0x65) (if_require (ident_after c e.pass u) (not_external e (argument (sole gs)))) nothing) h
 
-not_call : (e : Setting) (t : ℕ) (x : List ℕ) (cs : Fields) (u : State) → (t ≡ 0x65 → ⊥) → required_after e (field t x cs) u ≡ nothing
+not-call : (e : Setting) (t : ℕ) (x : List ℕ) (cs : Fields) (u : State) → (t ≡ 0x65 → ⊥) → required_after e (field t x cs) u ≡ nothing
 unfolding required_after
-not_call e t x none u h = refl
-not_call e t x (more c gs) u h =
+not-call e t x none u h = refl
+not-call e t x (more c gs) u h =
     ap (λ (b : Bool). cond b (if_require (ident_after c e.pass u) (not_external e (argument (sole gs)))) nothing)
     (ap (λ (b : Bool). e.config.require && b) (ne_eqb t 0x65 h) ∙ and-false e.config.require)
 
-is_call : (e : Setting) (c : Field) (gs : Fields) (u : State) → e.config.require ≡ true →
+is-call : (e : Setting) (c : Field) (gs : Fields) (u : State) → e.config.require ≡ true →
     required_after e (field 0x65 [] (more c gs)) u ≡ if_require (ident_after c e.pass u) (not_external e (argument (sole gs)))
 unfolding required_after
-is_call e c gs u h = ap (λ (b : Bool). cond (b && eqb 0x65 0x65) (if_require (ident_after c e.pass u) (not_external e (argument (sole gs)))) nothing) h
+is-call e c gs u h = ap (λ (b : Bool). cond (b && eqb 0x65 0x65) (if_require (ident_after c e.pass u) (not_external e (argument (sole gs)))) nothing) h
 
 not-external : (e : Setting) (o : Option (List ℕ)) (l : List ℕ) (b : Bool) → o ≡ some l → external e l ≡ b → not_external e o ≡ cond b nothing (some l)
 unfolding not_external
@@ -104,8 +104,8 @@ module _ {s t : List ℕ} {o : Option (List ℕ)} {r : Standing} (f : Found s o 
     pub source-external : b ≡ true → RequiredIs (λ e _. not_external e o) s t NoLit
     source-external i = record { is = λ {x} u v n. literal-is u v n ∙ rw i }
 
-    pub source_is : b ≡ false → RequiredIs (λ e _. not_external e o) s t (Lit l)
-    source_is i = record { is = λ {x} u v n. (literal-is u v n ∙ rw i, valued-is u v n) }
+    pub source-is : b ≡ false → RequiredIs (λ e _. not_external e o) s t (Lit l)
+    source-is i = record { is = λ {x} u v n. (literal-is u v n ∙ rw i, valued-is u v n) }
 
 -- ---- The call
 
@@ -122,12 +122,12 @@ module _ (s : List ℕ) (at stop : ℕ) where
   call-other h = record { is = λ {x} u v n. go x.setting u (fixed_at s (get_or s at 0) (at + 3) stop) refl }
     where
       go : (e : Setting) (u : State) (r : Reach) → fixed_at s (get_or s at 0) (at + 3) stop ≡ r → required_after e (tree_at s at stop) u ≡ nothing
-      go e u Short x = ap (λ (f : Field). required_after e f u) (tree-short s at stop x) ∙ not_call e 0 [] none u (λ z. omega arith)
-      go e u (Upto b) x = ap (λ (f : Field). required_after e f u) (tree-upto s at stop b x) ∙ not_call e (get_or s at 0) (slice (at + 3) b s) (row_at s b stop) u h
+      go e u Short x = ap (λ (f : Field). required_after e f u) (tree-short s at stop x) ∙ not-call e 0 [] none u (λ z. omega arith)
+      go e u (Upto b) x = ap (λ (f : Field). required_after e f u) (tree-upto s at stop b x) ∙ not-call e (get_or s at 0) (slice (at + 3) b s) (row_at s b stop) u h
 
   module _ {t : List ℕ} {on : Bool} (o : Says (λ e. e.config.require) t on) where
     pub call-off : on ≡ false → Answers t NoLit
-    call-off h = record { is = λ {x} u v n. not_on x.setting (tree_at s at stop) u (sym (o.is u v) ∙ h) }
+    call-off h = record { is = λ {x} u v n. not-on x.setting (tree_at s at stop) u (sym (o.is u v) ∙ h) }
 
     module _ (h : on ≡ true) (le : at + 3 ≤ stop) (tag : get_or s at 0 ≡ 0x65) where
       pub call-bare : extent_at s (at + 3) stop ≡ Short → Answers t NoLit
@@ -144,8 +144,8 @@ module _ (s : List ℕ) (at stop : ℕ) where
         call-is : {y : Env} (u : State) → Shows y t u →
             required_after y.setting (tree_at s at stop) u ≡ if_require (ident_by r) (not_external y.setting (argument (sole (row_at s callee stop))))
         call-is {y} u v =
-            ap (λ (f : Field). required_after y.setting f u) (tree-bare 0x65 refl s at stop le tag ∙ ap (field 0x65 []) (row_more s (at + 3) stop callee le x))
-            ∙ is_call y.setting (tree_at s (at + 3) callee) (row_at s callee stop) u (sym (o.is u v) ∙ h)
+            ap (λ (f : Field). required_after y.setting f u) (tree-bare 0x65 refl s at stop le tag ∙ ap (field 0x65 []) (row-more s (at + 3) stop callee le x))
+            ∙ is-call y.setting (tree_at s (at + 3) callee) (row_at s callee stop) u (sym (o.is u v) ∙ h)
             ∙ ap (λ (i : Option (List ℕ)). if_require i (not_external y.setting (argument (sole (row_at s callee stop)))))
             (sym (w.is u v ∙ ap (λ (k : Pass). ident_after (tree_at s (at + 3) callee) k u) (ap pass_of (p.is u v) ∙ pass-is y.setting.pass)))
 

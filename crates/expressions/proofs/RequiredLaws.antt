@@ -7,7 +7,7 @@ use mathlib.Core.Option.{Option, none as nothing, some}
 use native.Mathlib.Omega.{arith}
 use lib.Dec.{eqb}
 use borrow.Author.Tests.{eqb-true, eqb-false, ne_eqb}
-use Rattle.scope.specs.Id.{require-atom, export}
+use Rattle.scope.specs.Id.{require_atom, export}
 use Rattle.tree.specs.Layout.{two, four, same, name_of}
 use Rattle.tree.specs.Tree.{Field, field, Fields, none, more, tag_of, fixed_of, size}
 use Rattle.tree.specs.Grammar.{within}
@@ -17,10 +17,10 @@ use Rattle.extraction_rules.specs.First.{imported_as, on_ident, argument, not_ex
 use Rattle.extraction_rules.specs.Second.{usages_of, as_property, rewritten}
 use Rattle.extraction_rules.specs.Walk.{after_expression, rule_for, after, parts_for, walk, walk_all}
 use Rattle.extraction_rules.proofs.OutcomeLaws.{After, after-bind, after-weaken}
-use Rattle.extraction_rules.proofs.ValueLaws.{after_any, first-expression}
+use Rattle.extraction_rules.proofs.ValueLaws.{after-any, first-expression}
 use Rattle.extraction_rules.proofs.WalkLaws.{walk_parts}
 use Rattle.extraction_rules.proofs.AlikeLaws.{Regular, RegularAll, required-named}
-use Rattle.extraction_rules.proofs.StayLaws.{Same, no_member, expression-same, walk_same}
+use Rattle.extraction_rules.proofs.StayLaws.{Same, no-member, expression-same, walk-same}
 use Rattle.expressions.specs.After.{ident_of, ident_after, if_require, required_after}
 use Rattle.expressions.proofs.IdentLaws.{walk-ident}
 
@@ -55,7 +55,7 @@ member-other : (e : Setting) (x : List ℕ) (cs : Fields) (object : Bool) (p : �
 unfolding walk parts_for rule_for within after
 member-other e x cs object p s u h k =
     after-bind (walk_parts (parts_for 0x63) cs e object (inside p x) s) _ (λ _ _. Unit {0}) (λ g s'. tag_of g ≡ u → ⊥)
-    (after_any (walk_parts (parts_for 0x63) cs e object (inside p x) s)) λ ds s' _.
+    (after-any (walk_parts (parts_for 0x63) cs e object (inside p x) s)) λ ds s' _.
     after-weaken (after_expression e.pass e (field 0x63 x ds) object p s') (λ g s''. tag_of g ≡ u → 0x63 ≡ u) _ (λ g s'' q z. k (q z))
     (expression-tag e.pass e 0x63 x ds object p s' u h)
 
@@ -71,7 +71,7 @@ walk-other e (field t x cs) object p s u w h k = go (eqb t 0x63) refl
     go true q = member t (eqb-true t 0x63 q) k
     go false q =
         after-weaken (walk (field t x cs) e object p s) (λ g s'. Same t x g) _ (λ g s' m z. k (sym m.0 ∙ z))
-        (walk_same e t x cs object p s w.0.no-import (eqb-false t 0x63 q))
+        (walk-same e t x cs object p s w.0.no_import (eqb-false t 0x63 q))
 
 -- ---- The argument
 
@@ -85,7 +85,7 @@ walk-61 e (field t x cs) object p s w = go (eqb t 0x61) refl
     go true q =
         after-weaken (walk (field t x cs) e object p s) (λ g s'. Same t x g) _
         (λ g s' m. rw (m.0, m.1 (λ z. let v : ◌≡◌ {A = ℕ} 0x61 0x23 = sym (eqb-true t 0x61 q) ∙ z in omega arith)) refl)
-        (walk_same e t x cs object p s w.0.no-import (λ z. let v : ◌≡◌ {A = ℕ} 0x61 0x63 = sym (eqb-true t 0x61 q) ∙ z in omega arith))
+        (walk-same e t x cs object p s w.0.no_import (λ z. let v : ◌≡◌ {A = ℕ} 0x61 0x63 = sym (eqb-true t 0x61 q) ∙ z in omega arith))
     go false q =
         after-weaken (walk (field t x cs) e object p s) (λ g s'. tag_of g ≡ 0x61 → ⊥) _
         (λ g s' m. ap (λ (b : Bool). cond b (some (fixed_of g)) nothing) (ne_eqb (tag_of g) 0x61 m) ∙ sym (ap (λ (b : Bool). cond b (some x) nothing) q))
@@ -113,7 +113,7 @@ unfolding walk
 parts-75 e x none object p s w = refl
 parts-75 e x (more f fs) object p s w =
     after-bind (walk f e object p s) _ _ _ (walk-61 e f object p s w.0) λ g s' q.
-    after-bind (walk_all fs e object (p + size f) s') _ (λ _ _. Unit {0}) _ (after_any (walk_all fs e object (p + size f) s')) λ gs s'' _.
+    after-bind (walk_all fs e object (p + size f) s') _ (λ _ _. Unit {0}) _ (after-any (walk_all fs e object (p + size f) s')) λ gs s'' _.
     argument-75 x g gs (cond (has 0x61 f) (some (fixed_of f)) nothing) q ∙ sym (argument-75 x f fs (cond (has 0x61 f) (some (fixed_of f)) nothing) refl)
 
 walk-75 : (e : Setting) (x : List ℕ) (cs : Fields) (object : Bool) (p : ℕ) (s : State) → RegularAll cs →
@@ -141,10 +141,10 @@ unfolding walk sole
 arguments-walk e none object p s w = refl
 arguments-walk e (more f none) object p s w = after-bind (walk f e object p s) _ _ _ (argument-walk e f object p s w.0) λ g s' q. q
 arguments-walk e (more f (more g gs)) object p s w =
-    after-bind (walk f e object p s) _ (λ _ _. Unit {0}) _ (after_any (walk f e object p s)) λ f' s' _.
+    after-bind (walk f e object p s) _ (λ _ _. Unit {0}) _ (after-any (walk f e object p s)) λ f' s' _.
     after-bind (walk_all (more g gs) e object (p + size f) s') _ (λ hs s''. (h : Field) × (ks : Fields) × (hs ≡ more h ks)) _
-    (after-bind (walk g e object (p + size f) s') _ (λ _ _. Unit {0}) _ (after_any (walk g e object (p + size f) s')) λ g' s'' _.
-    after-bind (walk_all gs e object (p + size f + size g) s'') _ (λ _ _. Unit {0}) _ (after_any (walk_all gs e object (p + size f + size g) s'')) λ ks s''' _. (g', ks, refl))
+    (after-bind (walk g e object (p + size f) s') _ (λ _ _. Unit {0}) _ (after-any (walk g e object (p + size f) s')) λ g' s'' _.
+    after-bind (walk_all gs e object (p + size f + size g) s'') _ (λ _ _. Unit {0}) _ (after-any (walk_all gs e object (p + size f + size g) s'')) λ ks s''' _. (g', ks, refl))
     λ hs s'' m. ap (λ (l : Fields). argument (sole (more f' l))) m.2
 
 -- ---- The require conditions
@@ -154,15 +154,15 @@ unfolding required
 no-required e (field t x none) h = refl
 no-required e (field t x (more c gs)) h = go e.config.require (eqb t 0x65) (ne_eqb t 0x65 h)
   where
-    go : (a b : Bool) → b ≡ false → cond (a && b && has 0x60 c && same (name_of (fixed_of c)) (two require-atom)) (not_external e (argument (sole gs))) nothing ≡ nothing
+    go : (a b : Bool) → b ≡ false → cond (a && b && has 0x60 c && same (name_of (fixed_of c)) (two require_atom)) (not_external e (argument (sole gs))) nothing ≡ nothing
     go true true q = absurd (let z : ◌≡◌ {A = ℕ} 0 1 = cc in omega arith)
     go true false q = refl
     go false b q = refl
 
-pub none_after : (e : Setting) (f : Field) (s : State) → (tag_of f ≡ 0x65 → ⊥) → required_after e f s ≡ nothing
+pub none-after : (e : Setting) (f : Field) (s : State) → (tag_of f ≡ 0x65 → ⊥) → required_after e f s ≡ nothing
 unfolding required_after
-none_after e (field t x none) s h = refl
-none_after e (field t x (more c gs)) s h = go e.config.require (eqb t 0x65) (ne_eqb t 0x65 h)
+none-after e (field t x none) s h = refl
+none-after e (field t x (more c gs)) s h = go e.config.require (eqb t 0x65) (ne_eqb t 0x65 h)
   where
     go : (a b : Bool) → b ≡ false → cond (a && b) (if_require (ident_after c e.pass s) (not_external e (argument (sole gs)))) nothing ≡ nothing
     go true true q = absurd (let z : ◌≡◌ {A = ℕ} 0 1 = cc in omega arith)
@@ -176,7 +176,7 @@ unfolding required required_after ident_of
 required-by e x c (field t y ds) gs gs' s h k = rw (k, h) (go e.config.require (eqb t 0x60))
   where
     go : (a b : Bool) →
-        cond (a && true && b && same (name_of y) (two require-atom)) (not_external e (argument (sole gs))) nothing ≡
+        cond (a && true && b && same (name_of y) (two require_atom)) (not_external e (argument (sole gs))) nothing ≡
         cond (a && true) (if_require (cond b (some y) nothing) (not_external e (argument (sole gs)))) nothing
     go true true = refl
     go true false = refl
@@ -189,8 +189,8 @@ unfolding required with_callee
 callee-required e n t x none l q = refl
 callee-required e n t x (more c gs) l q =
     let m = required-named e t x c gs l q in
-    ap (λ (y : List ℕ). cond (e.config.require && eqb t 0x65 && has 0x60 c && same (name_of (y ++ four (export n))) (two require-atom)) (not_external e (argument (sole gs))) nothing) m
-    ∙ sym (ap (λ (y : List ℕ). cond (e.config.require && eqb t 0x65 && has 0x60 c && same y (two require-atom)) (not_external e (argument (sole gs))) nothing) m)
+    ap (λ (y : List ℕ). cond (e.config.require && eqb t 0x65 && has 0x60 c && same (name_of (y ++ four (export n))) (two require_atom)) (not_external e (argument (sole gs))) nothing) m
+    ∙ sym (ap (λ (y : List ℕ). cond (e.config.require && eqb t 0x65 && has 0x60 c && same y (two require_atom)) (not_external e (argument (sole gs))) nothing) m)
 
 expression-required : (k : Pass) (e : Setting) (x : List ℕ) (ds : Fields) (object : Bool) (p : ℕ) (s : State) →
     After (after_expression k e (field 0x65 x ds) object p s) (λ g s'. required e g ≡ required e (field 0x65 x ds))
@@ -198,7 +198,7 @@ unfolding after_expression rewritten
 expression-required first e x ds object p s =
     first-expression e (λ g. required e g ≡ required e (field 0x65 x ds)) first refl (field 0x65 x ds) object p s (refl, λ n l w. callee-required e n 0x65 x ds l w)
 expression-required second e x ds object p s =
-    ap (λ (o : Option (Field × Field)). required e (rewritten o (field 0x65 x ds) s)) (no_member 0x65 x ds (λ z. omega arith))
+    ap (λ (o : Option (Field × Field)). required e (rewritten o (field 0x65 x ds) s)) (no-member 0x65 x ds (λ z. omega arith))
 
 -- the parts of a call
 pub parts-required : (e : Setting) (x : List ℕ) (cs : Fields) (object : Bool) (p : ℕ) (s : State) → RegularAll cs →
@@ -226,5 +226,5 @@ walk-required e (field t x cs) object p s w = go (eqb t 0x65) refl
         (call-required e x cs object p s w.1)
     go false q =
         after-weaken (walk (field t x cs) e object p s) (λ g s'. tag_of g ≡ 0x65 → ⊥) _
-        (λ g s' m. no-required e g m ∙ sym (none_after e (field t x cs) s (eqb-false t 0x65 q)))
+        (λ g s' m. no-required e g m ∙ sym (none-after e (field t x cs) s (eqb-false t 0x65 q)))
         (walk-other e (field t x cs) object p s 0x65 w (λ z. omega arith) (eqb-false t 0x65 q))

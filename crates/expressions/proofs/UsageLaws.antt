@@ -17,7 +17,7 @@ use Rattle.tree.specs.Tree.{Field, field, Fields, none, more, tag_of, fixed_of, 
 use Rattle.tree.specs.Access.{extent_at}
 use Rattle.tree.specs.Standing.{tree_at, row_at}
 use Rattle.tree.proofs.AccessLaws.{extent-upto}
-use Rattle.tree.proofs.StandingLaws.{row_more, row-none, tree-upto, whole-step}
+use Rattle.tree.proofs.StandingLaws.{row-more, row-none, tree-upto, whole-step}
 use Rattle.tree.proofs.WidthLaws.{tree-bare, bare-upto}
 use Rattle.inputs.specs.Outcome.{done}
 use Rattle.extraction_rules.specs.State.{State, first, Setting}
@@ -99,8 +99,8 @@ used e i q at p u c d h k =
 
 module _ (s : List ℕ) (at stop : ℕ) (le : at + 3 ≤ stop) (tag : get_or s at 0 ≡ 0x63) where
   -- its parts
-  whole_parts : Sound s at stop → SoundAll s (at + 3) stop
-  whole_parts w = sound-parts w (bare-upto 0x63 refl s (get_or s at 0) (at + 3) stop tag le)
+  whole-parts : Sound s at stop → SoundAll s (at + 3) stop
+  whole-parts w = sound-parts w (bare-upto 0x63 refl s (get_or s at 0) (at + 3) stop tag le)
 
   pub usage-bare : {t : List ℕ} → Good t → extent_at s (at + 3) stop ≡ Short →
       Effects (λ x u. Sound s at stop) (λ x. usage (on_ident (tree_at s at stop)) x.setting at) t t Fine
@@ -111,7 +111,7 @@ module _ (s : List ℕ) (at stop : ℕ) (le : at + 3 ≤ stop) (tag : get_or s a
 
   module _ {member : ℕ} (x : extent_at s (at + 3) stop ≡ Upto member) where
     with-object : tree_at s at stop ≡ field 0x63 [] (more (tree_at s (at + 3) member) (row_at s member stop))
-    with-object = tree-bare 0x63 refl s at stop le tag ∙ ap (field 0x63 []) (row_more s (at + 3) stop member le x)
+    with-object = tree-bare 0x63 refl s at stop le tag ∙ ap (field 0x63 []) (row-more s (at + 3) stop member le x)
 
     behind : member ≤ stop
     behind = (extent-upto s (at + 3) stop le x).1
@@ -131,12 +131,12 @@ module _ (s : List ℕ) (at stop : ℕ) (le : at + 3 ≤ stop) (tag : get_or s a
 
     module _ {end : ℕ} (z : extent_at s member stop ≡ Upto end) where
       with-member : tree_at s at stop ≡ field 0x63 [] (more (tree_at s (at + 3) member) (more (tree_at s member end) (row_at s end stop)))
-      with-member = with-object ∙ ap (λ (r : Fields). field 0x63 [] (more (tree_at s (at + 3) member) r)) (row_more s member stop end behind z)
+      with-member = with-object ∙ ap (λ (r : Fields). field 0x63 [] (more (tree_at s (at + 3) member) r)) (row-more s member stop end behind z)
 
       -- the object ends where the member starts
-      place_is : Bytes s → Sound s at stop → at + 3 + size (tree_at s (at + 3) member) ≡ member
-      place_is bs w =
-          let f = sound_all-first le (whole_parts w) x in
+      place-is : Bytes s → Sound s at stop → at + 3 + size (tree_at s (at + 3) member) ≡ member
+      place-is bs w =
+          let f = sound_all-first le (whole-parts w) x in
           let e = read-size f.read bs in
           let i = extent-upto s (at + 3) stop le x in
           omega arith
@@ -144,13 +144,13 @@ module _ (s : List ℕ) (at stop : ℕ) (le : at + 3 ≤ stop) (tag : get_or s a
       -- the member has the tag that stands at its place, and is a 70, a 71 or a 72
       member-tag : Sound s at stop → tag_of (tree_at s member end) ≡ get_or s member 0
       member-tag w =
-          let f = sound_all-first behind (sound_all-rest le (whole_parts w) x) z in
+          let f = sound_all-first behind (sound_all-rest le (whole-parts w) x) z in
           let b = whole-step s member end f.read.whole in
           ap tag_of (tree-upto s member end b.0 b.1)
 
       member-kind : Sound s at stop → (tag_of (tree_at s member end) ≡ 0x70) ⊎ ((tag_of (tree_at s member end) ≡ 0x71) ⊎ (tag_of (tree_at s member end) ≡ 0x72))
       member-kind w =
-          go ((subst Regular with-member w.regular).0.member-two refl)
+          go ((subst Regular with-member w.regular).0.member_two refl)
         where
           second-of : {o q o' q' : Field} {r r' : Fields} → more o (more q r) ≡ more o' (more q' r') → q' ≡ q
           second-of e = cc
@@ -191,5 +191,5 @@ module _ (s : List ℕ) (at stop : ℕ) (le : at + 3 ≤ stop) (tag : get_or s a
                 rule-is u v
                     ∙ used y.setting (id_by n) (tree_at s member end) (at + 3 + size (tree_at s (at + 3) member)) at u (imported_as (id_by n) u.imported) _
                     (ap context_by (sym o) ∙ p.is u v) (λ j. q (sym (member-tag w) ∙ j))
-                    ∙ ap (λ (l : ℕ). use_from (used_record y.setting.own (id_by n) u.collected) y.setting (id_by n) (tree_at s member end) l at u) (place_is bs w),
+                    ∙ ap (λ (l : ℕ). use_from (used_record y.setting.own (id_by n) u.collected) y.setting (id_by n) (tree_at s member end) l at u) (place-is bs w),
               ))

@@ -2,7 +2,7 @@
 -- Document 01, 'First pass', "After an expression's children"; 'Second pass', "becomes a 60".
 use Rattle.std.specs.Prelude.{ℕ, Bool, cond, ◌&&◌, List, [], ◌∷◌, ◌++◌, eqb}
 use Rattle.std.proofs.Math.Option.{Option, none as nothing, some}
-use Rattle.scope.specs.Id.{require-atom}
+use Rattle.scope.specs.Id.{require_atom}
 use Rattle.tree.specs.Layout.{two, same, name_of}
 use Rattle.tree.specs.Tree.{Field, field, Fields, none, more, fixed_of}
 use Rattle.inputs.specs.Fields.{has, sole}
@@ -47,7 +47,7 @@ unfoldable mutual
 -- 'callee 60 named require'
 abbrev pub if_require : Option (List ℕ) → Option (List ℕ) → Option (List ℕ)
 if_require nothing l = nothing
-if_require (some i) l = cond (same (name_of i) (two require-atom)) l nothing
+if_require (some i) l = cond (same (name_of i) (two require_atom)) l nothing
 
 -- the literal of a call that meets the require conditions once it is walked from a state
 unfoldable pub required_after : Setting → Field → State → Option (List ℕ)

@@ -10,7 +10,7 @@ use Rattle.tree.specs.Tree.{field, Fields, none, more, encode}
 use Rattle.tree.specs.Read.{fine, read}
 use Rattle.metadata.specs.Metadata.{append}
 use Rattle.writer.specs.Finished.{Finished}
-use Rattle.tree.proofs.WidthLaws.{read_module}
+use Rattle.tree.proofs.WidthLaws.{read-module}
 use Rattle.inputs.specs.Outcome.{Outcome, done, refused, onto}
 use Rattle.extraction_rules.specs.State.{Record, State, second, Setting, set_collected}
 use Rattle.extraction_rules.specs.Second.{wrap_all, lose_namespaces, finish}
@@ -67,8 +67,8 @@ module _ (e : Setting) (works : Fields) (s : State) where
       go (done r) = two r.0 (wrap_all e r.1.forced r.1)
       go (refused n p) = refl
 
-  pub again_by : (m : Outcome (Fields × State)) → marking e works s ≡ m → walk_again e works s ≡ onto m losing
-  again_by m q = again-marking ∙ ap (λ (z : Outcome (Fields × State)). onto z losing) q
+  pub again-by : (m : Outcome (Fields × State)) → marking e works s ≡ m → walk_again e works s ≡ onto m losing
+  again-by m q = again-marking ∙ ap (λ (z : Outcome (Fields × State)). onto z losing) q
 
   abbrev marks : Fields × State → Outcome (Fields × State)
   marks r = onto (wrap_from 0 e r.1) (giving r.0)
@@ -86,10 +86,10 @@ ready : {x : Env} (s : State) (tree work : List ℕ) (works : Fields) → Placin
     length work ≤ 65538 → ImportsAll works (Known x.setting.externals (sources_in s.collected)) → ItemsRead work 3 (length work) (with_second x) s
 ready {x} s tree work works p r n b =
     record {
-      inside = (read_module work (more (module_with works) none) r).room;
-      row = (read_module work (more (module_with works) none) r).row;
+      inside = (read-module work (more (module_with works) none) r).room;
+      row = (read-module work (more (module_with works) none) r).row;
       fits = omega arith;
-      reads = reads-work tree work (with_second x) (record { bindings-placed = p.bindings-placed; literals-placed = p.literals-placed }) refl n;
+      reads = reads-work tree work (with_second x) (record { bindings_placed = p.bindings_placed; literals_placed = p.literals_placed }) refl n;
       ready = subst (λ (fs : Fields). ImportsAll fs (Known x.setting.externals (sources_in s.collected))) (sym (items-read work works r).0) b;
     }
 

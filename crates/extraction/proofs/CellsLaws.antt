@@ -23,9 +23,9 @@ use Rattle.state.proofs.SourcedLaws.{extend-sources}
 
 -- ---- Forcing changes no record
 
-source-kept : (a : List ℕ) (s : State) → (force_source a s).collected ≡ s.collected
+source_kept : (a : List ℕ) (s : State) → (force_source a s).collected ≡ s.collected
 unfolding force_source
-source-kept a s = go (among a s.forced)
+source_kept a s = go (among a s.forced)
   where
     go : (b : Bool) → (cond b s (set_forced (s.forced ++ (a ∷ [])) s)).collected ≡ s.collected
     go true = refl
@@ -37,14 +37,14 @@ force-kept i s = go (find (holds_namespace i) s.collected)
   where
     go : (o : Option Record) → (force_holder o (forget i s)).collected ≡ s.collected
     go nothing = refl
-    go (some r) = source-kept (value_of r.literal) (forget i s)
+    go (some r) = source_kept (value_of r.literal) (forget i s)
 
 -- ---- The first pass
 
-count_none : (fs : Fields) → count_namespaces (append fs none) ≡ count_namespaces fs
+count-none : (fs : Fields) → count_namespaces (append fs none) ≡ count_namespaces fs
 unfolding count_namespaces append
-count_none none = refl
-count_none (more f fs) = ap (λ (n : ℕ). flag (has 0x22 f) + n) (count_none fs)
+count-none none = refl
+count-none (more f fs) = ap (λ (n : ℕ). flag (has 0x22 f) + n) (count-none fs)
 
 empty-brings : (l : List ℕ) (c : List Record) → namespaces_in (collect_in (record { literal = l; specifiers = none }) c) ≡ namespaces_in c
 unfolding namespaces_in collect_in count_namespaces
@@ -55,7 +55,7 @@ empty-brings l (q ∷ c) = go (same (value_of q.literal) (value_of l)) (empty-br
         namespaces_in
         (cond b (record { literal = q.literal; specifiers = append q.specifiers none } ∷ c)
         (q ∷ collect_in (record { literal = l; specifiers = none }) c)) ≡ count_namespaces q.specifiers + namespaces_in c
-    go true h = ap (λ (n : ℕ). n + namespaces_in c) (count_none q.specifiers)
+    go true h = ap (λ (n : ℕ). n + namespaces_in c) (count-none q.specifiers)
     go false h = ap (λ (n : ℕ). count_namespaces q.specifiers + n) h
 
 abbrev Namespaces : ℕ → State → Type 0
@@ -66,12 +66,12 @@ few-steps e n =
     record {
       common =
           record {
-            requires = record { on-request = λ s f k ms q h. h; on-cjs = λ s k h. h; on-lazy = λ s r b h. h };
-            on-force = λ s i h. ap namespaces_in (force-kept i s) ∙ h;
-            on-top = λ s b h. h;
+            requires = record { on_request = λ s f k ms q h. h; on_cjs = λ s k h. h; on_lazy = λ s r b h. h };
+            on_force = λ s i h. ap namespaces_in (force-kept i s) ∙ h;
+            on_top = λ s b h. h;
           };
-      on-empty = λ s l b h. empty-brings l s.collected ∙ h;
-      on-usage = λ s j p k r w v h. h;
+      on_empty = λ s l b h. empty-brings l s.collected ∙ h;
+      on_usage = λ s j p k r w v h. h;
     }
 
 pub item-few : (e : Setting) → e.pass ≡ first → (f : Field) (object : Bool) (p : ℕ) (s : State) → Regular f →
@@ -88,15 +88,15 @@ source-steps e l two =
     record {
       common =
           record {
-            requires = record { on-request = λ s f k ms q h. h; on-cjs = λ s k h. h; on-lazy = λ s r b h. h };
-            on-force = λ s i h. ap sources_in (force-kept i s) ∙ h;
-            on-top = λ s b h. h;
+            requires = record { on_request = λ s f k ms q h. h; on_cjs = λ s k h. h; on_lazy = λ s r b h. h };
+            on_force = λ s i h. ap sources_in (force-kept i s) ∙ h;
+            on_top = λ s b h. h;
           };
       one = λ k. first-second k two;
       two = λ k.
           record {
-            on-extend = λ s x us p h. extend-sources x _ s.collected ∙ h;
-            on-source = λ s x b p h. ap sources_in (source-kept (value_of x) s) ∙ h;
+            on_extend = λ s x us p h. extend-sources x _ s.collected ∙ h;
+            on_source = λ s x b p h. ap sources_in (source_kept (value_of x) s) ∙ h;
           };
     }
 

@@ -10,11 +10,11 @@ use Rattle.tree.specs.Tree.{Field, Fields, encode, size}
 use Rattle.tree.proofs.TreeLaws.{size-encode}
 use Rattle.writer.specs.Wrote.{Wrote}
 use Rattle.writer.specs.Finished.{has_room, Finished, Delivered}
-use Rattle.writer.proofs.Wrote.{wrote_as, wrote-end}
+use Rattle.writer.proofs.Wrote.{wrote-as, wrote-end}
 use Rattle.writer.proofs.Finished.{room-true, delivered-field, delivers}
 use Rattle.inputs.specs.Outcome.{Outcome, done, refused, onto, refuse_if}
 use Rattle.inputs.specs.Buffer.{fits}
-use Rattle.inputs.proofs.AcceptedLaws.{done_inj, onto-done, done_refused}
+use Rattle.inputs.proofs.AcceptedLaws.{done-inj, onto-done, done-refused}
 use Rattle.extraction_rules.specs.State.{State, Setting}
 use Rattle.extraction_rules.specs.Walk.{walk_module}
 use Rattle.extraction_rules.specs.Call.{module_with}
@@ -26,9 +26,9 @@ use Rattle.extraction.specs.Stages.{Held, TooLong, DeliversFor}
 
 -- ---- Room
 
-pub fits_not : (f : Field) (room : ℕ) → has_room (size f) room ≡ false → fits f room ≡ refused 9 0
+pub fits-not : (f : Field) (room : ℕ) → has_room (size f) room ≡ false → fits f room ≡ refused 9 0
 unfolding fits
-fits_not f room e = ap (λ (b : Bool). refuse_if (not b) 9) e
+fits-not f room e = ap (λ (b : Bool). refuse_if (not b) 9) e
 
 pub fits-so : (f : Field) (room : ℕ) → has_room (size f) room ≡ true → fits f room ≡ done tt
 unfolding fits
@@ -60,12 +60,12 @@ pub walked : (e : Setting) (s : List ℕ) (u : State) {x : Env} {out t' out' : L
     Walked x (walk_module e (items_in s) u) out t' out' p
 walked e s u {x} {t' = t'} d =
     let a = onto-done (walk_module e (items_in s) u) _ (d.value, d.state) d.is in
-    let q : ◌≡◌ {A = Field × State} (module_with a.0.0, a.0.1) (d.value, d.state) = done_inj a.2 in
+    let q : ◌≡◌ {A = Field × State} (module_with a.0.0, a.0.1) (d.value, d.state) = done-inj a.2 in
     record {
       items = a.0.0;
       state = a.0.1;
       is = a.1;
-      wrote = wrote_as d.wrote (ap (λ (z : Field × State). encode z.0) (sym q));
+      wrote = wrote-as d.wrote (ap (λ (z : Field × State). encode z.0) (sym q));
       shows = subst (Shows x t') (ap (λ (z : Field × State). z.1) (sym q)) d.shows;
     }
 
@@ -77,7 +77,7 @@ refused-place e = cc
 
 -- a refusal is that of the first step, where the next has none
 onto-refused : {A B : Type 0} (m : Outcome A) (f : A → B) (n p : ℕ) → onto m (λ a. done (f a)) ≡ refused n p → m ≡ refused n p
-onto-refused (done a) f n p e = done_refused (sym e)
+onto-refused (done a) f n p e = done-refused (sym e)
 onto-refused (refused k q) f n p e = ap₂ refused (refused-number e) (refused-place e)
 
 pub walked-refused : (e : Setting) (s : List ℕ) (u : State) (n p : ℕ) → pass_act e s u ≡ refused n p → walk_module e (items_in s) u ≡ refused n p

@@ -16,7 +16,7 @@ use Rattle.tree.specs.Grammar.{within, holds_at, rule_of}
 use Rattle.tree.specs.Tree.{Field, field, Fields, none, more, tag_of, fixed_of, parts_of, encode, encodes}
 use Rattle.tree.specs.Access.{fixed_at, extent_at}
 use Rattle.tree.specs.Standing.{tree_at}
-use Rattle.tree.proofs.StandingLaws.{row_more, row-none, tree-upto, whole-step}
+use Rattle.tree.proofs.StandingLaws.{row-more, row-none, tree-upto, whole-step}
 use Rattle.tree.proofs.WidthLaws.{tree-bare}
 use Rattle.inputs.specs.Outcome.{Outcome, done, onto}
 use Rattle.inputs.specs.Lists.{among}
@@ -26,21 +26,21 @@ use Rattle.extraction_rules.specs.First.{external, module_for, collect, note_spe
 use Rattle.extraction_rules.specs.Second.{usages_of, take_apart, on_sole, import_second}
 use Rattle.extraction_rules.specs.Walk.{after_import, parts_for, rule_for, after, walk}
 use Rattle.extraction_rules.proofs.OutcomeLaws.{After, after-done, after-bind, after-if}
-use Rattle.extraction_rules.proofs.ValueLaws.{after_any}
+use Rattle.extraction_rules.proofs.ValueLaws.{after-any}
 use Rattle.extraction_rules.proofs.ShapeLaws.{Shaped, formed-shaped}
 use Rattle.extraction_rules.proofs.AlikeLaws.{Regular}
 use Rattle.extraction_rules.proofs.RegularLaws.{regular, item-outer}
 use Rattle.extraction_rules.proofs.ReadableLaws.{item-step}
 use Rattle.extraction_rules.proofs.WalkLaws.{Imports}
 use Rattle.extraction_rules.proofs.SanityLaws.{Known}
-use Rattle.extraction_rules.proofs.StayLaws.{item-no-member, stays_plain, import-stays, walk-stays}
+use Rattle.extraction_rules.proofs.StayLaws.{item-no-member, stays-plain, import-stays, walk-stays}
 use Rattle.state.specs.Cells.{Env, Good, flag, namespaces_in, sources_in}
 use Rattle.state.specs.Does.{Says, is_second}
 use Rattle.steps.specs.declared.Step.{Step}
 use Rattle.steps.specs.declared.Step.TheVariants.{Done}
 use Rattle.steps.specs.Step.{ReadAt, Reads, Steps}
-use Rattle.steps.proofs.SoundLaws.{read-formed, read_short, read-tag}
-use Rattle.steps.proofs.StepsLaws.{steps-give, steps-by, steps_map}
+use Rattle.steps.proofs.SoundLaws.{read-formed, read-short, read-tag}
+use Rattle.steps.proofs.StepsLaws.{steps-give, steps-by, steps-map}
 use Rattle.walking.specs.Walking.{FieldSteps}
 use Rattle.extraction.specs.Passes.{Ready, ItemRead, item_act}
 
@@ -69,9 +69,9 @@ module _ (e : Setting) where
   unfolding import_first
   first-tag x cs p u =
       after-if (external e x) (give (field 0x10 x cs)) _ u (λ g y. tag_of g ≡ 0x10) (λ _. refl)
-      (λ _. after-bind (module_for e (value_of x) p u) _ (λ _ _. Unit {0}) _ (after_any (module_for e (value_of x) p u)) λ n v _.
-      after-bind (note_specifiers n (specifiers_in cs) (inside p x) v) _ (λ _ _. Unit {0}) _ (after_any (note_specifiers n (specifiers_in cs) (inside p x) v)) λ fs w _.
-      after-bind (collect (record { literal = x; specifiers = fs }) p w) _ (λ _ _. Unit {0}) _ (after_any (collect (record { literal = x; specifiers = fs }) p w)) λ _ y _. refl)
+      (λ _. after-bind (module_for e (value_of x) p u) _ (λ _ _. Unit {0}) _ (after-any (module_for e (value_of x) p u)) λ n v _.
+      after-bind (note_specifiers n (specifiers_in cs) (inside p x) v) _ (λ _ _. Unit {0}) _ (after-any (note_specifiers n (specifiers_in cs) (inside p x) v)) λ fs w _.
+      after-bind (collect (record { literal = x; specifiers = fs }) p w) _ (λ _ _. Unit {0}) _ (after-any (collect (record { literal = x; specifiers = fs }) p w)) λ _ y _. refl)
 
   apart-tag : (us : List Usage) (x : List ℕ) (cs : Fields) (u : State) → After (take_apart us x cs u) (λ g y. tag_of g ≡ 0x10)
   unfolding take_apart
@@ -104,9 +104,9 @@ first-is : (p : Pass) → false ≡ is_second p → p ≡ first
 first-is first e = refl
 first-is second e = absurd (let z : ◌≡◌ {A = ℕ} 0 1 = ap flag e in omega arith)
 
-second_is : (p : Pass) → true ≡ is_second p → p ≡ second
-second_is first e = absurd (let z : ◌≡◌ {A = ℕ} 1 0 = ap flag e in omega arith)
-second_is second e = refl
+second-is : (p : Pass) → true ≡ is_second p → p ≡ second
+second-is first e = absurd (let z : ◌≡◌ {A = ℕ} 1 0 = ap flag e in omega arith)
+second-is second e = refl
 
 -- ---- An item that was read
 
@@ -126,7 +126,7 @@ module _ (s : List ℕ) (bytes : Bytes s) (at stop : ℕ) where
   item-walked : {t out t' out' : List ℕ} {o : ℕ} {k : Step} → (get_or s at 0 ≡ 0x10 → ⊥) → (tag_of (tree_at s at stop) ≡ get_or s at 0 → stays (tree_at s at stop) ≡ true) →
       FieldSteps s at stop (λ x. walk (tree_at s at stop) x.setting false at) t out o t' out' k → Steps encodes (ItemRead s at stop) (λ x. item_act x.setting s at stop) t out o t' out' k
   item-walked h l m =
-      steps_map encode encodes one-item (ItemRead s at stop) m (λ x u w. (record { read = w.read; regular = item-regular w h }, w.reads))
+      steps-map encode encodes one-item (ItemRead s at stop) m (λ x u w. (record { read = w.read; regular = item-regular w h }, w.reads))
       (λ x u w g v z.
       let q = read-tag w.read in
       item-bytes g (after-done (walk (tree_at s at stop) x.setting false at u) (λ g y. stays g ≡ true) (g, v) z
@@ -134,7 +134,7 @@ module _ (s : List ℕ) (bytes : Bytes s) (at stop : ℕ) where
 
   pub item-plain : {t out t' out' : List ℕ} {o : ℕ} {k : Step} → (get_or s at 0 ≡ 0x10 → ⊥) → (get_or s at 0 ≡ 0x40 → ⊥) → (get_or s at 0 ≡ 0x41 → ⊥) →
       FieldSteps s at stop (λ x. walk (tree_at s at stop) x.setting false at) t out o t' out' k → Steps encodes (ItemRead s at stop) (λ x. item_act x.setting s at stop) t out o t' out' k
-  item-plain h i j m = item-walked h (λ q. stays_plain (tree_at s at stop) (λ z. i (sym q ∙ z)) (λ z. j (sym q ∙ z))) m
+  item-plain h i j m = item-walked h (λ q. stays-plain (tree_at s at stop) (λ z. i (sym q ∙ z)) (λ z. j (sym q ∙ z))) m
 
   -- a 41 with parts
   pub item-41 : {t out t' out' : List ℕ} {o : ℕ} {k : Step} → get_or s at 0 ≡ 0x41 → at + 3 ≤ stop → {end : ℕ} → extent_at s (at + 3) stop ≡ Upto end →
@@ -142,7 +142,7 @@ module _ (s : List ℕ) (bytes : Bytes s) (at stop : ℕ) where
   unfolding stays
   item-41 q le {end} x m =
       item-walked (λ z. let v : ◌≡◌ {A = ℕ} 0x41 0x10 = sym q ∙ z in omega arith)
-      (λ _. ap stays (tree-bare 0x41 refl s at stop le q ∙ ap (field 0x41 []) (row_more s (at + 3) stop end le x))) m
+      (λ _. ap stays (tree-bare 0x41 refl s at stop le q ∙ ap (field 0x41 []) (row-more s (at + 3) stop end le x))) m
 
   -- ---- Items that are dropped
 
@@ -160,7 +160,7 @@ module _ (s : List ℕ) (bytes : Bytes s) (at stop : ℕ) where
       let b = whole-step s at stop w.read.whole in
       let z = tree-upto s at stop b.0 b.1 in
       let r = subst Regular z (item-regular w (λ y. let v : ◌≡◌ {A = ℕ} 0x40 0x10 = sym q ∙ y in omega arith)) in
-      ap (λ (f : Field). onto (walk f x.setting false at u) (λ r. done (one-item r.0, r.1))) (z ∙ ap (field (get_or s at 0) (slice (at + 3) b.0 s)) (r.0.empty-bare q))
+      ap (λ (f : Field). onto (walk f x.setting false at u) (λ r. done (one-item r.0, r.1))) (z ∙ ap (field (get_or s at 0) (slice (at + 3) b.0 s)) (r.0.empty_bare q))
       ∙ bare-walk x.setting (get_or s at 0) (slice (at + 3) b.0 s) at u (inl q))
 
   pub item-bare : {t out : List ℕ} {o : ℕ} → get_or s at 0 ≡ 0x41 → at + 3 ≤ stop → extent_at s (at + 3) stop ≡ Short → Good t →
@@ -194,7 +194,7 @@ module _ (s : List ℕ) (bytes : Bytes s) (at stop : ℕ) where
       Steps encode (ItemRead s at stop) (λ x. walk (tree_at s at stop) x.setting false at) t out o t' out' k →
       Steps encodes (ItemRead s at stop) (λ x. item_act x.setting s at stop) t out o t' out' k
   import-walked q m =
-      steps_map encode encodes one-item (ItemRead s at stop) m (λ x u w. w)
+      steps-map encode encodes one-item (ItemRead s at stop) m (λ x u w. w)
       (λ x u w g v z.
       let f = tree_at s at stop in
       let e = x.setting in
@@ -225,7 +225,7 @@ module _ (s : List ℕ) (bytes : Bytes s) (at stop : ℕ) where
       import-walked q (steps-by (λ x. walk (tree_at s at stop) x.setting false at) m
       (λ x u v w.
       let e = x.setting in
-      let two = second_is e.pass (sym d ∙ a.is u v) in (
+      let two = second-is e.pass (sym d ∙ a.is u v) in (
         (
           w.read,
           known-here e (tree_at s at stop) u (read-tag w.read ∙ q)

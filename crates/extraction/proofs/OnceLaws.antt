@@ -60,8 +60,8 @@ module _ (f : FileName) (ms : Modules) (g : Gen) (q : generated g ≡ gen f ms) 
 
 -- ---- The first pass
 
-ready_by : {p : Pass} (at end : ℕ) (u : State) (K : Type 0) → p ≡ first → (9 * namespaces_in u.collected ≤ at) × (end ≤ 32768) → Ready p at end u K
-ready_by at end u K e h = subst (λ (q : Pass). Ready q at end u K) (sym e) h
+ready-by : {p : Pass} (at end : ℕ) (u : State) (K : Type 0) → p ≡ first → (9 * namespaces_in u.collected ≤ at) × (end ≤ 32768) → Ready p at end u K
+ready-by at end u K e h = subst (λ (q : Pass). Ready q at end u K) (sym e) h
 
 ready : {x : Env} (tree work : List ℕ) (ms : Modules) → x.setting.pass ≡ first → Placing tree work x → ModuleRead tree →
     ItemsRead tree 3 (length tree) x (set_top false (start ms))
@@ -72,7 +72,7 @@ ready {x} tree work ms e p r =
       row = r.row;
       fits = omega arith;
       reads = reads-tree tree work x p e r.most;
-      ready = ready_by 3 (length tree) (set_top false (start ms)) _ e (omega arith, r.most);
+      ready = ready-by 3 (length tree) (set_top false (start ms)) _ e (omega arith, r.most);
     }
 
 module _ {tree t t1 work work1 : List ℕ} {k : Step} (m : Steps encode (ItemsRead tree 3 (length tree)) (λ x. pass_act x.setting tree) t work 0 t1 work1 k) where

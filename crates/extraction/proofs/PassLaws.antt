@@ -15,15 +15,15 @@ use Rattle.tree.specs.Tree.{Field, field, Fields, none, more, tag_of, fixed_of, 
 use Rattle.tree.specs.Access.{extent_at}
 use Rattle.tree.specs.Standing.{tree_at, row_at, Row}
 use Rattle.tree.proofs.AccessLaws.{extent-upto}
-use Rattle.tree.proofs.StandingLaws.{row_more, row-none}
+use Rattle.tree.proofs.StandingLaws.{row-more, row-none}
 use Rattle.tree.proofs.TreeLaws.{content-size}
 use Rattle.writer.specs.Wrote.{Opened}
-use Rattle.writer.proofs.Wrote.{wrote_none}
+use Rattle.writer.proofs.Wrote.{wrote-none}
 use Rattle.metadata.specs.Metadata.{append}
 use Rattle.metadata.proofs.EncodeLaws.{encodes-append}
 use Rattle.inputs.specs.Outcome.{Outcome, done, refused, onto}
 use Rattle.inputs.specs.Fields.{keep, inside}
-use Rattle.inputs.proofs.AcceptedLaws.{done_inj, onto-done}
+use Rattle.inputs.proofs.AcceptedLaws.{done-inj, onto-done}
 use Rattle.extraction_rules.specs.State.{State, Pass, first, second, Setting, Act, set_top}
 use Rattle.extraction_rules.specs.First.{stays, import_first}
 use Rattle.extraction_rules.specs.Walk.{after_import, after, walk, walk_all, walk_module}
@@ -39,9 +39,9 @@ use Rattle.steps.specs.declared.Why.{Why}
 use Rattle.steps.specs.declared.Step.{Step}
 use Rattle.steps.specs.declared.Step.TheVariants.{Done, Refused}
 use Rattle.steps.specs.Step.{Steps, Ended}
-use Rattle.steps.proofs.SoundLaws.{read-size, row_read, read-tag}
+use Rattle.steps.proofs.SoundLaws.{read-size, row-read, read-tag}
 use Rattle.steps.proofs.StepsLaws.{steps-is, steps-give, steps-as, steps-never, steps-changed, steps-field, begun, pair_of, steps-pair, steps-turned}
-use Rattle.walking.proofs.RowLaws.{all_more, all_none}
+use Rattle.walking.proofs.RowLaws.{all-more, all-none}
 use Rattle.extraction.specs.Passes.{Ready, ItemRead, ItemsRead, item_act, items_act, pass_act}
 use Rattle.extraction.proofs.CellsLaws.{item-few, item-sources}
 use Rattle.extraction.proofs.ItemLaws.{one-item, import-first, ready-first, ready-second, item-shaped, item-regular, import-walk}
@@ -59,7 +59,7 @@ import-shaped : (f : Field) → tag_of f ≡ 0x10 → Shaped f → ShapedAll (pa
 import-shaped (field t x cs) q h = subst (λ (n : ℕ). ShapedAll cs (rule_of n)) q h.1
 
 same-state : {b a : Fields} {u v : State} → ◌≡◌ {A = Outcome (Fields × State)} (done (b, u)) (done (a, v)) → u ≡ v
-same-state z = ap (λ (p : Fields × State). p.1) (done_inj z)
+same-state z = ap (λ (p : Fields × State). p.1) (done-inj z)
 
 keep-more : (g : Field) (gs : Fields) → keep stays (more g gs) ≡ append (one-item g) (keep stays gs)
 unfolding keep append
@@ -75,7 +75,7 @@ module _ (s : List ℕ) (bytes : Bytes s) (at end : ℕ) (le : at ≤ end) where
   items-over x g =
       steps-give encodes (ItemsRead s at end) (λ x. items_act x.setting s at end) none g refl
       (λ y u w. ap (λ (fs : Fields). onto (walk_all fs y.setting false at u) (λ r. done (keep stays r.0, r.1))) (row-none s at end le x)
-      ∙ ap (λ (m : Outcome (Fields × State)). onto m (λ r. done (keep stays r.0, r.1))) (all_none false y.setting at u))
+      ∙ ap (λ (m : Outcome (Fields × State)). onto m (λ r. done (keep stays r.0, r.1))) (all-none false y.setting at u))
 
   module _ (stop : ℕ) (x : extent_at s at end ≡ Upto stop) where
     inside-here : (at + 3 ≤ stop) × (stop ≤ end)
@@ -84,7 +84,7 @@ module _ (s : List ℕ) (bytes : Bytes s) (at end : ℕ) (le : at ≤ end) where
     -- the first item
     item-here : {y : Env} {u : State} → ItemsRead s at end y u → ItemRead s at stop y u
     item-here {y} {u} w =
-        let r = row_read (rule_of 0x01) le w.fits w.row x in
+        let r = row-read (rule_of 0x01) le w.fits w.row x in
         let q = (item-step (get_or s at 0) r.1.0 r.1.1).1 in
         record {
           read = r.0;
@@ -92,7 +92,7 @@ module _ (s : List ℕ) (bytes : Bytes s) (at end : ℕ) (le : at ≤ end) where
           reads = w.reads;
           ready =
               ready-part y.setting.pass at end stop u _ _ inside-here.1
-              (λ k. (subst (λ (fs : Fields). ImportsAll fs (Known y.setting.externals (sources_in u.collected))) (row_more s at end stop le x) k).0) w.ready;
+              (λ k. (subst (λ (fs : Fields). ImportsAll fs (Known y.setting.externals (sources_in u.collected))) (row-more s at end stop le x) k).0) w.ready;
         }
 
     -- what the first pass brings
@@ -126,7 +126,7 @@ module _ (s : List ℕ) (bytes : Bytes s) (at end : ℕ) (le : at ≤ end) where
     items-rest : {y : Env} {u v : State} {g : Field} → ItemsRead s at end y u →
         walk (tree_at s at stop) y.setting false at u ≡ done (g, v) → ItemsRead s stop end y v
     items-rest {y} {u} {v} {g} w z =
-        let r = row_read (rule_of 0x01) le w.fits w.row x in
+        let r = row-read (rule_of 0x01) le w.fits w.row x in
         let q = (item-step (get_or s at 0) r.1.0 r.1.1).1 in
         record { inside = inside-here.1; row = subst (Row s stop end) q r.1.2; fits = w.fits; reads = w.reads; ready = here y.setting.pass refl }
       where
@@ -140,7 +140,7 @@ module _ (s : List ℕ) (bytes : Bytes s) (at end : ℕ) (le : at ≤ end) where
             let n = after-done (walk (tree_at s at stop) y.setting false at u) _ (g, v) z (item-sources y.setting d (tree_at s at stop) false at u) in
             subst (λ (p : Pass). Ready p stop end v (ImportsAll (row_at s stop end) (Known y.setting.externals (sources_in v.collected)))) (sym d)
             (subst (λ (l : List (List ℕ)). ImportsAll (row_at s stop end) (Known y.setting.externals l)) (sym n)
-            (subst (λ (fs : Fields). ImportsAll fs (Known y.setting.externals (sources_in u.collected))) (row_more s at end stop le x) k).1)
+            (subst (λ (fs : Fields). ImportsAll fs (Known y.setting.externals (sources_in u.collected))) (row-more s at end stop le x) k).1)
 
     -- the row is the first item and the others
     split-items : {y : Env} {u : State} → ItemsRead s at end y u →
@@ -150,8 +150,8 @@ module _ (s : List ℕ) (bytes : Bytes s) (at end : ℕ) (le : at ≤ end) where
         let n = read-size r bytes in
         let i = inside-here.0 in
         let z : at + size (tree_at s at stop) ≡ stop = omega arith in
-        ap (λ (fs : Fields). onto (walk_all fs y.setting false at u) (λ r. done (keep stays r.0, r.1))) (row_more s at end stop le x)
-        ∙ ap (λ (m : Outcome (Fields × State)). onto m (λ r. done (keep stays r.0, r.1))) (all_more false y (tree_at s at stop) (row_at s stop end) at u)
+        ap (λ (fs : Fields). onto (walk_all fs y.setting false at u) (λ r. done (keep stays r.0, r.1))) (row-more s at end stop le x)
+        ∙ ap (λ (m : Outcome (Fields × State)). onto m (λ r. done (keep stays r.0, r.1))) (all-more false y (tree_at s at stop) (row_at s stop end) at u)
         ∙ ap (λ (p : ℕ). onto (pair_of more (λ x. walk (tree_at s at stop) x.setting false at) (λ _ x. walk_all (row_at s stop end) x.setting false p) y u)
         (λ r. done (keep stays r.0, r.1))) z
         ∙ go (walk (tree_at s at stop) y.setting false at u)
@@ -239,7 +239,7 @@ pub pass-made : {s : List ℕ} {t t1 t2 out out1 out2 out3 : List ℕ} {p : ℕ}
 unfolding walk_module
 pass-made {s} r g b m n =
     steps-as (λ x. pass_act x.setting s)
-    (steps-changed (set_top true) g (steps-field r (begun b wrote_none) m n)
+    (steps-changed (set_top true) g (steps-field r (begun b wrote-none) m n)
     (λ x u w. record
     { inside = w.inside; row = w.row; fits = w.fits; reads = w.reads; ready = ready-top x.setting.pass 3 (length s) u _ w.ready }))
     (λ x u w. (w, refl))

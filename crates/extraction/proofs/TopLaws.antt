@@ -28,7 +28,7 @@ use Rattle.extraction_rules.specs.State.{Record, State, first, second, Setting, 
 use Rattle.extraction_rules.specs.Walk.{walk_module, walk_again}
 use Rattle.extraction_rules.specs.Records.{records_of}
 use Rattle.extraction_rules.specs.Call.{Lent, Lengths, Extracted, Left, own_module, setting, module_with, extracted_from, passes, modules_after, extracted, extraction}
-use Rattle.extraction_rules.proofs.OutcomeLaws.{After, after_both, after-done}
+use Rattle.extraction_rules.proofs.OutcomeLaws.{After, after-both, after-done}
 use Rattle.extraction_rules.proofs.FirstLaws.{sources_of}
 use Rattle.extraction_rules.proofs.WalkLaws.{ImportsAll}
 use Rattle.extraction_rules.proofs.SanityLaws.{Known}
@@ -54,9 +54,9 @@ use Rattle.extraction.specs.declared.Passed.TheVariants.{Fits, Refused as Turned
 use Rattle.extraction.specs.Answer.{answer_refusal, outcome_of, UnreadAs, lent_as, room_in, left}
 use Rattle.extraction.specs.Stages.{lists_of, ModuleRead, setting_in, LentTo, OwnIs, Owns, Begun, PreparedIs, Prepares, PassIs, Inside, Firsts, marking, Seconds, DeliversFor}
 use Rattle.extraction.specs.Stages.{Whole, AcceptedAs, TurnedAs, Ends}
-use Rattle.extraction.proofs.HeldLaws.{fits_not, fits-so, room-size}
+use Rattle.extraction.proofs.HeldLaws.{fits-not, fits-so, room-size}
 use Rattle.extraction.proofs.ReadLaws.{module-read}
-use Rattle.extraction.proofs.AgainLaws.{lost, again_by, told}
+use Rattle.extraction.proofs.AgainLaws.{lost, again-by, told}
 use Rattle.extraction.proofs.ListsLaws.{says}
 
 -- ---- The array at the start
@@ -88,8 +88,8 @@ module _ (modes : Modes) {t t1 : List ℕ} (z : t ≡ replicate cells 0) (a : Re
   pub externals-empty : rows (table_of externals-kind) t1 ≡ []
   externals-empty = map-none atom_of _ (a.shows (set_top false (start [])) (zeros-show z (λ _. []) (λ _. none))).sets.externals
 
-  pub table_empty : (l : List (List ℕ)) {t2 : List ℕ} → Resets (with_externals l) t1 t2 → rows (table_of table-kind) t2 ≡ []
-  table_empty l b =
+  pub table-empty : (l : List (List ℕ)) {t2 : List ℕ} → Resets (with_externals l) t1 t2 → rows (table_of table-kind) t2 ≡ []
+  table-empty l b =
       let s = set_top false (start []) in
       map-none lent_of _ (b.shows s (a.shows s (zeros-show z (λ _. []) (λ _. none)))).sets.table
 
@@ -126,9 +126,9 @@ module _ (l : Lent) (room : Lengths) (own : ℕ) (ms : Modules) where
   walked_first = walk_module one (items_in l.tree) (set_top false (start ms))
 
   -- the pass sets *top* itself
-  top_set : walk_module one (items_in l.tree) (start ms) ≡ walked_first
+  top-set : walk_module one (items_in l.tree) (start ms) ≡ walked_first
   unfolding walk_module
-  top_set = refl
+  top-set = refl
 
   abbrev further : Fields × State → Outcome Extracted
   further r = onto (fits (module_with r.0) room.work) (λ _. secondly two room.out room.records r.0 r.1)
@@ -141,7 +141,7 @@ module _ (l : Lent) (room : Lengths) (own : ℕ) (ms : Modules) where
   passes-onto = refl
 
   passes-by : (m : Outcome (Fields × State)) → walked_first ≡ m → passes_by ≡ onto m further
-  passes-by m q = passes-onto ∙ ap (λ (z : Outcome (Fields × State)). onto z further) (top_set ∙ q)
+  passes-by m q = passes-onto ∙ ap (λ (z : Outcome (Fields × State)). onto z further) (top-set ∙ q)
 
   passes-fit : (works : Fields) (s : State) (m : Outcome (Unit {0})) → walked_first ≡ done (works, s) → fits (module_with works) room.work ≡ m →
       passes_by ≡ onto m (λ _. secondly two room.out room.records works s)
@@ -172,7 +172,7 @@ between l own ms works s h e =
     record {
       items = within.0;
       known = after-done m (λ ws z. ImportsAll ws (Known a.externals (sources_of z.collected))) (works, s) e (walk_module-known a refl items (start ms));
-      outs = after_both (walk_again b works s) (λ outs z'. Items outs) (λ outs z'. z'.collected ≡ mapped works outs z') within.1 retold;
+      outs = after-both (walk_again b works s) (λ outs z'. Items outs) (λ outs z'. z'.collected ≡ mapped works outs z') within.1 retold;
     }
 
 module _ (e : Setting) (out records : ℕ) (works : Fields) (s : State) where
@@ -180,12 +180,12 @@ module _ (e : Setting) (out records : ℕ) (works : Fields) (s : State) where
   secondly-by m q = ap (λ (m : Outcome (Fields × State)). onto (placeless m) (lastly works out records)) q
 
   secondly-refused : (n p : ℕ) → marking e works s ≡ refused n p → secondly e out records works s ≡ refused n 0
-  secondly-refused n p q = secondly-by (refused n p) (again_by e works s (refused n p) q)
+  secondly-refused n p q = secondly-by (refused n p) (again-by e works s (refused n p) q)
 
   secondly-fit : (outs : Fields) (s2 : State) (m : Outcome (Unit {0})) → marking e works s ≡ done (outs, s2) → fits (module_with outs) out ≡ m →
       secondly e out records works s ≡ onto m (λ _. onto (fits (records_of (lost s2)) records) (λ _. done (extracted_from works outs (lost s2))))
   secondly-fit outs s2 m p q =
-      secondly-by (done (outs, lost s2)) (again_by e works s (done (outs, s2)) p)
+      secondly-by (done (outs, lost s2)) (again-by e works s (done (outs, s2)) p)
       ∙ ap (λ (z : Outcome (Unit {0})). onto z (λ _. onto (fits (records_of (lost s2)) records) (λ _. done (extracted_from works outs (lost s2))))) q
 
 -- a tree that fits is no longer than its buffer
@@ -194,8 +194,8 @@ inside-fits {room = room} e h = subst (λ (r : Passed). Inside r room) e h
 
 -- ---- Before the passes
 
-no_room : Lengths
-no_room = record { work = 0; out = 0; records = 0 }
+no-room : Lengths
+no-room = record { work = 0; out = 0; records = 0 }
 
 module _ (file : ℕ) (modes : Modes) (externals table tree : List ℕ) (ms : Modules) {r : Tested} (d : r ≡ lists_of (lent_as 0 (modes_of 0) externals table tree)) where
   abbrev lent : Lent
@@ -215,18 +215,18 @@ module _ (file : ℕ) (modes : Modes) (externals table tree : List ℕ) (ms : Mo
           is =
               record {
                 is = λ room _. (says file modes externals table tree room ms (NotRead w p) d e).0;
-                why = (says file modes externals table tree no_room ms (NotRead w p) d e).1;
+                why = (says file modes externals table tree no-room ms (NotRead w p) d e).1;
               };
         }
 
     -- the tests do not ask for a number
     pub prepared-never : {A : Type 0} → r ≡ TooManyFiles → A
-    prepared-never e = absurd (says file modes externals table tree no_room ms TooManyFiles d e)
+    prepared-never e = absurd (says file modes externals table tree no-room ms TooManyFiles d e)
 
   -- then the own file
   module _ (e : r ≡ Passable) where
     pub lists-short : (length externals ≤ 1024) × (length table ≤ 4096)
-    lists-short = let s = says file modes externals table tree no_room ms Passable d e in (s.2, s.3)
+    lists-short = let s = says file modes externals table tree no-room ms Passable d e in (s.2, s.3)
 
     owned_by : (room : Lengths) (o : Outcome (ℕ × Modules)) → own_module (request file ms) ≡ o →
         extracted lent room ms ≡ onto o (passes lent room (rows_in table) (items_in tree))
@@ -239,7 +239,7 @@ module _ (file : ℕ) (modes : Modes) (externals table tree : List ℕ) (ms : Mo
       where
         go : (a : Tested) → OwnIs file ms t1 t2 a → PreparedIs lent ms t2 a
         go Passable w =
-            let s = says file modes externals table tree no_room ms Passable d e in
+            let s = says file modes externals table tree no-room ms Passable d e in
             record {
               own = w.own;
               modules = w.modules;
@@ -265,7 +265,7 @@ abbrev standing : Setting → List ℕ → List ℕ → Env
 standing e tree part = record { setting = e; literal = literal_in tree part; bound = placed tree part }
 
 stands : (e : Setting) (tree part : List ℕ) → Placing tree part (standing e tree part)
-stands e tree part = record { bindings-placed = λ q. refl; literals-placed = λ q. refl }
+stands e tree part = record { bindings_placed = λ q. refl; literals_placed = λ q. refl }
 
 -- the first pass is done, and its tree fits: part is that tree
 pub record Halfway (l : Lent) (m : Outcome Extracted) (room : Lengths) (t part work work' : List ℕ) : Type 0 where
@@ -300,7 +300,7 @@ module _ (l : Lent) (ms : Modules) (work out records : List ℕ) {t t1 work1 : L
   pub once-short : {B : Extracted → Type 0} {u : List ℕ} → p ≡ Short → Ends B (extracted l lengths ms) l.tree u NoRoom
   once-short e =
       let z = passed [] Short e in
-      let f = fits_not (module_with z.items) (length work) z.short in
+      let f = fits-not (module_with z.items) (length work) z.short in
       record { is = record { is = λ _. b.rest lengths ∙ passes-fit l lengths b.own b.modules z.items z.state (refused 9 0) z.is f; why = tt } }
 
   pub halfway : (n : ℕ) → p ≡ Fits n → Halfway l (extracted l lengths ms) lengths t1 (take (n - 0) (drop 0 work1)) work work1
@@ -308,7 +308,7 @@ module _ (l : Lent) (ms : Modules) (work out records : List ℕ) {t t1 work1 : L
       let part = take (n - 0) (drop 0 work1) in
       let z = passed part (Fits n) e in
       let h = module_with z.items in
-      let mid = between l b.own b.modules z.items z.state b.read.items (top_set l lengths b.own b.modules ∙ z.is) in
+      let mid = between l b.own b.modules z.items z.state b.read.items (top-set l lengths b.own b.modules ∙ z.is) in
       record {
         own = b.own;
         works = z.items;
@@ -335,8 +335,8 @@ pub record Settled (m : Outcome Extracted) (tree t part last work out records wo
   pub shows : Shows around t state
   pub both : BothRead part last
   pub told : records_in part last state ≡ records_of (lost state)
-  pub work-held : work' ≡ delivered (encode (module_with works)) (length work)
-  pub out-held : out' ≡ delivered (encode (module_with outs)) (length out)
+  pub work_held : work' ≡ delivered (encode (module_with works)) (length work)
+  pub out_held : out' ≡ delivered (encode (module_with outs)) (length out)
 
 module _ (records : List ℕ) {l : Lent} {m : Outcome Extracted} {work out : List ℕ} {t t1 part work1 out1 : List ℕ} {p : Passed}
     (h : Halfway l m (room_in work out records) t part work work1) (g : Seconds t part out t1 out1 p) where
@@ -356,7 +356,7 @@ module _ (records : List ℕ) {l : Lent} {m : Outcome Extracted} {work out : Lis
   pub again-short : {B : Extracted → Type 0} {u : List ℕ} → p ≡ Short → Ends B m l.tree u NoRoom
   again-short e =
       let z = repassed Short e in
-      let f = fits_not (module_with z.items) (length out) z.short in
+      let f = fits-not (module_with z.items) (length out) z.short in
       let k = secondly-fit again (length out) (length records) h.works h.state z.items z.state (refused 9 0) z.is f in
       record { is = record { is = λ _. h.rest ∙ k; why = tt } }
 
@@ -366,7 +366,7 @@ module _ (records : List ℕ) {l : Lent} {m : Outcome Extracted} {work out : Lis
       let works = h.works in
       let outs = z.items in
       let last = take (n - 0) (drop 0 out1) in
-      let after = after-done (walk_again again works h.state) _ (outs, lost z.state) (again_by again works h.state (done (outs, z.state)) z.is) h.mid.outs in
+      let after = after-done (walk_again again works h.state) _ (outs, lost z.state) (again-by again works h.state (done (outs, z.state)) z.is) h.mid.outs in
       let reads : read Module last ≡ fine (more (module_with outs) none) = ap (read Module) z.part ∙ items-readable outs (length out) after.0 z.room in
       record {
         works = works;
@@ -381,16 +381,16 @@ module _ (records : List ℕ) {l : Lent} {m : Outcome Extracted} {work out : Lis
         shows = z.shows;
         both = ((items-read part works h.reads).1, (items-read last outs reads).1);
         told = told part last works outs z.state (items-read part works h.reads).0 (items-read last outs reads).0 after.1;
-        work-held = h.buffer;
-        out-held = z.buffer;
+        work_held = h.buffer;
+        out_held = z.buffer;
       }
 
 -- ---- The records
 
 module _ {m : Outcome Extracted} {tree t part last work out records work1 out1 records1 : List ℕ} {b : Bool} (h : Settled m tree t part last work out records work1 out1)
     (d : DeliversFor tree part last t records records1 b) where
-  fits_told : (c : Bool) → b ≡ c → has_room (size (records_of (lost h.state))) (length records) ≡ c
-  fits_told c e =
+  fits-told : (c : Bool) → b ≡ c → has_room (size (records_of (lost h.state))) (length records) ≡ c
+  fits-told c e =
       ap (λ (f : Field). has_room (size f) (length records)) (sym h.told)
       ∙ room-size (records_in part last h.state) (d.is h.state h.shows h.placing h.both) ∙ e
 
@@ -404,13 +404,13 @@ module _ {m : Outcome Extracted} {tree t part last work out records work1 out1 r
         is =
             record {
               result = extracted_from h.works h.outs (lost h.state);
-              is = ending (done tt) (fits-so (records_of (lost h.state)) (length records) (fits_told true e));
+              is = ending (done tt) (fits-so (records_of (lost h.state)) (length records) (fits-told true e));
               good = h.good;
               modules = record { at = h.around; state = h.state; shows = h.shows; modules = refl };
               buffers =
                   record {
-                    work = h.work-held;
-                    out = h.out-held;
+                    work = h.work_held;
+                    out = h.out_held;
                     records = j.buffer ∙ ap (λ (q : Field). delivered (encode q) (length records)) h.told;
                   };
             };
@@ -418,7 +418,7 @@ module _ {m : Outcome Extracted} {tree t part last work out records work1 out1 r
 
   pub ends-short : {B : Extracted → Type 0} {u : List ℕ} → b ≡ false → Ends B m tree u NoRoom
   ends-short e =
-      record { is = record { is = λ _. ending (refused 9 0) (fits_not (records_of (lost h.state)) (length records) (fits_told false e)); why = tt } }
+      record { is = record { is = λ _. ending (refused 9 0) (fits-not (records_of (lost h.state)) (length records) (fits-told false e)); why = tt } }
 
 -- ---- The steps together, over the lent tree
 
@@ -451,8 +451,8 @@ module _ (l : Lent) (ms : Modules) {tree : List ℕ} (q : l.tree ≡ tree) {t : 
     pub run-turned : {B : Extracted → Type 0} {u : List ℕ} {w : Why} {k : ℕ} → a ≡ Turned w k → Ends B called tree u (Refused w k)
     run-turned {B} {u} h = record { is = record { is = (once-turned l ms work out records (prepared Passable e) firsts {B = B} {u = u} h).is.is; why = tt } }
 
-    pub run_short : {B : Extracted → Type 0} {u : List ℕ} → a ≡ Short → Ends B called tree u NoRoom
-    run_short {B} {u} h = record { is = record { is = (once-short l ms work out records (prepared Passable e) firsts {B = B} {u = u} h).is.is; why = tt } }
+    pub run-short : {B : Extracted → Type 0} {u : List ℕ} → a ≡ Short → Ends B called tree u NoRoom
+    run-short {B} {u} h = record { is = record { is = (once-short l ms work out records (prepared Passable e) firsts {B = B} {u = u} h).is.is; why = tt } }
 
     module _ (n : ℕ) (h : a ≡ Fits n) {t2 out1 : List ℕ} {b : Passed} (s : Seconds t1 (take (n - 0) (drop 0 work1)) out t2 out1 b) where
       half : Halfway l called (room_in work out records) t1 (take (n - 0) (drop 0 work1)) work work1
@@ -488,9 +488,9 @@ left_by o room ms =
       records = buffer_of (λ r. r.records) o room.records;
     }
 
-left_is : (l : Lent) (room : Lengths) (ms : Modules) (o : Outcome Extracted) → extracted l room ms ≡ o → left_by o room ms ≡ extraction l room ms
+left-is : (l : Lent) (room : Lengths) (ms : Modules) (o : Outcome Extracted) → extracted l room ms ≡ o → left_by o room ms ≡ extraction l room ms
 unfolding extraction
-left_is l room ms o e = ap (λ (z : Outcome Extracted). left_by z room ms) (sym e)
+left-is l room ms o e = ap (λ (z : Outcome Extracted). left_by z room ms) (sym e)
 
 abbrev leaving : Option (ℕ × ℕ) → Modules → Report → List ℕ → List ℕ → List ℕ → Left
 leaving r ms n w o k = record { refusal = r; modules = ms; report = n; work = w; out = o; records = k }
@@ -502,14 +502,14 @@ left-same r {ms} {ns} {m} {n} {w} {o} {k} {w'} {o'} {k'} a e b c d =
     ∙ ap (λ (z : List ℕ). leaving r ns n w' z k) c ∙ ap (λ (z : List ℕ). leaving r ns n w' o' z) d
 
 -- any other answer is a refusal
-turned_left : (a : ExtractAnswer) (ms : Modules) (w o k : List ℕ) (r : Extracted) → (a ≡ Accepted → ⊥) →
+turned-left : (a : ExtractAnswer) (ms : Modules) (w o k : List ℕ) (r : Extracted) → (a ≡ Accepted → ⊥) →
     leaving (answer_refusal a) ms no_counts (replicate (length w) 0) (replicate (length o) 0) (replicate (length k) 0) ≡ left_by (outcome_of a r) (room_in w o k) ms
-turned_left Accepted ms w o k r e = absurd (e refl)
-turned_left BadLists ms w o k r e = refl
-turned_left NamedTwice ms w o k r e = refl
-turned_left (Unread v p) ms w o k r e = refl
-turned_left (Refused v p) ms w o k r e = refl
-turned_left NoRoom ms w o k r e = refl
+turned-left Accepted ms w o k r e = absurd (e refl)
+turned-left BadLists ms w o k r e = refl
+turned-left NamedTwice ms w o k r e = refl
+turned-left (Unread v p) ms w o k r e = refl
+turned-left (Refused v p) ms w o k r e = refl
+turned-left NoRoom ms w o k r e = refl
 
 turned : {B : Extracted → Type 0} {m : Outcome Extracted} {tree t : List ℕ} (a : ExtractAnswer) → Ends B m tree t a → (a ≡ Accepted → ⊥) → TurnedAs m tree a
 turned Accepted z e = absurd (e refl)
@@ -537,7 +537,7 @@ module _ (l : Lent) (scope : Scope) {t work out records work2 out2 records2 : Li
       let z = accepted e in
       let b = z.buffers in (
         left-same nothing (g.is z.modules.state z.modules.shows ∙ z.modules.modules) h b.work b.out b.records
-            ∙ left_is l (room_in work out records) (modules_of scope) (done z.result) z.is,
+            ∙ left-is l (room_in work out records) (modules_of scope) (done z.result) z.is,
         tt,
       )
 
@@ -548,7 +548,7 @@ module _ (l : Lent) (scope : Scope) {t work out records work2 out2 records2 : Li
       let z = turned a c e in
       let none-given = extracted_from none none (start []) in (
         left-same (answer_refusal a) refl h (zeroed-is work2 work p i) (zeroed-is out2 out q j) (zeroed-is records2 records r k)
-            ∙ turned_left a (modules_of scope) work out records none-given e
-            ∙ left_is l (room_in work out records) (modules_of scope) (outcome_of a none-given) (z.is none-given),
+            ∙ turned-left a (modules_of scope) work out records none-given e
+            ∙ left-is l (room_in work out records) (modules_of scope) (outcome_of a none-given) (z.is none-given),
         z.why,
       )

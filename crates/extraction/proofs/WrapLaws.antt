@@ -26,7 +26,7 @@ use Rattle.steps.specs.declared.Effect.{Effect}
 use Rattle.steps.specs.declared.Effect.TheVariants.{Fine, Refused as Turned}
 use Rattle.steps.specs.Step.{Effects}
 use Rattle.steps.specs.Refusal.{refusal_of}
-use Rattle.steps.proofs.StepsLaws.{fine-turned, turned_as}
+use Rattle.steps.proofs.StepsLaws.{fine-turned, turned-as}
 use Rattle.extraction.specs.Stages.{Anywhere, wrap_one, wrap_from, Wrapping}
 
 -- ---- One source
@@ -73,7 +73,7 @@ module _ (a : ℕ) where
       record {
         good = g.good;
         fine = λ f s w c. fine-turned (sym f);
-        turned = λ v p f {x = x} s w c. turned_as (wrapped x.setting s (refused 5 0) (g.full q s 0 w)) f;
+        turned = λ v p f {x = x} s w c. turned-as (wrapped x.setting s (refused 5 0) (g.full q s 0 w)) f;
       }
 
 -- ---- All of them
@@ -139,7 +139,7 @@ module _ {t : List ℕ} {i : ℕ} where
         fine = λ g s w c. fine-turned (sym g);
         turned = λ u j g {x = x} s w c.
             let b = h.is s w in
-            turned_as (wrap-step x.setting i s b.0 (two a) b.1 b.2 (refused (refusal_of v) p) (f.turned v p refl s w tt)) g;
+            turned-as (wrap-step x.setting i s b.0 (two a) b.1 b.2 (refused (refusal_of v) p) (f.turned v p refl s w tt)) g;
       }
 
   pub wrap-over : {n : ℕ} → Good t → Tells (λ s. length s.forced) t n → n ≤ i → Effects Anywhere (wraps_from i) t t Fine

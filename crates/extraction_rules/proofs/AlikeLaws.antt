@@ -10,7 +10,7 @@ use native.Mathlib.Omega.{arith}
 use lib.Dec.{eqb}
 use lib.ListN.{length, take, get_or, length-take}
 use lib.Seq.{take_at, length-take-le}
-use Rattle.scope.specs.Id.{require-atom, export}
+use Rattle.scope.specs.Id.{require_atom, export}
 use Rattle.tree.specs.Layout.{same, two, four, id_at, name_of}
 use Rattle.tree.specs.Tree.{Field, field, Fields, none, more, tag_of, fixed_of, parts_of, size}
 use Rattle.tree.proofs.LayoutLaws.{same-equal}
@@ -35,21 +35,21 @@ Two cs = (o q : Field) × (cs ≡ more o (more q none)) × ((tag_of q ≡ 0x70) 
 -- what the grammar says there of a field, as far as the rules lean on it
 pub record RegularAt (t : ℕ) (x : List ℕ) (cs : Fields) : Type 0 where
   -- no 10
-  pub no-import : t ≡ 0x10 → ⊥
+  pub no_import : t ≡ 0x10 → ⊥
   -- no 20, 21, 22
   pub no_local : (t ≡ 0x20 → ⊥) × (t ≡ 0x21 → ⊥) × (t ≡ 0x22 → ⊥)
   -- a 23 has no parts; its original is a whole id, or a string
-  pub export-bare : t ≡ 0x23 → cs ≡ none
-  pub export-kind : t ≡ 0x23 → ((get_or x 0 0 ≡ 1) × (7 ≤ length x)) ⊎ (get_or x 0 0 ≡ 2)
+  pub export_bare : t ≡ 0x23 → cs ≡ none
+  pub export_kind : t ≡ 0x23 → ((get_or x 0 0 ≡ 1) × (7 ≤ length x)) ⊎ (get_or x 0 0 ≡ 2)
   -- a 40 has no parts
-  pub empty-bare : t ≡ 0x40 → cs ≡ none
+  pub empty_bare : t ≡ 0x40 → cs ≡ none
   -- a 60 is an id without parts
-  pub ident-bare : t ≡ 0x60 → cs ≡ none
-  pub ident-whole : t ≡ 0x60 → id_at x 0 ≡ x
+  pub ident_bare : t ≡ 0x60 → cs ≡ none
+  pub ident_whole : t ≡ 0x60 → id_at x 0 ≡ x
   -- a 63 has an object and a member, a 70 is an atom without parts
-  pub member-two : t ≡ 0x63 → Two cs
-  pub name-bare : t ≡ 0x70 → cs ≡ none
-  pub name-two : t ≡ 0x70 → length x ≡ 2
+  pub member_two : t ≡ 0x63 → Two cs
+  pub name_bare : t ≡ 0x70 → cs ≡ none
+  pub name_two : t ≡ 0x70 → length x ≡ 2
   -- the target of a 66 is no 60 and no 23
   pub target : t ≡ 0x66 → (f : Field) (fs : Fields) → cs ≡ more f fs → (tag_of f ≡ 0x60 → ⊥) × (tag_of f ≡ 0x23 → ⊥)
 
@@ -67,7 +67,7 @@ abbrev mutual
 pub data SameBytes (t : ℕ) (x y : List ℕ) : Type 0 where
   equal : y ≡ x → SameBytes t x y
   behind : t ≡ 0x23 → take 7 y ≡ take 7 x → SameBytes t x y
-  callee : t ≡ 0x60 → name_of x ≡ two require-atom → (n : ℕ) → y ≡ two require-atom ++ four (export n) → SameBytes t x y
+  callee : t ≡ 0x60 → name_of x ≡ two require_atom → (n : ℕ) → y ≡ two require_atom ++ four (export n) → SameBytes t x y
 
 abbrev mutual
   pub Alike : Field → Field → Type 0
@@ -78,12 +78,12 @@ abbrev mutual
   AlikeAll (more f fs) gs = (g : Field) × (hs : Fields) × (gs ≡ more g hs) × Alike f g × AlikeAll fs hs
 
 mutual
-  pub alike_refl : (f : Field) → Alike f f
-  alike_refl (field t x cs) = (refl, equal refl, alike_all-refl cs)
+  pub alike-refl : (f : Field) → Alike f f
+  alike-refl (field t x cs) = (refl, equal refl, alike_all-refl cs)
 
   pub alike_all-refl : (fs : Fields) → AlikeAll fs fs
   alike_all-refl none = refl
-  alike_all-refl (more f fs) = (f, fs, refl, alike_refl f, alike_all-refl fs)
+  alike_all-refl (more f fs) = (f, fs, refl, alike-refl f, alike_all-refl fs)
 
 -- the parts of alike fields
 pub alike-more : (f : Field) (fs : Fields) (g : Field) (gs : Fields) → AlikeAll (more f fs) (more g gs) → Alike f g × AlikeAll fs gs
@@ -109,16 +109,16 @@ same-trans t x y z (callee j q m u) (callee k r n v) = callee j q n v
 
 -- ---- A callee in another context
 
-pub required-named : (e : Setting) (t : ℕ) (x : List ℕ) (c : Field) (gs : Fields) (l : List ℕ) → required e (field t x (more c gs)) ≡ some l → name_of (fixed_of c) ≡ two require-atom
+pub required-named : (e : Setting) (t : ℕ) (x : List ℕ) (c : Field) (gs : Fields) (l : List ℕ) → required e (field t x (more c gs)) ≡ some l → name_of (fixed_of c) ≡ two require_atom
 unfolding required
-required-named e t x c gs l q = go (e.config.require && eqb t 0x65 && has 0x60 c) (same (name_of (fixed_of c)) (two require-atom)) refl q
+required-named e t x c gs l q = go (e.config.require && eqb t 0x65 && has 0x60 c) (same (name_of (fixed_of c)) (two require_atom)) refl q
   where
-    go : (a b : Bool) → same (name_of (fixed_of c)) (two require-atom) ≡ b → cond (a && b) (not_external e (argument (sole gs))) nothing ≡ some l → name_of (fixed_of c) ≡ two require-atom
-    go true true w q = same-equal (name_of (fixed_of c)) (two require-atom) w
+    go : (a b : Bool) → same (name_of (fixed_of c)) (two require_atom) ≡ b → cond (a && b) (not_external e (argument (sole gs))) nothing ≡ some l → name_of (fixed_of c) ≡ two require_atom
+    go true true w q = same-equal (name_of (fixed_of c)) (two require_atom) w
     go true false w q = absurd (let z : ◌≡◌ {A = ℕ} 0 1 = cc in omega arith)
     go false b w q = absurd (let z : ◌≡◌ {A = ℕ} 0 1 = cc in omega arith)
 
-pub callee-bytes : (t : ℕ) (x y : List ℕ) (n : ℕ) → SameBytes t x y → t ≡ 0x60 → name_of y ≡ two require-atom → SameBytes t x (id_from (name_of y) (export n))
+pub callee-bytes : (t : ℕ) (x y : List ℕ) (n : ℕ) → SameBytes t x y → t ≡ 0x60 → name_of y ≡ two require_atom → SameBytes t x (id_from (name_of y) (export n))
 callee-bytes t x y n (equal q) k h = callee k (ap name_of (sym q) ∙ h) n (ap (λ (v : List ℕ). v ++ four (export n)) h)
 callee-bytes t x y n (behind q r) k h = absurd (let w : 0x23 ≡ 0x60 = sym q ∙ k in omega arith)
 callee-bytes t x y n (callee a b m c) k h = callee a b n (ap (λ (v : List ℕ). v ++ four (export n)) h)
@@ -161,8 +161,8 @@ module _ (e : Setting) (one : e.pass ≡ first) where
   rule-alike : (r : Rule) (t : ℕ) (x : List ℕ) (cs ds : Fields) (object : Bool) (p : ℕ) (s : State) → rule_for t ≡ r → RegularAt t x cs → AlikeAll cs ds →
       After (after r e t x ds object p s) (λ g s. Alike (field t x cs) g)
   unfolding after
-  rule-alike import t x cs ds object p s q w h = absurd (w.no-import (rule-import t q))
-  rule-alike exporting t x cs ds object p s q w h = go t cs (rule-export t q) (w.export-bare (rule-export t q)) (w.export-kind (rule-export t q))
+  rule-alike import t x cs ds object p s q w h = absurd (w.no_import (rule-import t q))
+  rule-alike exporting t x cs ds object p s q w h = go t cs (rule-export t q) (w.export_bare (rule-export t q)) (w.export_kind (rule-export t q))
     where
       go : (t : ℕ) (cs : Fields) → t ≡ 0x23 → cs ≡ none → ((get_or x 0 0 ≡ 1) × (7 ≤ length x)) ⊎ (get_or x 0 0 ≡ 2) →
           After (export_specifier e x p s) (λ g s. Alike (field t x cs) g)
@@ -267,15 +267,15 @@ same-other t x y (equal q) h k = q
 same-other t x y (behind q r) h k = absurd (h q)
 same-other t x y (callee q r n w) h k = absurd (k q)
 
-pub first_byte : (x : List ℕ) → get_or x 0 0 ≡ get_or (take 7 x) 0 0
-first_byte [] = refl
-first_byte (a ∷ x) = refl
+pub first-byte : (x : List ℕ) → get_or x 0 0 ≡ get_or (take 7 x) 0 0
+first-byte [] = refl
+first-byte (a ∷ x) = refl
 
 -- a 23's original stays
 original-kind : (x y : List ℕ) → take 7 y ≡ take 7 x → ((get_or x 0 0 ≡ 1) × (7 ≤ length x)) ⊎ (get_or x 0 0 ≡ 2) → ((get_or y 0 0 ≡ 1) × (7 ≤ length y)) ⊎ (get_or y 0 0 ≡ 2)
 original-kind x y q (inl k) =
-    inl (first_byte y ∙ ap (λ (l : List ℕ). get_or l 0 0) q ∙ sym (first_byte x) ∙ k.0, let e = ap length q in let a = length-take-le 7 x k.1 in let b = length-take 7 y in omega arith)
-original-kind x y q (inr k) = inr (first_byte y ∙ ap (λ (l : List ℕ). get_or l 0 0) q ∙ sym (first_byte x) ∙ k)
+    inl (first-byte y ∙ ap (λ (l : List ℕ). get_or l 0 0) q ∙ sym (first-byte x) ∙ k.0, let e = ap length q in let a = length-take-le 7 x k.1 in let b = length-take 7 y in omega arith)
+original-kind x y q (inr k) = inr (first-byte y ∙ ap (λ (l : List ℕ). get_or l 0 0) q ∙ sym (first-byte x) ∙ k)
 
 kind-alike : (t : ℕ) (x y : List ℕ) → SameBytes t x y → t ≡ 0x23 → ((get_or x 0 0 ≡ 1) × (7 ≤ length x)) ⊎ (get_or x 0 0 ≡ 2) →
     ((get_or y 0 0 ≡ 1) × (7 ≤ length y)) ⊎ (get_or y 0 0 ≡ 2)
@@ -291,16 +291,16 @@ whole-alike t x y (callee a b n c) e k = rw c refl
 regular_at-alike : (t : ℕ) (x y : List ℕ) (cs ds : Fields) → SameBytes t x y → AlikeAll cs ds → RegularAt t x cs → RegularAt t y ds
 regular_at-alike t x y cs ds b h w =
     record {
-      no-import = w.no-import;
+      no_import = w.no_import;
       no_local = w.no_local;
-      export-bare = λ q. alike_all-none cs ds h (w.export-bare q);
-      export-kind = λ q. kind-alike t x y b q (w.export-kind q);
-      empty-bare = λ q. alike_all-none cs ds h (w.empty-bare q);
-      ident-bare = λ q. alike_all-none cs ds h (w.ident-bare q);
-      ident-whole = λ q. whole-alike t x y b q (w.ident-whole q);
-      member-two = λ q. alike-two cs ds h (w.member-two q);
-      name-bare = λ q. alike_all-none cs ds h (w.name-bare q);
-      name-two = λ q. ap length (same-other t x y b (λ z. let v : 0x70 ≡ 0x23 = sym q ∙ z in omega arith) (λ z. let v : 0x70 ≡ 0x60 = sym q ∙ z in omega arith)) ∙ w.name-two q;
+      export_bare = λ q. alike_all-none cs ds h (w.export_bare q);
+      export_kind = λ q. kind-alike t x y b q (w.export_kind q);
+      empty_bare = λ q. alike_all-none cs ds h (w.empty_bare q);
+      ident_bare = λ q. alike_all-none cs ds h (w.ident_bare q);
+      ident_whole = λ q. whole-alike t x y b q (w.ident_whole q);
+      member_two = λ q. alike-two cs ds h (w.member_two q);
+      name_bare = λ q. alike_all-none cs ds h (w.name_bare q);
+      name_two = λ q. ap length (same-other t x y b (λ z. let v : 0x70 ≡ 0x23 = sym q ∙ z in omega arith) (λ z. let v : 0x70 ≡ 0x60 = sym q ∙ z in omega arith)) ∙ w.name_two q;
       target = λ q. alike-target cs ds h (w.target q);
     }
 

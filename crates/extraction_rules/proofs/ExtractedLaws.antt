@@ -12,14 +12,14 @@ use Rattle.writer.specs.Finished.{has_room}
 use Rattle.inputs.specs.Outcome.{Outcome, done, refused, placeless, refuse_if}
 use Rattle.inputs.specs.Table.{Row, rows_in, table_of}
 use Rattle.inputs.specs.Buffer.{fits}
-use Rattle.inputs.proofs.AcceptedLaws.{done_inj, onto-done, placeless-done, table-rows, done_refused, fits-room}
+use Rattle.inputs.proofs.AcceptedLaws.{done-inj, onto-done, placeless-done, table-rows, done-refused, fits-room}
 use Rattle.extraction_rules.specs.State.{State, first, second, Setting, start, set_modules}
 use Rattle.extraction_rules.specs.First.{module_for}
 use Rattle.extraction_rules.specs.Second.{wrap_module, wrap_all, lose_namespaces, finish}
 use Rattle.extraction_rules.specs.Walk.{walk_module, walk_again}
 use Rattle.extraction_rules.specs.Records.{records_of}
 use Rattle.extraction_rules.specs.Call.{Lent, Lengths, Extracted, bad_lists, items_read, own_module, setting, module_with, extracted_from, passes, extracted}
-use Rattle.extraction_rules.proofs.OutcomeLaws.{After, after-bind, after_both, after-weaken, after-done}
+use Rattle.extraction_rules.proofs.OutcomeLaws.{After, after-bind, after-both, after-weaken, after-done}
 use Rattle.extraction_rules.proofs.StepLaws.{finish-keeps, module_for-stays}
 use Rattle.extraction_rules.proofs.SanityLaws.{Numbered, numbered-steps, numbered-end}
 
@@ -30,13 +30,13 @@ pub record Run (l : Lent) (room : Lengths) (rows : List Row) (own : ℕ) (items 
   pub works : Fields
   pub middle : State
   pub once : walk_module (setting first own l rows) items (start ms) ≡ done (works, middle)
-  pub work-room : has_room (size (module_with works)) room.work ≡ true
+  pub work_room : has_room (size (module_with works)) room.work ≡ true
   -- the second pass, with its end
   pub outs : Fields
   pub end : State
   pub twice : walk_again (setting second own l rows) works middle ≡ done (outs, end)
-  pub out-room : has_room (size (module_with outs)) room.out ≡ true
-  pub records-room : has_room (size (records_of end)) room.records ≡ true
+  pub out_room : has_room (size (module_with outs)) room.out ≡ true
+  pub records_room : has_room (size (records_of end)) room.records ≡ true
   pub given : extracted_from works outs end ≡ r
 
 passes-done : (l : Lent) (room : Lengths) (rows : List Row) (items : Fields) (own : ℕ × Modules) (r : Extracted) →
@@ -52,18 +52,18 @@ passes-done l room rows items own r e =
       works = a.0.0;
       middle = a.0.1;
       once = a.1;
-      work-room = fits-room (module_with a.0.0) room.work b.0 b.1;
+      work_room = fits-room (module_with a.0.0) room.work b.0 b.1;
       outs = c.0.0;
       end = c.0.1;
       twice = placeless-done (walk_again (setting second own.0 l rows) a.0.0 a.0.1) c.0 c.1;
-      out-room = fits-room (module_with c.0.0) room.out d.0 d.1;
-      records-room = fits-room (records_of c.0.1) room.records f.0 f.1;
-      given = done_inj f.2;
+      out_room = fits-room (module_with c.0.0) room.out d.0 d.1;
+      records_room = fits-room (records_of c.0.1) room.records f.0 f.1;
+      given = done-inj f.2;
     }
 
 own-done : (o : Option (ℕ × Modules)) (r : ℕ × Modules) → own_module o ≡ done r → o ≡ some r
-own-done nothing r e = done_refused e
-own-done (some q) r e = ap some (done_inj e)
+own-done nothing r e = done-refused e
+own-done (some q) r e = ap some (done-inj e)
 
 -- the items that the call read, its own module, and its passes
 pub record Made (l : Lent) (room : Lengths) (ms : Modules) (r : Extracted) : Type 0 where
@@ -93,8 +93,8 @@ pub call-run : (l : Lent) (room : Lengths) (ms : Modules) (r : Extracted) (items
     items_read (read Module l.tree) ≡ done items → request l.file ms ≡ some own → Run l room (rows_in l.table) own.0 items own.1 r
 call-run l room ms r items own e p q =
     let m = call-made l room ms r e in
-    let i : m.items ≡ items = done_inj (sym m.reads ∙ p) in
-    let o : m.own ≡ own = done_inj (ap own_module (sym m.requests ∙ q)) in
+    let i : m.items ≡ items = done-inj (sym m.reads ∙ p) in
+    let o : m.own ≡ own = done-inj (ap own_module (sym m.requests ∙ q)) in
     subst (λ (o : ℕ × Modules). Run l room (rows_in l.table) o.0 items o.1 r) o (subst (λ (fs : Fields). Run l room (rows_in l.table) m.own.0 fs m.own.1 r) i m.run)
 
 -- each buffer of an accepted call has room for what it is to hold
@@ -103,7 +103,7 @@ pub call-room : (l : Lent) (room : Lengths) (ms : Modules) (r : Extracted) → e
 call-room l room ms r e =
     let u = (call-made l room ms r e).run in
     subst (λ (z : Extracted). (has_room (size z.work) room.work ≡ true) × (has_room (size z.out) room.out ≡ true) × (has_room (size z.records) room.records ≡ true))
-    u.given (u.work-room, u.out-room, u.records-room)
+    u.given (u.work_room, u.out_room, u.records_room)
 
 -- what both passes say of a run
 pub run-both : (l : Lent) {room : Lengths} (rows : List Row) (own : ℕ) (items : Fields) (ms : Modules) (r : Extracted) (u : Run l room rows own items ms r) (P Q : Fields → State → Type 0) →
@@ -172,7 +172,7 @@ module _ (e : Setting) where
       (λ _ t. ((t.collected ≡ map (lose_namespaces s.forced) s.collected) × (t.forced ≡ s.forced) × (t.lazy ≡ s.lazy))
       × ((k : (f : ℕ) × (n : ℕ) × (number_of f s.modules ≡ some n)) → number_of k.0 t.modules ≡ some k.1)) (λ _ t. Finished s t)
       (λ _ t h. (h.0.0, h.0.1, h.0.2, λ f n w. h.1 (f, n, w)))
-      (after_both (finish e s) (λ _ t. (t.collected ≡ map (lose_namespaces s.forced) s.collected) × (t.forced ≡ s.forced) × (t.lazy ≡ s.lazy))
+      (after-both (finish e s) (λ _ t. (t.collected ≡ map (lose_namespaces s.forced) s.collected) × (t.forced ≡ s.forced) × (t.lazy ≡ s.lazy))
       (λ _ t. (k : (f : ℕ) × (n : ℕ) × (number_of f s.modules ≡ some n)) → number_of k.0 t.modules ≡ some k.1) (finish-records s) (finish-numbers s))
 
   -- the second pass is a walk, then its end
@@ -182,6 +182,6 @@ module _ (e : Setting) where
   again-done items s r q =
       let a = onto-done (walk_module e items s) _ r q in
       let b = onto-done (finish e a.0.1) _ r a.2 in
-      let m = done_inj b.2 in
+      let m = done-inj b.2 in
       let f = after-done (finish e a.0.1) (λ _ t. Finished a.0.1 t) b.0 b.1 (finish-leaves a.0.1) in
       (a.0.1, a.1 ∙ ap (λ (x : Fields). done (x, a.0.1)) (ap (λ (y : Fields × State). y.0) m), rw (ap (λ (y : Fields × State). y.1) m) at f)

@@ -8,13 +8,13 @@ use native.Mathlib.Omega.{arith}
 use Rattle.tree.specs.Layout.{same, value_of, same_literal}
 use Rattle.metadata.specs.Metadata.{append}
 use Rattle.tree.specs.Tree.{Fields}
-use Rattle.tree.proofs.LayoutLaws.{same_refl, same-equal}
+use Rattle.tree.proofs.LayoutLaws.{same-refl, same-equal}
 use Rattle.inputs.specs.Lists.{find, filter, mapped, among}
 use Rattle.extraction_rules.specs.State.{Record, Imported, State, set_forced}
 use Rattle.extraction_rules.specs.First.{holds_namespace, force_source, force_holder, forget, force_id, imported_as, collect_in, note_in}
 use Rattle.extraction_rules.specs.Second.{extend, lose_namespaces}
-use Rattle.extraction_rules.proofs.ListLaws.{All, same_not, not_same, same-swap, among-more, among-new}
-use Rattle.extraction_rules.proofs.TestLaws.{cond_of, cond_same}
+use Rattle.extraction_rules.proofs.ListLaws.{All, same-not, not-same, same-swap, among-more, among-new}
+use Rattle.extraction_rules.proofs.TestLaws.{cond-of, cond-same}
 
 -- ---- Forcing
 
@@ -62,7 +62,7 @@ pub collect-sources : (r : Record) (l : List Record) → sources_of (collect_in 
 unfolding collect_in among
 collect-sources r [] = refl
 collect-sources r (q ∷ l) =
-    cond_of sources_of (same (value_of q.literal) (value_of r.literal)) _ _
+    cond-of sources_of (same (value_of q.literal) (value_of r.literal)) _ _
     ∙ rw (collect-sources r l) (sym (added-cons (value_of r.literal) (value_of q.literal) (sources_of l)))
 
 -- a source is collected already, or becomes the last
@@ -98,21 +98,21 @@ collect-all P r (q ∷ l) k h = go (same (value_of q.literal) (value_of r.litera
 -- the second pass keeps literals
 pub extend-literal : (x : List ℕ) (fs : Fields) (r : Record) → (extend x fs r).literal ≡ r.literal
 unfolding extend
-extend-literal x fs r = cond_of (λ (q : Record). q.literal) (same_literal r.literal x) _ r ∙ cond_same (same_literal r.literal x) r.literal
+extend-literal x fs r = cond-of (λ (q : Record). q.literal) (same_literal r.literal x) _ r ∙ cond-same (same_literal r.literal x) r.literal
 
 pub lose-literal : (l : List (List ℕ)) (r : Record) → (lose_namespaces l r).literal ≡ r.literal
 unfolding lose_namespaces
-lose-literal l r = cond_of (λ (q : Record). q.literal) (among (value_of r.literal) l) r _ ∙ cond_same (among (value_of r.literal) l) r.literal
+lose-literal l r = cond-of (λ (q : Record). q.literal) (among (value_of r.literal) l) r _ ∙ cond-same (among (value_of r.literal) l) r.literal
 
 pub map-sources : (f : Record → Record) (l : List Record) → ((r : Record) → (f r).literal ≡ r.literal) → sources_of (map f l) ≡ sources_of l
 map-sources f [] h = refl
 map-sources f (r ∷ l) h = rw (h r, map-sources f l h)
 
 -- the source of a collected record is among the sources
-pub found_among : (t : Record → Bool) (l : List Record) (r : Record) → find t l ≡ some r → among (value_of r.literal) (sources_of l) ≡ true
+pub found-among : (t : Record → Bool) (l : List Record) (r : Record) → find t l ≡ some r → among (value_of r.literal) (sources_of l) ≡ true
 unfolding find among
-found_among t [] r e = absurd (let z : ◌≡◌ {A = ℕ} 0 1 = cc in omega arith)
-found_among t (q ∷ l) r e = go (t q) e (found_among t l r)
+found-among t [] r e = absurd (let z : ◌≡◌ {A = ℕ} 0 1 = cc in omega arith)
+found-among t (q ∷ l) r e = go (t q) e (found-among t l r)
   where
     later : (b : Bool) → among (value_of r.literal) (sources_of l) ≡ true → b || among (value_of r.literal) (sources_of l) ≡ true
     later true h = refl
@@ -120,7 +120,7 @@ found_among t (q ∷ l) r e = go (t q) e (found_among t l r)
 
     go : (b : Bool) → cond b (some q) (find t l) ≡ some r → (find t l ≡ some r → among (value_of r.literal) (sources_of l) ≡ true) →
         same (value_of r.literal) (value_of q.literal) || among (value_of r.literal) (sources_of l) ≡ true
-    go true e k = let w : q ≡ r = cc in rw (w, same_refl (value_of r.literal))
+    go true e k = let w : q ≡ r = cc in rw (w, same-refl (value_of r.literal))
     go false e k = later (same (value_of r.literal) (value_of q.literal)) (k e)
 
 -- ---- Imported ids
@@ -131,7 +131,7 @@ IsImported i l = (c : List ℕ) × (imported_as i l ≡ some c)
 
 imported-step : (i : List ℕ) (m : Imported) (l : List Imported) → imported_as i (m ∷ l) ≡ cond (same m.id i) (some m.context) (imported_as i l)
 unfolding imported_as find
-imported-step i m l = cond_of (mapped (λ (k : Imported). k.context)) (same m.id i) (some m) (find (λ (k : Imported). same k.id i) l)
+imported-step i m l = cond-of (mapped (λ (k : Imported). k.context)) (same m.id i) (some m) (find (λ (k : Imported). same k.id i) l)
 
 none-imported : (i : List ℕ) → IsImported i [] → ⊥
 unfolding imported_as find
@@ -181,7 +181,7 @@ drop-stays i j (k ∷ l) n h = go (same k.id j) refl (drop-stays i j l n)
     go : (b : Bool) → same k.id j ≡ b → (IsImported i l → IsImported i (filter (λ m. not (same m.id j)) l)) →
         IsImported i (cond (not b) (k ∷ filter (λ m. not (same m.id j)) l) (filter (λ m. not (same m.id j)) l))
     go true e ih =
-        ih (imported-tail i k l (same_not k.id i (λ q. not_same i j n (sym q ∙ same-equal k.id j e))) h)
+        ih (imported-tail i k l (same-not k.id i (λ q. not-same i j n (sym q ∙ same-equal k.id j e))) h)
     go false e ih =
         imported-cases i k l (IsImported i (k ∷ filter (λ m. not (same m.id j)) l)) h (λ w. imported-here i k _ w)
         (λ w. imported-later i k _ (ih w))

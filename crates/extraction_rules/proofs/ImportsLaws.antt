@@ -19,13 +19,13 @@ use Rattle.extraction_rules.specs.First.{specifiers_in, import_first, export_spe
 use Rattle.extraction_rules.specs.Walk.{Rule, import, export, declare, express, nothing as plain, rule_for, after_import, after, Parts, unwalked}
 use Rattle.extraction_rules.specs.Walk.{member, super, assignment, children, parts_for, enter, walk, walk_all, walk_member, walk_assignment}
 use Rattle.extraction_rules.specs.Walk.{walk_target, walk_module}
-use Rattle.extraction_rules.proofs.OutcomeLaws.{After, after-bind, after-weaken, after_both, after-if}
+use Rattle.extraction_rules.proofs.OutcomeLaws.{After, after-bind, after-weaken, after-both, after-if}
 use Rattle.extraction_rules.proofs.FirstLaws.{force-cases, sources_of, collect-stays, collect-among}
 use Rattle.extraction_rules.proofs.StepLaws.{after-keeps}
 use Rattle.extraction_rules.proofs.WalkLaws.{rule-tag, rule-not-import, parts-weaken, Imports, ImportsAll, ImportsAssignment, ImportsTarget}
 use Rattle.extraction_rules.proofs.WalkLaws.{ImportsParts, walk_parts, imports-any-all, Steps, walk_all-keeps}
 use Rattle.extraction_rules.proofs.SanityLaws.{Known, first-second}
-use Rattle.extraction_rules.proofs.ValueLaws.{after_any, required-call, first-expression, declarator-value}
+use Rattle.extraction_rules.proofs.ValueLaws.{after-any, required-call, first-expression, declarator-value}
 
 -- ---- Collected sources stay collected in the first pass
 
@@ -37,12 +37,12 @@ unfolding forget
 grown-steps e P sources k =
     record {
       common = record {
-        requires = record { on-request = λ s g m ms q h. h; on-cjs = λ s m h. h; on-lazy = λ s r b h. h };
-        on-force =
+        requires = record { on_request = λ s g m ms q h. h; on_cjs = λ s m h. h; on_lazy = λ s r b h. h };
+        on_force =
             λ s i h. force-cases i s (Grown sources) h (λ r w. h);
-        on-top = λ s b h. h;
+        on_top = λ s b h. h;
       };
-      one = λ _. record { on-note = λ s m h. h; on-usage = λ s u c w h. h; on-collect = λ s r b h a w. collect-stays a r s.collected (h a w) };
+      one = λ _. record { on_note = λ s m h. h; on_usage = λ s u c w h. h; on_collect = λ s r b h a w. collect-stays a r s.collected (h a w) };
       two = λ q. first-second k q;
     }
 
@@ -119,9 +119,9 @@ module _ (e : Setting) (k : e.pass ≡ first) where
       after-if (external e x) (give (field 0x10 x cs)) _ s (λ g s'. Imports g (KnownIn s'))
       (λ b. import-known x cs s (λ n. absurd (true≢false (sym b ∙ n))))
       (λ _. after-bind (module_for e (value_of x) p s) _ (λ n s. Unit {0}) (λ g s'. Imports g (KnownIn s'))
-      (after_any (module_for e (value_of x) p s)) λ n s _.
+      (after-any (module_for e (value_of x) p s)) λ n s _.
       after-bind (note_specifiers n (specifiers_in cs) (inside p x) s) _ (λ n s. Unit {0}) (λ g s'. Imports g (KnownIn s'))
-      (after_any (note_specifiers n (specifiers_in cs) (inside p x) s)) λ fs s _.
+      (after-any (note_specifiers n (specifiers_in cs) (inside p x) s)) λ fs s _.
       after-bind (collect (record { literal = x; specifiers = fs }) p s) _ (λ _ s'. KnownIn s' x) (λ g s'. Imports g (KnownIn s'))
       (collect-knows (record { literal = x; specifiers = fs }) p s) λ _ s h.
       import-known x (append fs (with_context n cs)) s h)
@@ -142,10 +142,10 @@ module _ (e : Setting) (k : e.pass ≡ first) where
       ImportsParts (parts_for t) cs P → Imports (field t x cs) P
   other-known t x cs P r w d h = (λ q. absurd (rule-not-import t r w d q), h)
 
-  declared_known : (t : ℕ) (x : List ℕ) (cs : Fields) (p : ℕ) (s : State) (P : List ℕ → Type 0) → t ≡ 0x42 → ImportsParts (parts_for t) cs P →
+  declared-known : (t : ℕ) (x : List ℕ) (cs : Fields) (p : ℕ) (s : State) (P : List ℕ → Type 0) → t ≡ 0x42 → ImportsParts (parts_for t) cs P →
       After (declarator e cs p s) (λ ds s'. Imports (field t x ds) P)
   unfolding parts_for
-  declared_known t x cs p s P q h =
+  declared-known t x cs p s P q h =
       rw q
       (declarator-value e (λ ds. Imports (field 0x42 x ds) P) cs p s (λ r. absurd (omega arith), rw q at h)
       (λ a i rest n l w v. (λ r. absurd (omega arith), initialised a i rest n l v (subst (λ (ds : Fields). ImportsAll ds P) w (rw q at h)))))
@@ -166,7 +166,7 @@ module _ (e : Setting) (k : e.pass ≡ first) where
   rule-known export t x cs object p s w d P h = exported-known x p s P
   rule-known declare t x cs object p s w d P h =
       after-bind (declarator e cs p s) _ (λ ds s'. Imports (field t x ds) P) (λ g s'. Imports g P)
-      (declared_known t x cs p s P (rule-tag t declare w) h) λ ds s i. i
+      (declared-known t x cs p s P (rule-tag t declare w) h) λ ds s i. i
   rule-known express t x cs object p s w d P h =
       first-expression e (λ g. Imports g P) e.pass k (field t x cs) object p s
       (other-known t x cs P express w d h, λ n l v. with_callee-imports e n t x cs l P v h)
@@ -188,7 +188,7 @@ module _ (e : Setting) (k : e.pass ≡ first) where
       after-weaken (after r e t x cs object p s) (λ g s'. Imports g (KnownIn s) × Grown (sources_of s.collected) s')
       (λ g s'. Imports g (KnownIn s'))
       (λ g s' i. imports-weaken g (KnownIn s) (KnownIn s') (λ x. grow s s' x i.1) i.0)
-      (after_both (after r e t x cs object p s) (λ g s'. Imports g (KnownIn s)) (λ g s'. Grown (sources_of s.collected) s')
+      (after-both (after r e t x cs object p s) (λ g s'. Imports g (KnownIn s)) (λ g s'. Grown (sources_of s.collected) s')
       (rule-known r t x cs object p s w d (KnownIn s) h) (rule-grows r t x cs object p s))
 
   after-known : (r : Rule) (t : ℕ) (x : List ℕ) (cs : Fields) (object : Bool) (p : ℕ) (s : State) → rule_for t ≡ r →
@@ -220,7 +220,7 @@ module _ (e : Setting) (k : e.pass ≡ first) where
 
   rest-known : (fs : Fields) (object : Bool) (p : ℕ) (s : State) → After (walk_all fs e object p s) (λ gs s'. ImportsAll gs (KnownIn s')) →
       After (walk_all fs e object p s) (λ gs s'. ImportsAll gs (KnownIn s') × Grown (sources_of s.collected) s')
-  rest-known fs object p s h = after_both (walk_all fs e object p s) (λ gs s'. ImportsAll gs (KnownIn s'))
+  rest-known fs object p s h = after-both (walk_all fs e object p s) (λ gs s'. ImportsAll gs (KnownIn s'))
       (λ gs s'. Grown (sources_of s.collected) s') h (all-grows fs object p s)
 
   parts-known : (v : Parts) (cs : Fields) (object : Bool) (p : ℕ) (s : State) →

@@ -16,18 +16,18 @@ abbrev pub Each : (Field → Type 0) → Fields → Type 0
 Each P none = Unit {0}
 Each P (more f fs) = P f × Each P fs
 
-pub each_append : (P : Field → Type 0) (fs gs : Fields) → Each P fs → Each P gs → Each P (append fs gs)
+pub each-append : (P : Field → Type 0) (fs gs : Fields) → Each P fs → Each P gs → Each P (append fs gs)
 unfolding append
-each_append P none gs h k = k
-each_append P (more f fs) gs h k = (h.0, each_append P fs gs h.1 k)
+each-append P none gs h k = k
+each-append P (more f fs) gs h k = (h.0, each-append P fs gs h.1 k)
 
-pub each_weaken : (P Q : Field → Type 0) (fs : Fields) → ((f : Field) → P f → Q f) → Each P fs → Each Q fs
-each_weaken P Q none k h = tt
-each_weaken P Q (more f fs) k h = (k f h.0, each_weaken P Q fs k h.1)
+pub each-weaken : (P Q : Field → Type 0) (fs : Fields) → ((f : Field) → P f → Q f) → Each P fs → Each Q fs
+each-weaken P Q none k h = tt
+each-weaken P Q (more f fs) k h = (k f h.0, each-weaken P Q fs k h.1)
 
-pub each_both : (P Q : Field → Type 0) (fs : Fields) → Each P fs → Each Q fs → Each (λ f. P f × Q f) fs
-each_both P Q none h k = tt
-each_both P Q (more f fs) h k = ((h.0, k.0), each_both P Q fs h.1 k.1)
+pub each-both : (P Q : Field → Type 0) (fs : Fields) → Each P fs → Each Q fs → Each (λ f. P f × Q f) fs
+each-both P Q none h k = tt
+each-both P Q (more f fs) h k = ((h.0, k.0), each-both P Q fs h.1 k.1)
 
 -- ---- What is kept
 
@@ -43,10 +43,10 @@ pub keep-no : (p : Field → Bool) (f : Field) (fs : Fields) → p f ≡ false �
 unfolding keep
 keep-no p f fs e = rw e refl
 
-pub keep_append : (t : Field → Bool) (fs gs : Fields) → keep t (append fs gs) ≡ append (keep t fs) (keep t gs)
+pub keep-append : (t : Field → Bool) (fs gs : Fields) → keep t (append fs gs) ≡ append (keep t fs) (keep t gs)
 unfolding keep append
-keep_append t none gs = refl
-keep_append t (more f fs) gs = go (t f) (keep_append t fs gs)
+keep-append t none gs = refl
+keep-append t (more f fs) gs = go (t f) (keep-append t fs gs)
   where
     go : (b : Bool) → keep t (append fs gs) ≡ append (keep t fs) (keep t gs) →
         cond b (more f (keep t (append fs gs))) (keep t (append fs gs)) ≡ append (cond b (more f (keep t fs)) (keep t fs)) (keep t gs)
@@ -57,14 +57,14 @@ keep_append t (more f fs) gs = go (t f) (keep_append t fs gs)
 abbrev pub Meets : (Field → Bool) → Fields → Type 0
 Meets p fs = Each (λ f. p f ≡ true) fs
 
-pub keep_all : (p : Field → Bool) (fs : Fields) → Meets p fs → keep p fs ≡ fs
-keep_all p none h = keep-none p
-keep_all p (more f fs) h = keep-yes p f fs h.0 ∙ ap (more f) (keep_all p fs h.1)
+pub keep-all : (p : Field → Bool) (fs : Fields) → Meets p fs → keep p fs ≡ fs
+keep-all p none h = keep-none p
+keep-all p (more f fs) h = keep-yes p f fs h.0 ∙ ap (more f) (keep-all p fs h.1)
 
-pub keep_meets : (p : Field → Bool) (fs : Fields) → Meets p (keep p fs)
+pub keep-meets : (p : Field → Bool) (fs : Fields) → Meets p (keep p fs)
 unfolding keep
-keep_meets p none = tt
-keep_meets p (more f fs) = go (p f) refl (keep_meets p fs)
+keep-meets p none = tt
+keep-meets p (more f fs) = go (p f) refl (keep-meets p fs)
   where
     go : (b : Bool) → p f ≡ b → Meets p (keep p fs) → Meets p (cond b (more f (keep p fs)) (keep p fs))
     go true q h = (q, h)
@@ -77,7 +77,7 @@ abbrev pub not_attributes : Field → Bool
 not_attributes f = not (has 0x2F f)
 
 pub specifiers-front : (fs gs : Fields) → Meets not_attributes fs → specifiers_in gs ≡ none → specifiers_in (append fs gs) ≡ fs
-specifiers-front fs gs h k = keep_append not_attributes fs gs ∙ ap₂ {C = Fields} append (keep_all not_attributes fs h) k ∙ append-none fs
+specifiers-front fs gs h k = keep-append not_attributes fs gs ∙ ap₂ {C = Fields} append (keep-all not_attributes fs h) k ∙ append-none fs
 
 pub no-specifiers : (ds : Fields) → specifiers_in (attributes_in ds) ≡ none
 unfolding keep

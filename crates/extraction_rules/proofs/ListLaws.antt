@@ -6,9 +6,9 @@ use mathlib.Core.List.{List, [], ◌∷◌, ◌++◌, map}
 use mathlib.Core.Option.{some}
 use native.Mathlib.Omega.{arith}
 use Rattle.tree.specs.Layout.{same}
-use Rattle.tree.proofs.LayoutLaws.{same_refl, same-equal}
+use Rattle.tree.proofs.LayoutLaws.{same-refl, same-equal}
 use Rattle.inputs.specs.Lists.{find, filter, among}
-use Rattle.extraction_rules.proofs.TestLaws.{or-neither, neither-or, is_false}
+use Rattle.extraction_rules.proofs.TestLaws.{or-neither, neither-or, is-false}
 
 -- P holds of every element
 abbrev pub All : {A : Type 0} → (A → Type 0) → List A → Type 0
@@ -23,18 +23,18 @@ pub all-last : {A : Type 0} (P : A → Type 0) (l : List A) (b : A) → All P l 
 all-last P [] b h k = (k, tt)
 all-last P (a ∷ l) b h k = (h.0, all-last P l b h.1 k)
 
-pub all_filter : {A : Type 0} (P Q : A → Type 0) (t : A → Bool) (l : List A) → ((a : A) → t a ≡ true → P a → Q a) → All P l → All Q (filter t l)
+pub all-filter : {A : Type 0} (P Q : A → Type 0) (t : A → Bool) (l : List A) → ((a : A) → t a ≡ true → P a → Q a) → All P l → All Q (filter t l)
 unfolding filter
-all_filter P Q t [] k h = tt
-all_filter P Q t (a ∷ l) k h = go (t a) refl (all_filter P Q t l k h.1)
+all-filter P Q t [] k h = tt
+all-filter P Q t (a ∷ l) k h = go (t a) refl (all-filter P Q t l k h.1)
   where
     go : (b : Bool) → t a ≡ b → All Q (filter t l) → All Q (cond b (a ∷ filter t l) (filter t l))
     go true e r = (k a e h.0, r)
     go false e r = r
 
-pub all_map : {A B : Type 0} (P : A → Type 0) (Q : B → Type 0) (f : A → B) (l : List A) → ((a : A) → P a → Q (f a)) → All P l → All Q (map f l)
-all_map P Q f [] k h = tt
-all_map P Q f (a ∷ l) k h = (k a h.0, all_map P Q f l k h.1)
+pub all-map : {A B : Type 0} (P : A → Type 0) (Q : B → Type 0) (f : A → B) (l : List A) → ((a : A) → P a → Q (f a)) → All P l → All Q (map f l)
+all-map P Q f [] k h = tt
+all-map P Q f (a ∷ l) k h = (k a h.0, all-map P Q f l k h.1)
 
 -- what is found meets P
 pub all-find : {A : Type 0} (P : A → Type 0) (t : A → Bool) (l : List A) (a : A) → All P l → find t l ≡ some a → P a
@@ -47,10 +47,10 @@ all-find P t (b ∷ l) a h e = go (t b) e (all-find P t l a h.1)
     go false e k = k e
 
 -- the first of those that meet a test
-pub all_first : {A : Type 0} (P : A → Type 0) (t : A → Bool) (l : List A) (a : A) (r : List A) → All P l → filter t l ≡ a ∷ r → P a × (t a ≡ true)
+pub all-first : {A : Type 0} (P : A → Type 0) (t : A → Bool) (l : List A) (a : A) (r : List A) → All P l → filter t l ≡ a ∷ r → P a × (t a ≡ true)
 unfolding filter
-all_first P t [] a r h e = absurd (let z : ◌≡◌ {A = ℕ} 0 1 = cc in omega arith)
-all_first P t (b ∷ l) a r h e = go (t b) refl e (all_first P t l a r h.1)
+all-first P t [] a r h e = absurd (let z : ◌≡◌ {A = ℕ} 0 1 = cc in omega arith)
+all-first P t (b ∷ l) a r h e = go (t b) refl e (all-first P t l a r h.1)
   where
     go : (c : Bool) → t b ≡ c → cond c (b ∷ filter t l) (filter t l) ≡ a ∷ r → (filter t l ≡ a ∷ r → P a × (t a ≡ true)) → P a × (t a ≡ true)
     go true w e k = let q : b ≡ a = cc in (subst P q h.0, ap t (sym q) ∙ w)
@@ -58,18 +58,18 @@ all_first P t (b ∷ l) a r h e = go (t b) refl e (all_first P t l a r h.1)
 
 -- ---- Runs of bytes
 
-pub same_not : (l m : List ℕ) → (l ≡ m → ⊥) → same l m ≡ false
-same_not l m h = is_false (same l m) (λ e. h (same-equal l m e))
+pub same-not : (l m : List ℕ) → (l ≡ m → ⊥) → same l m ≡ false
+same-not l m h = is-false (same l m) (λ e. h (same-equal l m e))
 
-pub not_same : (l m : List ℕ) → same l m ≡ false → l ≡ m → ⊥
-not_same l m e q = true≢false (sym (same_refl m) ∙ ap (λ (x : List ℕ). same x m) (sym q) ∙ e)
+pub not-same : (l m : List ℕ) → same l m ≡ false → l ≡ m → ⊥
+not-same l m e q = true≢false (sym (same-refl m) ∙ ap (λ (x : List ℕ). same x m) (sym q) ∙ e)
 
 pub same-swap : (l m : List ℕ) → same l m ≡ same m l
 same-swap l m = go (same l m) refl
   where
     go : (b : Bool) → same l m ≡ b → b ≡ same m l
-    go true e = sym (ap (same m) (same-equal l m e) ∙ same_refl m)
-    go false e = sym (same_not m l (λ q. not_same l m e (sym q)))
+    go true e = sym (ap (same m) (same-equal l m e) ∙ same-refl m)
+    go false e = sym (same-not m l (λ q. not-same l m e (sym q)))
 
 pub among-last : (a b : List ℕ) (l : List (List ℕ)) → among a (l ++ (b ∷ [])) ≡ among a l || same a b
 unfolding among
@@ -84,7 +84,7 @@ among-new a l = among-last a a l ∙ go (among a l)
   where
     go : (b : Bool) → b || same a a ≡ true
     go true = refl
-    go false = same_refl a
+    go false = same-refl a
 
 -- no two are equal
 abbrev pub Distinct : List (List ℕ) → Type 0

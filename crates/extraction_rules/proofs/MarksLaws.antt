@@ -63,16 +63,16 @@ unwrapped-steps e ms =
           record {
             requires =
                 record {
-                  on-request = λ s f k ms' q h n. request-keeps-marks f s.modules q Wrapping n ∙ h n;
-                  on-cjs =
+                  on_request = λ s f k ms' q h n. request-keeps-marks f s.modules q Wrapping n ∙ h n;
+                  on_cjs =
                       λ s m h n. mark-keeps-kinds Cjs Wrapping m n s.modules wrapping-not-cjs ∙ h n;
-                  on-lazy = λ s r b h. h;
+                  on_lazy = λ s r b h. h;
                 };
-            on-force = λ s i h. force-cases i s (Unwrapped ms) h (λ r w. h);
-            on-top = λ s b h. h;
+            on_force = λ s i h. force-cases i s (Unwrapped ms) h (λ r w. h);
+            on_top = λ s b h. h;
           };
-      one = λ _. record { on-note = λ s m h. h; on-usage = λ s u c w h. h; on-collect = λ s r b h. h };
-      two = λ _. record { on-extend = λ s x us q h. h; on-source = λ s x b q h. source-cases (value_of x) s (Unwrapped ms) (λ _. h) h };
+      one = λ _. record { on_note = λ s m h. h; on_usage = λ s u c w h. h; on_collect = λ s r b h. h };
+      two = λ _. record { on_extend = λ s x us q h. h; on_source = λ s x b q h. source-cases (value_of x) s (Unwrapped ms) (λ _. h) h };
     }
 
 walk-unwrapped : (e : Setting) (items : Fields) (ms : Modules) (s : State) → Unwrapped ms s →

@@ -19,9 +19,9 @@ pub after-weaken : {A : Type 0} (m : Outcome (A × State)) (P Q : A → State �
 after-weaken (done r) P Q k h = k r.0 r.1 h
 after-weaken (refused n p) P Q k h = tt
 
-pub after_both : {A : Type 0} (m : Outcome (A × State)) (P Q : A → State → Type 0) → After m P → After m Q → After m (λ a s. P a s × Q a s)
-after_both (done r) P Q h k = (h, k)
-after_both (refused n p) P Q h k = tt
+pub after-both : {A : Type 0} (m : Outcome (A × State)) (P Q : A → State → Type 0) → After m P → After m Q → After m (λ a s. P a s × Q a s)
+after-both (done r) P Q h k = (h, k)
+after-both (refused n p) P Q h k = tt
 
 -- either way of a test
 pub after-if : {A : Type 0} (c : Bool) (m n : Act A) (s : State) (Q : A → State → Type 0) → (c ≡ true → After (m s) Q) →

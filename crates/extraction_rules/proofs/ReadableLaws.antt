@@ -30,7 +30,7 @@ use Rattle.extraction_rules.specs.Walk.{walk_all, walk_module, walk_again}
 use Rattle.extraction_rules.specs.Call.{Lent, Lengths, Extracted, items_read, setting, module_with, extracted}
 use Rattle.extraction_rules.proofs.OutcomeLaws.{After, after-bind, after-weaken, Of, of-done}
 use Rattle.extraction_rules.proofs.StepLaws.{finish-keeps}
-use Rattle.extraction_rules.proofs.RuleLaws.{only_step, rule-targets}
+use Rattle.extraction_rules.proofs.RuleLaws.{only-step, rule-targets}
 use Rattle.extraction_rules.proofs.ShapeLaws.{ShapedAll, formed-shaped-all, shaped-formed}
 use Rattle.extraction_rules.proofs.WithinLaws.{walk_all-within}
 use Rattle.extraction_rules.proofs.ExtractedLaws.{Made, call-made, run-both}
@@ -41,7 +41,7 @@ use Rattle.extraction_rules.proofs.ResultLaws.{Results, Widths, widths-common}
 -- each item of a module, and the module's rule behind it
 pub item-step : (t : ℕ) (q : Rule) → step_at (rule_of 0x01) t ≡ Go q → (holds_at Item t ≡ true) × (q ≡ rule_of 0x01)
 unfolding rule_of within
-item-step t q e = only_step Item t q e
+item-step t q e = only-step Item t q e
 
 -- items may be dropped
 keep-shaped : (t : Field → Bool) (fs : Fields) → ShapedAll fs (rule_of 0x01) → ShapedAll (keep t fs) (rule_of 0x01)
@@ -84,7 +84,7 @@ module _ (e : Setting) where
       after-bind (walk_module e items s) _ (λ gs s'. Results items gs (rule_of 0x01) × Widths s')
       (λ gs s'. Results items gs (rule_of 0x01) × Widths s') (module-results items s h w) λ gs s a.
       after-bind (finish e s) _ (λ _ s'. Widths s') (λ gs s'. Results items gs (rule_of 0x01) × Widths s')
-      (finish-keeps e Widths (widths-common e).requires (record { on-wrap = λ s n w. w; on-lose = λ s w. w }) s a.1) λ _ s w. (a.0, w)
+      (finish-keeps e Widths (widths-common e).requires (record { on_wrap = λ s n w. w; on_lose = λ s w. w }) s a.1) λ _ s w. (a.0, w)
 
 -- items within the grammar, in a module at most 64 deep
 pub record Items (fs : Fields) : Type 0 where
@@ -207,4 +207,4 @@ call-readable l room ms bs r e =
     let rows = rows_in l.table in
     let w = run-both l rows m.own.0 m.items m.own.1 r u (λ works s. Items works) (λ outs s. Items outs) (run-within l rows m.own.0 m.own.1 m.items (made-items l ms r bs m)) in
     subst (λ (z : Extracted). Readable z.work × Readable z.out) u.given
-    (items-readable u.works room.work w.0 u.work-room, items-readable u.outs room.out w.1 u.out-room)
+    (items-readable u.works room.work w.0 u.work_room, items-readable u.outs room.out w.1 u.out_room)

@@ -10,7 +10,7 @@ use lib.Dec.{eqb}
 use lib.ListN.{length}
 use lib.Seq.{length-slice, length-take-le}
 use borrow.Author.Tests.{eqb-true}
-use Rattle.scope.specs.Id.{require-atom}
+use Rattle.scope.specs.Id.{require_atom}
 use Rattle.tree.specs.declared.grammar.Rule.{Rule}
 use Rattle.tree.specs.Layout.{same, two, id_at, name_of, value_of, same_literal}
 use Rattle.tree.specs.Tree.{Field, field, Fields, none, more, tag_of, fixed_of}
@@ -140,7 +140,7 @@ pub required-width : (e : Setting) (f : Field) (l : List ℕ) → Shaped f → r
 unfolding required
 required-width e (field t x none) l h q = absurd (let z : ◌≡◌ {A = ℕ} 0 1 = cc in omega arith)
 required-width e (field t x (more c gs)) l h q =
-    go (e.config.require && eqb t 0x65 && has 0x60 c && same (name_of (fixed_of c)) (two require-atom)) q
+    go (e.config.require && eqb t 0x65 && has 0x60 c && same (name_of (fixed_of c)) (two require_atom)) q
   where
     go : (b : Bool) → cond b (not_external e (argument (sole gs))) nothing ≡ some l → length l ≡ 6
     go true q = argument-whole (sole gs) l (λ f w. sole-shaped gs h.1.0 f h.1.3 w) (not_external-same e (argument (sole gs)) l q)

@@ -29,7 +29,7 @@ use Rattle.extraction_rules.specs.Second.{finish}
 use Rattle.extraction_rules.specs.Walk.{walk_all, walk_module, walk_again}
 use Rattle.extraction_rules.specs.Records.{record_fields, forced_fields, records_of}
 use Rattle.extraction_rules.specs.Call.{Lent, Lengths, Extracted, setting, extracted}
-use Rattle.extraction_rules.proofs.OutcomeLaws.{After, after-bind, after_both, after-weaken}
+use Rattle.extraction_rules.proofs.OutcomeLaws.{After, after-bind, after-both, after-weaken}
 use Rattle.extraction_rules.proofs.ListLaws.{All}
 use Rattle.extraction_rules.proofs.StepLaws.{Keeps}
 use Rattle.extraction_rules.proofs.RuleLaws.{rule-targets}
@@ -159,7 +159,7 @@ run-whole l rows own ms items h =
     after-weaken m (λ works s. (Results items works (rule_of 0x01) × Widths s) × Whole s)
     (λ works s. Whole s × After (walk_again two works s) (λ outs s'. Whole s'))
     (λ works s a. (a.1, again-whole two works s a.0.0.shaped a.0.1 a.1))
-    (after_both m (λ works s. Results items works (rule_of 0x01) × Widths s) (λ works s. Whole s)
+    (after-both m (λ works s. Results items works (rule_of 0x01) × Widths s) (λ works s. Whole s)
     (module-results one items (start ms) h.shaped (start-widths ms)) (module-whole one items (start ms) h.shaped (start-widths ms) (tt, tt, tt)))
 
 -- ---- The call
@@ -174,4 +174,4 @@ call-records l room ms bs r e =
     subst (λ (z : Extracted). ReadBack z.records) u.given
     (records-readable u.end room.records
     (run-both l rows m.own.0 m.items m.own.1 r u (λ works s. Whole s) (λ outs s. Whole s)
-    (run-whole l rows m.own.0 m.own.1 m.items (made-items l ms r bs m))).1 u.records-room)
+    (run-whole l rows m.own.0 m.own.1 m.items (made-items l ms r bs m))).1 u.records_room)

@@ -9,7 +9,7 @@ use lib.Dec.{leb, eqb}
 use lib.ListN.{length, take, get_or}
 use lib.Seq.{take_at}
 use borrow.Author.Tests.{eqb-true, eqb-false, leb-true}
-use Rattle.tree.proofs.Table.{both_true}
+use Rattle.tree.proofs.Table.{both-true}
 use Rattle.tree.specs.declared.grammar.Set.{Set}
 use Rattle.tree.specs.declared.grammar.Set.TheVariants.{Item, Expression, Member}
 use Rattle.tree.specs.declared.grammar.Slot.TheVariants.{Nothing, One}
@@ -21,9 +21,9 @@ use Rattle.tree.specs.Grammar.{within, holds_at, parts0, rule_of, step_at, done_
 use Rattle.tree.specs.Within.{Exact}
 use Rattle.tree.proofs.GrammarLaws.{step-one}
 use Rattle.tree.proofs.WidthLaws.{plain-width}
-use Rattle.tree.proofs.FixedLaws.{or_right}
+use Rattle.tree.proofs.FixedLaws.{or-right}
 use Rattle.tree.specs.declared.grammar.Value.TheVariants.{Atom, Id}
-use Rattle.extraction_rules.proofs.TestLaws.{or-neither, neither-or, is_false}
+use Rattle.extraction_rules.proofs.TestLaws.{or-neither, neither-or, is-false}
 use Rattle.extraction_rules.proofs.RuleLaws.{in_rule, step-without, step-untaken, rule-passes, only-by}
 use Rattle.extraction_rules.proofs.ExactLaws.{width-23}
 use Rattle.extraction_rules.proofs.ShapeLaws.{Shaped, ShapedAll, shaped-none, target-step}
@@ -42,7 +42,7 @@ outers k r = outer k || not (in_rule takes_outer r)
 
 rule-outer : (t : ℕ) → outer t ≡ false → in_rule takes_outer (rule_of t) ≡ false
 unfolding outers holds_at within
-rule-outer t n = only-by (outer t) (in_rule takes_outer (rule_of t)) (rule-passes outers t refl refl refl refl (or_right (outer t) true refl)) n
+rule-outer t n = only-by (outer t) (in_rule takes_outer (rule_of t)) (rule-passes outers t refl refl refl refl (or-right (outer t) true refl)) n
 
 not-outer : (t u : ℕ) → outer t ≡ false → outer u ≡ true → t ≡ u → ⊥
 not-outer t u h k q = true≢false (sym k ∙ ap outer (sym q) ∙ h)
@@ -59,7 +59,7 @@ part-outer q q' t h e =
     (neither-or (eqb t 0x80) _ (no 0x80 (λ x w. (or-neither (holds_at x 0x80) (holds_at x 0x81) (seven x w)).0)) (no 0x81 (λ x w. (or-neither (holds_at x 0x80) (holds_at x 0x81) (seven x w)).1))))))))
   where
     no : (u : ℕ) → ((x : Set) → takes_outer x ≡ false → holds_at x u ≡ false) → eqb t u ≡ false
-    no u k = is_false (eqb t u) (λ z. step-untaken takes_outer u k q q' h (ap (step_at q) (sym (eqb-true t u z)) ∙ e))
+    no u k = is-false (eqb t u) (λ z. step-untaken takes_outer u k q q' h (ap (step_at q) (sym (eqb-true t u z)) ∙ e))
 
     two : (x : Set) → takes_outer x ≡ false → holds_at x 0x02 || (holds_at x 0x10 || (holds_at x 0x20 || (holds_at x 0x21 || (holds_at x 0x22 || (holds_at x 0x80 || holds_at x 0x81))))) ≡ false
     two x w = (or-neither (holds_at x 0x01) _ w).1
@@ -113,7 +113,7 @@ whole-id x l = ap (take 6) (sym (append-nil x)) ∙ take_at x [] 6 l
 member-tag : (t : ℕ) → holds_at Member t ≡ true → (t ≡ 0x70) ⊎ ((t ≡ 0x71) ⊎ (t ≡ 0x72))
 unfolding holds_at within
 member-tag t h =
-    let w = both_true (leb 0x70 t) (leb t 0x72) h in
+    let w = both-true (leb 0x70 t) (leb t 0x72) h in
     go (leb-true 0x70 t w.0) (leb-true t 0x72 w.1) (eqb t 0x70) (eqb t 0x71) refl refl
   where
     go : 0x70 ≤ t → t ≤ 0x72 → (a b : Bool) → eqb t 0x70 ≡ a → eqb t 0x71 ≡ b → (t ≡ 0x70) ⊎ ((t ≡ 0x71) ⊎ (t ≡ 0x72))
@@ -148,16 +148,16 @@ target-tag (more g gs) h f fs q = go (target-step (tag_of g) h.0 h.1).0
 regular-at : (t : ℕ) (x : List ℕ) (cs : Fields) → outer t ≡ false → Exact t x → ShapedAll cs (rule_of t) → RegularAt t x cs
 regular-at t x cs o h k =
     record {
-      no-import = not-outer t 0x10 o refl;
+      no_import = not-outer t 0x10 o refl;
       no_local = (not-outer t 0x20 o refl, not-outer t 0x21 o refl, not-outer t 0x22 o refl);
-      export-bare = bare-at t 0x23 cs k export-rule;
-      export-kind = λ q. kind-of x (subst (λ (m : ℕ). Exact m x) q h);
-      empty-bare = bare-at t 0x40 cs k empty-rule;
-      ident-bare = bare-at t 0x60 cs k ident-rule;
-      ident-whole = λ q. whole-id x (plain-width 0x60 Id refl x q h);
-      member-two = λ q. member-parts cs (subst (λ (m : ℕ). ShapedAll cs (rule_of m)) q k);
-      name-bare = bare-at t 0x70 cs k name-rule;
-      name-two = λ q. plain-width 0x70 Atom refl x q h;
+      export_bare = bare-at t 0x23 cs k export-rule;
+      export_kind = λ q. kind-of x (subst (λ (m : ℕ). Exact m x) q h);
+      empty_bare = bare-at t 0x40 cs k empty-rule;
+      ident_bare = bare-at t 0x60 cs k ident-rule;
+      ident_whole = λ q. whole-id x (plain-width 0x60 Id refl x q h);
+      member_two = λ q. member-parts cs (subst (λ (m : ℕ). ShapedAll cs (rule_of m)) q k);
+      name_bare = bare-at t 0x70 cs k name-rule;
+      name_two = λ q. plain-width 0x70 Atom refl x q h;
       target = λ q. target-tag cs (subst (λ (m : ℕ). ShapedAll cs (rule_of m)) q k);
     }
 
@@ -171,7 +171,7 @@ mutual
 
 -- an item of a module that is no import
 item-tag : (t u : ℕ) → holds_at Item t ≡ true → holds_at Item u ≡ false → eqb t u ≡ false
-item-tag t u h k = is_false (eqb t u) (λ z. true≢false (sym h ∙ ap (holds_at Item) (eqb-true t u z) ∙ k))
+item-tag t u h k = is-false (eqb t u) (λ z. true≢false (sym h ∙ ap (holds_at Item) (eqb-true t u z) ∙ k))
 
 pub item-outer : (t : ℕ) → holds_at Item t ≡ true → eqb t 0x10 ≡ false → outer t ≡ false
 unfolding holds_at within

@@ -18,14 +18,14 @@ use Rattle.tree.proofs.TreeLaws.{depth-parts, depth-first, depth-rest, depth-mos
 use Rattle.inputs.specs.Lists.{find, mapped}
 use Rattle.extraction_rules.specs.State.{Imported, State, Setting}
 use Rattle.extraction_rules.specs.First.{id_from, forget, imported_as, required, with_callee, note_in}
-use Rattle.extraction_rules.proofs.ListLaws.{All, all_filter, all-find}
+use Rattle.extraction_rules.proofs.ListLaws.{All, all-filter, all-find}
 use Rattle.extraction_rules.proofs.FirstLaws.{force-cases}
 use Rattle.extraction_rules.proofs.StepLaws.{CommonSteps}
 use Rattle.extraction_rules.proofs.ValueLaws.{required-call}
-use Rattle.extraction_rules.proofs.RuleLaws.{in_rule, step-without, takes_target, takes_import, no-import, rule-imports}
+use Rattle.extraction_rules.proofs.RuleLaws.{in_rule, step-without, takes_target, takes_import, no_import, rule-imports}
 use Rattle.extraction_rules.proofs.ExactLaws.{callee-exact}
 use Rattle.extraction_rules.proofs.ShapeLaws.{Shaped, ShapedAll, import-depth}
-use Rattle.extraction_rules.proofs.TestLaws.{is_true}
+use Rattle.extraction_rules.proofs.TestLaws.{is-true}
 
 -- ---- What a walk makes of a field and of a row
 
@@ -48,10 +48,10 @@ none-results q h = record { shaped = h; deep = λ k i d. d }
 
 -- where a 10 stands, and where one may stand further on, one may stand
 takes-import : (q q' : Rule) → step_at q 0x10 ≡ Go q' → in_rule takes_import q ≡ true
-takes-import q q' e = is_true (in_rule takes_import q) (λ w. no-import q q' w e)
+takes-import q q' e = is-true (in_rule takes_import q) (λ w. no_import q q' w e)
 
 takes-later : (q q' : Rule) (t : ℕ) → step_at q t ≡ Go q' → in_rule takes_import q' ≡ true → in_rule takes_import q ≡ true
-takes-later q q' t e h = is_true (in_rule takes_import q) (λ w. true≢false (sym h ∙ step-without takes_import q q' t w e))
+takes-later q q' t e h = is-true (in_rule takes_import q) (λ w. true≢false (sym h ∙ step-without takes_import q q' t w e))
 
 row-deep : (f g : Field) (fs gs : Fields) (q q' : Rule) → step_at q (tag_of f) ≡ Go q' → Result f g → Results fs gs q' → (k : ℕ) →
     (in_rule takes_import q ≡ true → 3 ≤ k) →
@@ -99,17 +99,17 @@ Widths s = All (λ m. length m.context ≡ 4) s.imported × All (λ u. length u.
 widths-forget : (i : List ℕ) (s : State) → Widths s → Widths (forget i s)
 unfolding forget
 widths-forget i s h = (
-  all_filter (λ m. length m.context ≡ 4) (λ m. length m.context ≡ 4) (λ m. not (same m.id i)) s.imported (λ m w k. k) h.0,
-  all_filter (λ u. length u.property ≡ 6) (λ u. length u.property ≡ 6) (λ u. not (same u.id i)) s.usages (λ u w k. k) h.1,
+  all-filter (λ m. length m.context ≡ 4) (λ m. length m.context ≡ 4) (λ m. not (same m.id i)) s.imported (λ m w k. k) h.0,
+  all-filter (λ u. length u.property ≡ 6) (λ u. length u.property ≡ 6) (λ u. not (same u.id i)) s.usages (λ u w k. k) h.1,
 )
 
 pub widths-common : (e : Setting) → CommonSteps e Widths
 unfolding forget
 widths-common e =
     record {
-      requires = record { on-request = λ s g m ms q h. h; on-cjs = λ s m h. h; on-lazy = λ s r b h. h };
-      on-force = λ s i h. force-cases i s Widths (widths-forget i s h) (λ r w. widths-forget i s h);
-      on-top = λ s b h. h;
+      requires = record { on_request = λ s g m ms q h. h; on_cjs = λ s m h. h; on_lazy = λ s r b h. h };
+      on_force = λ s i h. force-cases i s Widths (widths-forget i s h) (λ r w. widths-forget i s h);
+      on_top = λ s b h. h;
     }
 
 pub all-note : (P : Imported → Type 0) (m : Imported) (l : List Imported) → P m → All P l → All P (note_in m l)

@@ -16,8 +16,8 @@ use Rattle.tree.specs.declared.grammar.Step.{Step}
 use Rattle.tree.specs.declared.grammar.Step.TheVariants.{Go}
 use Rattle.tree.specs.Grammar.{within, holds_at, parts0, parts1, parts3, parts4, statements, patterns, expressions, others, rule_of, slot_at, rest_of, on_fit, step_by, step_at}
 use Rattle.tree.proofs.Table.{passes, find-passes}
-use Rattle.tree.proofs.GrammarLaws.{no_step, maybe-slot, many-slot, go-inj}
-use Rattle.tree.proofs.FixedLaws.{or_right}
+use Rattle.tree.proofs.GrammarLaws.{no-step, maybe-slot, many-slot, go-inj}
+use Rattle.tree.proofs.FixedLaws.{or-right}
 use Rattle.extraction_rules.proofs.TestLaws.{or-neither}
 
 -- ---- Sets in a rule
@@ -127,8 +127,8 @@ turned-step q h = step-alike takes_target 0x63 0x60
 pub no-module : (q q' : Rule) → in_rule takes_target q ≡ false → step_at q 0x01 ≡ Go q' → ⊥
 no-module q q' h e = step-untaken takes_target 0x01 (λ x w. (or-neither (differ (holds_at x 0x63) (holds_at x 0x60)) (holds_at x 0x01) w).1) q q' h e
 
-pub no-import : (q q' : Rule) → in_rule takes_import q ≡ false → step_at q 0x10 ≡ Go q' → ⊥
-no-import q q' h e = step-untaken takes_import 0x10 (λ x w. w) q q' h e
+pub no_import : (q q' : Rule) → in_rule takes_import q ≡ false → step_at q 0x10 ≡ Go q' → ⊥
+no_import q q' h e = step-untaken takes_import 0x10 (λ x w. w) q q' h e
 
 -- ---- The grammar's table
 
@@ -156,7 +156,7 @@ targets k r = eqb k 0x66 || not (in_rule takes_target r)
 
 pub rule-targets : (t : ℕ) → eqb t 0x66 ≡ false → in_rule takes_target (rule_of t) ≡ false
 unfolding targets holds_at within
-rule-targets t n = only-by (eqb t 0x66) (in_rule takes_target (rule_of t)) (rule-passes targets t refl refl refl refl (or_right (eqb t 0x66) true refl)) n
+rule-targets t n = only-by (eqb t 0x66) (in_rule takes_target (rule_of t)) (rule-passes targets t refl refl refl refl (or-right (eqb t 0x66) true refl)) n
 
 -- only a module has imports
 imports : ℕ → Rule → Bool
@@ -164,23 +164,23 @@ imports k r = eqb k 0x01 || not (in_rule takes_import r)
 
 pub rule-imports : (t : ℕ) → eqb t 0x01 ≡ false → in_rule takes_import (rule_of t) ≡ false
 unfolding imports holds_at within
-rule-imports t n = only-by (eqb t 0x01) (in_rule takes_import (rule_of t)) (rule-passes imports t refl refl refl refl (or_right (eqb t 0x01) true refl)) n
+rule-imports t n = only-by (eqb t 0x01) (in_rule takes_import (rule_of t)) (rule-passes imports t refl refl refl refl (or-right (eqb t 0x01) true refl)) n
 
 -- ---- A step through a slot for many parts, and for one that may be missing
 
-many_by : (b : Bool) (x : Set) (q q' : Rule) (t : ℕ) (o : Step) → holds_at x t ≡ b → cond b (Go q') o ≡ Go q →
+many-by : (b : Bool) (x : Set) (q q' : Rule) (t : ℕ) (o : Step) → holds_at x t ≡ b → cond b (Go q') o ≡ Go q →
     ((holds_at x t ≡ true) × (q ≡ q')) ⊎ (o ≡ Go q)
-many_by true x q q' t o w e = inl (w, sym (go-inj e))
-many_by false x q q' t o w e = inr e
+many-by true x q q' t o w e = inl (w, sym (go-inj e))
+many-by false x q q' t o w e = inr e
 
 pub many-step : (x : Set) (a b c : Slot) (t : ℕ) (q : Rule) → step_at (parts4 (Many x) a b c) t ≡ Go q →
     ((holds_at x t ≡ true) × (q ≡ parts4 (Many x) a b c)) ⊎ (step_at (parts3 a b c) t ≡ Go q)
-many-step x a b c t q e = many_by (holds_at x t) x q (parts4 (Many x) a b c) t (step_at (parts3 a b c) t) refl (sym (many-slot x a b c t) ∙ e)
+many-step x a b c t q e = many-by (holds_at x t) x q (parts4 (Many x) a b c) t (step_at (parts3 a b c) t) refl (sym (many-slot x a b c t) ∙ e)
 
 pub maybe-step : (x : Set) (a b c : Slot) (t : ℕ) (q : Rule) → step_at (parts4 (Maybe x) a b c) t ≡ Go q →
     ((holds_at x t ≡ true) × (q ≡ parts3 a b c)) ⊎ (step_at (parts3 a b c) t ≡ Go q)
-maybe-step x a b c t q e = many_by (holds_at x t) x q (parts3 a b c) t (step_at (parts3 a b c) t) refl (sym (maybe-slot x a b c t) ∙ e)
+maybe-step x a b c t q e = many-by (holds_at x t) x q (parts3 a b c) t (step_at (parts3 a b c) t) refl (sym (maybe-slot x a b c t) ∙ e)
 
 -- the last of them: nothing else may stand there
-pub only_step : (x : Set) (t : ℕ) (q : Rule) → step_at (parts1 (Many x)) t ≡ Go q → (holds_at x t ≡ true) × (q ≡ parts1 (Many x))
-only_step x t q e = ⊎_elim (λ w. w) (λ w. absurd (no_step t w)) (many-step x Nothing Nothing Nothing t q e)
+pub only-step : (x : Set) (t : ℕ) (q : Rule) → step_at (parts1 (Many x)) t ≡ Go q → (holds_at x t ≡ true) × (q ≡ parts1 (Many x))
+only-step x t q e = ⊎_elim (λ w. w) (λ w. absurd (no-step t w)) (many-step x Nothing Nothing Nothing t q e)

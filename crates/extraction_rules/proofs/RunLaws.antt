@@ -17,11 +17,11 @@ use Rattle.extraction_rules.specs.First.{imported_as}
 use Rattle.inputs.specs.Fields.{has}
 use Rattle.extraction_rules.specs.Walk.{walk_module, walk_again}
 use Rattle.extraction_rules.specs.Call.{Lent, Lengths, Extracted, setting, extracted}
-use Rattle.extraction_rules.proofs.OutcomeLaws.{After, after-weaken, after_both}
-use Rattle.extraction_rules.proofs.ListLaws.{all_first}
+use Rattle.extraction_rules.proofs.OutcomeLaws.{After, after-weaken, after-both}
+use Rattle.extraction_rules.proofs.ListLaws.{all-first}
 use Rattle.extraction_rules.proofs.FirstLaws.{sources_of, IsImported}
 use Rattle.extraction_rules.proofs.StepLaws.{EndSteps}
-use Rattle.extraction_rules.proofs.WalkLaws.{Steps, both-steps, both_end, ImportsAll, imports-any-all, walk_module-keeps, walk_again-keeps}
+use Rattle.extraction_rules.proofs.WalkLaws.{Steps, both-steps, both-end, ImportsAll, imports-any-all, walk_module-keeps, walk_again-keeps}
 use Rattle.extraction_rules.proofs.SanityLaws.{Numbered, numbered-steps, numbered-end, DistinctSources, distinct-steps, distinct-end}
 use Rattle.extraction_rules.proofs.SanityLaws.{OwnSources, own-steps, own-end, UsagesImported, imported-steps, imported-end, ForcedCollected}
 use Rattle.extraction_rules.proofs.SanityLaws.{forced-steps-first, Known, ForcedAmong, forced-steps-second, forced-end}
@@ -83,9 +83,9 @@ module _ (e : Setting) where
 
   second-end : (sources : List (List ℕ)) → EndSteps (SaneAmong e.externals sources)
   second-end l =
-      both_end (λ s. DistinctSources s × OwnSources e.externals s) (λ s. UsagesImported s × ForcedAmong l s)
-      (both_end DistinctSources (OwnSources e.externals) distinct-end (own-end e.externals))
-      (both_end UsagesImported (ForcedAmong l) imported-end (forced-end l))
+      both-end (λ s. DistinctSources s × OwnSources e.externals s) (λ s. UsagesImported s × ForcedAmong l s)
+      (both-end DistinctSources (OwnSources e.externals) distinct-end (own-end e.externals))
+      (both-end UsagesImported (ForcedAmong l) imported-end (forced-end l))
 
   -- and the second, over a tree whose imports are known
   pub second-sane : e.pass ≡ second → (items : Fields) (s : State) → ImportsAll items (Known e.externals (sources_of s.collected)) →
@@ -110,7 +110,7 @@ run-sane l rows own ms items =
     after-weaken m (λ works s. Sane one.externals s × ImportsAll works (Known one.externals (sources_of s.collected)))
     (λ works s. Sane one.externals s × After (walk_again two works s) (λ outs s'. Sane two.externals s'))
     (λ works s w. (w.0, second-sane two refl works s w.1 w.0))
-    (after_both m (λ works s. Sane one.externals s) (λ works s. ImportsAll works (Known one.externals (sources_of s.collected)))
+    (after-both m (λ works s. Sane one.externals s) (λ works s. ImportsAll works (Known one.externals (sources_of s.collected)))
     (first-sane one refl items (start ms) (start-sane one.externals ms)) (walk_module-known one refl items (start ms)))
 
 -- an id with usages is imported: 'a 60 with usages becomes a 60: property, imported context' always finds that context
@@ -118,7 +118,7 @@ pub used-imported : (i : List ℕ) (s : State) (u : Usage) (us : List Usage) →
     IsImported i s.imported
 unfolding usages_of
 used-imported i s u us h e =
-    let w = all_first (λ u. IsImported u.id s.imported) (λ u. same u.id i) s.usages u us h e in
+    let w = all-first (λ u. IsImported u.id s.imported) (λ u. same u.id i) s.usages u us h e in
     subst (λ (j : List ℕ). IsImported j s.imported) (same-equal u.id i w.1) w.0
 
 -- so an expression 63 with 70 on a 60 with usages always becomes a 60

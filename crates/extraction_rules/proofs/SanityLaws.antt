@@ -15,9 +15,9 @@ use Rattle.inputs.specs.Lists.{among}
 use Rattle.extraction_rules.specs.State.{Record, State, Pass, first, second, Setting}
 use Rattle.extraction_rules.specs.First.{external, holds_namespace, forget, force_id, note_in, collect_in}
 use Rattle.extraction_rules.specs.Second.{specifiers_from, extend, lose_namespaces}
-use Rattle.extraction_rules.proofs.ListLaws.{All, all-weaken, all-last, all_filter, all_map, Distinct, distinct-last}
+use Rattle.extraction_rules.proofs.ListLaws.{All, all-weaken, all-last, all-filter, all-map, Distinct, distinct-last}
 use Rattle.extraction_rules.proofs.FirstLaws.{source-cases, force-cases, sources_of, collect-cases, collect-stays, collect-all, extend-literal}
-use Rattle.extraction_rules.proofs.FirstLaws.{lose-literal, map-sources, found_among, IsImported, note-stays, drop-stays}
+use Rattle.extraction_rules.proofs.FirstLaws.{lose-literal, map-sources, found-among, IsImported, note-stays, drop-stays}
 use Rattle.extraction_rules.proofs.StepLaws.{EndSteps}
 use Rattle.extraction_rules.proofs.WalkLaws.{Steps}
 
@@ -32,16 +32,16 @@ numbered-steps e P f n =
     record {
       common =
           record {
-            requires = record { on-request = λ s g m ms q h. request-keeps-numbers g s.modules q f n h; on-cjs = λ s m h. mark-keeps-numbers Cjs m s.modules f ∙ h; on-lazy = λ s r b h. h };
-            on-force = λ s i h. force-cases i s (Numbered f n) h (λ r w. h);
-            on-top = λ s b h. h;
+            requires = record { on_request = λ s g m ms q h. request-keeps-numbers g s.modules q f n h; on_cjs = λ s m h. mark-keeps-numbers Cjs m s.modules f ∙ h; on_lazy = λ s r b h. h };
+            on_force = λ s i h. force-cases i s (Numbered f n) h (λ r w. h);
+            on_top = λ s b h. h;
           };
-      one = λ _. record { on-note = λ s m h. h; on-usage = λ s u c w h. h; on-collect = λ s r b h. h };
-      two = λ _. record { on-extend = λ s x us q h. h; on-source = λ s x b q h. source-cases (value_of x) s (Numbered f n) (λ _. h) h };
+      one = λ _. record { on_note = λ s m h. h; on_usage = λ s u c w h. h; on_collect = λ s r b h. h };
+      two = λ _. record { on_extend = λ s x us q h. h; on_source = λ s x b q h. source-cases (value_of x) s (Numbered f n) (λ _. h) h };
     }
 
 pub numbered-end : (f n : ℕ) → EndSteps (Numbered f n)
-numbered-end f n = record { on-wrap = λ s m h. mark-keeps-numbers Wrapping m s.modules f ∙ h; on-lose = λ s h. h }
+numbered-end f n = record { on_wrap = λ s m h. mark-keeps-numbers Wrapping m s.modules f ∙ h; on_lose = λ s h. h }
 
 -- ---- Collected sources are pairwise different in value
 
@@ -54,28 +54,28 @@ distinct-steps e P =
     record {
       common =
           record {
-            requires = record { on-request = λ s g m ms q h. h; on-cjs = λ s m h. h; on-lazy = λ s r b h. h };
-            on-force = λ s i h. force-cases i s DistinctSources h (λ r w. h);
-            on-top = λ s b h. h;
+            requires = record { on_request = λ s g m ms q h. h; on_cjs = λ s m h. h; on_lazy = λ s r b h. h };
+            on_force = λ s i h. force-cases i s DistinctSources h (λ r w. h);
+            on_top = λ s b h. h;
           };
       one =
           λ _. record {
-            on-note = λ s m h. h;
-            on-usage = λ s u c w h. h;
-            on-collect = λ s r b h. collect-cases r s.collected Distinct (λ _. h)
+            on_note = λ s m h. h;
+            on_usage = λ s u c w h. h;
+            on_collect = λ s r b h. collect-cases r s.collected Distinct (λ _. h)
                 (λ w. distinct-last (sources_of s.collected) (value_of r.literal) h w);
           };
       two =
           λ _. record {
-            on-extend = λ s x us q h. rw (map-sources (extend x (specifiers_from us)) s.collected (extend-literal x (specifiers_from us))) h;
-            on-source = λ s x b q h. source-cases (value_of x) s DistinctSources (λ _. h) h;
+            on_extend = λ s x us q h. rw (map-sources (extend x (specifiers_from us)) s.collected (extend-literal x (specifiers_from us))) h;
+            on_source = λ s x b q h. source-cases (value_of x) s DistinctSources (λ _. h) h;
           };
     }
 
 pub distinct-end : EndSteps DistinctSources
 distinct-end = record {
-  on-wrap = λ s m h. h;
-  on-lose =
+  on_wrap = λ s m h. h;
+  on_lose =
       λ s h. rw (map-sources (lose_namespaces s.forced) s.collected (lose-literal s.forced)) h;
 }
 
@@ -90,7 +90,7 @@ OwnSources externals s = OwnRecords externals s.collected × OwnRecords external
 own-map : (externals : List (List ℕ)) (f : Record → Record) (l : List Record) → ((r : Record) → (f r).literal ≡ r.literal) →
     OwnRecords externals l → OwnRecords externals (map f l)
 own-map externals f l k h =
-    all_map (λ r. among (value_of r.literal) externals ≡ false) (λ r. among (value_of r.literal) externals ≡ false) f l
+    all-map (λ r. among (value_of r.literal) externals ≡ false) (λ r. among (value_of r.literal) externals ≡ false) f l
     (λ r w. ap (λ (x : List ℕ). among (value_of x) externals) (k r) ∙ w) h
 
 pub own-steps : (e : Setting) (P : List ℕ → Type 0) → Steps e P (OwnSources e.externals)
@@ -102,36 +102,36 @@ own-steps e P =
           record {
             requires =
                 record {
-                  on-request = λ s g m ms q h. h;
-                  on-cjs = λ s m h. h;
-                  on-lazy =
+                  on_request = λ s g m ms q h. h;
+                  on_cjs = λ s m h. h;
+                  on_lazy =
                       λ s r b h. (h.0, all-last (λ r. among (value_of r.literal) e.externals ≡ false) s.lazy r h.1 b);
                 };
-            on-force = λ s i h. force-cases i s J h (λ r w. h);
-            on-top = λ s b h. h;
+            on_force = λ s i h. force-cases i s J h (λ r w. h);
+            on_top = λ s b h. h;
           };
       one =
           λ _. record {
-            on-note = λ s m h. h;
-            on-usage = λ s u c w h. h;
-            on-collect = λ s r b h. (collect-all (λ x. among (value_of x) e.externals ≡ false) r s.collected b h.0, h.1);
+            on_note = λ s m h. h;
+            on_usage = λ s u c w h. h;
+            on_collect = λ s r b h. (collect-all (λ x. among (value_of x) e.externals ≡ false) r s.collected b h.0, h.1);
           };
       two =
           λ _. record {
-            on-extend = λ s x us q h. (
+            on_extend = λ s x us q h. (
               own-map e.externals (extend x (specifiers_from us)) s.collected
                   (extend-literal x (specifiers_from us)) h.0,
               h.1,
             );
-            on-source = λ s x b q h. source-cases (value_of x) s J (λ _. h) h;
+            on_source = λ s x b q h. source-cases (value_of x) s J (λ _. h) h;
           };
     }
 
 pub own-end : (externals : List (List ℕ)) → EndSteps (OwnSources externals)
 own-end externals =
     record {
-      on-wrap = λ s m h. h;
-      on-lose =
+      on_wrap = λ s m h. h;
+      on_lose =
           λ s h. (own-map externals (lose_namespaces s.forced) s.collected (lose-literal s.forced) h.0, h.1);
     }
 
@@ -143,7 +143,7 @@ UsagesImported s = All (λ u. IsImported u.id s.imported) s.usages
 forget-imported : (i : List ℕ) (s : State) → UsagesImported s → UsagesImported (forget i s)
 unfolding forget
 forget-imported i s h =
-    all_filter (λ u. IsImported u.id s.imported) (λ u. IsImported u.id (forget i s).imported) (λ u. not (same u.id i)) s.usages
+    all-filter (λ u. IsImported u.id s.imported) (λ u. IsImported u.id (forget i s).imported) (λ u. not (same u.id i)) s.usages
     (λ u w k. drop-stays u.id i s.imported (not-true (same u.id i) w) k) h
 
 pub imported-steps : (e : Setting) (P : List ℕ → Type 0) → Steps e P UsagesImported
@@ -152,22 +152,22 @@ imported-steps e P =
     record {
       common =
           record {
-            requires = record { on-request = λ s g m ms q h. h; on-cjs = λ s m h. h; on-lazy = λ s r b h. h };
-            on-force = λ s i h. force-cases i s UsagesImported (forget-imported i s h) (λ r w. forget-imported i s h);
-            on-top = λ s b h. h;
+            requires = record { on_request = λ s g m ms q h. h; on_cjs = λ s m h. h; on_lazy = λ s r b h. h };
+            on_force = λ s i h. force-cases i s UsagesImported (forget-imported i s h) (λ r w. forget-imported i s h);
+            on_top = λ s b h. h;
           };
       one =
           λ _. record {
-            on-note = λ s m h. all-weaken (λ u. IsImported u.id s.imported) (λ u. IsImported u.id (note_in m s.imported))
+            on_note = λ s m h. all-weaken (λ u. IsImported u.id s.imported) (λ u. IsImported u.id (note_in m s.imported))
                 s.usages (λ u w. note-stays u.id m s.imported w) h;
-            on-usage = λ s u c w h. all-last (λ u. IsImported u.id s.imported) s.usages u h (c, w);
-            on-collect = λ s r b h. h;
+            on_usage = λ s u c w h. all-last (λ u. IsImported u.id s.imported) s.usages u h (c, w);
+            on_collect = λ s r b h. h;
           };
-      two = λ _. record { on-extend = λ s x us q h. h; on-source = λ s x b q h. source-cases (value_of x) s UsagesImported (λ _. h) h };
+      two = λ _. record { on_extend = λ s x us q h. h; on_source = λ s x b q h. source-cases (value_of x) s UsagesImported (λ _. h) h };
     }
 
 pub imported-end : EndSteps UsagesImported
-imported-end = record { on-wrap = λ s m h. h; on-lose = λ s h. h }
+imported-end = record { on_wrap = λ s m h. h; on_lose = λ s h. h }
 
 -- ---- Forced sources are sources of collected records
 
@@ -186,17 +186,17 @@ unfolding forget
 forced-force s i h =
     force-cases i s ForcedCollected h
     (λ r w. all-last (λ a. among a (sources_of s.collected) ≡ true) s.forced (value_of r.literal) h
-    (found_among (holds_namespace i) s.collected r w))
+    (found-among (holds_namespace i) s.collected r w))
 
 pub forced-steps-first : (e : Setting) (P : List ℕ → Type 0) → e.pass ≡ first → Steps e P ForcedCollected
 forced-steps-first e P k =
     record {
-      common = record { requires = record { on-request = λ s g m ms q h. h; on-cjs = λ s m h. h; on-lazy = λ s r b h. h }; on-force = forced-force; on-top = λ s b h. h };
+      common = record { requires = record { on_request = λ s g m ms q h. h; on_cjs = λ s m h. h; on_lazy = λ s r b h. h }; on_force = forced-force; on_top = λ s b h. h };
       one =
           λ _. record {
-            on-note = λ s m h. h;
-            on-usage = λ s u c w h. h;
-            on-collect = λ s r b h.
+            on_note = λ s m h. h;
+            on_usage = λ s u c w h. h;
+            on_collect = λ s r b h.
                 all-weaken (λ a. among a (sources_of s.collected) ≡ true) (λ a. among a (sources_of (collect_in r s.collected)) ≡ true)
                 s.forced (λ a w. collect-stays a r s.collected w) h;
           };
@@ -217,20 +217,20 @@ forced-steps-second e sources k =
     record {
       common =
           record {
-            requires = record { on-request = λ s g m ms q h. h; on-cjs = λ s m h. h; on-lazy = λ s r b h. h };
-            on-force = λ s i h. force-cases i s (ForcedAmong sources) h
+            requires = record { on_request = λ s g m ms q h. h; on_cjs = λ s m h. h; on_lazy = λ s r b h. h };
+            on_force = λ s i h. force-cases i s (ForcedAmong sources) h
                 (λ r w. (
                   h.0,
                   all-last (λ a. among a sources ≡ true) s.forced (value_of r.literal) h.1
-                      (ap (among (value_of r.literal)) (sym h.0) ∙ found_among (holds_namespace i) s.collected r w),
+                      (ap (among (value_of r.literal)) (sym h.0) ∙ found-among (holds_namespace i) s.collected r w),
                 ));
-            on-top = λ s b h. h;
+            on_top = λ s b h. h;
           };
       one = λ q. first-second q k;
       two =
           λ _. record {
-            on-extend = λ s x us q h. (map-sources (extend x (specifiers_from us)) s.collected (extend-literal x (specifiers_from us)) ∙ h.0, h.1);
-            on-source = λ s x b q h. source-cases (value_of x) s (ForcedAmong sources) (λ _. h)
+            on_extend = λ s x us q h. (map-sources (extend x (specifiers_from us)) s.collected (extend-literal x (specifiers_from us)) ∙ h.0, h.1);
+            on_source = λ s x b q h. source-cases (value_of x) s (ForcedAmong sources) (λ _. h)
                 (h.0, all-last (λ a. among a sources ≡ true) s.forced (value_of x) h.1 (q b));
           };
     }
@@ -238,7 +238,7 @@ forced-steps-second e sources k =
 pub forced-end : (sources : List (List ℕ)) → EndSteps (ForcedAmong sources)
 forced-end sources =
     record {
-      on-wrap = λ s m h. h;
-      on-lose =
+      on_wrap = λ s m h. h;
+      on_lose =
           λ s h. (map-sources (lose_namespaces s.forced) s.collected (lose-literal s.forced) ∙ h.0, h.1);
     }

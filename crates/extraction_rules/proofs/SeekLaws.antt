@@ -8,7 +8,7 @@ use mathlib.Core.Option.{Option, none as nothing, some}
 use native.Mathlib.Omega.{arith}
 use Rattle.tree.specs.Layout.{same, value_of}
 use Rattle.tree.specs.Tree.{Field, Fields, none, more, fixed_of}
-use Rattle.tree.proofs.LayoutLaws.{same_refl, same-equal}
+use Rattle.tree.proofs.LayoutLaws.{same-refl, same-equal}
 use Rattle.metadata.specs.Metadata.{append}
 use Rattle.inputs.specs.Lists.{find, filter, is_some, mapped, among}
 use Rattle.inputs.specs.Fields.{has, find_field}
@@ -16,7 +16,7 @@ use Rattle.extraction_rules.specs.State.{Record, Imported, Usage, State}
 use Rattle.extraction_rules.specs.First.{holds_namespace, force_source, force_holder, forget, force_id, imported_as, suits, collect_in, note_in}
 use Rattle.extraction_rules.specs.Second.{usages_of}
 use Rattle.extraction_rules.proofs.TestLaws.{or-neither}
-use Rattle.extraction_rules.proofs.ListLaws.{same_not, not_same, same-swap, among-last, among-new}
+use Rattle.extraction_rules.proofs.ListLaws.{same-not, not-same, same-swap, among-last, among-new}
 use Rattle.extraction_rules.proofs.FirstLaws.{source-cases, force-cases, sources_of}
 
 -- ---- Lists
@@ -76,7 +76,7 @@ filter-append t (a ∷ l) m = go (t a) (filter-append t l m)
 
 -- other ids than i, and i among others
 different : (i j k : List ℕ) → same j i ≡ false → same k i ≡ true → not (same k j) ≡ true
-different i j k n h = ap not (same_not k j (λ q. not_same j i n (sym q ∙ same-equal k i h)))
+different i j k n h = ap not (same-not k j (λ q. not-same j i n (sym q ∙ same-equal k i h)))
 
 pub forgotten-imported : (i : List ℕ) (l : List Imported) → imported_as i (filter (λ m. not (same m.id i)) l) ≡ nothing
 unfolding imported_as
@@ -107,18 +107,18 @@ usages-other i u l e = filter-append (λ (u : Usage). same u.id i) l (u ∷ []) 
 -- noting: the id itself, and another
 pub noted-own : (m : Imported) (l : List Imported) → imported_as m.id (note_in m l) ≡ some m.context
 unfolding imported_as find note_in
-noted-own m [] = rw (same_refl m.id)
+noted-own m [] = rw (same-refl m.id)
 noted-own m (k ∷ l) = go (same k.id m.id) refl (noted-own m l)
   where
     go : (b : Bool) → same k.id m.id ≡ b → mapped (λ (m : Imported). m.context) (find (λ (n : Imported). same n.id m.id) (note_in m l)) ≡ some m.context →
         mapped (λ (m : Imported). m.context) (find (λ (n : Imported). same n.id m.id) (cond b (m ∷ l) (k ∷ note_in m l))) ≡ some m.context
-    go true e r = rw (same_refl m.id)
+    go true e r = rw (same-refl m.id)
     go false e r = rw e r
 
-pub noted_other : (i : List ℕ) (m : Imported) (l : List Imported) → same m.id i ≡ false → imported_as i (note_in m l) ≡ imported_as i l
+pub noted-other : (i : List ℕ) (m : Imported) (l : List Imported) → same m.id i ≡ false → imported_as i (note_in m l) ≡ imported_as i l
 unfolding imported_as find note_in
-noted_other i m [] n = rw n
-noted_other i m (k ∷ l) n = go (same k.id m.id) refl (noted_other i m l n)
+noted-other i m [] n = rw n
+noted-other i m (k ∷ l) n = go (same k.id m.id) refl (noted-other i m l n)
   where
     Ask : List Imported → Option (List ℕ)
     Ask l = mapped (λ (m : Imported). m.context) (find (λ (n : Imported). same n.id i) l)
@@ -201,7 +201,7 @@ seek-own t r (q ∷ l) h e =
     go : (b : Bool) → cond b (some (value_of q.literal)) (seek t (l ++ (r ∷ []))) ≡ some (value_of r.literal) →
         (seek t (l ++ (r ∷ [])) ≡ some (value_of r.literal) → t r.specifiers ≡ true) →
         same (value_of r.literal) (value_of q.literal) ≡ false → t r.specifiers ≡ true
-    go true e k d = absurd (not_same (value_of r.literal) (value_of q.literal) d (let w : value_of q.literal ≡ value_of r.literal = cc in sym w))
+    go true e k d = absurd (not-same (value_of r.literal) (value_of q.literal) d (let w : value_of q.literal ≡ value_of r.literal = cc in sym w))
     go false e k d = k e
 
 -- ---- Appended specifiers
@@ -219,7 +219,7 @@ source-forced a s = source-cases a s (λ t. among a t.forced ≡ true) (λ q. q)
 pub source-other : (a b : List ℕ) (s : State) → (a ≡ b → ⊥) → among a (force_source b s).forced ≡ among a s.forced
 source-other a b s n =
     source-cases b s (λ t. among a t.forced ≡ among a s.forced) (λ _. refl)
-    (among-last a b s.forced ∙ ap (λ (c : Bool). among a s.forced || c) (same_not a b n) ∙ or-false (among a s.forced))
+    (among-last a b s.forced ∙ ap (λ (c : Bool). among a s.forced || c) (same-not a b n) ∙ or-false (among a s.forced))
 
 -- the source that forcing an id forces
 pub force-own : (i a : List ℕ) (s : State) → seek (holds_in i) s.collected ≡ some a → among a (force_id i s).forced ≡ true

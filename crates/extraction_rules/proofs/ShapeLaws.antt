@@ -18,7 +18,7 @@ use Rattle.tree.specs.Access.{value_at, piece_at, then_piece, fixed_at}
 use Rattle.tree.specs.Tree.{Field, field, Fields, none, more, tag_of, fixed_of, parts_of, size, sizes, depth, depths}
 use Rattle.tree.specs.Grammar.{within, holds_at, parts0, parts1, pieces_of, rule_of, slot_at, step_by, step_at, done_at}
 use Rattle.tree.specs.Within.{Exact, Formed, FormedAll}
-use Rattle.tree.proofs.GrammarLaws.{no_step, step-one, many-slot}
+use Rattle.tree.proofs.GrammarLaws.{no-step, step-one, many-slot}
 use Rattle.tree.proofs.TreeLaws.{content-size, depth-parts, depth-none, depth-most, row-size}
 use Rattle.tree.proofs.WidthLaws.{plain-width}
 use Rattle.tree.specs.declared.grammar.Value.TheVariants.{Atom}
@@ -29,7 +29,7 @@ use Rattle.extraction_rules.specs.State.{Usage}
 use Rattle.extraction_rules.specs.First.{specifiers_in, attributes_in, attributes_of, with_context}
 use Rattle.extraction_rules.specs.Second.{specifiers_from}
 use Rattle.extraction_rules.proofs.ListLaws.{All}
-use Rattle.extraction_rules.proofs.RuleLaws.{many-step, maybe-step, only_step}
+use Rattle.extraction_rules.proofs.RuleLaws.{many-step, maybe-step, only-step}
 use Rattle.extraction_rules.proofs.ExactLaws.{property-exact, attribute-exact}
 use Rattle.extraction_rules.proofs.KeepLaws.{Each}
 
@@ -71,7 +71,7 @@ shaped-each (more f fs) q h = (h.2, shaped-each fs h.0 h.3)
 
 pub shaped-none : (cs : Fields) → ShapedAll cs parts0 → cs ≡ none
 shaped-none none h = refl
-shaped-none (more f fs) h = absurd (no_step (tag_of f) h.1)
+shaped-none (more f fs) h = absurd (no-step (tag_of f) h.1)
 
 pub within-is : (lo hi t : ℕ) → within lo hi t ≡ true → (lo ≤ t) × (t ≤ hi)
 unfolding within
@@ -93,7 +93,7 @@ ImportStep t q = ((holds_at Specifier t ≡ true) × (q ≡ rule_of 0x10)) ⊎ (
 pub import-step : (t : ℕ) (q : Rule) → step_at (rule_of 0x10) t ≡ Go q → ImportStep t q
 unfolding rule_of within holds_at
 import-step t q e =
-    ⊎_elim (λ w. inl w) (λ w. ⊎_elim (λ v. inr (eqb-true t 0x2F v.0, v.1)) (λ v. absurd (no_step t v))
+    ⊎_elim (λ w. inl w) (λ w. ⊎_elim (λ v. inr (eqb-true t 0x2F v.0, v.1)) (λ v. absurd (no-step t v))
     (maybe-step Attributes Nothing Nothing Nothing t q w))
     (many-step Specifier (Maybe Attributes) Nothing Nothing t q e)
 
@@ -108,16 +108,16 @@ attributes-step = refl
 -- '2F attributes: 30*.'
 pub attribute-step : (t : ℕ) (q : Rule) → step_at (rule_of 0x2F) t ≡ Go q → (t ≡ 0x30) × (q ≡ rule_of 0x2F)
 unfolding rule_of within holds_at
-attribute-step t q e = let w = only_step Attribute t q e in (eqb-true t 0x30 w.0, w.1)
+attribute-step t q e = let w = only-step Attribute t q e in (eqb-true t 0x30 w.0, w.1)
 
 attribute-stays : step_at (rule_of 0x2F) 0x30 ≡ Go (rule_of 0x2F)
 unfolding step_at step_by slot_at rule_of within holds_at
 attribute-stays = refl
 
 -- '66 assignment: 50|63, expression'
-target_is : (t : ℕ) → holds_at Target t ≡ true → (t ≡ 0x50) ⊎ (t ≡ 0x63)
+target-is : (t : ℕ) → holds_at Target t ≡ true → (t ≡ 0x50) ⊎ (t ≡ 0x63)
 unfolding holds_at
-target_is t h = go (eqb t 0x50) refl h
+target-is t h = go (eqb t 0x50) refl h
   where
     go : (a : Bool) → eqb t 0x50 ≡ a → a || eqb t 0x63 ≡ true → (t ≡ 0x50) ⊎ (t ≡ 0x63)
     go true w h = inl (eqb-true t 0x50 w)
@@ -125,7 +125,7 @@ target_is t h = go (eqb t 0x50) refl h
 
 pub target-step : (t : ℕ) (q : Rule) → step_at (rule_of 0x66) t ≡ Go q → ((t ≡ 0x50) ⊎ (t ≡ 0x63)) × (q ≡ parts1 (One Expression))
 unfolding rule_of within
-target-step t q e = let w = step-one Target (One Expression) Nothing Nothing t q e in (target_is t w.0, w.1)
+target-step t q e = let w = step-one Target (One Expression) Nothing Nothing t q e in (target-is t w.0, w.1)
 
 -- '63 member: object expression, 70|71|72'
 pub member-first : (t : ℕ) (q : Rule) → step_at (rule_of 0x63) t ≡ Go q → q ≡ parts1 (One Member)
@@ -274,8 +274,8 @@ usages-specifiers (u ∷ us) h = (named-specifier (u.property ++ 0 ∷ []) (prop
 
 -- ---- How deep an import is
 
-pub one_of : (t : ℕ) → 0x20 ≤ t → t ≤ 0x22 → (P : ℕ → Type 0) → P 0x20 → P 0x21 → P 0x22 → P t
-one_of t a b P p q r = go (eqb t 0x20) (eqb t 0x21) refl refl
+pub one-of : (t : ℕ) → 0x20 ≤ t → t ≤ 0x22 → (P : ℕ → Type 0) → P 0x20 → P 0x21 → P 0x22 → P t
+one-of t a b P p q r = go (eqb t 0x20) (eqb t 0x21) refl refl
   where
     go : (c d : Bool) → eqb t 0x20 ≡ c → eqb t 0x21 ≡ d → P t
     go true d w v = subst P (sym (eqb-true t 0x20 w)) p
@@ -287,7 +287,7 @@ one_of t a b P p q r = go (eqb t 0x20) (eqb t 0x21) refl refl
 
 pub specifier-rule : (t : ℕ) → holds_at Specifier t ≡ true → rule_of t ≡ parts0
 unfolding rule_of within
-specifier-rule t h = let w = specifier-is t h in one_of t w.0 w.1 (λ k. rule_of k ≡ parts0) refl refl refl
+specifier-rule t h = let w = specifier-is t h in one-of t w.0 w.1 (λ k. rule_of k ≡ parts0) refl refl refl
 
 pub attribute-rule : rule_of 0x30 ≡ parts0
 unfolding rule_of within

@@ -8,7 +8,7 @@ use mathlib.Core.Option.{Option, none as nothing, some}
 use native.Mathlib.Omega.{arith}
 use lib.Dec.{leb, eqb}
 use lib.ListN.{length, get_or, take, drop}
-use Rattle.tree.proofs.Table.{both_true}
+use Rattle.tree.proofs.Table.{both-true}
 use Rattle.scope.specs.Id.{local, export}
 use Rattle.tree.specs.Layout.{same, four, id_at, name_of, context_of, value_of}
 use Rattle.tree.specs.Tree.{Field, field, Fields, none, more, fixed_of, size}
@@ -21,16 +21,16 @@ use Rattle.extraction_rules.specs.First.{external, id_from, module_for, force_id
 use Rattle.extraction_rules.specs.First.{note_id, note_named, noted_context, note_specifier, note_all, note_specifiers, specifiers_in, import_first}
 use Rattle.extraction_rules.specs.Second.{usages_of}
 use Rattle.extraction_rules.proofs.OutcomeLaws.{After, after-bind, after-if}
-use Rattle.extraction_rules.proofs.ListLaws.{All, all-last, all_filter, all-find, all_first}
+use Rattle.extraction_rules.proofs.ListLaws.{All, all-last, all-filter, all-find, all-first}
 use Rattle.extraction_rules.proofs.TableLaws.{find-meets}
 use Rattle.extraction_rules.proofs.ItemsLaws.{ItemSteps}
 use Rattle.extraction_rules.proofs.StepLaws.{RequireSteps, module_for-keeps}
-use Rattle.extraction_rules.proofs.KeepLaws.{Each, each_weaken, each_append}
-use Rattle.extraction_rules.proofs.SeekLaws.{forgotten-imported, other-imported, noted-own, noted_other, force-tables}
+use Rattle.extraction_rules.proofs.KeepLaws.{Each, each-weaken, each-append}
+use Rattle.extraction_rules.proofs.SeekLaws.{forgotten-imported, other-imported, noted-own, noted-other, force-tables}
 
 -- an id is its name and its context
-pub same_id : (i j : List ℕ) → name_of i ≡ name_of j → context_of i ≡ context_of j → i ≡ j
-same_id i j p q = sym (split i) ∙ ap₂ {C = List ℕ} (λ a b. a ++ b) p q ∙ split j
+pub same-id : (i j : List ℕ) → name_of i ≡ name_of j → context_of i ≡ context_of j → i ≡ j
+same-id i j p q = sym (split i) ∙ ap₂ {C = List ℕ} (λ a b. a ++ b) p q ∙ split j
   where
     split : (i : List ℕ) → take 2 i ++ drop 2 i ≡ i
     split [] = refl
@@ -68,9 +68,9 @@ module _ (Space : List ℕ → Type 0) (own : ℕ) (locals : (j : List ℕ) → 
   suits-space : (i : List ℕ) (o : Option Field) → ((f : Field) → o ≡ some f → Space (fixed_of f)) → suits own i o ≡ true → Space i
   suits-space i nothing k h = absurd (true≢false (sym h))
   suits-space i (some f) k h =
-      let a = both_true (same (name_of (fixed_of f)) (name_of i)) _ h in
+      let a = both-true (same (name_of (fixed_of f)) (name_of i)) _ h in
       let c = locals (fixed_of f) (k f refl) in
-      subst Space (same_id (fixed_of f) i (same-equal (name_of (fixed_of f)) (name_of i) a.0) (go (same (context_of i) (four (local own))) refl a.1)) (k f refl)
+      subst Space (same-id (fixed_of f) i (same-equal (name_of (fixed_of f)) (name_of i) a.0) (go (same (context_of i) (four (local own))) refl a.1)) (k f refl)
     where
       go : (b : Bool) → same (context_of i) (four (local own)) ≡ b → b || same (context_of i) (context_of (fixed_of f)) ≡ true → context_of (fixed_of f) ≡ context_of i
       go true q h = locals (fixed_of f) (k f refl) ∙ sym (same-equal (context_of i) (four (local own)) q)
@@ -92,7 +92,7 @@ module _ (Space : List ℕ → Type 0) (own : ℕ) (locals : (j : List ℕ) → 
       go : (b : Bool) → All (λ r. Each OfSpace r.specifiers) (collect_in r l) →
           All (λ r. Each OfSpace r.specifiers)
           (cond b (record { literal = q.literal; specifiers = append q.specifiers r.specifiers } ∷ l) (q ∷ collect_in r l))
-      go true w = (each_append OfSpace q.specifiers r.specifiers h.0 k, h.1)
+      go true w = (each-append OfSpace q.specifiers r.specifiers h.0 k, h.1)
       go false w = (h.0, w)
 
   space-force : (s : State) (i : List ℕ) → Spaces s → Spaces (force_id i s)
@@ -103,7 +103,7 @@ module _ (Space : List ℕ → Type 0) (own : ℕ) (locals : (j : List ℕ) → 
         imports = λ j k. rw t.2 (go j (same i j) refl (h.imports j k));
         usages =
             rw t.3
-            (all_filter (λ u. Space u.id × Property u.property) (λ u. Space u.id × Property u.property) (λ u. not (same u.id i))
+            (all-filter (λ u. Space u.id × Property u.property) (λ u. Space u.id × Property u.property) (λ u. not (same u.id i))
             s.usages (λ u _ k. k) h.usages);
       }
     where
@@ -117,17 +117,17 @@ module _ (Space : List ℕ → Type 0) (own : ℕ) (locals : (j : List ℕ) → 
   pub space-requires : (e : Setting) → RequireSteps e Spaces
   space-requires e =
       record {
-        on-request = λ s f m ms q h. record { records = h.records; imports = h.imports; usages = h.usages };
-        on-cjs = λ s m h. record { records = h.records; imports = h.imports; usages = h.usages };
-        on-lazy = λ s r b h. record { records = h.records; imports = h.imports; usages = h.usages };
+        on_request = λ s f m ms q h. record { records = h.records; imports = h.imports; usages = h.usages };
+        on_cjs = λ s m h. record { records = h.records; imports = h.imports; usages = h.usages };
+        on_lazy = λ s r b h. record { records = h.records; imports = h.imports; usages = h.usages };
       }
 
   pub space-steps : (e : Setting) → e.own ≡ own → ItemSteps e Spaces
   space-steps e mine =
       record {
-        common = record { requires = space-requires e; on-force = λ s i h. space-force s i h; on-top = λ s b h. record { records = h.records; imports = h.imports; usages = h.usages } };
-        on-empty = λ s l b h. record { records = collect-space (record { literal = l; specifiers = none }) s.collected tt h.records; imports = h.imports; usages = h.usages };
-        on-usage = λ s j p n r w len h.
+        common = record { requires = space-requires e; on_force = λ s i h. space-force s i h; on_top = λ s b h. record { records = h.records; imports = h.imports; usages = h.usages } };
+        on_empty = λ s l b h. record { records = collect-space (record { literal = l; specifiers = none }) s.collected tt h.records; imports = h.imports; usages = h.usages };
+        on_usage = λ s j p n r w len h.
             record {
               records = h.records;
               imports = h.imports;
@@ -156,8 +156,8 @@ module _ (Space : List ℕ → Type 0) (own : ℕ) (locals : (j : List ℕ) → 
           let e : m.id ≡ j = same-equal m.id j q in
           let c = k (subst Space (sym e) w) in
           inr (c.0, ap (λ (y : List ℕ). imported_as y (note_in m s.imported)) (sym e) ∙ noted-own m s.imported ∙ ap some c.1)
-      go j false q w (inl v) = inl (noted_other j m s.imported q ∙ v)
-      go j false q w (inr v) = inr (v.0, noted_other j m s.imported q ∙ v.1)
+      go j false q w (inl v) = inl (noted-other j m s.imported q ∙ v)
+      go j false q w (inr v) = inr (v.0, noted-other j m s.imported q ∙ v.1)
 
   specifier-space : (n : ℕ) (f : Field) (p : ℕ) (s : State) → OfImport f → Spaces s → After (note_specifier n f p s) (λ g t. Spaces t × OfSpace g)
   unfolding note_specifier note_named
@@ -183,7 +183,7 @@ module _ (Space : List ℕ → Type 0) (own : ℕ) (locals : (j : List ℕ) → 
       (notes-space n fs (p + size f) t k.1 w.0) λ gs u v. (v.0, (w.1, v.1))
 
   specifiers-space : (o : Option ℕ) (fs : Fields) (p : ℕ) (s : State) → Each OfImport fs → Spaces s → After (note_specifiers o fs p s) (λ gs t. Spaces t × Each OfSpace gs)
-  specifiers-space nothing fs p s k h = (h, each_weaken OfImport OfSpace fs (λ f k. k.0) k)
+  specifiers-space nothing fs p s k h = (h, each-weaken OfImport OfSpace fs (λ f k. k.0) k)
   specifiers-space (some n) fs p s k h = notes-space n fs p s k h
 
   pub import-space : (e : Setting) (y : List ℕ) (ds : Fields) (p : ℕ) (s : State) → Each OfImport (specifiers_in ds) → Spaces s → After (import_first e y ds p s) (λ g t. Spaces t)
@@ -206,6 +206,6 @@ module _ (Space : List ℕ → Type 0) (own : ℕ) (locals : (j : List ℕ) → 
       go : (l : List Usage) → filter (λ (u : Usage). same u.id j) s.usages ≡ l → (l ≡ []) ⊎ ((context_of j ≡ four (local own)) × AsExport j s)
       go [] q = inl refl
       go (u ∷ l) q =
-          let k = all_first (λ u. Space u.id × Property u.property) (λ (u : Usage). same u.id j) s.usages u l h.usages q in
+          let k = all-first (λ u. Space u.id × Property u.property) (λ (u : Usage). same u.id j) s.usages u l h.usages q in
           let w : Space j = subst Space (same-equal u.id j k.1) k.0.0 in
           inr (locals j w, h.imports j w)

@@ -7,7 +7,7 @@ use mathlib.Core.Option.{Option, none as nothing, some}
 use native.Mathlib.Omega.{arith}
 use Rattle.tree.specs.Layout.{same, value_of}
 use Rattle.tree.specs.Tree.{Field, field, Fields, none, more, fixed_of}
-use Rattle.tree.proofs.LayoutLaws.{same_refl, same-equal}
+use Rattle.tree.proofs.LayoutLaws.{same-refl, same-equal}
 use Rattle.metadata.specs.Metadata.{append}
 use Rattle.metadata.proofs.EncodeLaws.{append-none}
 use Rattle.inputs.specs.Lists.{find, is_some, mapped, among}
@@ -15,7 +15,7 @@ use Rattle.inputs.specs.Fields.{has, find_field}
 use Rattle.extraction_rules.specs.State.{Record, Usage}
 use Rattle.extraction_rules.specs.First.{suits, collect_in}
 use Rattle.extraction_rules.specs.Second.{specifiers_from, extend}
-use Rattle.extraction_rules.proofs.ListLaws.{same_not, not_same, same-swap}
+use Rattle.extraction_rules.proofs.ListLaws.{same-not, not-same, same-swap}
 use Rattle.extraction_rules.proofs.FirstLaws.{sources_of, extend-literal}
 use Rattle.extraction_rules.proofs.SeekLaws.{seek, holds_in, suits_in, seek-step}
 
@@ -29,13 +29,13 @@ unfolding collect_in
 seek-back t a r [] d m e = go (t r.specifiers) (sym (seek-step t r []) ∙ e)
   where
     go : (b : Bool) → cond b (some (value_of r.literal)) (seek t []) ≡ some a → seek t [] ≡ some a
-    go true e = absurd (not_same (value_of r.literal) a d cc)
+    go true e = absurd (not-same (value_of r.literal) a d cc)
     go false e = e
 seek-back t a r (q ∷ l) d m e = seek-step t q l ∙ go (same (value_of q.literal) (value_of r.literal)) refl e (seek-back t a r l d m)
   where
     joined : (b c : Bool) → value_of q.literal ≡ value_of r.literal → t (append q.specifiers r.specifiers) ≡ b → t q.specifiers ≡ c →
         cond b (some (value_of q.literal)) (seek t l) ≡ some a → cond c (some (value_of q.literal)) (seek t l) ≡ some a
-    joined true c w u v e = absurd (not_same (value_of r.literal) a d (sym w ∙ cc))
+    joined true c w u v e = absurd (not-same (value_of r.literal) a d (sym w ∙ cc))
     joined false true w u v e = absurd (true≢false (sym v ∙ m q.specifiers u))
     joined false false w u v e = e
 
@@ -157,7 +157,7 @@ find-meets t (b ∷ l) a e = go (t b) refl e (find-meets t l a)
 
 pub extend-own : (x : List ℕ) (fs gs : Fields) → extend x fs (record { literal = x; specifiers = gs }) ≡ record { literal = x; specifiers = append gs fs }
 unfolding extend
-extend-own x fs gs = rw (same_refl x)
+extend-own x fs gs = rw (same-refl x)
 
 pub extend-other : (x : List ℕ) (fs : Fields) (r : Record) → same r.literal x ≡ false → extend x fs r ≡ r
 unfolding extend
@@ -181,7 +181,7 @@ record-extend a x fs l d = record-map (extend x fs) a l (extend-literal x fs) �
     go nothing e = refl
     go (some r) e =
         let v : value_of r.literal ≡ a = same-equal (value_of r.literal) a (find-meets (λ (r : Record). same (value_of r.literal) a) l r e) in
-        ap some (extend-other x fs r (same_not r.literal x (λ q. not_same (value_of x) a d (ap value_of (sym q) ∙ v))))
+        ap some (extend-other x fs r (same-not r.literal x (λ q. not-same (value_of x) a d (ap value_of (sym q) ∙ v))))
 
 -- the specifiers of usages are 20s
 pub from-finds : (p : Field → Bool) (us : List Usage) → ((y : List ℕ) → p (field 0x20 y none) ≡ false) → find_field p (specifiers_from us) ≡ nothing

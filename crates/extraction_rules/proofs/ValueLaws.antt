@@ -7,8 +7,8 @@ use mathlib.Core.Option.{Option, none as nothing, some}
 use native.Mathlib.Omega.{arith}
 use lib.Dec.{eqb}
 use borrow.Author.Tests.{eqb-true}
-use Rattle.tree.proofs.Table.{both_true}
-use Rattle.scope.specs.Id.{require-atom}
+use Rattle.tree.proofs.Table.{both-true}
+use Rattle.scope.specs.Id.{require_atom}
 use Rattle.tree.specs.Layout.{same, two, name_of, value_of}
 use Rattle.tree.specs.Tree.{Field, field, Fields, none, more, tag_of, fixed_of, parts_of}
 use Rattle.inputs.specs.Outcome.{Outcome, done, refused}
@@ -20,14 +20,14 @@ use Rattle.extraction_rules.specs.Second.{import_second}
 use Rattle.extraction_rules.specs.Walk.{after_expression, after_import, rule_for, after, parts_for, walk}
 use Rattle.extraction_rules.proofs.OutcomeLaws.{After, after-bind, after-if}
 
-pub after_any : {A : Type 0} (m : Outcome (A × State)) → After m (λ a s. Unit {0})
-after_any (done r) = tt
-after_any (refused n p) = tt
+pub after-any : {A : Type 0} (m : Outcome (A × State)) → After m (λ a s. Unit {0})
+after-any (done r) = tt
+after-any (refused n p) = tt
 
 -- a 10 is walked by its own rule alone
-pub walk_first : (e : Setting) → e.pass ≡ first → (f : Field) (p : ℕ) (s : State) → tag_of f ≡ 0x10 → walk f e false p s ≡ import_first e (fixed_of f) (parts_of f) p s
+pub walk-first : (e : Setting) → e.pass ≡ first → (f : Field) (p : ℕ) (s : State) → tag_of f ≡ 0x10 → walk f e false p s ≡ import_first e (fixed_of f) (parts_of f) p s
 unfolding walk parts_for rule_for after after_import
-walk_first e q (field t x cs) p s h = rw (h, q)
+walk-first e q (field t x cs) p s h = rw (h, q)
 
 pub walk-second : (e : Setting) → e.pass ≡ second → (f : Field) (p : ℕ) (s : State) → tag_of f ≡ 0x10 → walk f e false p s ≡ import_second e (fixed_of f) (parts_of f) s
 unfolding walk parts_for rule_for after after_import
@@ -37,14 +37,14 @@ walk-second e q (field t x cs) p s h = rw (h, q)
 pub required-call : (e : Setting) (t : ℕ) (x : List ℕ) (c : Field) (gs : Fields) (l : List ℕ) →
     required e (field t x (more c gs)) ≡ some l → (t ≡ 0x65) × (tag_of c ≡ 0x60)
 unfolding required
-required-call e t x c gs l q = go (e.config.require && eqb t 0x65 && has 0x60 c && same (name_of (fixed_of c)) (two require-atom)) refl q
+required-call e t x c gs l q = go (e.config.require && eqb t 0x65 && has 0x60 c && same (name_of (fixed_of c)) (two require_atom)) refl q
   where
-    go : (b : Bool) → e.config.require && eqb t 0x65 && has 0x60 c && same (name_of (fixed_of c)) (two require-atom) ≡ b →
+    go : (b : Bool) → e.config.require && eqb t 0x65 && has 0x60 c && same (name_of (fixed_of c)) (two require_atom) ≡ b →
         cond b (not_external e (argument (sole gs))) nothing ≡ some l → (t ≡ 0x65) × (tag_of c ≡ 0x60)
     go true w q =
-        let a = both_true (e.config.require && eqb t 0x65 && has 0x60 c) (same (name_of (fixed_of c)) (two require-atom)) w in
-        let b = both_true (e.config.require && eqb t 0x65) (has 0x60 c) a.0 in
-        let d = both_true e.config.require (eqb t 0x65) b.0 in
+        let a = both-true (e.config.require && eqb t 0x65 && has 0x60 c) (same (name_of (fixed_of c)) (two require_atom)) w in
+        let b = both-true (e.config.require && eqb t 0x65) (has 0x60 c) a.0 in
+        let d = both-true e.config.require (eqb t 0x65) b.0 in
         (eqb-true t 0x65 d.1, eqb-true (tag_of c) 0x60 b.1)
     go false w q = absurd (let z : ◌≡◌ {A = ℕ} 0 1 = cc in omega arith)
 
@@ -61,7 +61,7 @@ module _ (e : Setting) (Q : Field → Type 0) where
   mark_required-value : (l : List ℕ) (f : Field) (p : ℕ) (s : State) → required e f ≡ some l → Called f → After (mark_required e l f p s) (λ g s. Q g)
   unfolding mark_required
   mark_required-value l f p s w h =
-      after-bind (module_for e (value_of l) p s) _ (λ n s. Unit {0}) (λ g s. Q g) (after_any (module_for e (value_of l) p s)) λ n s _.
+      after-bind (module_for e (value_of l) p s) _ (λ n s. Unit {0}) (λ g s. Q g) (after-any (module_for e (value_of l) p s)) λ n s _.
       mark_cjs-value n f s h.0 (λ m. h.1 m l w)
 
   require-by : (o : Option (List ℕ)) (f : Field) (p : ℕ) (s : State) → required e f ≡ o → Called f → After (require o e f p s) (λ g s. Q g)
@@ -71,13 +71,13 @@ module _ (e : Setting) (Q : Field → Type 0) where
       let r : Record = record { literal = l; specifiers = none } in
       after-bind (mark_required e l f p s) _ (λ g s. Q g) (λ g s. Q g) (mark_required-value l f p s w h) λ g s k.
       after-bind (cond s.top (collect r p) (add_lazy r p) s) _ (λ _ s. Unit {0}) (λ g s. Q g)
-      (after_any (cond s.top (collect r p) (add_lazy r p) s)) λ _ s _. k
+      (after-any (cond s.top (collect r p) (add_lazy r p) s)) λ _ s _. k
 
   expression-value : (f : Field) (object : Bool) (p : ℕ) (s : State) → Called f → After (after_expression first e f object p s) (λ g s. Q g)
   unfolding after_expression
   expression-value f object p s h =
       after-if (has 0x60 f && not object) _ _ s (λ g s. Q g) (λ _. h.0)
-      (λ _. after-bind (usage (on_ident f) e p s) _ (λ _ s. Unit {0}) (λ g s. Q g) (after_any (usage (on_ident f) e p s)) λ _ s _. require-by
+      (λ _. after-bind (usage (on_ident f) e p s) _ (λ _ s. Unit {0}) (λ g s. Q g) (after-any (usage (on_ident f) e p s)) λ _ s _. require-by
       (required e f) f p s refl h)
 
   require_lazily-value : (o : Option (List ℕ)) (q i : Field) (p : ℕ) (s : State) → required e i ≡ o → Called i →
@@ -87,7 +87,7 @@ module _ (e : Setting) (Q : Field → Type 0) where
   require_lazily-value (some l) q i p s w h =
       after-bind (mark_required e l i p s) _ (λ g s. Q g) (λ g s. Q g) (mark_required-value l i p s w h) λ g s k.
       after-bind (add_lazy (record { literal = l; specifiers = bindings q }) p s) _ (λ _ s. Unit {0}) (λ g s. Q g)
-      (after_any (add_lazy (record { literal = l; specifiers = bindings q }) p s)) λ _ s _. k
+      (after-any (add_lazy (record { literal = l; specifiers = bindings q }) p s)) λ _ s _. k
 
 -- an expression, in the first pass
 pub first-expression : (e : Setting) (Q : Field → Type 0) (k : Pass) → k ≡ first → (f : Field) (object : Bool) (p : ℕ) (s : State) →

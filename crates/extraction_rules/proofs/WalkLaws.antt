@@ -13,7 +13,7 @@ use Rattle.extraction_rules.specs.Second.{finish}
 use Rattle.extraction_rules.specs.Walk.{Rule, import, export, declare, express, nothing, rule_for, Parts, unwalked, member, super, assignment}
 use Rattle.extraction_rules.specs.Walk.{children, parts_for, enter, walk, walk_all, walk_member, walk_assignment, walk_target, walk_module}
 use Rattle.extraction_rules.specs.Walk.{walk_again}
-use Rattle.extraction_rules.proofs.StepLaws.{CommonSteps, FirstSteps, SecondSteps, EndSteps, Keeps, after-keeps, finish-keeps, then_keeps, enter-keeps}
+use Rattle.extraction_rules.proofs.StepLaws.{CommonSteps, FirstSteps, SecondSteps, EndSteps, Keeps, after-keeps, finish-keeps, then-keeps, enter-keeps}
 
 -- ---- Tags
 
@@ -49,18 +49,18 @@ PartsTag super t = Unit {0}
 PartsTag assignment t = t ≡ 0x66
 PartsTag children t = Unit {0}
 
-walked_by : (t : ℕ) (a b c d f : Bool) → eqb t 0x66 ≡ f →
+walked-by : (t : ℕ) (a b c d f : Bool) → eqb t 0x66 ≡ f →
     PartsTag (cond a unwalked (cond b unwalked (cond c member (cond d super (cond f assignment children))))) t
-walked_by t true b c d f x = tt
-walked_by t false true c d f x = tt
-walked_by t false false true d f x = tt
-walked_by t false false false true f x = tt
-walked_by t false false false false true x = eqb-true t 0x66 x
-walked_by t false false false false false x = tt
+walked-by t true b c d f x = tt
+walked-by t false true c d f x = tt
+walked-by t false false true d f x = tt
+walked-by t false false false true f x = tt
+walked-by t false false false false true x = eqb-true t 0x66 x
+walked-by t false false false false false x = tt
 
 pub parts-tag : (t : ℕ) (v : Parts) → parts_for t ≡ v → PartsTag v t
 unfolding parts_for
-parts-tag t v q = subst (λ (k : Parts). PartsTag k t) q (walked_by t (eqb t 0x10) (eqb t 0x23) (eqb t 0x63) (eqb t 0x64) (eqb t 0x66) refl)
+parts-tag t v q = subst (λ (k : Parts). PartsTag k t) q (walked-by t (eqb t 0x10) (eqb t 0x23) (eqb t 0x63) (eqb t 0x64) (eqb t 0x66) refl)
 
 -- a field whose parts are walked otherwise is no 66
 pub parts-other : (t : ℕ) (v : Parts) → parts_for t ≡ v → (v ≡ assignment → ⊥) → eqb t 0x66 ≡ false
@@ -169,34 +169,34 @@ both-steps e P J K a b =
           record {
             requires =
                 record {
-                  on-request = λ s f n ms q h. (c.requires.on-request s f n ms q h.0, d.requires.on-request s f n ms q h.1);
-                  on-cjs = λ s n h. (c.requires.on-cjs s n h.0, d.requires.on-cjs s n h.1);
-                  on-lazy = λ s r w h. (c.requires.on-lazy s r w h.0, d.requires.on-lazy s r w h.1);
+                  on_request = λ s f n ms q h. (c.requires.on_request s f n ms q h.0, d.requires.on_request s f n ms q h.1);
+                  on_cjs = λ s n h. (c.requires.on_cjs s n h.0, d.requires.on_cjs s n h.1);
+                  on_lazy = λ s r w h. (c.requires.on_lazy s r w h.0, d.requires.on_lazy s r w h.1);
                 };
-            on-force = λ s i h. (c.on-force s i h.0, d.on-force s i h.1);
-            on-top = λ s t h. (c.on-top s t h.0, d.on-top s t h.1);
+            on_force = λ s i h. (c.on_force s i h.0, d.on_force s i h.1);
+            on_top = λ s t h. (c.on_top s t h.0, d.on_top s t h.1);
           };
       one =
           λ k.
           let f = a.one k in
           let g = b.one k in
           record {
-            on-note = λ s m h. (f.on-note s m h.0, g.on-note s m h.1);
-            on-usage = λ s u i w h. (f.on-usage s u i w h.0, g.on-usage s u i w h.1);
-            on-collect = λ s r w h. (f.on-collect s r w h.0, g.on-collect s r w h.1);
+            on_note = λ s m h. (f.on_note s m h.0, g.on_note s m h.1);
+            on_usage = λ s u i w h. (f.on_usage s u i w h.0, g.on_usage s u i w h.1);
+            on_collect = λ s r w h. (f.on_collect s r w h.0, g.on_collect s r w h.1);
           };
       two =
           λ k.
           let f = a.two k in
           let g = b.two k in
           record {
-            on-extend = λ s x us p h. (f.on-extend s x us p h.0, g.on-extend s x us p h.1);
-            on-source = λ s x w p h. (f.on-source s x w p h.0, g.on-source s x w p h.1);
+            on_extend = λ s x us p h. (f.on_extend s x us p h.0, g.on_extend s x us p h.1);
+            on_source = λ s x w p h. (f.on_source s x w p h.0, g.on_source s x w p h.1);
           };
     }
 
-pub both_end : (J K : State → Type 0) → EndSteps J → EndSteps K → EndSteps (λ s. J s × K s)
-both_end J K a b = record { on-wrap = λ s n h. (a.on-wrap s n h.0, b.on-wrap s n h.1); on-lose = λ s h. (a.on-lose s h.0, b.on-lose s h.1) }
+pub both-end : (J K : State → Type 0) → EndSteps J → EndSteps K → EndSteps (λ s. J s × K s)
+both-end J K a b = record { on_wrap = λ s n h. (a.on_wrap s n h.0, b.on_wrap s n h.1); on_lose = λ s h. (a.on_lose s h.0, b.on_lose s h.1) }
 
 module _ (e : Setting) (P : List ℕ → Type 0) (J : State → Type 0) (steps : Steps e P J) where
   -- a walk of parts
@@ -218,41 +218,41 @@ module _ (e : Setting) (P : List ℕ → Type 0) (J : State → Type 0) (steps :
 
     pub walk-keeps : (f : Field) (object : Bool) (p : ℕ) (s : State) → Imports f P → J s → Keeps J (walk f e object p s)
     walk-keeps (field t x cs) object p s i h =
-        then_keeps J (walk_parts (parts_for t) cs e object (inside p x) (enter t s)) _
+        then-keeps J (walk_parts (parts_for t) cs e object (inside p x) (enter t s)) _
         (parts-keep (parts_for t) cs object (inside p x) (enter t s) i.1
         (λ i b p s h. walk_all-keeps cs b p s i h) (λ i p s h. walk_member-keeps cs p s i h)
-        (λ i p s h. walk_assignment-keeps cs object p s i h) (enter-keeps J steps.common.on-top t s h)) λ ds s h.
+        (λ i p s h. walk_assignment-keeps cs object p s i h) (enter-keeps J steps.common.on_top t s h)) λ ds s h.
         after-keeps e J steps.common P steps.one steps.two (rule_for t) t x ds object p s (λ q. i.0 (rule-tag t import q)) h
 
     pub walk_all-keeps : (fs : Fields) (object : Bool) (p : ℕ) (s : State) → ImportsAll fs P → J s → Keeps J (walk_all fs e object p s)
     walk_all-keeps none object p s i h = h
     walk_all-keeps (more f fs) object p s i h =
-        then_keeps J (walk f e object p s) _ (walk-keeps f object p s i.0 h) λ g s h.
-        then_keeps J (walk_all fs e object (p + size f) s) _ (walk_all-keeps fs object (p + size f) s i.1 h) λ gs s h. h
+        then-keeps J (walk f e object p s) _ (walk-keeps f object p s i.0 h) λ g s h.
+        then-keeps J (walk_all fs e object (p + size f) s) _ (walk_all-keeps fs object (p + size f) s i.1 h) λ gs s h. h
 
     walk_member-keeps : (fs : Fields) (p : ℕ) (s : State) → ImportsAll fs P → J s → Keeps J (walk_member fs e p s)
     walk_member-keeps none p s i h = h
     walk_member-keeps (more f fs) p s i h =
-        then_keeps J (walk f e true p s) _ (walk-keeps f true p s i.0 h) λ g s h.
-        then_keeps J (walk_all fs e false (p + size f) s) _ (walk_all-keeps fs false (p + size f) s i.1 h) λ gs s h. h
+        then-keeps J (walk f e true p s) _ (walk-keeps f true p s i.0 h) λ g s h.
+        then-keeps J (walk_all fs e false (p + size f) s) _ (walk_all-keeps fs false (p + size f) s i.1 h) λ gs s h. h
 
     walk_assignment-keeps : (fs : Fields) (object : Bool) (p : ℕ) (s : State) → ImportsAssignment fs P → J s → Keeps J (walk_assignment fs e object p s)
     walk_assignment-keeps none object p s i h = h
     walk_assignment-keeps (more f fs) object p s i h =
-        then_keeps J (walk_target f e p s) _ (walk_target-keeps f p s i.0 h) λ g s h.
-        then_keeps J (walk_all fs e object (p + size f) s) _ (walk_all-keeps fs object (p + size f) s i.1 h) λ gs s h. h
+        then-keeps J (walk_target f e p s) _ (walk_target-keeps f p s i.0 h) λ g s h.
+        then-keeps J (walk_all fs e object (p + size f) s) _ (walk_all-keeps fs object (p + size f) s i.1 h) λ gs s h. h
 
     walk_target-keeps : (f : Field) (p : ℕ) (s : State) → ImportsTarget f P → J s → Keeps J (walk_target f e p s)
     walk_target-keeps (field t x cs) p s i h =
-        then_keeps J (walk_member cs e (inside p x) s) _ (walk_member-keeps cs (inside p x) s i h) λ ds s h. h
+        then-keeps J (walk_member cs e (inside p x) s) _ (walk_member-keeps cs (inside p x) s i h) λ ds s h. h
 
   pub walk_module-keeps : (items : Fields) (s : State) → ImportsAll items P → J s → Keeps J (walk_module e items s)
   unfolding walk_module
-  walk_module-keeps items s i h = then_keeps J (walk_all items e false 3 (set_top true s)) _
-      (walk_all-keeps items false 3 (set_top true s) i (steps.common.on-top s true h)) λ gs s h. h
+  walk_module-keeps items s i h = then-keeps J (walk_all items e false 3 (set_top true s)) _
+      (walk_all-keeps items false 3 (set_top true s) i (steps.common.on_top s true h)) λ gs s h. h
 
   pub walk_again-keeps : EndSteps J → (items : Fields) (s : State) → ImportsAll items P → J s → Keeps J (walk_again e items s)
   unfolding walk_again
   walk_again-keeps end items s i h =
-      then_keeps J (walk_module e items s) _ (walk_module-keeps items s i h) λ gs s h. then_keeps J (finish e s) _
+      then-keeps J (walk_module e items s) _ (walk_module-keeps items s i h) λ gs s h. then-keeps J (finish e s) _
       (finish-keeps e J steps.common.requires end s h) λ _ s h. h

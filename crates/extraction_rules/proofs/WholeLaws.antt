@@ -25,14 +25,14 @@ use Rattle.extraction_rules.specs.Second.{usages_of, specifiers_from, extend, ta
 use Rattle.extraction_rules.specs.Walk.{Rule as Kind, import, export as exporting, declare, express, nothing as plain, rule_for}
 use Rattle.extraction_rules.specs.Walk.{after_expression, after_import, after, Parts, unwalked, member, super, assignment, children, parts_for}
 use Rattle.extraction_rules.specs.Walk.{enter, walk, walk_all, walk_member, walk_assignment, walk_target}
-use Rattle.extraction_rules.proofs.OutcomeLaws.{After, after-bind, after_both, after-if, after-weaken}
-use Rattle.extraction_rules.proofs.ListLaws.{All, all-last, all_map}
+use Rattle.extraction_rules.proofs.OutcomeLaws.{After, after-bind, after-both, after-if, after-weaken}
+use Rattle.extraction_rules.proofs.ListLaws.{All, all-last, all-map}
 use Rattle.extraction_rules.proofs.FirstLaws.{source-cases}
-use Rattle.extraction_rules.proofs.StepLaws.{Keeps, module_for-keeps, enter-keeps, then_keeps, room-keeps, add_usage-keeps, collect-keeps, note_specifiers-keeps, module_for-stays}
+use Rattle.extraction_rules.proofs.StepLaws.{Keeps, module_for-keeps, enter-keeps, then-keeps, room-keeps, add_usage-keeps, collect-keeps, note_specifiers-keeps, module_for-stays}
 use Rattle.extraction_rules.proofs.WalkLaws.{rule-tag, parts-tag, parts-other, walk_parts}
 use Rattle.extraction_rules.proofs.RuleLaws.{in_rule, takes_target, step-without, rule-targets}
 use Rattle.extraction_rules.proofs.ShapeLaws.{Shaped, ShapedAll, Specifiers, target-step, import-parts, usages-specifiers}
-use Rattle.extraction_rules.proofs.WithinLaws.{note_specifiers-within, used-width, parts_within, enter-widths, not-module, value_row}
+use Rattle.extraction_rules.proofs.WithinLaws.{note_specifiers-within, used-width, parts-within, enter-widths, not-module, value-row}
 use Rattle.extraction_rules.proofs.WithinLaws.{target-not, walk-within, walk_all-within, walk_member-within, walk_assignment-within}
 use Rattle.extraction_rules.proofs.WithinLaws.{walk_target-within}
 use Rattle.extraction_rules.proofs.RecordedLaws.{WholeRecord, Whole, value-width, bindings-whole, required-width, collect_in-whole, extend-whole, lose-whole, source-whole, force-whole}
@@ -53,7 +53,7 @@ module _ (e : Setting) where
   unfolding use_from
   use_from-whole nothing i q at p s h = h
   use_from-whole (some r) i q at p s h =
-      then_keeps Whole (module_for e (value_of r.literal) p s) _ (module_for-whole (value_of r.literal) p s h) λ n s h. use_property-whole n i q at p s h
+      then-keeps Whole (module_for e (value_of r.literal) p s) _ (module_for-whole (value_of r.literal) p s h) λ n s h. use_property-whole n i q at p s h
 
   use_imported-whole : (o : Option (List ℕ)) (i : List ℕ) (q : Field) (at p : ℕ) (s : State) → Whole s → Keeps Whole (use_imported o e i q at p s)
   unfolding use_imported
@@ -75,7 +75,7 @@ module _ (e : Setting) where
 
   mark_required-whole : (l : List ℕ) (f : Field) (p : ℕ) (s : State) → Whole s → Keeps Whole (mark_required e l f p s)
   unfolding mark_required
-  mark_required-whole l f p s h = then_keeps Whole (module_for e (value_of l) p s) _ (module_for-whole (value_of l) p s h) λ n s h. mark_cjs-whole n f s h
+  mark_required-whole l f p s h = then-keeps Whole (module_for e (value_of l) p s) _ (module_for-whole (value_of l) p s h) λ n s h. mark_cjs-whole n f s h
 
   add_lazy-whole : (r : Record) (p : ℕ) (s : State) → WholeRecord r → Whole s → Keeps Whole (add_lazy r p s)
   unfolding add_lazy
@@ -91,8 +91,8 @@ module _ (e : Setting) where
   require-whole nothing f p s k h = h
   require-whole (some l) f p s k h =
       let r : Record = record { literal = l; specifiers = none } in
-      then_keeps Whole (mark_required e l f p s) _ (mark_required-whole l f p s h) λ g s h.
-      then_keeps Whole (cond s.top (collect r p) (add_lazy r p) s) _
+      then-keeps Whole (mark_required e l f p s) _ (mark_required-whole l f p s h) λ g s h.
+      then-keeps Whole (cond s.top (collect r p) (add_lazy r p) s) _
       (after-if s.top (collect r p) (add_lazy r p) s (λ r s. Whole s) (λ _. collect-whole r p s (k l refl, tt) h)
       (λ _. add_lazy-whole r p s (k l refl, tt) h)) λ _ s h. h
 
@@ -106,15 +106,15 @@ module _ (e : Setting) where
   unfolding require_lazily
   require_lazily-whole nothing q i p s k m h = h
   require_lazily-whole (some l) q i p s k m h =
-      then_keeps Whole (mark_required e l i p s) _ (mark_required-whole l i p s h) λ j s h.
-      then_keeps Whole (add_lazy (record { literal = l; specifiers = bindings q }) p s) _ (add_lazy-whole _ p s (k l refl, bindings-whole q m) h) λ _ s h. h
+      then-keeps Whole (mark_required e l i p s) _ (mark_required-whole l i p s h) λ j s h.
+      then-keeps Whole (add_lazy (record { literal = l; specifiers = bindings q }) p s) _ (add_lazy-whole _ p s (k l refl, bindings-whole q m) h) λ _ s h. h
 
   declarator-whole : (cs : Fields) (r : Rule) (p : ℕ) (s : State) → ShapedAll cs r → Whole s → Keeps Whole (declarator e cs p s)
   unfolding declarator
   declarator-whole none r p s k h = h
   declarator-whole (more q none) r p s k h = h
   declarator-whole (more q (more i rest)) r p s k h =
-      then_keeps Whole (require_lazily (required e i) e q i p s) _
+      then-keeps Whole (require_lazily (required e i) e q i p s) _
       (require_lazily-whole (required e i) q i p s (λ l w. required-width e i l k.3.2 w) k.2 h) λ j s h. h
 
   expression-whole : (j : Pass) (f : Field) (object : Bool) (p : ℕ) (s : State) → Shaped f → Whole s →
@@ -122,7 +122,7 @@ module _ (e : Setting) where
   unfolding after_expression
   expression-whole first f object p s k h =
       after-if (has 0x60 f && not object) _ _ s (λ r s. Whole s) (λ _. force-whole (fixed_of f) s h)
-      (λ _. then_keeps Whole (usage (on_ident f) e p s) _ (usage-whole (on_ident f) p s h) λ _ s h.
+      (λ _. then-keeps Whole (usage (on_ident f) e p s) _ (usage-whole (on_ident f) p s h) λ _ s h.
       require-whole (required e f) f p s (λ l w. required-width e f l k w) h)
   expression-whole second f object p s k h = h
 
@@ -134,13 +134,13 @@ module _ (e : Setting) where
   import_first-whole x ds p s k m w h =
       after-if (external e x) (give (field 0x10 x ds)) _ s (λ r s. Whole s) (λ _. h)
       (λ _. after-bind (module_for e (value_of x) p s) _ (λ n s. Widths s × Whole s) (λ r s. Whole s)
-      (after_both (module_for e (value_of x) p s) (λ n s. Widths s) (λ n s. Whole s) (module_for-keeps e Widths (widths-common e).requires (value_of x) p s w)
+      (after-both (module_for e (value_of x) p s) (λ n s. Widths s) (λ n s. Whole s) (module_for-keeps e Widths (widths-common e).requires (value_of x) p s w)
       (module_for-whole (value_of x) p s h)) λ n s a.
       after-bind (note_specifiers n (specifiers_in ds) (inside p x) s) _ (λ gs s. (Specifiers gs × Widths s) × Whole s) (λ r s. Whole s)
-      (after_both (note_specifiers n (specifiers_in ds) (inside p x) s) (λ gs s. Specifiers gs × Widths s) (λ gs s. Whole s)
+      (after-both (note_specifiers n (specifiers_in ds) (inside p x) s) (λ gs s. Specifiers gs × Widths s) (λ gs s. Whole s)
       (note_specifiers-within e n (specifiers_in ds) (inside p x) s (import-parts ds m).0 a.0)
       (note_specifiers-keeps Whole (λ s m h. h) n (specifiers_in ds) (inside p x) s a.1)) λ gs s b.
-      then_keeps Whole (collect (record { literal = x; specifiers = gs }) p s) _ (collect-whole _ p s (plain-width 0x10 Literal refl x refl k, b.0.0) b.1) λ _ s h. h)
+      then-keeps Whole (collect (record { literal = x; specifiers = gs }) p s) _ (collect-whole _ p s (plain-width 0x10 Literal refl x refl k, b.0.0) b.1) λ _ s h. h)
 
   -- ---- The second pass
 
@@ -150,7 +150,7 @@ module _ (e : Setting) where
   take_apart-whole [] x cs s u k h =
       source-cases (value_of x) s Whole (λ _. h) (source-whole (value_of x) s (value-width x (plain-width 0x10 Literal refl x refl k)) h)
   take_apart-whole (v ∷ us) x cs s u k h = (
-    all_map WholeRecord WholeRecord (extend x (specifiers_from (v ∷ us))) s.collected
+    all-map WholeRecord WholeRecord (extend x (specifiers_from (v ∷ us))) s.collected
         (λ r w. extend-whole x (specifiers_from (v ∷ us)) r (usages-specifiers (v ∷ us) u) w) h.0,
     h.1,
     h.2,
@@ -179,7 +179,7 @@ module _ (e : Setting) where
   unfolding wrap_all wrap_module
   wrap_all-whole [] s h = h
   wrap_all-whole (a ∷ l) s h =
-      then_keeps Whole (module_for e a 0 s) _ (module_for-whole a 0 s h) λ n s h. then_keeps Whole (wrap_module n s) _ (wrap n s h) λ _ s h. wrap_all-whole l s h
+      then-keeps Whole (module_for e a 0 s) _ (module_for-whole a 0 s h) λ n s h. then-keeps Whole (wrap_module n s) _ (wrap n s h) λ _ s h. wrap_all-whole l s h
     where
       wrap : (o : Option ℕ) (s : State) → Whole s → Keeps Whole (wrap_module o s)
       wrap nothing s h = h
@@ -188,8 +188,8 @@ module _ (e : Setting) where
   pub finish-whole : (s : State) → Whole s → Keeps Whole (finish e s)
   unfolding finish
   finish-whole s h =
-      then_keeps Whole (wrap_all e s.forced s) _ (wrap_all-whole s.forced s h) λ _ s h.
-      (all_map WholeRecord WholeRecord (lose_namespaces s.forced) s.collected (λ r w. lose-whole s.forced r w) h.0, h.1, h.2)
+      then-keeps Whole (wrap_all e s.forced s) _ (wrap_all-whole s.forced s h) λ _ s h.
+      (all-map WholeRecord WholeRecord (lose_namespaces s.forced) s.collected (λ r w. lose-whole s.forced r w) h.0, h.1, h.2)
 
   -- ---- The walk
 
@@ -200,7 +200,7 @@ module _ (e : Setting) where
       let q = rule-tag t import v in
       import-whole e.pass x ds p s (subst (λ (u : ℕ). Exact u x) q k) (subst (λ (u : ℕ). ShapedAll ds (rule_of u)) q m) w h
   after-whole exporting t x ds object p s v k m w h = export_specifier-whole x p s h
-  after-whole declare t x ds object p s v k m w h = then_keeps Whole (declarator e ds p s) _ (declarator-whole ds (rule_of t) p s m h) λ gs s h. h
+  after-whole declare t x ds object p s v k m w h = then-keeps Whole (declarator e ds p s) _ (declarator-whole ds (rule_of t) p s m h) λ gs s h. h
   after-whole express t x ds object p s v k m w h = expression-whole e.pass (field t x ds) object p s (k, m) h
   after-whole plain t x ds object p s v k m w h = h
 
@@ -213,23 +213,23 @@ module _ (e : Setting) where
       Keeps Whole (onto (m s) (λ r. onto (n r.1) (λ u. give (more r.0 u.0) u.1)))
   row-whole m n s f a b k =
       after-bind (m s) _ (λ g s'. (Result f g × Widths s') × Whole s') (λ r s. Whole s)
-      (after_both (m s) (λ g s'. Result f g × Widths s') (λ g s'. Whole s') a b) λ g s c. then_keeps Whole (n s) _ (k s c.0.1 c.1) λ gs s h. h
+      (after-both (m s) (λ g s'. Result f g × Widths s') (λ g s'. Whole s') a b) λ g s c. then-keeps Whole (n s) _ (k s c.0.1 c.1) λ gs s h. h
 
   abbrev RowWhole : (ℕ → Act Fields) → Fields → Type 0
   RowWhole m cs = (q : Rule) → in_rule takes_target q ≡ false → ShapedAll cs q → (p : ℕ) (s : State) → Widths s → Whole s → Keeps Whole (m p s)
 
-  parts_whole : (v : Parts) (t : ℕ) (cs : Fields) (object : Bool) (p : ℕ) (s : State) → parts_for t ≡ v → ShapedAll cs (rule_of t) →
+  parts-whole : (v : Parts) (t : ℕ) (cs : Fields) (object : Bool) (p : ℕ) (s : State) → parts_for t ≡ v → ShapedAll cs (rule_of t) →
       ((b : Bool) → RowWhole (walk_all cs e b) cs) → RowWhole (walk_member cs e) cs →
       (ShapedAll cs (rule_of 0x66) → Keeps Whole (walk_assignment cs e object p s)) → Widths s → Whole s →
       Keeps Whole (walk_parts v cs e object p s)
-  parts_whole unwalked t cs object p s v k all mem asg w h = h
-  parts_whole member t cs object p s v k all mem asg w h =
+  parts-whole unwalked t cs object p s v k all mem asg w h = h
+  parts-whole member t cs object p s v k all mem asg w h =
       mem (rule_of t) (rule-targets t (parts-other t member v (λ q. let z : ◌≡◌ {A = ℕ} 0 1 = cc in omega arith))) k p s w h
-  parts_whole super t cs object p s v k all mem asg w h =
+  parts-whole super t cs object p s v k all mem asg w h =
       all false (rule_of t) (rule-targets t (parts-other t super v (λ q. let z : ◌≡◌ {A = ℕ} 0 1 = cc in omega arith))) k p s w h
-  parts_whole assignment t cs object p s v k all mem asg w h =
+  parts-whole assignment t cs object p s v k all mem asg w h =
       asg (subst (λ (u : ℕ). ShapedAll cs (rule_of u)) (parts-tag t assignment v) k)
-  parts_whole children t cs object p s v k all mem asg w h =
+  parts-whole children t cs object p s v k all mem asg w h =
       all object (rule_of t) (rule-targets t (parts-other t children v (λ q. let z : ◌≡◌ {A = ℕ} 0 1 = cc in omega arith))) k p s w h
 
   mutual
@@ -240,11 +240,11 @@ module _ (e : Setting) where
     walk-whole (field t x cs) object p s k n w h =
         let m = walk_parts (parts_for t) cs e object (inside p x) (enter t s) in
         after-bind m _ (λ ds s'. (Results cs ds (rule_of t) × Widths s') × Whole s') (λ r s. Whole s)
-        (after_both m (λ ds s'. Results cs ds (rule_of t) × Widths s') (λ ds s'. Whole s')
-        (parts_within e (parts_for t) t cs object (inside p x) (enter t s) refl k.1 (λ b q w h p s v. walk_all-within e cs q b p s w h v)
+        (after-both m (λ ds s'. Results cs ds (rule_of t) × Widths s') (λ ds s'. Whole s')
+        (parts-within e (parts_for t) t cs object (inside p x) (enter t s) refl k.1 (λ b q w h p s v. walk_all-within e cs q b p s w h v)
         (λ q w h p s v. walk_member-within e cs q p s w h v)
         (λ k. walk_assignment-within e cs object (inside p x) (enter t s) k (enter-widths e t s w)) (enter-widths e t s w))
-        (parts_whole (parts_for t) t cs object (inside p x) (enter t s) refl k.1 (λ b q v k p s w h. walk_all-whole cs q b p s v k w h)
+        (parts-whole (parts_for t) t cs object (inside p x) (enter t s) refl k.1 (λ b q v k p s w h. walk_all-whole cs q b p s v k w h)
         (λ q v k p s w h. walk_member-whole cs q p s v k w h)
         (λ k. walk_assignment-whole cs object (inside p x) (enter t s) k (enter-widths e t s w) (enter-whole t s h)) (enter-widths e t s w)
         (enter-whole t s h))) λ ds s a.
@@ -275,12 +275,12 @@ module _ (e : Setting) where
         let i = target-step (tag_of f) k.0 k.1 in
         let n = target-not e (tag_of f) i.0 in
         after-bind (walk_target f e p s) _ (λ g s'. ((Result f g × (tag_of g ≡ tag_of f)) × Widths s') × Whole s') (λ r s. Whole s)
-        (after_both (walk_target f e p s) (λ g s'. (Result f g × (tag_of g ≡ tag_of f)) × Widths s') (λ g s'. Whole s')
+        (after-both (walk_target f e p s) (λ g s'. (Result f g × (tag_of g ≡ tag_of f)) × Widths s') (λ g s'. Whole s')
         (walk_target-within e f p s k.2 n.0 n.1 w) (walk_target-whole f p s k.2 n.1 w h)) λ g s₁ a.
-        then_keeps Whole (walk_all fs e object (p + size f) s₁) _
-        (walk_all-whole fs k.0 object (p + size f) s₁ (value_row e k.0 i.1) k.3 a.0.1 a.1) λ gs s h. h
+        then-keeps Whole (walk_all fs e object (p + size f) s₁) _
+        (walk_all-whole fs k.0 object (p + size f) s₁ (value-row e k.0 i.1) k.3 a.0.1 a.1) λ gs s h. h
 
     walk_target-whole : (f : Field) (p : ℕ) (s : State) → Shaped f → eqb (tag_of f) 0x66 ≡ false → Widths s → Whole s →
         Keeps Whole (walk_target f e p s)
     walk_target-whole (field t x cs) p s k m w h =
-        then_keeps Whole (walk_member cs e (inside p x) s) _ (walk_member-whole cs (rule_of t) (inside p x) s (rule-targets t m) k.1 w h) λ ds s h. h
+        then-keeps Whole (walk_member cs e (inside p x) s) _ (walk_member-whole cs (rule_of t) (inside p x) s (rule-targets t m) k.1 w h) λ ds s h. h

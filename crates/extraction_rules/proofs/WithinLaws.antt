@@ -33,8 +33,8 @@ use Rattle.extraction_rules.specs.Second.{usages_of, specifiers_from, take_apart
 use Rattle.extraction_rules.specs.Walk.{Rule as Kind, import, export as exporting, declare, express, nothing as plain, rule_for}
 use Rattle.extraction_rules.specs.Walk.{after_expression, after_import, after, Parts, unwalked, member, super, assignment, children, parts_for}
 use Rattle.extraction_rules.specs.Walk.{enter, walk, walk_all, walk_member, walk_assignment, walk_target}
-use Rattle.extraction_rules.proofs.OutcomeLaws.{After, after-bind, after_both, after-if}
-use Rattle.extraction_rules.proofs.ListLaws.{All, all-last, all_filter}
+use Rattle.extraction_rules.proofs.OutcomeLaws.{After, after-bind, after-both, after-if}
+use Rattle.extraction_rules.proofs.ListLaws.{All, all-last, all-filter}
 use Rattle.extraction_rules.proofs.FirstLaws.{source-cases}
 use Rattle.extraction_rules.proofs.StepLaws.{Keeps, module_for-keeps, collect-keeps, note_id-keeps, export_specifier-keeps, declarator-keeps, expression-keeps, enter-keeps}
 use Rattle.extraction_rules.proofs.WalkLaws.{rule-tag, parts-tag, parts-other, walk_parts}
@@ -114,7 +114,7 @@ module _ (e : Setting) where
   first-within : (f g : Field) (object : Bool) (p : ℕ) (s : State) → Result f g → Widths s →
       After (after_expression first e g object p s) (λ h s'. Result f h × Widths s')
   first-within f g object p s r w =
-      after_both (after_expression first e g object p s) (λ h s'. Result f h) (λ h s'. Widths s')
+      after-both (after_expression first e g object p s) (λ h s'. Result f h) (λ h s'. Widths s')
       (first-expression e (λ h. Result f h) first refl g object p s (call-result f g r)) (expression-widths g r.shaped object p s w)
 
   -- '10, not external', first pass
@@ -195,7 +195,7 @@ module _ (e : Setting) where
 
   pub used-width : (i : List ℕ) (s : State) → Widths s → All (λ u. length u.property ≡ 6) (usages_of i s.usages)
   unfolding usages_of
-  used-width i s w = all_filter (λ u. length u.property ≡ 6) (λ u. length u.property ≡ 6) (λ u. same u.id i) s.usages (λ u v k. k) w.1
+  used-width i s w = all-filter (λ u. length u.property ≡ 6) (λ u. length u.property ≡ 6) (λ u. same u.id i) s.usages (λ u v k. k) w.1
 
   on_sole-within : (o : Option Field) (x : List ℕ) (cs ds : Fields) (s : State) → Exact 0x10 x → ShapedAll ds (rule_of 0x10) → Widths s →
       After (on_sole o x ds s) (λ g s'. Result (field 0x10 x cs) g × Widths s')
@@ -274,11 +274,11 @@ module _ (e : Setting) where
   after-within exporting t x cs ds object p s v h n k w =
       let q = rule-tag t exporting v in
       subst (λ (u : ℕ). After (export_specifier e x p s) (Walked (field u x cs))) (sym q)
-      (after_both (export_specifier e x p s) (λ g s'. Result (field 0x23 x cs) g) (λ g s'. Widths s')
+      (after-both (export_specifier e x p s) (λ g s'. Result (field 0x23 x cs) g) (λ g s'. Widths s')
       (exported-result x cs p s (subst (λ (u : ℕ). Exact u x) q h)) (export_specifier-keeps e Widths (widths-common e) x p s w))
   after-within declare t x cs ds object p s v h n k w =
       after-bind (declarator e ds p s) _ (λ gs s'. Result (field t x cs) (field t x gs) × Widths s') (Walked (field t x cs))
-      (after_both (declarator e ds p s) (λ gs s'. Result (field t x cs) (field t x gs)) (λ gs s'. Widths s')
+      (after-both (declarator e ds p s) (λ gs s'. Result (field t x cs) (field t x gs)) (λ gs s'. Widths s')
       (declared-result t x cs ds p s h n k) (declarator-keeps e Widths (widths-common e).requires ds p s w)) λ gs s a. a
   after-within express t x cs ds object p s v h n k w = expression-within e.pass (field t x cs) t x ds object p s (field-result t x cs ds h n k) w
   after-within plain t x cs ds object p s v h n k w = (field-result t x cs ds h n k, w)
@@ -287,11 +287,11 @@ module _ (e : Setting) where
   enter-widths t s w = enter-keeps Widths (λ s b w. w) t s w
 
   -- one field, then the rest of a row
-  row_within : (m : Act Field) (n : Act Fields) (s : State) (f : Field) (fs : Fields) (q q' : Rule) → After (m s) (Walked f) →
+  row-within : (m : Act Field) (n : Act Fields) (s : State) (f : Field) (fs : Fields) (q q' : Rule) → After (m s) (Walked f) →
       ((s : State) → Widths s → After (n s) (λ gs s'. Results fs gs q' × Widths s')) →
       ((g : Field) (gs : Fields) → Result f g → Results fs gs q' → Results (more f fs) (more g gs) q) →
       After (onto (m s) (λ r. onto (n r.1) (λ u. give (more r.0 u.0) u.1))) (λ gs s'. Results (more f fs) gs q × Widths s')
-  row_within m n s f fs q q' h i join =
+  row-within m n s f fs q q' h i join =
       after-bind (m s) _ (Walked f) (λ gs s'. Results (more f fs) gs q × Widths s') h λ g s₁ a.
       after-bind (n s₁) _ (λ gs s'. Results fs gs q' × Widths s') (λ gs s'. Results (more f fs) gs q × Widths s') (i s₁ a.1) λ gs s₂ b.
       (join g gs a.0 b.0, b.1)
@@ -301,28 +301,28 @@ module _ (e : Setting) where
   RowWithin m cs = (q : Rule) → in_rule takes_target q ≡ false → ShapedAll cs q → (p : ℕ) (s : State) → Widths s → After (m p s)
       (λ gs s'. Results cs gs q × Widths s')
 
-  pub parts_within : (v : Parts) (t : ℕ) (cs : Fields) (object : Bool) (p : ℕ) (s : State) → parts_for t ≡ v → ShapedAll cs (rule_of t) →
+  pub parts-within : (v : Parts) (t : ℕ) (cs : Fields) (object : Bool) (p : ℕ) (s : State) → parts_for t ≡ v → ShapedAll cs (rule_of t) →
       ((b : Bool) → RowWithin (walk_all cs e b) cs) → RowWithin (walk_member cs e) cs →
       (ShapedAll cs (rule_of 0x66) → After (walk_assignment cs e object p s) (λ gs s'. Results cs gs (rule_of 0x66) × Widths s')) → Widths s →
       After (walk_parts v cs e object p s) (λ gs s'. Results cs gs (rule_of t) × Widths s')
-  parts_within unwalked t cs object p s v h all mem asg w = (same-results cs (rule_of t) h, w)
-  parts_within member t cs object p s v h all mem asg w =
+  parts-within unwalked t cs object p s v h all mem asg w = (same-results cs (rule_of t) h, w)
+  parts-within member t cs object p s v h all mem asg w =
       mem (rule_of t) (rule-targets t (parts-other t member v (λ q. let z : ◌≡◌ {A = ℕ} 0 1 = cc in omega arith))) h p s w
-  parts_within super t cs object p s v h all mem asg w =
+  parts-within super t cs object p s v h all mem asg w =
       all false (rule_of t) (rule-targets t (parts-other t super v (λ q. let z : ◌≡◌ {A = ℕ} 0 1 = cc in omega arith))) h p s w
-  parts_within assignment t cs object p s v h all mem asg w =
+  parts-within assignment t cs object p s v h all mem asg w =
       let q = parts-tag t assignment v in
       subst (λ (u : ℕ). After (walk_assignment cs e object p s) (λ gs s'. Results cs gs (rule_of u) × Widths s')) (sym q)
       (asg (subst (λ (u : ℕ). ShapedAll cs (rule_of u)) q h))
-  parts_within children t cs object p s v h all mem asg w =
+  parts-within children t cs object p s v h all mem asg w =
       all object (rule_of t) (rule-targets t (parts-other t children v (λ q. let z : ◌≡◌ {A = ℕ} 0 1 = cc in omega arith))) h p s w
 
   pub not-module : (q q' : Rule) (t : ℕ) → in_rule takes_target q ≡ false → step_at q t ≡ Go q' → t ≡ 0x01 → ⊥
   not-module q q' t w e v = no-module q q' w (subst (λ (u : ℕ). step_at q u ≡ Go q') v e)
 
-  pub value_row : (q : Rule) → q ≡ parts1 (One Expression) → in_rule takes_target q ≡ false
+  pub value-row : (q : Rule) → q ≡ parts1 (One Expression) → in_rule takes_target q ≡ false
   unfolding holds_at within
-  value_row q e = ap (in_rule takes_target) e
+  value-row q e = ap (in_rule takes_target) e
 
   pub target-not : (t : ℕ) → (t ≡ 0x50) ⊎ (t ≡ 0x63) → (t ≡ 0x01 → ⊥) × (eqb t 0x66 ≡ false)
   target-not t (inl q) = (λ v. omega arith, ne_eqb t 0x66 (λ v. omega arith))
@@ -336,7 +336,7 @@ module _ (e : Setting) where
     walk-within (field t x cs) object p s h n w =
         after-bind (walk_parts (parts_for t) cs e object (inside p x) (enter t s)) _ (λ ds s'. Results cs ds (rule_of t) × Widths s')
         (Walked (field t x cs))
-        (parts_within (parts_for t) t cs object (inside p x) (enter t s) refl h.1 (λ b q w h p s v. walk_all-within cs q b p s w h v)
+        (parts-within (parts_for t) t cs object (inside p x) (enter t s) refl h.1 (λ b q w h p s v. walk_all-within cs q b p s w h v)
         (λ q w h p s v. walk_member-within cs q p s w h v)
         (λ k. walk_assignment-within cs object (inside p x) (enter t s) k (enter-widths t s w)) (enter-widths t s w)) λ ds s a.
         after-within (rule_for t) t x cs ds object p s refl h.0 n a.0 a.1
@@ -345,7 +345,7 @@ module _ (e : Setting) where
         Widths s → After (walk_all fs e object p s) (λ gs s'. Results fs gs q × Widths s')
     walk_all-within none q object p s v h w = (none-results q h, w)
     walk_all-within (more f fs) q object p s v h w =
-        row_within (walk f e object p) (walk_all fs e object (p + size f)) s f fs q h.0
+        row-within (walk f e object p) (walk_all fs e object (p + size f)) s f fs q h.0
         (walk-within f object p s h.2 (not-module q h.0 (tag_of f) v h.1) w)
         (λ s w. walk_all-within fs h.0 object (p + size f) s (step-without takes_target q h.0 (tag_of f) v h.1) h.3 w)
         (λ g gs a b. more-results f g fs gs q h.0 h.1 v a b)
@@ -354,7 +354,7 @@ module _ (e : Setting) where
         After (walk_member fs e p s) (λ gs s'. Results fs gs q × Widths s')
     walk_member-within none q p s v h w = (none-results q h, w)
     walk_member-within (more f fs) q p s v h w =
-        row_within (walk f e true p) (walk_all fs e false (p + size f)) s f fs q h.0
+        row-within (walk f e true p) (walk_all fs e false (p + size f)) s f fs q h.0
         (walk-within f true p s h.2 (not-module q h.0 (tag_of f) v h.1) w)
         (λ s w. walk_all-within fs h.0 false (p + size f) s (step-without takes_target q h.0 (tag_of f) v h.1) h.3 w)
         (λ g gs a b. more-results f g fs gs q h.0 h.1 v a b)
@@ -369,7 +369,7 @@ module _ (e : Setting) where
         (λ gs s'. Results (more f fs) gs (rule_of 0x66) × Widths s') (walk_target-within f p s h.2 n.0 n.1 w) λ g s₁ a.
         after-bind (walk_all fs e object (p + size f) s₁) _ (λ gs s'. Results fs gs h.0 × Widths s')
         (λ gs s'. Results (more f fs) gs (rule_of 0x66) × Widths s')
-        (walk_all-within fs h.0 object (p + size f) s₁ (value_row h.0 i.1) h.3 a.1) λ gs s₂ b.
+        (walk_all-within fs h.0 object (p + size f) s₁ (value-row h.0 i.1) h.3 a.1) λ gs s₂ b.
         (target-results f g fs gs (rule_of 0x66) h.0 h.1 a.0.1 a.0.0 b.0, b.1)
 
     pub walk_target-within : (f : Field) (p : ℕ) (s : State) → Shaped f → (tag_of f ≡ 0x01 → ⊥) → eqb (tag_of f) 0x66 ≡ false → Widths s →

@@ -141,14 +141,14 @@ card8 = record {
 }
 
 -- `const q = a.require('./m')` after card 2's import: one lazy, from pass two
-abbrev a-require : Field
-a-require = call (member (ident (own a)) 0) (leaf 0x61 (literal 1))
+abbrev a_require : Field
+a_require = call (member (ident (own a)) 0) (leaf 0x61 (literal 1))
 
 pub card9 : Case
 card9 = record {
-  lent = lending 1 (encode (program (imports (namespace (own a) ∷ []) ∷ const (own q) a-require ∷ [])));
+  lent = lending 1 (encode (program (imports (namespace (own a) ∷ []) ∷ const (own q) a_require ∷ [])));
   left = accepts (files true false)
-      (program (imports (namespace (own a) ∷ metadata ∷ []) ∷ const (own q) a-require ∷ []))
+      (program (imports (namespace (own a) ∷ metadata ∷ []) ∷ const (own q) a_require ∷ []))
       (program (imports (named (exp 0) ∷ metadata ∷ []) ∷ const (own q) (requiring (exp 0)) ∷ []))
       (records (collected (named (exp 0) ∷ []) ∷ lazy (named (own q) ∷ []) ∷ []));
 }

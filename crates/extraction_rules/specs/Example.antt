@@ -107,41 +107,41 @@ target = record {
 }
 
 -- Computed: in `a.x; a[a.x]` the second use forces a, so the import is kept
-abbrev at-ax : Field
-at-ax = statement (fields 0x63 (ident (own a) ∷ fields 0x71 (member (ident (own a)) x ∷ []) ∷ []))
+abbrev at_ax : Field
+at_ax = statement (fields 0x63 (ident (own a) ∷ fields 0x71 (member (ident (own a)) x ∷ []) ∷ []))
 
 computed : Case
 computed = record {
-  lent = lending 0 (encode (program (imports (namespace (own a) ∷ []) ∷ ax ∷ at-ax ∷ [])));
+  lent = lending 0 (encode (program (imports (namespace (own a) ∷ []) ∷ ax ∷ at_ax ∷ [])));
   left = accepts (files false true)
-      (program (imports (namespace (own a) ∷ metadata ∷ []) ∷ ax ∷ at-ax ∷ []))
-      (program (imports (namespace (own a) ∷ metadata ∷ []) ∷ ax ∷ at-ax ∷ []))
+      (program (imports (namespace (own a) ∷ metadata ∷ []) ∷ ax ∷ at_ax ∷ []))
+      (program (imports (namespace (own a) ∷ metadata ∷ []) ∷ ax ∷ at_ax ∷ []))
       (records (collected (namespace (own a) ∷ []) ∷ forced ∷ []));
 }
 
 -- the 71 of a super is walked with *object* clear: in `super[a].y` a is bare
-abbrev super-a : Field
-super-a = statement (member (fields 0x64 (fields 0x71 (ident (own a) ∷ []) ∷ [])) y)
+abbrev super_a : Field
+super_a = statement (member (fields 0x64 (fields 0x71 (ident (own a) ∷ []) ∷ [])) y)
 
 super-computed : Case
 super-computed = record {
-  lent = lending 0 (encode (program (imports (namespace (own a) ∷ []) ∷ ax ∷ super-a ∷ [])));
+  lent = lending 0 (encode (program (imports (namespace (own a) ∷ []) ∷ ax ∷ super_a ∷ [])));
   left = accepts (files false true)
-      (program (imports (namespace (own a) ∷ metadata ∷ []) ∷ ax ∷ super-a ∷ []))
-      (program (imports (namespace (own a) ∷ metadata ∷ []) ∷ ax ∷ super-a ∷ []))
+      (program (imports (namespace (own a) ∷ metadata ∷ []) ∷ ax ∷ super_a ∷ []))
+      (program (imports (namespace (own a) ∷ metadata ∷ []) ∷ ax ∷ super_a ∷ []))
       (records (collected (namespace (own a) ∷ []) ∷ forced ∷ []));
 }
 
 -- the callee of a require is an expression like others: a namespace named require is forced by it
-abbrev required-x : Field
-required-x = statement (member (ident (own 0)) x)
+abbrev required_x : Field
+required_x = statement (member (ident (own 0)) x)
 
 callee : Case
 callee = record {
-  lent = lending 1 (encode (program (imports (namespace (own 0) ∷ []) ∷ required-x ∷ statement (requiring (own 0)) ∷ [])));
+  lent = lending 1 (encode (program (imports (namespace (own 0) ∷ []) ∷ required_x ∷ statement (requiring (own 0)) ∷ [])));
   left = accepts (files true true)
-      (program (imports (namespace (own 0) ∷ metadata ∷ []) ∷ required-x ∷ statement (requiring (exp 0)) ∷ []))
-      (program (imports (namespace (own 0) ∷ metadata ∷ []) ∷ required-x ∷ statement (requiring (exp 0)) ∷ []))
+      (program (imports (namespace (own 0) ∷ metadata ∷ []) ∷ required_x ∷ statement (requiring (exp 0)) ∷ []))
+      (program (imports (namespace (own 0) ∷ metadata ∷ []) ∷ required_x ∷ statement (requiring (exp 0)) ∷ []))
       (records (collected (namespace (own 0) ∷ []) ∷ forced ∷ []));
 }
 

@@ -2,7 +2,7 @@
 -- A place p is the offset of the field that a rule stands at.
 use Rattle.std.specs.Prelude.{ℕ, ◌+◌, Bool, false, not, cond, ◌&&◌, ◌||◌, List, [], ◌∷◌, ◌++◌, eqb, length, get_or, take}
 use Rattle.std.proofs.Math.Option.{Option, none as nothing, some}
-use Rattle.scope.specs.Id.{require-atom, local, export}
+use Rattle.scope.specs.Id.{require_atom, local, export}
 use Rattle.scope.specs.Modules.{Modules, request, set_mark}
 use Rattle.scope.specs.declared.Mark.TheVariants.{Cjs}
 use Rattle.tree.specs.Layout.{two, four, same, atom_at, id_at, name_of, context_of, value_of}
@@ -122,7 +122,7 @@ not_external e (some l) = cond (external e l) nothing (some l)
 unfoldable pub required : Setting → Field → Option (List ℕ)
 required e (field t x none) = nothing
 required e (field t x (more c gs)) =
-    cond (e.config.require && eqb t 0x65 && has 0x60 c && same (name_of (fixed_of c)) (two require-atom)) (not_external e (argument (sole gs))) nothing
+    cond (e.config.require && eqb t 0x65 && has 0x60 c && same (name_of (fixed_of c)) (two require_atom)) (not_external e (argument (sole gs))) nothing
 
 -- 'the callee gets the export context'
 unfoldable pub with_callee : ℕ → Field → Field

@@ -43,10 +43,10 @@ module _ {s : List ℕ} {at stop from : ℕ} (bytes : Bytes s) (hd : Headed s at
   Again t out o t' out' r = Steps encode Ready (λ x. import_second x.setting X CS) t out o t' out' r
 
   -- by the two tests
-  by_tests : (E : Setting) (a b : Bool) (u : State) → external E X ≡ a → among (value_of X) u.forced ≡ b →
+  by-tests : (E : Setting) (a b : Bool) (u : State) → external E X ≡ a → among (value_of X) u.forced ≡ b →
       import_second E X CS u ≡ cond (a || b) (give (field 0x10 X CS)) (on_sole (sole (specifiers_in CS)) X CS) u
   unfolding import_second
-  by_tests E a b u p q = ap₂ (λ (x y : Bool). cond (x || y) (give (field 0x10 X CS)) (on_sole (sole (specifiers_in CS)) X CS) u) p q
+  by-tests E a b u p q = ap₂ (λ (x y : Bool). cond (x || y) (give (field 0x10 X CS)) (on_sole (sole (specifiers_in CS)) X CS) u) p q
 
   sole-by : (o : Option Field) (i : Option (List ℕ)) (u : State) → i ≡ namespace_by o →
       (i ≡ nothing → on_sole o X CS u ≡ done (field 0x10 X CS, u)) × ((y : List ℕ) → i ≡ some y → on_sole o X CS u ≡ take_apart (usages_of y u.usages) X CS u)
@@ -65,7 +65,7 @@ module _ {s : List ℕ} {at stop from : ℕ} (bytes : Bytes s) (hd : Headed s at
     outside b {x} u k q = head-external hd x.setting n source (ext.is u k) q
 
     pub again-external : {out out' : List ℕ} {o p : ℕ} → a ≡ true → Wrote out o (slice at stop s) out' p → Again t out o t out' (Done p)
-    again-external q w = head-stays hd bytes g w (λ x u h. h.0) (λ x u k h. by_tests x.setting true (among (value_of X) u.forced) u (outside true u k q) refl)
+    again-external q w = head-stays hd bytes g w (λ x u h. h.0) (λ x u k h. by-tests x.setting true (among (value_of X) u.forced) u (outside true u k q) refl)
 
     module _ (own : a ≡ false) {b : Bool} (fo : Tells (λ u. among (two n) u.forced) t b) where
       forced-is : (c : Bool) {x : Env} (u : State) → Shows x t u → b ≡ c → among (value_of X) u.forced ≡ c
@@ -73,18 +73,18 @@ module _ {s : List ℕ} {at stop from : ℕ} (bytes : Bytes s) (hd : Headed s at
 
       pub again-forced : {out out' : List ℕ} {o p : ℕ} → b ≡ true → Wrote out o (slice at stop s) out' p → Again t out o t out' (Done p)
       again-forced q w =
-          head-stays hd bytes g w (λ x u h. h.0) (λ x u k h. by_tests x.setting false true u (outside false u k own) (forced-is true u k q))
+          head-stays hd bytes g w (λ x u h. h.0) (λ x u k h. by-tests x.setting false true u (outside false u k own) (forced-is true u k q))
 
       module _ (un : b ≡ false) (r : Ident) (so : Row s from stop (rule_of 0x10) → ident_by r ≡ namespace_by (sole (specifiers_in (row_at s from stop)))) where
-        sole_of : ReadAt s at stop → ident_by r ≡ namespace_by (sole (specifiers_in CS))
-        sole_of rd =
+        sole-of : ReadAt s at stop → ident_by r ≡ namespace_by (sole (specifiers_in CS))
+        sole-of rd =
             so (head-row hd rd) ∙ ap (λ (fs : Fields). namespace_by (sole (specifiers_in fs))) (sym (head-parts hd))
 
         pub again-other : {out out' : List ℕ} {o p : ℕ} → r ≡ Other → Wrote out o (slice at stop s) out' p → Again t out o t out' (Done p)
         again-other q w =
             head-stays hd bytes g w (λ x u h. h.0) (λ x u k h.
-            by_tests x.setting false false u (outside false u k own) (forced-is false u k un)
-            ∙ (sole-by (sole (specifiers_in CS)) (ident_by r) u (sole_of h.0)).0 (ap ident_by q))
+            by-tests x.setting false false u (outside false u k own) (forced-is false u k un)
+            ∙ (sole-by (sole (specifiers_in CS)) (ident_by r) u (sole-of h.0)).0 (ap ident_by q))
 
         pub again-apart : (id : Id) {t' out out' : List ℕ} {o p : ℕ} → r ≡ Is id →
             Steps encode (λ x u. ReadAt s at stop × (among (value_of X) (sources_in u.collected) ≡ true)) (λ _ u. take_apart (usages_of (id_by id) u.usages) X CS u) t out o t' out' (Done p) →
@@ -92,6 +92,6 @@ module _ {s : List ℕ} {at stop from : ℕ} (bytes : Bytes s) (hd : Headed s at
         again-apart id q w =
             steps-by _ w (λ x u k h. (
               (h.0, h.1 (outside false u k own)),
-              by_tests x.setting false false u (outside false u k own) (forced-is false u k un)
-                  ∙ (sole-by (sole (specifiers_in CS)) (ident_by r) u (sole_of h.0)).1 (id_by id) (ap ident_by q),
+              by-tests x.setting false false u (outside false u k own) (forced-is false u k un)
+                  ∙ (sole-by (sole (specifiers_in CS)) (ident_by r) u (sole-of h.0)).1 (id_by id) (ap ident_by q),
             ))

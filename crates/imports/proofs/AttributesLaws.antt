@@ -11,7 +11,7 @@ use lib.Seq.{slice}
 use borrow.Author.Tests.{eq-eqb, ne_eqb}
 use Rattle.writer.specs.Bytes.{framed}
 use Rattle.writer.specs.Wrote.{Wrote, Opened, closed}
-use Rattle.writer.proofs.Wrote.{wrote_none, wrote_then, wrote_as, wrote-field}
+use Rattle.writer.proofs.Wrote.{wrote-none, wrote-then, wrote-as, wrote-field}
 use Rattle.scope.specs.Id.{export}
 use Rattle.tree.specs.declared.layout.Reach.TheVariants.{Upto, Short}
 use Rattle.tree.specs.Layout.{Bytes}
@@ -22,7 +22,7 @@ use Rattle.tree.specs.Standing.{tree_at, row_at}
 use Rattle.tree.proofs.StandingLaws.{row-none, whole-step}
 use Rattle.tree.proofs.SoundLaws.{row-sound}
 use Rattle.tree.proofs.WidthLaws.{plain-width}
-use Rattle.tree.proofs.TreeLaws.{encodes-none, encodes_one}
+use Rattle.tree.proofs.TreeLaws.{encodes-none, encodes-one}
 use Rattle.tree.specs.declared.grammar.Value.TheVariants.{Empty}
 use Rattle.metadata.specs.Metadata.{append, attributes_for, with_metadata, context_attribute}
 use Rattle.metadata.proofs.EncodeLaws.{encodes-append, framed-field}
@@ -84,7 +84,7 @@ module _ {s : List ℕ} {at end : ℕ} (bytes : Bytes s) (le : at ≤ end) (fits
       record {
         is = λ b.
             let l = behind-last bytes le fits e b in
-            wrote_as w (sym (ap (λ (fs : Fields). encodes (attributes_of (find_field (has 0x2F) fs))) l.row
+            wrote-as w (sym (ap (λ (fs : Fields). encodes (attributes_of (find_field (has 0x2F) fs))) l.row
             ∙ ap encodes (old-is (tree_at s at stop) none (eq-eqb (tag_of (tree_at s at stop)) 0x2F l.tag))
             ∙ content-is bytes l.read (sym (read-tag l.read) ∙ l.tag)));
       }
@@ -93,7 +93,7 @@ module _ {s : List ℕ} {at end : ℕ} (bytes : Bytes s) (le : at ≤ end) (fits
   attributes-none e =
       record {
         is = λ b.
-            wrote_as wrote_none (sym (ap (λ (fs : Fields). encodes (attributes_of (find_field (has 0x2F) fs))) (row-none s at end le e) ∙ ap encodes old-none ∙ encodes-none));
+            wrote-as wrote-none (sym (ap (λ (fs : Fields). encodes (attributes_of (find_field (has 0x2F) fs))) (row-none s at end le e) ∙ ap encodes old-none ∙ encodes-none));
       }
 
 -- ---- With a context
@@ -101,7 +101,7 @@ module _ {s : List ℕ} {at end : ℕ} (bytes : Bytes s) (le : at ≤ end) (fits
 context-written : (old : Fields) (c : ℕ) → framed 0x2F (encodes old ++ encode (context_attribute c)) ≡ encode (with_metadata (record { injected = false; context = some c }) old)
 unfolding with_metadata attributes_for append
 context-written old c =
-    ap (λ (b : List ℕ). framed 0x2F (encodes old ++ b)) (sym (encodes_one (context_attribute c)))
+    ap (λ (b : List ℕ). framed 0x2F (encodes old ++ b)) (sym (encodes-one (context_attribute c)))
     ∙ ap (framed 0x2F) (sym (encodes-append old (more (context_attribute c) none))) ∙ framed-field 0x2F [] (append old (more (context_attribute c) none))
 
 pub context-put : {s : List ℕ} {at end : ℕ} (n : ℕ) {c : ℕ} {l m k j out' : List ℕ} {o x q p : ℕ} → c ≡ export n → Opened l o 0x2F m x → Attributes s at end encodes m x k q →
@@ -111,5 +111,5 @@ context-put {s} {at} {end} n {c} e u a w v =
     record {
       is = λ b.
           let old = attributes_of (find_field (has 0x2F) (row_at s at end)) in
-          wrote_as (wrote-field u (wrote_then (a.is b) w) v) (context-written old c ∙ ap (λ (i : ℕ). encode (with_metadata (record { injected = false; context = some i }) old)) e);
+          wrote-as (wrote-field u (wrote-then (a.is b) w) v) (context-written old c ∙ ap (λ (i : ℕ). encode (with_metadata (record { injected = false; context = some i }) old)) e);
     }

@@ -60,10 +60,10 @@ count-keep (more f fs) = by (has 0x22 f) refl (count-keep fs)
     by false e h = let z : flag (has 0x22 f) ≡ 0 = ap flag e in let k = ap count_namespaces (keep-no (has 0x22) f fs e) in omega arith
 
 -- specifiers, then attributes: the parts as they are
-pub parts_again : (cs : Fields) → ShapedAll cs (rule_of 0x10) → append (specifiers_in cs) (attributes_in cs) ≡ cs
+pub parts-again : (cs : Fields) → ShapedAll cs (rule_of 0x10) → append (specifiers_in cs) (attributes_in cs) ≡ cs
 unfolding append
-parts_again none h = ap₂ append (keep-none (λ g. not (has 0x2F g))) (keep-none (has 0x2F))
-parts_again (more f fs) h = by (import-step (tag_of f) h.0 h.1) (parts_again fs)
+parts-again none h = ap₂ append (keep-none (λ g. not (has 0x2F g))) (keep-none (has 0x2F))
+parts-again (more f fs) h = by (import-step (tag_of f) h.0 h.1) (parts-again fs)
   where
     by : ImportStep (tag_of f) h.0 → (ShapedAll fs (rule_of 0x10) → append (specifiers_in fs) (attributes_in fs) ≡ fs) →
         append (specifiers_in (more f fs)) (attributes_in (more f fs)) ≡ more f fs
@@ -103,9 +103,9 @@ specifier-same n f p s =
     after-bind (note_id (record { id = fixed_of f; context = noted_context n f }) p s) _ (λ _ s'. s'.collected ≡ s.collected) (Same s f) (note_id-collects _ p s)
     (λ a u e. (refl, (λ _. refl), e)))
 
-keep_same : (f g : Field) (fs gs : Fields) → has 0x22 g ≡ has 0x22 f → (has 0x22 f ≡ true → g ≡ f) → keep (has 0x22) gs ≡ keep (has 0x22) fs →
+keep-same : (f g : Field) (fs gs : Fields) → has 0x22 g ≡ has 0x22 f → (has 0x22 f ≡ true → g ≡ f) → keep (has 0x22) gs ≡ keep (has 0x22) fs →
     keep (has 0x22) (more g gs) ≡ keep (has 0x22) (more f fs)
-keep_same f g fs gs a b c = by (has 0x22 f) refl
+keep-same f g fs gs a b c = by (has 0x22 f) refl
   where
     by : (k : Bool) → has 0x22 f ≡ k → keep (has 0x22) (more g gs) ≡ keep (has 0x22) (more f fs)
     by true q = keep-yes (has 0x22) g gs (a ∙ q) ∙ ap₂ more (b q) c ∙ sym (keep-yes (has 0x22) f fs q)
@@ -120,7 +120,7 @@ note_all-same n none p s = (refl, refl)
 note_all-same n (more f fs) p s =
     after-bind (note_specifier n f p s) _ (Same s f) (SameAll s (more f fs)) (specifier-same n f p s) (λ g u h.
     after-bind (note_all n fs (p + size f) u) _ (SameAll u fs) (SameAll s (more f fs)) (note_all-same n fs (p + size f) u)
-    (λ gs v k. (keep_same f g fs gs h.0 h.1 k.0, k.1 ∙ h.2)))
+    (λ gs v k. (keep-same f g fs gs h.0 h.1 k.0, k.1 ∙ h.2)))
 
 pub specifiers-same : (o : Option ℕ) (fs : Fields) (p : ℕ) (s : State) → After (note_specifiers o fs p s) (λ gs s'. SameAll s fs gs s')
 specifiers-same nothing fs p s = (refl, refl)

@@ -9,7 +9,7 @@ use lib.ListN.{length, get_or, length-set}
 use lib.Seq.{slice, length-slice}
 use Rattle.writer.specs.Bytes.{framed}
 use Rattle.writer.specs.Wrote.{Wrote, closed}
-use Rattle.writer.proofs.Wrote.{wrote_then, wrote_as, wrote-field}
+use Rattle.writer.proofs.Wrote.{wrote-then, wrote-as, wrote-field}
 use Rattle.scope.specs.Id.{export}
 use Rattle.scope.specs.declared.id.ModuleId.{ModuleId}
 use Rattle.tree.specs.Layout.{Bytes, two, value_of}
@@ -27,7 +27,7 @@ use Rattle.extraction_rules.specs.State.{State, Setting}
 use Rattle.extraction_rules.specs.First.{external, module_for, note_all, specifiers_in, attributes_in, attributes_of, with_context, collect, import_first}
 use Rattle.extraction_rules.proofs.OutcomeLaws.{after-done}
 use Rattle.extraction_rules.proofs.ShapeLaws.{ShapedAll, formed-shaped-all}
-use Rattle.extraction_rules.proofs.KeepLaws.{keep_all, keep_meets, keep-specifiers}
+use Rattle.extraction_rules.proofs.KeepLaws.{keep-all, keep-meets, keep-specifiers}
 use Rattle.state.specs.Cells.{Env, Good, Shows, count_namespaces, namespaces_in}
 use Rattle.state.specs.Does.{Says, Gave, Resolves}
 use Rattle.state.specs.declared.Module.{Module}
@@ -40,14 +40,14 @@ use Rattle.steps.specs.declared.Why.TheVariants.{TooManyFiles}
 use Rattle.steps.proofs.SoundLaws.{read-formed, read-size}
 use Rattle.steps.proofs.StepsLaws.{steps-refused}
 use Rattle.imports.specs.Parts.{Ends, Behind, Attributes, Collected, import_on}
-use Rattle.imports.proofs.HeadLaws.{Headed, head-external, head_in, head_fixed, head-parts, head-tree, head-row, head-copied, head-begun, head-stays}
+use Rattle.imports.proofs.HeadLaws.{Headed, head-external, head-in, head-fixed, head-parts, head-tree, head-row, head-copied, head-begun, head-stays}
 use Rattle.imports.proofs.NoteAllLaws.{NotedAll}
-use Rattle.imports.proofs.CountLaws.{namespaces-size, parts_again, SameAll, note_all-same, module_for-collects}
+use Rattle.imports.proofs.CountLaws.{namespaces-size, parts-again, SameAll, note_all-same, module_for-collects}
 
 -- ---- What is kept
 
 keep-again : (p : Field → Bool) (fs : Fields) → keep p (keep p fs) ≡ keep p fs
-keep-again p fs = keep_all p (keep p fs) (keep_meets p fs)
+keep-again p fs = keep-all p (keep p fs) (keep-meets p fs)
 
 find-kept : (p : Field → Bool) (fs : Fields) → find_field p (keep p fs) ≡ find_field p fs
 unfolding find_field keep
@@ -59,9 +59,9 @@ find-kept p (more f fs) = by (p f) refl (find-kept p fs)
     by false q h = h
 
 -- a field whose last part is one more
-pub last_written : (x : List ℕ) (fs : Fields) (f : Field) → framed 0x10 (x ++ (encodes fs ++ encode f)) ≡ encode (field 0x10 x (append fs (more f none)))
+pub last-written : (x : List ℕ) (fs : Fields) (f : Field) → framed 0x10 (x ++ (encodes fs ++ encode f)) ≡ encode (field 0x10 x (append fs (more f none)))
 unfolding encode
-last_written x fs f =
+last-written x fs f =
     ap (λ (b : List ℕ). framed 0x10 (x ++ (encodes fs ++ b))) (sym (append-nil (encode f)))
     ∙ ap (λ (b : List ℕ). framed 0x10 (x ++ b)) (sym (encodes-append fs (more f none))) ∙ framed-field 0x10 x (append fs (more f none))
 
@@ -82,12 +82,12 @@ module _ {s : List ℕ} {at stop from : ℕ} (bytes : Bytes s) (hd : Headed s at
 
   literal-length : length X ≡ 6
   literal-length =
-      let i = head_in hd in
+      let i = head-in hd in
       let k = i.0 in
-      ap length (head_fixed hd) ∙ length-slice (at + 3) from s i.2 ∙ omega arith
+      ap length (head-fixed hd) ∙ length-slice (at + 3) from s i.2 ∙ omega arith
 
-  inside_is : inside at X ≡ from
-  inside_is = let l = literal-length in let k = (head_in hd).0 in omega arith
+  inside-is : inside at X ≡ from
+  inside-is = let l = literal-length in let k = (head-in hd).0 in omega arith
 
   room-left : (n : ℕ) → ReadAt s at stop → 9 * n ≤ at → stop ≤ 32768 → n + count_namespaces CS ≤ 3641
   room-left n r a b =
@@ -108,7 +108,7 @@ module _ {s : List ℕ} {at stop from : ℕ} (bytes : Bytes s) (hd : Headed s at
 
   unresolved-bytes : ReadAt s at stop → encode (field 0x10 X CS) ≡ encode (field 0x10 X (append (specifiers_in CS) (with_context nothing CS)))
   unfolding with_context
-  unresolved-bytes r = ap (λ (fs : Fields). encode (field 0x10 X fs)) (sym (parts_again CS (shaped r)))
+  unresolved-bytes r = ap (λ (fs : Fields). encode (field 0x10 X fs)) (sym (parts-again CS (shaped r)))
 
   pub first-unresolved : {t t' out out' : List ℕ} {o p : ℕ} {k : Step} → Wrote out o (slice at stop s) out' p → Collected s X CS at t t' p k →
       Steps encode Ready (λ _. import_on nothing X CS at) t out o t' out' k
@@ -124,7 +124,7 @@ module _ {s : List ℕ} {at stop from : ℕ} (bytes : Bytes s) (hd : Headed s at
               is = unresolved-is u ∙ ap (onward nothing (specifiers_in CS)) did.is;
               wrote =
                   subst (λ (i : ℕ). Wrote out o (encode (field 0x10 X (append (specifiers_in CS) (with_context nothing CS)))) out' i) (sym (c.place q d))
-                  (wrote_as (head-copied hd bytes h.0 w) (unresolved-bytes h.0));
+                  (wrote-as (head-copied hd bytes h.0 w) (unresolved-bytes h.0));
               shows = did.shows;
             };
         turned = λ y q d u b h. unresolved-is u ∙ ap (onward nothing (specifiers_in CS)) (c.turned y q d u (specifiers_in CS) b h.1);
@@ -138,7 +138,7 @@ module _ {s : List ℕ} {at stop from : ℕ} (bytes : Bytes s) (hd : Headed s at
   resolved-is : (n : ℕ) (u : State) → import_on (some n) X CS at u ≡ rest_of n (note_all n (specifiers_in (row_at s from stop)) from u)
   unfolding import_on
   resolved-is n u =
-      ap₂ (λ (fs : Fields) (p : ℕ). rest_of n (note_all n (specifiers_in fs) p u)) (head-parts hd) inside_is
+      ap₂ (λ (fs : Fields) (p : ℕ). rest_of n (note_all n (specifiers_in fs) p u)) (head-parts hd) inside-is
 
   abbrev contextual : ℕ → Fields → Field
   contextual n old = with_metadata (record { injected = false; context = some (export n) }) old
@@ -196,10 +196,10 @@ module _ {s : List ℕ} {at stop from : ℕ} (bytes : Bytes s) (hd : Headed s at
                 is = resolved-is n u ∙ ap (rest_of n) m.is ∙ ap (onward (some n) fs) did.is;
                 wrote =
                     subst (λ (x : ℕ). Wrote l o (encode (field 0x10 X (append fs (with_context (some n) CS)))) out' x) (sym (g.place i d))
-                    (wrote_as (wrote-field begun-here.opened
-                    (wrote_then begun-here.fixed
-                    (wrote_then m.wrote (wrote_as (w.is (behind-is v r.0)) (ap (λ (x : Fields). encode (contextual n x)) (old-same v r.0))))) cl)
-                    (last_written X fs (contextual n old) ∙ ap (λ (x : Fields). encode (field 0x10 X (append fs x))) (sym (context-is n))));
+                    (wrote-as (wrote-field begun-here.opened
+                    (wrote-then begun-here.fixed
+                    (wrote-then m.wrote (wrote-as (w.is (behind-is v r.0)) (ap (λ (x : Fields). encode (contextual n x)) (old-same v r.0))))) cl)
+                    (last-written X fs (contextual n old) ∙ ap (λ (x : Fields). encode (field 0x10 X (append fs x))) (sym (context-is n))));
                 shows = did.shows;
               };
           turned = λ w₁ i d u b r.

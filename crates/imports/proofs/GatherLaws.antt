@@ -12,12 +12,12 @@ use Rattle.tree.specs.Tree.{Field, Fields, none, more, fixed_of}
 use Rattle.tree.specs.Access.{extent_at}
 use Rattle.tree.specs.Standing.{tree_at, row_at}
 use Rattle.tree.proofs.AccessLaws.{extent-upto}
-use Rattle.tree.proofs.StandingLaws.{row_more, row-none}
+use Rattle.tree.proofs.StandingLaws.{row-more, row-none}
 use Rattle.scope.specs.declared.id.Id.{Id}
 use Rattle.metadata.specs.Metadata.{append}
 use Rattle.inputs.specs.Fields.{has, keep}
 use Rattle.inputs.specs.Outcome.{Outcome, done, refused}
-use Rattle.inputs.proofs.AcceptedLaws.{done_refused as not_done}
+use Rattle.inputs.proofs.AcceptedLaws.{done-refused as not_done}
 use Rattle.tree.specs.Layout.{two, id_at, same, value_of}
 use Rattle.extraction_rules.specs.State.{Record, State, set_collected, change, refuse}
 use Rattle.extraction_rules.specs.First.{collect_in, collect}
@@ -40,7 +40,7 @@ use Rattle.steps.specs.declared.Ident.TheVariants.{Is, Other}
 use Rattle.steps.specs.declared.Step.TheVariants.{Done, Refused}
 use Rattle.steps.specs.declared.Why.{Why}
 use Rattle.steps.specs.declared.Why.TheVariants.{TableFull}
-use Rattle.steps.proofs.StepsLaws.{done_refused, done-same}
+use Rattle.steps.proofs.StepsLaws.{done-refused, done-same}
 use Rattle.imports.specs.Parts.{namespace_in, Gathers, Extending, Gathering, Collected}
 
 -- ---- Specifiers that are no namespaces
@@ -49,8 +49,8 @@ pub count-more : (f : Field) (fs : Fields) → count_namespaces (more f fs) ≡ 
 unfolding count_namespaces
 count-more f fs = refl
 
-no_more : {A : Type 0} {f : Field} {fs : Fields} → more f fs ≡ none → A
-no_more e = absurd (let z : ◌≡◌ {A = ℕ} 0 1 = cc in omega arith)
+no-more : {A : Type 0} {f : Field} {fs : Fields} → more f fs ≡ none → A
+no-more e = absurd (let z : ◌≡◌ {A = ℕ} 0 1 = cc in omega arith)
 
 -- one more of them, and then the others
 extend-then : {y : Env} {t : List ℕ} (i : ℕ) (f : Field) (fs : Fields) (s : State) → Shows y t (set_collected (extend_at i fs (extend_at i (more f none) s.collected)) s) →
@@ -66,7 +66,7 @@ others-shown {y} {t} i (more f fs) s e b w = by (has 0x22 f) refl (λ u. others-
         ((u : State) → keep (has 0x22) fs ≡ none → i < length u.collected → Shows y t u →
         Shows y t (set_collected (extend_at i fs u.collected) u)) →
         Shows y t (set_collected (extend_at i (more f fs) s.collected) s)
-    by true q h = no_more (sym (keep-yes (has 0x22) f fs q) ∙ e)
+    by true q h = no-more (sym (keep-yes (has 0x22) f fs q) ∙ e)
     by false q h =
         let l = length-extend i (more f none) s.collected in
         extend-then i f fs s
@@ -102,7 +102,7 @@ module _ (i : ℕ) (f : Field) (cs : Fields) {t m t' : List ℕ} (q : has 0x22 f
 
   namespace-shown : {y : Env} (fs : Fields) (s : State) → keep (has 0x22) fs ≡ more f (keep (has 0x22) cs) → i < length s.collected →
       namespaces_in s.collected + (1 + count_namespaces cs) ≤ 3641 → Shows y t s → Shows y t' (set_collected (extend_at i fs s.collected) s)
-  namespace-shown none s e b n w = no_more (sym e ∙ keep-none (has 0x22))
+  namespace-shown none s e b n w = no-more (sym e ∙ keep-none (has 0x22))
   namespace-shown {y} (more h fs) s e b n w = by (has 0x22 h) refl (λ u. namespace-shown fs u)
     where
       by : (c : Bool) → has 0x22 h ≡ c → ((u : State) → keep (has 0x22) fs ≡ more f (keep (has 0x22) cs) → i < length u.collected →
@@ -136,8 +136,8 @@ named-is f x e = by (has 0x22 f) refl e
     by true q e = (q, cc)
     by false q e = absurd (let z : ◌≡◌ {A = ℕ} 0 1 = cc in omega arith)
 
-named_other : (f : Field) → nothing ≡ namespace_in f → has 0x22 f ≡ false
-named_other f e = by (has 0x22 f) refl e
+named-other : (f : Field) → nothing ≡ namespace_in f → has 0x22 f ≡ false
+named-other f e = by (has 0x22 f) refl e
   where
     by : (c : Bool) → has 0x22 f ≡ c → nothing ≡ cond c (some (fixed_of f)) nothing → has 0x22 f ≡ false
     by true q e = absurd (let z : ◌≡◌ {A = ℕ} 0 1 = cc in omega arith)
@@ -154,7 +154,7 @@ module _ (i : ℕ) (f : Field) (r : Ident) (e : ident_by r ≡ namespace_in f) {
       }
 
   pub extending-other : Good t → r ≡ Other → Extending i f t t
-  extending-other g q = record { good = g; kept = refl; next = λ {t''} {cs} h. gathers-other i f cs (named_other f (sym (ap ident_by q) ∙ e)) h }
+  extending-other g q = record { good = g; kept = refl; next = λ {t''} {cs} h. gathers-other i f cs (named-other f (sym (ap ident_by q) ∙ e)) h }
 
 -- ---- All fields
 
@@ -178,7 +178,7 @@ module _ (i : ℕ) (s : List ℕ) (from end : ℕ) {t₀ t : List ℕ} {at : ℕ
         before = (extent-upto s at end g.before e).1;
         below = subst (λ (n : ℕ). i < n) (sym k) b;
         cells = l ∙ g.cells;
-        rest = λ t'' w. g.rest t'' (subst (λ (fs : Fields). Gathers i fs t t'') (sym (row_more s at end stop g.before e)) (x.next w));
+        rest = λ t'' w. g.rest t'' (subst (λ (fs : Fields). Gathers i fs t t'') (sym (row-more s at end stop g.before e)) (x.next w));
       }
 
   pub filling-end : extent_at s at end ≡ Short → Gathers i (row_at s from end) t₀ t
@@ -272,15 +272,15 @@ module _ {s x : List ℕ} {cs ds : Fields} (at p : ℕ) {l : Literal} {n : ℕ} 
             let f : keep (has 0x22) fs ≡ keep (has 0x22) cs = k ∙ ap (keep (has 0x22)) b in
             let c = ap count_namespaces b in
             subst (λ (z : List ℕ). Did y (collecting fs at u z) t') (literal-is w h ∙ a) (g.made e u fs at f (omega arith) w (valued w h));
-        turned = λ w q d u fs k h. done_refused refl d;
+        turned = λ w q d u fs k h. done-refused refl d;
       }
 
   pub collected-full : r ≡ Full → Collected s x ds at t t' p (Refused TableFull at)
   collected-full e =
       record {
         good = g.good;
-        place = λ q d. done_refused d refl;
-        made = λ q d u fs k m w h. done_refused d refl;
+        place = λ q d. done-refused d refl;
+        made = λ q d u fs k m w h. done-refused d refl;
         turned = λ w q d u fs k h.
             let i : TableFull ≡ w = cc in
             let j : at ≡ q = cc in

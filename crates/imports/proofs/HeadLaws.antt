@@ -7,7 +7,7 @@ use mathlib.Core.List.{List}
 use lib.ListN.{length, get_or}
 use lib.Seq.{slice}
 use Rattle.writer.specs.Wrote.{Wrote}
-use Rattle.writer.proofs.Wrote.{wrote_as}
+use Rattle.writer.proofs.Wrote.{wrote-as}
 use Rattle.tree.specs.declared.layout.Reach.TheVariants.{Upto, Short}
 use Rattle.tree.specs.Layout.{Bytes, two, two_at, id_at, value_of}
 use Rattle.tree.specs.Tree.{Field, field, Fields, fixed_of, parts_of, encode}
@@ -27,18 +27,18 @@ use Rattle.state.specs.Cells.{Env, Good, Shows}
 use Rattle.steps.specs.Step.{ReadAt, Steps, Begun}
 use Rattle.steps.specs.declared.Step.{Step}
 use Rattle.steps.specs.declared.Step.TheVariants.{Done}
-use Rattle.steps.proofs.SoundLaws.{read-bytes, read-parts, read_short}
+use Rattle.steps.proofs.SoundLaws.{read-bytes, read-parts, read-short}
 use Rattle.steps.proofs.StepsLaws.{steps-done, steps-never}
 use Rattle.imports.specs.Parts.{Framed}
 use Rattle.imports.proofs.WidthLaws.{framing, framing-as, framed-in, framed-exact, framed-tree, framed-length}
 
 -- an import that was read has its literal
-pub head_never : {s : List ℕ} {at stop : ℕ} → get_or s at 0 ≡ 0x10 → fixed_at s 0x10 (at + 3) stop ≡ Short → ReadAt s at stop → ⊥
-head_never {s} {at} {stop} tag e r = read_short r (subst (λ (k : ℕ). fixed_at s k (at + 3) stop ≡ Short) (sym tag) e)
+pub head-never : {s : List ℕ} {at stop : ℕ} → get_or s at 0 ≡ 0x10 → fixed_at s 0x10 (at + 3) stop ≡ Short → ReadAt s at stop → ⊥
+head-never {s} {at} {stop} tag e r = read-short r (subst (λ (k : ℕ). fixed_at s k (at + 3) stop ≡ Short) (sym tag) e)
 
 pub head-short : {s : List ℕ} {at stop : ℕ} {P : Env → State → Type 0} {act : Env → Act Field} {t out : List ℕ} {o : ℕ} {k : Step} →
     get_or s at 0 ≡ 0x10 → fixed_at s 0x10 (at + 3) stop ≡ Short → Good t → ((x : Env) (u : State) → P x u → ReadAt s at stop) → Steps encode P act t out o t out k
-head-short tag e g h = steps-never _ _ _ _ g (λ x u c. head_never tag e (h x u c))
+head-short tag e g h = steps-never _ _ _ _ g (λ x u c. head-never tag e (h x u c))
 
 -- an import whose literal is whole
 pub record Headed (s : List ℕ) (at stop from : ℕ) : Type 0 where
@@ -59,16 +59,16 @@ module _ {s : List ℕ} {at stop from : ℕ} (hd : Headed s at stop from) where
   F = tree_at s at stop
 
   -- its literal ends where its parts start
-  pub head_in : (from ≡ at + 9) × (from ≤ stop) × (from ≤ length s)
-  head_in =
+  pub head-in : (from ≡ at + 9) × (from ≤ stop) × (from ≤ length s)
+  head-in =
       let i = framed-in hd.framed in
       let n = plain-width 0x10 Literal refl (slice (at + 3) from s) hd.tag (framed-exact hd.framed) in
       let l = framed-length hd.framed in
       let a = i.0 in
       (omega arith, i.1, i.2)
 
-  pub head_fixed : fixed_of F ≡ slice (at + 3) from s
-  head_fixed = ap fixed_of (framed-tree hd.framed)
+  pub head-fixed : fixed_of F ≡ slice (at + 3) from s
+  head-fixed = ap fixed_of (framed-tree hd.framed)
 
   pub head-parts : parts_of F ≡ row_at s from stop
   head-parts = ap parts_of (framed-tree hd.framed)
@@ -81,9 +81,9 @@ module _ {s : List ℕ} {at stop from : ℕ} (hd : Headed s at stop from) where
 
   pub head-literal : id_at s (at + 3) ≡ fixed_of F
   head-literal =
-      let k = head_in.0 in
+      let k = head-in.0 in
       let z : at + 3 + 6 ≡ from = omega arith in
-      ap (λ (j : ℕ). slice (at + 3) j s) z ∙ sym head_fixed
+      ap (λ (j : ℕ). slice (at + 3) j s) z ∙ sym head-fixed
 
   -- its source, as a literal's value and as an atom
   pub head-value : (n : ℕ) → value_of (id_at s (at + 3)) ≡ two n → two n ≡ value_of (fixed_of F)
@@ -91,8 +91,8 @@ module _ {s : List ℕ} {at stop from : ℕ} (hd : Headed s at stop from) where
 
   pub head-source : {n : ℕ} → Bytes s → n ≡ two_at s (at + 3) → two n ≡ value_of (fixed_of F)
   head-source {n} b k =
-      let i = head_in.0 in
-      let l = head_in.2 in
+      let i = head-in.0 in
+      let l = head-in.2 in
       head-value n (take-slice 2 (at + 3) (at + 3 + 6) s (omega arith) (omega arith) ∙ sym (ap two k ∙ two_at-is s (at + 3) b (omega arith)))
 
   pub head-row : ReadAt s at stop → Row s from stop (rule_of 0x10)
@@ -100,12 +100,12 @@ module _ {s : List ℕ} {at stop from : ℕ} (hd : Headed s at stop from) where
 
   -- a copy is the import as it is
   pub head-copied : {out out' : List ℕ} {o p : ℕ} → Bytes s → ReadAt s at stop → Wrote out o (slice at stop s) out' p → Wrote out o (encode (field 0x10 (fixed_of F) (parts_of F))) out' p
-  head-copied b r w = wrote_as w (sym (read-bytes r b) ∙ ap encode head-tree)
+  head-copied b r w = wrote-as w (sym (read-bytes r b) ∙ ap encode head-tree)
 
   -- it is begun anew
   pub head-begun : {l k : List ℕ} {o d : ℕ} → Begun l o (get_or s at 0) (slice (at + 3) from s) k d → Begun l o 0x10 (fixed_of F) k d
   head-begun {l} {k} {o} {d} b =
-      subst (λ (n : ℕ). Begun l o n (fixed_of F) k d) hd.tag (subst (λ (x : List ℕ). Begun l o (get_or s at 0) x k d) (sym head_fixed) b)
+      subst (λ (n : ℕ). Begun l o n (fixed_of F) k d) hd.tag (subst (λ (x : List ℕ). Begun l o (get_or s at 0) x k d) (sym head-fixed) b)
 
   pub head-stays : {P : Env → State → Type 0} {act : Env → Act Field} {t out out' : List ℕ} {o p : ℕ} → Bytes s → Good t →
       Wrote out o (slice at stop s) out' p → ((x : Env) (u : State) → P x u → ReadAt s at stop) →

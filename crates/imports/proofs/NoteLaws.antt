@@ -9,7 +9,7 @@ use lib.ListN.{length, get_or, take}
 use lib.Seq.{slice, take-take}
 use borrow.Author.Tests.{eqb-true, eqb-false, eq-eqb, ne_eqb}
 use Rattle.writer.specs.Wrote.{Wrote}
-use Rattle.writer.proofs.Wrote.{wrote_as}
+use Rattle.writer.proofs.Wrote.{wrote-as}
 use Rattle.scope.specs.Id.{export}
 use Rattle.scope.specs.declared.id.Id.{Id}
 use Rattle.scope.specs.declared.id.Atom.{Atom}
@@ -24,7 +24,7 @@ use Rattle.tree.specs.declared.grammar.Value.TheVariants.{Id as id-value}
 use Rattle.extraction_rules.specs.State.{State, Act}
 use Rattle.extraction_rules.specs.First.{id_from, outside_name, note_id, note_named, noted_context, note_specifier}
 use Rattle.extraction_rules.proofs.ExactLaws.{width-20}
-use Rattle.extraction_rules.proofs.ShapeLaws.{one_of, specifier-is}
+use Rattle.extraction_rules.proofs.ShapeLaws.{one-of, specifier-is}
 use Rattle.state.specs.Cells.{Env, Good, id_by}
 use Rattle.state.specs.Does.{Acts, Anyhow}
 use Rattle.state.specs.declared.Room.{Room}
@@ -33,14 +33,14 @@ use Rattle.steps.specs.Step.{Steps, ReadAt}
 use Rattle.steps.specs.declared.Step.{Step}
 use Rattle.steps.specs.declared.Step.TheVariants.{Done, Refused}
 use Rattle.steps.specs.declared.Why.TheVariants.{StringName, TableFull}
-use Rattle.steps.proofs.SoundLaws.{read-bytes, read_short}
+use Rattle.steps.proofs.SoundLaws.{read-bytes, read-short}
 use Rattle.steps.proofs.StepsLaws.{steps-as, steps-never, steps-refused}
 use Rattle.imports.specs.declared.note.Outside.{Outside}
 use Rattle.imports.specs.declared.note.Outside.TheVariants.{Nothing, Name, Text}
 use Rattle.imports.specs.declared.note.Specifier.{Specifier}
 use Rattle.imports.specs.declared.note.Specifier.TheVariants.{Named, Default, Namespace}
 use Rattle.imports.specs.Parts.{Framed, OutsideAt, OutsideIs, SpecifierIs, Specified, noting}
-use Rattle.imports.proofs.WidthLaws.{byte_of, slice_of, framed-in, framed-exact, framed-tree, framed-length, width-text}
+use Rattle.imports.proofs.WidthLaws.{byte-of, slice-of, framed-in, framed-exact, framed-tree, framed-length, width-text}
 use Rattle.imports.proofs.MadeLaws.{acts-made, acts-full}
 
 -- ---- Which specifier stands there
@@ -55,7 +55,7 @@ module _ {s : List ℕ} {at stop from : ℕ} (w : Framed s at stop from) where
       let l = framed-length w in
       let i = (framed-in w).0 in
       let h =
-      one_of (get_or s at 0) a b (λ (k : ℕ). Exact k X → 6 ≤ length X) (λ e. let z = (width-20 X e).0 in omega arith) (λ e. let z = plain-width 0x21 id-value refl X refl e in omega arith)
+      one-of (get_or s at 0) a b (λ (k : ℕ). Exact k X → 6 ≤ length X) (λ e. let z = (width-20 X e).0 in omega arith) (λ e. let z = plain-width 0x21 id-value refl X refl e in omega arith)
       (λ e. let z = plain-width 0x22 id-value refl X refl e in omega arith) (framed-exact w)
       in
       omega arith
@@ -69,7 +69,7 @@ module _ {s : List ℕ} {at stop from : ℕ} (w : Framed s at stop from) where
     named-kind = let z = (width-20 X exact-named).0 in let l = framed-length w in let i = (framed-in w).0 in omega arith
 
     kind-byte : get_or X 6 0 ≡ get_or s (at + 9) 0
-    kind-byte = let h = named-kind in byte_of (at + 3) from s 6 (at + 9) (omega arith) (omega arith)
+    kind-byte = let h = named-kind in byte-of (at + 3) from s 6 (at + 9) (omega arith) (omega arith)
 
     name-room : get_or s (at + 9) 0 ≡ 1 → at + 12 ≤ from
     name-room q = let z = (width-20 X exact-named).1 (kind-byte ∙ q) in let l = framed-length w in let i = (framed-in w).0 in omega arith
@@ -99,7 +99,7 @@ module _ {s : List ℕ} {at stop from : ℕ} (w : Framed s at stop from) where
         let k = name-room h.0 in (
           ap (λ (b : ℕ). eqb b 2) (kind-byte ∙ h.0),
           ap (λ (b : ℕ). cond (eqb b 1) (atom_at X 7) (name_of X)) (kind-byte ∙ h.0)
-              ∙ slice_of (at + 3) from s 7 9 (at + 9 + 1) (at + 9 + 1 + 2) (omega arith) (omega arith) (omega arith) (framed-in w).2 ∙ sym h.1,
+              ∙ slice-of (at + 3) from s 7 9 (at + 9 + 1) (at + 9 + 1 + 2) (omega arith) (omega arith) (omega arith) (framed-in w).2 ∙ sym h.1,
         )
     outside-is (Text a) h = eq-eqb (get_or X 6 0) 2 (text-room h.0 h.1).0
 
@@ -107,7 +107,7 @@ module _ {s : List ℕ} {at stop from : ℕ} (w : Framed s at stop from) where
     specifier-named id o i h =
         let k = named-kind in
         subst (λ (f : Field). SpecifierIs f (Named id o)) (sym (framed-tree w))
-        (e, i ∙ sym (slice_of (at + 3) from s 0 6 (at + 3) (at + 3 + 6) (omega arith) (omega arith) (omega arith) (framed-in w).2), outside-is o h)
+        (e, i ∙ sym (slice-of (at + 3) from s 0 6 (at + 3) (at + 3 + 6) (omega arith) (omega arith) (omega arith) (framed-in w).2), outside-is o h)
 
   -- a 21 or a 22 is an id
   whole-id : length X ≡ 6 → id_at s (at + 3) ≡ fixed_of (tree_at s at stop)
@@ -123,14 +123,14 @@ module _ {s : List ℕ} {at stop from : ℕ} (w : Framed s at stop from) where
   namespace-id : get_or s at 0 ≡ 0x22 → id_at s (at + 3) ≡ fixed_of (tree_at s at stop)
   namespace-id e = whole-id (plain-width 0x22 id-value refl X e (framed-exact w))
 
-  tag_is : tag_of (tree_at s at stop) ≡ get_or s at 0
-  tag_is = ap tag_of (framed-tree w)
+  tag-is : tag_of (tree_at s at stop) ≡ get_or s at 0
+  tag-is = ap tag_of (framed-tree w)
 
   pub specifier-default : (id : Id) → get_or s at 0 ≡ 0x21 → id_by id ≡ id_at s (at + 3) → SpecifierIs (tree_at s at stop) (Default id)
-  specifier-default id e i = (tag_is ∙ e, i ∙ default-id e)
+  specifier-default id e i = (tag-is ∙ e, i ∙ default-id e)
 
   pub specifier-namespace : (id : Id) → get_or s at 0 ≡ 0x22 → id_by id ≡ id_at s (at + 3) → SpecifierIs (tree_at s at stop) (Namespace id)
-  specifier-namespace id e i = (tag_is ∙ e, i ∙ namespace-id e)
+  specifier-namespace id e i = (tag-is ∙ e, i ∙ namespace-id e)
 
 -- ---- A 20
 
@@ -205,7 +205,7 @@ module _ {s : List ℕ} {at stop from : ℕ} (w : Framed s at stop from) (n : �
       let f = tree_at s at stop in
       let k = subst (SpecifierIs f) e h in
       let j = k.0 in
-      given-as (four id.1.0) (λ z. omega arith) (default-id w (sym (tag_is w) ∙ k.0))
+      given-as (four id.1.0) (λ z. omega arith) (default-id w (sym (tag-is w) ∙ k.0))
       (ap context_of k.1 ∙ ap (λ (b : Bool). cond b (context_of (fixed_of f)) (four (export n))) (sym (eq-eqb (tag_of f) 0x21 k.0))) v
 
   pub given-namespace : {id : Id} {c : ℕ} → y ≡ Namespace id → c ≡ export n →
@@ -215,7 +215,7 @@ module _ {s : List ℕ} {at stop from : ℕ} (w : Framed s at stop from) (n : �
       let f = tree_at s at stop in
       let k = subst (SpecifierIs f) e h in
       let j = k.0 in
-      given-as (four c) (λ z. omega arith) (namespace-id w (sym (tag_is w) ∙ k.0))
+      given-as (four c) (λ z. omega arith) (namespace-id w (sym (tag-is w) ∙ k.0))
       (ap four i ∙ ap (λ (b : Bool). cond b (context_of (fixed_of f)) (four (export n))) (sym (ne_eqb (tag_of f) 0x21 (λ z. omega arith)))) v
 
 -- ---- A 21 or a 22
@@ -228,13 +228,13 @@ noted-as c {t} {t'} {r} e w = subst (λ (k : List ℕ). Acts Anyhow (λ _. note_
 -- and it stays as it is
 pub other-copied : {s : List ℕ} {at stop : ℕ} {out out' : List ℕ} {o p : ℕ} → Bytes s → Wrote out o (slice at stop s) out' p → (x : Env) (u : State) → ReadAt s at stop →
     Wrote out o (encode (tree_at s at stop)) out' p
-other-copied b w x u r = wrote_as w (sym (read-bytes r b))
+other-copied b w x u r = wrote-as w (sym (read-bytes r b))
 
 -- ---- Fields that are no specifiers
 
 module _ {s : List ℕ} {at stop : ℕ} {act : Env → Act Field} {t out : List ℕ} {o p : ℕ} (g : Good t) where
   pub specified-short : fixed_at s (get_or s at 0) (at + 3) stop ≡ Short → Steps encode (λ x u. Specified s at stop) act t out o t out (Done p)
-  specified-short e = steps-never _ _ _ _ g (λ x u k. read_short k.read e)
+  specified-short e = steps-never _ _ _ _ g (λ x u k. read-short k.read e)
 
   pub specified-else : (0x20 ≤ get_or s at 0 → get_or s at 0 ≤ 0x22 → ⊥) → Steps encode (λ x u. Specified s at stop) act t out o t out (Done p)
   specified-else e = steps-never _ _ _ _ g (λ x u k. let i = specifier-is (get_or s at 0) k.specifier in e i.0 i.1)

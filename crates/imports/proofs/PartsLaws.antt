@@ -16,14 +16,14 @@ use Rattle.tree.specs.Access.{extent_at}
 use Rattle.tree.specs.Grammar.{rule_of, step_at, parts0}
 use Rattle.tree.specs.Standing.{tree_at, row_at, Row}
 use Rattle.tree.proofs.AccessLaws.{extent-upto}
-use Rattle.tree.proofs.StandingLaws.{row_more, row-none}
+use Rattle.tree.proofs.StandingLaws.{row-more, row-none}
 use Rattle.tree.proofs.SoundLaws.{row-sound}
 use Rattle.inputs.specs.Fields.{has}
 use Rattle.extraction_rules.specs.First.{specifiers_in, attributes_in}
 use Rattle.extraction_rules.proofs.ShapeLaws.{formed-shaped-all, shaped-none, ImportStep, import-step, specifier-is}
 use Rattle.extraction_rules.proofs.KeepLaws.{keep-yes, keep-no, keep-none}
 use Rattle.steps.specs.Step.{ReadAt}
-use Rattle.steps.proofs.SoundLaws.{row_read, read-tag}
+use Rattle.steps.proofs.SoundLaws.{row-read, read-tag}
 use Rattle.imports.specs.Parts.{Specified, Ends}
 
 -- the first of the parts is a specifier
@@ -44,10 +44,10 @@ module _ {s : List ℕ} {at end stop : ℕ} (bytes : Bytes s) (le : at ≤ end) 
   part-cases = by (import-step (get_or s at 0) rest.0 rest.1)
     where
       read : ReadAt s at stop
-      read = (row_read (rule_of 0x10) le fits w e).0
+      read = (row-read (rule_of 0x10) le fits w e).0
 
       rest : (q : Rule) × (step_at (rule_of 0x10) (get_or s at 0) ≡ Go q) × Row s stop end q
-      rest = (row_read (rule_of 0x10) le fits w e).1
+      rest = (row-read (rule_of 0x10) le fits w e).1
 
       by : ImportStep (get_or s at 0) rest.0 → FirstPart s at end stop ⊎ LastPart s at end stop
       by (inl k) =
@@ -55,13 +55,13 @@ module _ {s : List ℕ} {at end stop : ℕ} (bytes : Bytes s) (le : at ≤ end) 
             specified = record { read = read; specifier = k.0 };
             rest = subst (Row s stop end) k.1 rest.2;
             tag = read-tag read;
-            row = row_more s at end stop le e;
+            row = row-more s at end stop le e;
           })
       by (inr k) =
           let i = extent-upto s at end le e in
-          let none_left : row_at s stop end ≡ none =
+          let none-left : row_at s stop end ≡ none =
           shaped-none (row_at s stop end) (formed-shaped-all (row_at s stop end) parts0 (row-sound s stop end parts0 bytes i.1 fits (subst (Row s stop end) k.1 rest.2)).1) in
-          inr (record { read = read; tag = read-tag read ∙ k.0; row = row_more s at end stop le e ∙ ap (more (tree_at s at stop)) none_left })
+          inr (record { read = read; tag = read-tag read ∙ k.0; row = row-more s at end stop le e ∙ ap (more (tree_at s at stop)) none-left })
 
   pub part-first : (get_or s at 0 ≡ 0x2F → ⊥) → FirstPart s at end stop
   part-first n = ⊎_elim (λ f. f) (λ l. absurd (n (sym (read-tag l.read) ∙ l.tag))) part-cases
@@ -121,8 +121,8 @@ module _ {s : List ℕ} {at end : ℕ} (bytes : Bytes s) (le : at ≤ end) (fits
           goes = λ w l. absurd (omega arith);
         }
 
-    pub ends_more : {r : ℕ} → (get_or s at 0 ≡ 0x2F → ⊥) → Ends s stop end r → Ends s at end r
-    ends_more n v =
+    pub ends-more : {r : ℕ} → (get_or s at 0 ≡ 0x2F → ⊥) → Ends s stop end r → Ends s at end r
+    ends-more n v =
         let i = extent-upto s at end le e in
         let a = v.after in
         record {
@@ -145,4 +145,4 @@ seeking-start s from end h = record { before = h; rest = λ r w. w }
 pub seeking-more : {s : List ℕ} {from end at stop : ℕ} → Seeking s from end at → Bytes s → end ≤ length s → extent_at s at end ≡ Upto stop → (get_or s at 0 ≡ 0x2F → ⊥) →
     Seeking s from end stop
 seeking-more {s} {from} {end} {at} g bytes fits e n =
-    record { before = (extent-upto s at end g.before e).1; rest = λ r w. g.rest r (ends_more bytes g.before fits e n w) }
+    record { before = (extent-upto s at end g.before e).1; rest = λ r w. g.rest r (ends-more bytes g.before fits e n w) }

@@ -50,9 +50,9 @@ module _ (s : List ℕ) (at stop : ℕ) where
 abbrev Sole : List ℕ → ℕ → ℕ → Ident → Type 0
 Sole s from end r = Row s from end (rule_of 0x10) → ident_by r ≡ namespace_by (sole (specifiers_in (row_at s from end)))
 
-sole_none : namespace_by (sole none) ≡ nothing
+sole-none : namespace_by (sole none) ≡ nothing
 unfolding sole
-sole_none = refl
+sole-none = refl
 
 sole-one : (f : Field) → namespace_by (sole (more f none)) ≡ namespace_in f
 unfolding sole
@@ -64,11 +64,11 @@ sole-two f g gs = refl
 
 module _ (s : List ℕ) (from end : ℕ) (bytes : Bytes s) (le : from ≤ end) (fits : end ≤ length s) where
   pub sole-short : extent_at s from end ≡ Short → Sole s from end Other
-  sole-short e w = sym (ap (λ (fs : Fields). namespace_by (sole fs)) (ap specifiers_in (row-none s from end le e) ∙ keep-none _) ∙ sole_none)
+  sole-short e w = sym (ap (λ (fs : Fields). namespace_by (sole fs)) (ap specifiers_in (row-none s from end le e) ∙ keep-none _) ∙ sole-none)
 
   module _ {stop : ℕ} (e : extent_at s from end ≡ Upto stop) where
     last-sole : LastPart s from end stop → namespace_by (sole (specifiers_in (row_at s from end))) ≡ nothing
-    last-sole l = ap (λ (fs : Fields). namespace_by (sole fs)) (last-specifiers l) ∙ sole_none
+    last-sole l = ap (λ (fs : Fields). namespace_by (sole fs)) (last-specifiers l) ∙ sole-none
 
     pub sole-is : {k : ℕ} (r : Ident) → k ≡ stop → Ends s stop end k → ident_by r ≡ namespace_in (tree_at s from stop) → Sole s from end r
     sole-is r q v w a =

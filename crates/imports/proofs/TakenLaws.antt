@@ -8,7 +8,7 @@ use lib.ListN.{length, get_or, drop, drop_of_length-le}
 use lib.Seq.{slice}
 use Rattle.writer.specs.Bytes.{framed}
 use Rattle.writer.specs.Wrote.{Wrote, closed}
-use Rattle.writer.proofs.Wrote.{wrote_none, wrote_then, wrote_as, wrote-field}
+use Rattle.writer.proofs.Wrote.{wrote-none, wrote-then, wrote-as, wrote-field}
 use Rattle.tree.specs.Layout.{Bytes, two, two_at, value_of}
 use Rattle.tree.specs.Tree.{field, Fields, none, fixed_of, parts_of, encode, encodes}
 use Rattle.tree.specs.Grammar.{rule_of}
@@ -35,9 +35,9 @@ use Rattle.imports.proofs.HeadLaws.{Headed, headed-of, head-parts, head-source, 
 
 -- ---- One usage
 
-from_more : (u : Usage) (l : List Usage) → encodes (specifiers_from (u ∷ l)) ≡ encode (field 0x20 (u.property ++ 0 ∷ []) none) ++ encodes (specifiers_from l)
+from-more : (u : Usage) (l : List Usage) → encodes (specifiers_from (u ∷ l)) ≡ encode (field 0x20 (u.property ++ 0 ∷ []) none) ++ encodes (specifiers_from l)
 unfolding specifiers_from encode
-from_more u l = refl
+from-more u l = refl
 
 module _ (x : List ℕ) (i : ℕ) {t out : List ℕ} {o : ℕ} {r : Property} (w : Lists x i t r) where
   pub usage-is : (q : Id) {out' : List ℕ} {p : ℕ} → r ≡ Is q → Wrote out o (encode (field 0x20 (id_by q ++ 0 ∷ []) none)) out' p → Written x i t out o out' p
@@ -47,8 +47,8 @@ module _ (x : List ℕ) (i : ℕ) {t out : List ℕ} {o : ℕ} {r : Property} (w
             record {
               is = λ s b.
                   let rest = usages_of x (drop (i + 1) s.usages) in
-                  wrote_as (wrote_then v (k.is s b))
-                  (sym (ap (λ (l : List Usage). encodes (specifiers_from l)) (w.is s b ∙ ap (λ (y : Property). listed x y rest) e) ∙ from_more (record { id = x; property = id_by q }) rest));
+                  wrote-as (wrote-then v (k.is s b))
+                  (sym (ap (λ (l : List Usage). encodes (specifiers_from l)) (w.is s b ∙ ap (λ (y : Property). listed x y rest) e) ∙ from-more (record { id = x; property = id_by q }) rest));
             };
       }
 
@@ -59,7 +59,7 @@ module _ (x : List ℕ) (i : ℕ) {t out : List ℕ} {o : ℕ} {r : Property} (w
             record {
               is = λ s b.
                   let rest = usages_of x (drop (i + 1) s.usages) in
-                  wrote_as (k.is s b) (sym (ap (λ (l : List Usage). encodes (specifiers_from l)) (w.is s b ∙ ap (λ (y : Property). listed x y rest) e)));
+                  wrote-as (k.is s b) (sym (ap (λ (l : List Usage). encodes (specifiers_from l)) (w.is s b ∙ ap (λ (y : Property). listed x y rest) e)));
             };
       }
 
@@ -75,7 +75,7 @@ usages-end x i w h =
       is = λ s b.
           let k = w.is s b in
           let z : length s.usages ≤ i = omega arith in
-          wrote_as wrote_none (sym (ap (λ (l : List Usage). encodes (specifiers_from (usages_of x l))) (drop_of_length-le s.usages {i = i} z) ∙ from-none x));
+          wrote-as wrote-none (sym (ap (λ (l : List Usage). encodes (specifiers_from (usages_of x l))) (drop_of_length-le s.usages {i = i} z) ∙ from-none x));
     }
 
 -- what is left to write makes the whole
@@ -83,8 +83,8 @@ pub record Listing (x : List ℕ) (t out₀ : List ℕ) (o : ℕ) (out : List �
   pub size : length out ≡ length out₀
   pub rest : (out' : List ℕ) (p : ℕ) → Writes (usages_from x i) t out to out' p → Writes (usages_from x 0) t out₀ o out' p
 
-pub listing_start : (x : List ℕ) {t out : List ℕ} {o : ℕ} → Listing x t out o out 0 o
-listing_start x = record { size = refl; rest = λ out' p w. w }
+pub listing-start : (x : List ℕ) {t out : List ℕ} {o : ℕ} → Listing x t out o out 0 o
+listing-start x = record { size = refl; rest = λ out' p w. w }
 
 pub listing-more : {x t out₀ out out' : List ℕ} {o i to p : ℕ} → Listing x t out₀ o out i to → Written x i t out to out' p →
     length out' ≡ length out → Listing x t out₀ o out' (i + 1) p
@@ -116,7 +116,7 @@ module _ {s : List ℕ} {at stop from : ℕ} (bytes : Bytes s) (hd : Headed s at
       let c = head-begun hd b in
       record {
         is = λ u n.
-            wrote_as (wrote-field c.opened (wrote_then c.fixed (wrote_then (w.is u n) (wrote_as y (attributes-are v rd)))) z)
+            wrote-as (wrote-field c.opened (wrote-then c.fixed (wrote-then (w.is u n) (wrote-as y (attributes-are v rd)))) z)
             (taken-bytes (specifiers_from (usages_of (id_by id) u.usages)));
       }
 
@@ -135,18 +135,18 @@ module _ (s : List ℕ) (at stop : ℕ) (bytes : Bytes s) (room : at + 3 ≤ sto
   taken-some [] u q = absurd (let z : ◌≡◌ {A = ℕ} 0 1 = cc in omega arith)
   taken-some (v ∷ l) u q = refl
 
-  taken_none : (l : List Usage) (u : State) → any l ≡ false → take_apart l Literal Parts u ≡ done (field 0x10 Literal Parts, force_source (value_of Literal) u)
+  taken-none : (l : List Usage) (u : State) → any l ≡ false → take_apart l Literal Parts u ≡ done (field 0x10 Literal Parts, force_source (value_of Literal) u)
   unfolding take_apart
-  taken_none [] u q = refl
-  taken_none (v ∷ l) u q = absurd (let z : ◌≡◌ {A = ℕ} 0 1 = cc in omega arith)
+  taken-none [] u q = refl
+  taken-none (v ∷ l) u q = absurd (let z : ◌≡◌ {A = ℕ} 0 1 = cc in omega arith)
 
   abbrev Apart : Id → List ℕ → List ℕ → ℕ → List ℕ → List ℕ → ℕ → Type 0
   Apart id t out o t' out' p =
       Steps encode (λ x u. ReadAt s at stop × (among (value_of Literal) (sources_in u.collected) ≡ true)) (λ _ u. take_apart (usages_of (id_by id) u.usages) Literal Parts u) t out o t' out' (Done p)
 
-  pub apart_some : (id : Id) {t out out' : List ℕ} {o p : ℕ} {b : Bool} → Good t → length out' ≡ length out → Tells (λ u. any (usages_of (id_by id) u.usages)) t b → b ≡ true →
+  pub apart-some : (id : Id) {t out out' : List ℕ} {o p : ℕ} {b : Bool} → Good t → length out' ≡ length out → Tells (λ u. any (usages_of (id_by id) u.usages)) t b → b ≡ true →
       (ReadAt s at stop → Writes (λ u. encode (field 0x10 Literal (append (specifiers_from (usages_of (id_by id) u.usages)) (attributes_in Parts)))) t out o out' p) → Apart id t out o t out' p
-  apart_some id g z w q v =
+  apart-some id g z w q v =
       steps-done g z (λ x u k h.
       let l = usages_of (id_by id) u.usages in
       record {
@@ -157,16 +157,16 @@ module _ (s : List ℕ) (at stop : ℕ) (bytes : Bytes s) (room : at + 3 ≤ sto
         shows = shows-extended (specifiers_from l) (specifiers-plain l) Literal k;
       })
 
-  pub apart_none : (id : Id) (n : ℕ) {t t' out out' : List ℕ} {o p : ℕ} {b : Bool} → Tells (λ u. any (usages_of (id_by id) u.usages)) t b → b ≡ false →
+  pub apart-none : (id : Id) (n : ℕ) {t t' out out' : List ℕ} {o p : ℕ} {b : Bool} → Tells (λ u. any (usages_of (id_by id) u.usages)) t b → b ≡ false →
       n ≡ two_at s (at + 3) → Forces (two n) t t' → Wrote out o (slice at stop s) out' p → Apart id t out o t' out' p
-  apart_none id n {t' = t'} w q c f v =
+  apart-none id n {t' = t'} w q c f v =
       steps-done f.good v.size (λ x u k h.
       let d = (headed-of room fits tag h.0).1 in
       let g = head-source d bytes c in
       record {
         value = field 0x10 Literal Parts;
         state = force_source (value_of Literal) u;
-        is = taken_none (usages_of (id_by id) u.usages) u (sym (w.is u k) ∙ q);
+        is = taken-none (usages_of (id_by id) u.usages) u (sym (w.is u k) ∙ q);
         wrote = head-copied d bytes h.0 v;
         shows =
             subst (λ (a : List ℕ). Shows x t' (force_source a u)) g (f.shows u (ap (λ (a : List ℕ). among a (sources_in u.collected)) g ∙ h.1) k);

@@ -20,7 +20,7 @@ use Rattle.tree.specs.Access.{value_at, kinds, choice_of, on_choice, kind_at, pi
 use Rattle.tree.specs.Standing.{tree_at, row_at}
 use Rattle.tree.specs.Within.{Exact}
 use Rattle.tree.proofs.AccessLaws.{upto-in}
-use Rattle.tree.proofs.FixedLaws.{no-upto, fixed_same}
+use Rattle.tree.proofs.FixedLaws.{no-upto, fixed-same}
 use Rattle.tree.proofs.SliceLaws.{get_d-slice, take-slice, drop-slice}
 use Rattle.tree.proofs.StandingLaws.{tree-upto}
 use Rattle.tree.proofs.WidthLaws.{skip-ends}
@@ -28,11 +28,11 @@ use Rattle.imports.specs.Parts.{Framed}
 
 -- ---- Bytes of a part
 
-pub byte_of : (a b : ℕ) (s : List ℕ) (k j : ℕ) → a + k ≡ j → j < b → get_or (slice a b s) k 0 ≡ get_or s j 0
-byte_of a b s k j e h = get_d-slice a b s k (omega arith) ∙ ap (λ (n : ℕ). get_or s n 0) e
+pub byte-of : (a b : ℕ) (s : List ℕ) (k j : ℕ) → a + k ≡ j → j < b → get_or (slice a b s) k 0 ≡ get_or s j 0
+byte-of a b s k j e h = get_d-slice a b s k (omega arith) ∙ ap (λ (n : ℕ). get_or s n 0) e
 
-pub slice_of : (a b : ℕ) (s : List ℕ) (i j k l : ℕ) → a + i ≡ k → a + j ≡ l → l ≤ b → b ≤ length s → slice i j (slice a b s) ≡ slice k l s
-slice_of a b s i j k l e f h g =
+pub slice-of : (a b : ℕ) (s : List ℕ) (i j k l : ℕ) → a + i ≡ k → a + j ≡ l → l ≤ b → b ≤ length s → slice i j (slice a b s) ≡ slice k l s
+slice-of a b s i j k l e f h g =
     ap (drop i) (take-slice j a b s (omega arith) g) ∙ drop-slice i a (a + j) s ∙ ap (λ (n : ℕ). slice n (a + j) s) e ∙ ap (λ (n : ℕ). slice k n s) f
 
 -- ---- Fixed bytes that were found
@@ -59,7 +59,7 @@ module _ {s : List ℕ} {at stop from : ℕ} (w : Framed s at stop from) where
       let n : length x ≡ from - (at + 3) = length-slice (at + 3) from s i.2 in
       let e₁ : from ≡ at + 3 + length x = omega arith in
       let e₂ : 0 + length x ≡ length x = omega arith in
-      fixed_same (get_or s at 0) s x (at + 3) 0 (length x) stop (length x) w.room
+      fixed-same (get_or s at 0) s x (at + 3) 0 (length x) stop (length x) w.room
       (λ k h. let u : 0 + k ≡ k = omega arith in sym (ap (λ (j : ℕ). get_or x j 0) u ∙ get_d-slice (at + 3) from s k (omega arith)))
       (omega arith) (λ _. e₂) (w.fixed ∙ ap Upto e₁) ∙ ap Upto e₂
 

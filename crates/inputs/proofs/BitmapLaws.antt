@@ -14,8 +14,8 @@ use borrow.Author.Tests.{ltb-true, ltb-false, eqb-true, eqb-false, eq-eqb, ne_eq
 use Rattle.inputs.specs.Bitmap.{is_set, WithBit}
 
 -- a digit of an `or` is 1 where one of the two is
-digit_or : (x y j : ℕ) → bit_or x y / 2 ^ j % 2 ≡ max (x / 2 ^ j % 2) (y / 2 ^ j % 2)
-digit_or x y j =
+digit-or : (x y j : ℕ) → bit_or x y / 2 ^ j % 2 ≡ max (x / 2 ^ j % 2) (y / 2 ^ j % 2)
+digit-or x y j =
     let e = or_step (x / 2 ^ j) (y / 2 ^ j) in ap (λ (n : ℕ). n % 2) (or_shr x y j) ∙ omega (arith, e)
 
 -- the digits of 2^k
@@ -45,13 +45,13 @@ digit-other j k h = by (ltb j k) refl
     by false e = let l = ltb-false j k e in digit-above j k (omega arith)
 
 -- the k-th bit of a cell is set, and its other bits are as they were
-one_set : (x k : ℕ) → eqb (bit_or x (1 * 2 ^ k) / 2 ^ k % 2) 1 ≡ true
-one_set x k = let e = digit-here k in eq-eqb _ 1 (digit_or x (1 * 2 ^ k) k ∙ omega (arith, e))
+one-set : (x k : ℕ) → eqb (bit_or x (1 * 2 ^ k) / 2 ^ k % 2) 1 ≡ true
+one-set x k = let e = digit-here k in eq-eqb _ 1 (digit-or x (1 * 2 ^ k) k ∙ omega (arith, e))
 
 others-kept : (x j k : ℕ) → (j ≡ k → ⊥) → eqb (bit_or x (1 * 2 ^ k) / 2 ^ j % 2) 1 ≡ eqb (x / 2 ^ j % 2) 1
 others-kept x j k h =
     let e = digit-other j k h in
-    let f : bit_or x (1 * 2 ^ k) / 2 ^ j % 2 ≡ x / 2 ^ j % 2 = digit_or x (1 * 2 ^ k) j ∙ omega (arith, e) in
+    let f : bit_or x (1 * 2 ^ k) / 2 ^ j % 2 ≡ x / 2 ^ j % 2 = digit-or x (1 * 2 ^ k) j ∙ omega (arith, e) in
     ap (λ (d : ℕ). eqb d 1) f
 
 -- the cell of the bit n with this bit set
@@ -69,7 +69,7 @@ module _ (cells : List ℕ) (n : ℕ) (h : n / 64 < length cells) where
       by true true e f =
           let p = eqb-true (m / 64) (n / 64) e in
           let q = eqb-true (m % 64) (n % 64) f in
-          rw (p, q, get_or-set_same cells (n / 64) (cell_with cells n) 0 h, one_set, eq-eqb m n (omega arith), or-true)
+          rw (p, q, get_or-set_same cells (n / 64) (cell_with cells n) 0 h, one-set, eq-eqb m n (omega arith), or-true)
       by true false e f =
           let p = eqb-true (m / 64) (n / 64) e in
           let q = eqb-false (m % 64) (n % 64) f in

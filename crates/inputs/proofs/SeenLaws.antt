@@ -15,7 +15,7 @@ use Rattle.tree.specs.Layout.{two, two_at}
 use Rattle.inputs.specs.Bitmap.{is_set, WithBit, half_of}
 use Rattle.inputs.specs.Lists.{find, filter, is_some}
 use Rattle.inputs.specs.Table.{Row, rows_in, row_of, repeats}
-use Rattle.inputs.proofs.TableLaws.{bytes-two, small, atom-is, rows_step, rows_end}
+use Rattle.inputs.proofs.TableLaws.{bytes-two, small, atom-is, rows-step, rows-end}
 use Rattle.inputs.proofs.BitmapLaws.{none-set}
 
 -- one of these rows has a source whose bit, in its half, is set
@@ -28,13 +28,13 @@ abbrev pub twice_from : List ℕ → List Row → Bool
 twice_from cells rows = hits cells rows || repeats rows
 
 -- before the first row no bit is set
-no_hit : (n : ℕ) (rows : List Row) → hits (replicate n 0) rows ≡ false
+no-hit : (n : ℕ) (rows : List Row) → hits (replicate n 0) rows ≡ false
 unfolding hits
-no_hit n [] = refl
-no_hit n (r ∷ rows) = rw (none-set n (two_at r.source 0 % 32768), no_hit n rows)
+no-hit n [] = refl
+no-hit n (r ∷ rows) = rw (none-set n (two_at r.source 0 % 32768), no-hit n rows)
 
 pub twice-first : (n : ℕ) (rows : List Row) → repeats rows ≡ twice_from (replicate n 0) rows
-twice-first n rows = rw (no_hit n rows)
+twice-first n rows = rw (no-hit n rows)
 
 either : (p q x : Bool) (r : Row) (o : Option Row) → ((p || q) || (x || is_some o)) ≡ ((p || x) || is_some (cond q (some r) o))
 either true q x r o = refl
@@ -43,8 +43,8 @@ either false true false r o = refl
 either false false x r o = refl
 
 -- in one half the bit tells the source
-same_bit : (n m half : ℕ) → n / 32768 ≡ half → m / 32768 ≡ half → eqb (n % 32768) (m % 32768) ≡ eqb n m
-same_bit n m half p q = by (eqb n m) refl
+same-bit : (n m half : ℕ) → n / 32768 ≡ half → m / 32768 ≡ half → eqb (n % 32768) (m % 32768) ≡ eqb n m
+same-bit n m half p q = by (eqb n m) refl
   where
     by : (b : Bool) → eqb n m ≡ b → eqb (n % 32768) (m % 32768) ≡ b
     by true e = let d = eqb-true n m e in eq-eqb (n % 32768) (m % 32768) (omega arith)
@@ -60,30 +60,30 @@ module _ {cells cells' : List ℕ} {m half : ℕ} (w : WithBit cells (m % 32768)
   unfolding hits row_of find
   told-row x y f rows a b ih true e =
       let n = x * 256 + y in
-      let q = same_bit n m half (eqb-true (n / 32768) half e) p in
+      let q = same-bit n m half (eqb-true (n / 32768) half e) p in
       rw (w.bits (n % 32768), q, ih, atom-is x y m a b h) (either (is_set cells (n % 32768)) (eqb n m) _ _ _)
   told-row x y f rows a b ih false e = ih
 
-  hits_more : (l : List ℕ) → ((i : ℕ) → get_or l i 0 < 256) → Told (half_of half (rows_in l))
+  hits-more : (l : List ℕ) → ((i : ℕ) → get_or l i 0 < 256) → Told (half_of half (rows_in l))
   unfolding hits half_of filter rows_in row_of find
-  hits_more [] b = refl
-  hits_more (x ∷ []) b = refl
-  hits_more (x ∷ (y ∷ [])) b = refl
-  hits_more (x ∷ (y ∷ (z ∷ []))) b = refl
-  hits_more (x ∷ (y ∷ (z ∷ (v ∷ l)))) b =
-      told-row x y (z * 256 + v) (half_of half (rows_in l)) (b 0) (b 1) (hits_more l (λ i. b (suc (suc (suc (suc i)))))) _ refl
+  hits-more [] b = refl
+  hits-more (x ∷ []) b = refl
+  hits-more (x ∷ (y ∷ [])) b = refl
+  hits-more (x ∷ (y ∷ (z ∷ []))) b = refl
+  hits-more (x ∷ (y ∷ (z ∷ (v ∷ l)))) b =
+      told-row x y (z * 256 + v) (half_of half (rows_in l)) (b 0) (b 1) (hits-more l (λ i. b (suc (suc (suc (suc i)))))) _ refl
 
 -- the row at i has the source m
 module _ (l : List ℕ) (i m : ℕ) (h : i + 4 ≤ length l) (s : m ≡ two_at l i) (half : ℕ) (cells : List ℕ) where
   pub twice-past : (m / 32768 ≡ half → ⊥) → half_of half (rows_in (drop i l)) ≡ half_of half (rows_in (drop (i + 4) l))
   unfolding half_of filter
-  twice-past d = rw (rows_step l i h, ne_eqb (two_at l i / 32768) half (λ e. d (rw s e)))
+  twice-past d = rw (rows-step l i h, ne_eqb (two_at l i / 32768) half (λ e. d (rw s e)))
 
   module _ (p : m / 32768 ≡ half) where
     this-half : half_of half (rows_in (drop i l))
         ≡ record { source = get_or l i 0 ∷ get_or l (i + 1) 0 ∷ []; file = two_at l (i + 2) } ∷ half_of half (rows_in (drop (i + 4) l))
     unfolding half_of filter
-    this-half = rw (rows_step l i h, eq-eqb (two_at l i / 32768) half (rw s at p))
+    this-half = rw (rows-step l i h, eq-eqb (two_at l i / 32768) half (rw s at p))
 
     pub twice-here : is_set cells (m % 32768) ≡ true → twice_from cells (half_of half (rows_in (drop i l))) ≡ true
     unfolding hits
@@ -96,24 +96,24 @@ module _ (l : List ℕ) (i m : ℕ) (h : i + 4 ≤ length l) (s : m ≡ two_at l
         let rest = half_of half (rows_in (drop (i + 4) l)) in
         let x = b i in
         let y = b (i + 1) in
-        let more = hits_more w (rw s (small (get_or l i 0) (get_or l (i + 1) 0) x y)) p (drop (i + 4) l) (λ j. rw get_or-drop (b (i + 4 + j))) in
+        let more = hits-more w (rw s (small (get_or l i 0) (get_or l (i + 1) 0) x y)) p (drop (i + 4) l) (λ j. rw get_or-drop (b (i + 4 + j))) in
         rw (this-half, rw s at e, bytes-two (get_or l i 0) (get_or l (i + 1) 0) x y, more, s)
         (sym (or_assoc (hits cells rest) (is_some (row_of (two (two_at l i)) rest)) (repeats rest)))
 
 pub twice-end : (l : List ℕ) (i half : ℕ) (cells : List ℕ) → length l < i + 4 → twice_from cells (half_of half (rows_in (drop i l))) ≡ false
 unfolding hits half_of filter repeats
-twice-end l i half cells h = rw (rows_end l i h)
+twice-end l i half cells h = rw (rows-end l i h)
 
 -- ---- Both halves
 
 -- a source's row is in the source's half
 module _ (m : ℕ) (h : m < 65536) where
-  kept_row : (x y f : ℕ) (rows all : List Row) → x < 256 → y < 256 → row_of (two m) rows ≡ row_of (two m) all →
+  kept-row : (x y f : ℕ) (rows all : List Row) → x < 256 → y < 256 → row_of (two m) rows ≡ row_of (two m) all →
       (t : Bool) → eqb ((x * 256 + y) / 32768) (m / 32768) ≡ t →
       row_of (two m) (cond t (record { source = x ∷ y ∷ []; file = f } ∷ rows) rows) ≡ row_of (two m) (record { source = x ∷ y ∷ []; file = f } ∷ all)
   unfolding row_of find
-  kept_row x y f rows all a b ih true e = rw ih
-  kept_row x y f rows all a b ih false e =
+  kept-row x y f rows all a b ih true e = rw ih
+  kept-row x y f rows all a b ih false e =
       let n = x * 256 + y in
       let d = eqb-false (n / 32768) (m / 32768) e in
       rw (atom-is x y m a b h, ne_eqb n m (λ r. d (ap (λ (k : ℕ). k / 32768) r))) ih
@@ -125,7 +125,7 @@ module _ (m : ℕ) (h : m < 65536) where
   row-half (x ∷ (y ∷ [])) b = refl
   row-half (x ∷ (y ∷ (z ∷ []))) b = refl
   row-half (x ∷ (y ∷ (z ∷ (v ∷ l)))) b =
-      kept_row x y (z * 256 + v) (half_of (m / 32768) (rows_in l)) (rows_in l) (b 0) (b 1) (row-half l (λ i. b (suc (suc (suc (suc i)))))) _ refl
+      kept-row x y (z * 256 + v) (half_of (m / 32768) (rows_in l)) (rows_in l) (b 0) (b 1) (row-half l (λ i. b (suc (suc (suc (suc i)))))) _ refl
 
 swap : (s a b : Bool) → (s || (a || b)) ≡ (a || (s || b))
 swap true true b = refl

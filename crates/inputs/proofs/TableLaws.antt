@@ -67,10 +67,10 @@ external-end l i m h = rw (short-atoms (drop i l) (simp length-drop (omega arith
 
 -- ---- The table
 
-pub rows_step : (l : List ℕ) (i : ℕ) → i + 4 ≤ length l →
+pub rows-step : (l : List ℕ) (i : ℕ) → i + 4 ≤ length l →
     rows_in (drop i l) ≡ record { source = get_or l i 0 ∷ get_or l (i + 1) 0 ∷ []; file = two_at l (i + 2) } ∷ rows_in (drop (i + 4) l)
 unfolding rows_in
-rows_step l i h =
+rows-step l i h =
     let one = drop-two l i (omega arith) in
     let two = drop-two l (i + 2) (omega arith) in
     let a : i + 2 + 2 ≡ i + 4 = omega arith in
@@ -84,18 +84,18 @@ short-rows (a ∷ (b ∷ [])) h = refl
 short-rows (a ∷ (b ∷ (c ∷ []))) h = refl
 short-rows (a ∷ (b ∷ (c ∷ (d ∷ l)))) h = absurd (omega arith)
 
-pub rows_end : (l : List ℕ) (i : ℕ) → length l < i + 4 → rows_in (drop i l) ≡ []
-rows_end l i h = short-rows (drop i l) (simp length-drop (omega arith))
+pub rows-end : (l : List ℕ) (i : ℕ) → length l < i + 4 → rows_in (drop i l) ≡ []
+rows-end l i h = short-rows (drop i l) (simp length-drop (omega arith))
 
 module _ (l : List ℕ) (i m : ℕ) (h : i + 4 ≤ length l) (p : get_or l i 0 < 256) (q : get_or l (i + 1) 0 < 256) (s : m < 65536) where
   pub file-here : two_at l i ≡ m → file_of (two m) (rows_in (drop i l)) ≡ some (two_at l (i + 2))
   unfolding file_of row_of find
-  file-here e = rw (rows_step l i h, atom-is (get_or l i 0) (get_or l (i + 1) 0) m p q s, eq-eqb (two_at l i) m e)
+  file-here e = rw (rows-step l i h, atom-is (get_or l i 0) (get_or l (i + 1) 0) m p q s, eq-eqb (two_at l i) m e)
 
   pub file-on : (two_at l i ≡ m → ⊥) → file_of (two m) (rows_in (drop i l)) ≡ file_of (two m) (rows_in (drop (i + 4) l))
   unfolding file_of row_of find
-  file-on e = rw (rows_step l i h, atom-is (get_or l i 0) (get_or l (i + 1) 0) m p q s, ne_eqb (two_at l i) m e)
+  file-on e = rw (rows-step l i h, atom-is (get_or l i 0) (get_or l (i + 1) 0) m p q s, ne_eqb (two_at l i) m e)
 
 pub file-end : (l : List ℕ) (i m : ℕ) → length l < i + 4 → file_of (two m) (rows_in (drop i l)) ≡ none
 unfolding file_of row_of find
-file-end l i m h = rw (rows_end l i h)
+file-end l i m h = rw (rows-end l i h)

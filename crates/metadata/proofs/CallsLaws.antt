@@ -10,7 +10,7 @@ use borrow.Author.Tests.{lt-leb, le-leb, eq-eqb, ne_eqb, eqb-true}
 use Rattle.writer.specs.Bytes.{framed}
 use Rattle.writer.specs.Wrote.{Wrote}
 use Rattle.writer.specs.Finished.{has_room, zeroed, Finished}
-use Rattle.writer.proofs.Wrote.{wrote_as, wrote-end}
+use Rattle.writer.proofs.Wrote.{wrote-as, wrote-end}
 use Rattle.writer.proofs.Finished.{delivers, room-true}
 use Rattle.tree.specs.declared.layout.Reach.{Reach}
 use Rattle.tree.specs.declared.layout.Reach.TheVariants.{Upto}
@@ -97,17 +97,17 @@ module _ (s : List ℕ) where
     unfolding lent
     lent-sound bs e = sound-by (eqb (length s) 0) refl bs e
 
-    stands_by : (b : Bool) → eqb (length s) 0 ≡ b → cond b (fine none) (mapped attributes_in (read Attributes s)) ≡ fine old →
+    stands-by : (b : Bool) → eqb (length s) 0 ≡ b → cond b (fine none) (mapped attributes_in (read Attributes s)) ≡ fine old →
         attributes_in (row_at s 0 (length s)) ≡ old
-    stands_by true l e = let z = eqb-true (length s) 0 l in ap attributes_in (row-past s 0 (length s) (omega arith)) ∙ fine-inj e
-    stands_by false l e =
+    stands-by true l e = let z = eqb-true (length s) 0 l in ap attributes_in (row-past s 0 (length s) (omega arith)) ∙ fine-inj e
+    stands-by false l e =
         let m = mapped-fine attributes_in (read Attributes s) old e in
         ap attributes_in (read-standing Attributes s m.0 m.1) ∙ m.2
 
     -- they are what stands in the field at 0
     pub lent-stands : lent s ≡ fine old → attributes_in (row_at s 0 (length s)) ≡ old
     unfolding lent
-    lent-stands e = stands_by (eqb (length s) 0) refl e
+    lent-stands e = stands-by (eqb (length s) 0) refl e
 
 -- ---- The verdict on them
 
@@ -154,24 +154,24 @@ module _ (s : List ℕ) where
       old : Fields
       old = (good-fine (lent s) v).0
 
-      is-lent : lent s ≡ fine old
+      is_lent : lent s ≡ fine old
       unfolding old
-      is-lent = (good-fine (lent s) v).1
+      is_lent = (good-fine (lent s) v).1
 
       new : List ℕ
       new = encode (with_metadata m old)
 
       wrote : Wrote l 0 new mid n
       unfolding new
-      wrote = wrote_as w (written old bs is-lent)
+      wrote = wrote-as w (written old bs is_lent)
 
       out-given : k ≡ encode_out m s (length l)
       unfolding new encode_out out_on
-      out-given = (delivers wrote f).buffer ∙ sym (ap (λ (x : Reading Fields). out_on x m (length l)) is-lent)
+      out-given = (delivers wrote f).buffer ∙ sym (ap (λ (x : Reading Fields). out_on x m (length l)) is_lent)
 
       answer-by : (b : Bool) → has_room (length new) (length l) ≡ b → cond b (Done (length new)) NoRoom ≡ encode_answer m s (length l)
       unfolding new encode_answer answer_on
-      answer-by b e = sym (ap (λ (x : Reading Fields). answer_on x m (length l)) is-lent ∙ rw e)
+      answer-by b e = sym (ap (λ (x : Reading Fields). answer_on x m (length l)) is_lent ∙ rw e)
 
       -- what was written had room
       pub encode-done : r ≡ true → Encoding m s l (Done n) k

@@ -40,9 +40,9 @@ enough zero k n a b = absurd (omega arith)
 enough (suc j) zero n a b = absurd (omega arith)
 enough (suc j) (suc k) n a b = agree j k n (λ h. enough j k (n / 10) (omega arith) (omega arith))
 
-pub decimal_digit : (n : ℕ) → n < 10 → decimal n ≡ (48 + n) ∷ []
+pub decimal-digit : (n : ℕ) → n < 10 → decimal n ≡ (48 + n) ∷ []
 unfolding decimal
-decimal_digit n h = by-digit n n h
+decimal-digit n h = by-digit n n h
 
 pub decimal-more : (n : ℕ) → 10 ≤ n → decimal n ≡ decimal (n / 10) ++ ((48 + n % 10) ∷ [])
 unfolding decimal
@@ -58,15 +58,15 @@ module _ (P : ℕ → Type 0) (digit : (n : ℕ) → n < 10 → P n) (more : (n 
   by-steps zero n h = absurd (omega arith)
   by-steps (suc k) n h = by-test n (ltb n 10) refl (λ g. by-steps k (n / 10) (omega arith))
 
-  by_digits : (n : ℕ) → P n
-  by_digits n = by-steps (suc n) n (omega arith)
+  by-digits : (n : ℕ) → P n
+  by-digits n = by-steps (suc n) n (omega arith)
 
 -- a decimal's first digit is 0 only where it is the number
 pub record Leads (n b : ℕ) (l : List ℕ) : Type 0 where
   pub is : decimal n ≡ b ∷ l
   pub low : 48 ≤ b
   pub high : b ≤ 57
-  pub zero-alone : b ≡ 48 → (n ≡ 0) × (l ≡ [])
+  pub zero_alone : b ≡ 48 → (n ≡ 0) × (l ≡ [])
 
 leads-more : (n b : ℕ) (l : List ℕ) → 10 ≤ n → Leads (n / 10) b l → Leads n b (behind n l)
 leads-more n b l h f =
@@ -74,13 +74,13 @@ leads-more n b l h f =
       is = decimal-more n h ∙ ap (behind n) f.is;
       low = f.low;
       high = f.high;
-      zero-alone = λ e. let z = (f.zero-alone e).0 in absurd (omega arith);
+      zero_alone = λ e. let z = (f.zero_alone e).0 in absurd (omega arith);
     }
 
 pub decimal-leads : (n : ℕ) → (b : ℕ) × (l : List ℕ) × Leads n b l
 decimal-leads =
-    by_digits (λ n. (b : ℕ) × (l : List ℕ) × Leads n b l)
-    (λ n h. (48 + n, [], record { is = decimal_digit n h; low = omega arith; high = omega arith; zero-alone = λ e. (omega arith, refl) }))
+    by-digits (λ n. (b : ℕ) × (l : List ℕ) × Leads n b l)
+    (λ n h. (48 + n, [], record { is = decimal-digit n h; low = omega arith; high = omega arith; zero_alone = λ e. (omega arith, refl) }))
     (λ n h f. (f.0, behind n f.1, leads-more n f.0 f.1 h f.2))
 
 -- ---- Parsing
@@ -103,9 +103,9 @@ from-digit n b l h g = rw (digit-true b h g)
 -- what was written is read, whatever follows
 from-decimal : (n : ℕ) (l : List ℕ) → number_from 0 (decimal n ++ l) ≡ number_from n l
 from-decimal =
-    by_digits (λ n. (l : List ℕ) → number_from 0 (decimal n ++ l) ≡ number_from n l)
+    by-digits (λ n. (l : List ℕ) → number_from 0 (decimal n ++ l) ≡ number_from n l)
     (λ n h l. let e : 0 * 10 + (48 + n - 48) ≡ n = omega arith in
-    ap (λ (d : List ℕ). number_from 0 (d ++ l)) (decimal_digit n h)
+    ap (λ (d : List ℕ). number_from 0 (d ++ l)) (decimal-digit n h)
     ∙ from-digit 0 (48 + n) l (omega arith) (omega arith) ∙ ap (λ (m : ℕ). number_from m l) e)
     (λ n h f l. let e : n / 10 * 10 + (48 + n % 10 - 48) ≡ n = omega arith in
     ap (λ (d : List ℕ). number_from 0 (d ++ l)) (decimal-more n h)
@@ -131,10 +131,10 @@ unfolding parsed
 decimal-parses n h = rw (unsigned-decimal n, number-decimal n, le-leb n 4294967295 h)
 
 -- a number that is too large stays so, whatever follows
-pub too_large : (l : List ℕ) (n : ℕ) → 4294967295 < n → limited (number_from n l) ≡ none
+pub too-large : (l : List ℕ) (n : ℕ) → 4294967295 < n → limited (number_from n l) ≡ none
 unfolding number_from
-too_large [] n h = rw (lt-leb n 4294967295 h)
-too_large (b ∷ l) n h = go (is_digit b) (too_large l (n * 10 + (b - 48)) (omega arith))
+too-large [] n h = rw (lt-leb n 4294967295 h)
+too-large (b ∷ l) n h = go (is_digit b) (too-large l (n * 10 + (b - 48)) (omega arith))
   where
     go : (t : Bool) → limited (number_from (n * 10 + (b - 48)) l) ≡ none → limited (cond t (number_from (n * 10 + (b - 48)) l) none) ≡ none
     go true e = e
@@ -146,10 +146,10 @@ module _ (s : List ℕ) (at end : ℕ) (h : at < end) (g : end ≤ length s) whe
   part : slice at end s ≡ get_or s at 0 ∷ slice (at + 1) end s
   part = rw (add-one at) (slice-cons at end s 0 h g)
 
-  pub number_more : (n : ℕ) → is_digit (get_or s at 0) ≡ true →
+  pub number-more : (n : ℕ) → is_digit (get_or s at 0) ≡ true →
       number_from n (slice at end s) ≡ number_from (n * 10 + (get_or s at 0 - 48)) (slice (at + 1) end s)
   unfolding number_from
-  number_more n e = ap (number_from n) part ∙ rw e
+  number-more n e = ap (number_from n) part ∙ rw e
 
   pub number-other : (n : ℕ) → is_digit (get_or s at 0) ≡ false → number_from n (slice at end s) ≡ none
   unfolding number_from
@@ -167,20 +167,20 @@ module _ (s : List ℕ) (at end : ℕ) (h : at < end) (g : end ≤ length s) whe
   unfolding number
   number-some = ap number part ∙ ap (number_from 0) (sym part)
 
-part_none : (s : List ℕ) {at end : ℕ} → at ≡ end → slice at end s ≡ []
-part_none s {at} {end} e = rw e (slice_empty end s)
+part-none : (s : List ℕ) {at end : ℕ} → at ≡ end → slice at end s ≡ []
+part-none s {at} {end} e = rw e (slice_empty end s)
 
 pub number-end : (s : List ℕ) (n : ℕ) {at end : ℕ} → at ≡ end → number_from n (slice at end s) ≡ some n
 unfolding number_from
-number-end s n e = ap (number_from n) (part_none s e)
+number-end s n e = ap (number_from n) (part-none s e)
 
 pub number-none : (s : List ℕ) {at end : ℕ} → at ≡ end → number (slice at end s) ≡ none
 unfolding number
-number-none s e = ap number (part_none s e)
+number-none s e = ap number (part-none s e)
 
 pub unsigned-none : (s : List ℕ) {at end : ℕ} → at ≡ end → unsigned (slice at end s) ≡ slice at end s
 unfolding unsigned
-unsigned-none s e = ap unsigned (part_none s e) ∙ sym (part_none s e)
+unsigned-none s e = ap unsigned (part-none s e) ∙ sym (part-none s e)
 
 -- ---- Lengths
 
@@ -188,17 +188,17 @@ length-behind : (n : ℕ) (l : List ℕ) → length (behind n l) ≡ length l + 
 length-behind n l = length-append l ((48 + n % 10) ∷ [])
 
 pub length-digit : (n : ℕ) → n < 10 → length (decimal n) ≡ 1
-length-digit n h = ap length (decimal_digit n h)
+length-digit n h = ap length (decimal-digit n h)
 
-pub length_more : (n : ℕ) → 10 ≤ n → length (decimal n) ≡ length (decimal (n / 10)) + 1
-length_more n h = ap length (decimal-more n h) ∙ length-behind n (decimal (n / 10))
+pub length-more : (n : ℕ) → 10 ≤ n → length (decimal n) ≡ length (decimal (n / 10)) + 1
+length-more n h = ap length (decimal-more n h) ∙ length-behind n (decimal (n / 10))
 
 length-by : (m n : ℕ) → (10 ≤ n → length (decimal (n / 10)) ≤ m) → length (decimal n) ≤ suc m
 length-by m n h = go (ltb n 10) refl
   where
     go : (t : Bool) → ltb n 10 ≡ t → length (decimal n) ≤ suc m
     go true e = let f = length-digit n (ltb-true n 10 e) in omega arith
-    go false e = let g = ltb-false n 10 e in let f = length_more n g in let i = h g in omega arith
+    go false e = let g = ltb-false n 10 e in let f = length-more n g in let i = h g in omega arith
 
 length-below : (k n : ℕ) → n < 10 ^ suc k → length (decimal n) ≤ suc k
 length-below zero n h = length-by 0 n (λ g. absurd (omega arith))

@@ -16,12 +16,12 @@ use Rattle.metadata.specs.Metadata.{context_key, header, injected_attribute, sta
 use Rattle.tree.specs.declared.layout.Reach.TheVariants.{Upto, Short}
 use Rattle.tree.specs.Access.{fixed_at, extent_at}
 use Rattle.tree.specs.Standing.{row_at, tree_at}
-use Rattle.tree.proofs.StandingLaws.{row_more, row-none, tree-upto, tree-short}
+use Rattle.tree.proofs.StandingLaws.{row-more, row-none, tree-upto, tree-short}
 use Rattle.metadata.specs.Calls.{attributes_in}
 
 -- runs of different length are not the same
-pub other_length : (x y : List ℕ) → (length x ≡ length y → ⊥) → same x y ≡ false
-other_length x y h = go (same x y) refl
+pub other-length : (x y : List ℕ) → (length x ≡ length y → ⊥) → same x y ≡ false
+other-length x y h = go (same x y) refl
   where
     go : (b : Bool) → same x y ≡ b → same x y ≡ false
     go true e = absurd (h (ap length (same-equal x y e)))
@@ -29,7 +29,7 @@ other_length x y h = go (same x y) refl
 
 pub starts-short : (h x : List ℕ) → length x < length h → starts_with h x ≡ false
 unfolding starts_with
-starts-short h x l = other_length (take (length h) x) h (λ e. let n = length-take (length h) x in omega arith)
+starts-short h x l = other-length (take (length h) x) h (λ e. let n = length-take (length h) x in omega arith)
 
 pub starts-long : (h x : List ℕ) → starts_with h x ≡ true → length h ≤ length x
 unfolding starts_with
@@ -74,7 +74,7 @@ module _ (s : List ℕ) where
     pub decode-more : (stop : ℕ) → extent_at s at end ≡ Upto stop →
         decode_from m (row_at s at end) ≡ decode_from (merged m (told (fixed_of (tree_at s at stop)))) (row_at s stop end)
     unfolding decode_from
-    decode-more stop e = ap (decode_from m) (row_more s at end stop h e)
+    decode-more stop e = ap (decode_from m) (row-more s at end stop h e)
 
     pub decode-none : extent_at s at end ≡ Short → decode_from m (row_at s at end) ≡ m
     unfolding decode_from
@@ -85,15 +85,15 @@ module _ (s : List ℕ) where
       decode (row_at s b stop) ≡ decode (attributes_in (row_at s 0 (length s)))
   parts-upto stop b e f =
       ap (λ (x : Field). decode (parts_of x)) (sym (tree-upto s 0 stop b f))
-      ∙ ap (λ (fs : Fields). decode (attributes_in fs)) (sym (row_more s 0 (length s) stop (omega arith) e))
+      ∙ ap (λ (fs : Fields). decode (attributes_in fs)) (sym (row-more s 0 (length s) stop (omega arith) e))
 
   pub parts-short : (stop : ℕ) → extent_at s 0 (length s) ≡ Upto stop → fixed_at s (get_or s 0 0) 3 stop ≡ Short →
       unset ≡ decode (attributes_in (row_at s 0 (length s)))
   unfolding decode decode_from
   parts-short stop e f =
       ap (λ (x : Field). decode (parts_of x)) (sym (tree-short s 0 stop f))
-      ∙ ap (λ (fs : Fields). decode (attributes_in fs)) (sym (row_more s 0 (length s) stop (omega arith) e))
+      ∙ ap (λ (fs : Fields). decode (attributes_in fs)) (sym (row-more s 0 (length s) stop (omega arith) e))
 
-  pub parts_none : extent_at s 0 (length s) ≡ Short → unset ≡ decode (attributes_in (row_at s 0 (length s)))
+  pub parts-none : extent_at s 0 (length s) ≡ Short → unset ≡ decode (attributes_in (row_at s 0 (length s)))
   unfolding decode decode_from
-  parts_none e = ap (λ (fs : Fields). decode (attributes_in fs)) (sym (row-none s 0 (length s) (omega arith) e))
+  parts-none e = ap (λ (fs : Fields). decode (attributes_in fs)) (sym (row-none s 0 (length s) (omega arith) e))

@@ -8,7 +8,7 @@ use native.Mathlib.Omega.{arith}
 use lib.ListN.{length}
 use Rattle.writer.specs.Bytes.{framed}
 use Rattle.tree.specs.Tree.{field, Fields, none, more, framed as framed_field, encode, encodes, size, fixed_of}
-use Rattle.tree.proofs.TreeLaws.{encodes_one}
+use Rattle.tree.proofs.TreeLaws.{encodes-one}
 use Rattle.metadata.specs.Decimal.{decimal}
 use Rattle.metadata.specs.Metadata.{context_key, header, injected_attribute, context_attribute, injected_attributes, context_attributes, append, attributes_for}
 
@@ -39,7 +39,7 @@ encodes-append (more f fs) gs = ap (λ (l : List ℕ). encode f ++ l) (encodes-a
 
 pub injected-bytes : (b : Bool) → b ≡ true → framed 0x30 (fixed_of injected_attribute) ≡ encodes (injected_attributes b)
 unfolding injected_attribute
-injected-bytes true e = framed-leaf 0x30 (fixed_of injected_attribute) ∙ sym (encodes_one injected_attribute)
+injected-bytes true e = framed-leaf 0x30 (fixed_of injected_attribute) ∙ sym (encodes-one injected_attribute)
 injected-bytes false e = absurd (let z : ◌≡◌ {A = ℕ} 0 1 = cc in omega arith)
 
 pub injected-none : (b : Bool) → b ≡ false → [] ≡ encodes (injected_attributes b)
@@ -56,7 +56,7 @@ pub with-context : (b : Bool) (x : Option ℕ) (c : ℕ) → x ≡ some c →
     encodes (injected_attributes b) ++ encode (context_attribute c) ≡ encodes (attributes_for (record { injected = b; context = x }))
 unfolding attributes_for
 with-context b x c e =
-    ap (λ (l : List ℕ). encodes (injected_attributes b) ++ l) (sym (encodes_one (context_attribute c)))
+    ap (λ (l : List ℕ). encodes (injected_attributes b) ++ l) (sym (encodes-one (context_attribute c)))
     ∙ sym (encodes-append (injected_attributes b) (context_attributes (some c)))
     ∙ ap (λ (y : Option ℕ). encodes (append (injected_attributes b) (context_attributes y))) (sym e)
 

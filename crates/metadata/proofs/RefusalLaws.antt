@@ -23,8 +23,8 @@ use Rattle.tree.specs.Tree.{field, none, more}
 use Rattle.tree.specs.Grammar.{within, holds_at, parts0, rule_of, step_at, done_at}
 use Rattle.tree.specs.Access.{fixed_at, extent_at}
 use Rattle.tree.specs.Read.{Reading, fine, refused, refusal_of, mapped, both, Kids, on_extent, on_step, head_at, on_fixed, content_by, on_head, children, children_at, read, top}
-use Rattle.tree.proofs.AccessLaws.{cond_ind}
-use Rattle.tree.proofs.GrammarLaws.{no_step, step-one}
+use Rattle.tree.proofs.AccessLaws.{cond-ind}
+use Rattle.tree.proofs.GrammarLaws.{no-step, step-one}
 use Rattle.tree.proofs.ReadLaws.{Says, head-says}
 use Rattle.metadata.proofs.WithinLaws.{attributes, attributes-step}
 use Rattle.metadata.specs.Calls.{attributes_in, lent}
@@ -48,8 +48,8 @@ Flat zero q = (t : ℕ) (q' : Rule) → step_at q t ≡ Go q' → ⊥
 Flat (suc k) q = (t : ℕ) (q' : Rule) → step_at q t ≡ Go q' → Flat k (rule_of t) × ((q' ≡ q) ⊎ (q' ≡ parts0))
 
 none-flat : (k : ℕ) → Flat k parts0
-none-flat zero = λ t q e. no_step t e
-none-flat (suc k) = λ t q e. absurd (no_step t e)
+none-flat zero = λ t q e. no-step t e
+none-flat (suc k) = λ t q e. absurd (no-step t e)
 
 rest-flat : (k : ℕ) (q q' : Rule) → Flat (suc k) q → (q' ≡ q) ⊎ (q' ≡ parts0) → Flat (suc k) q'
 rest-flat k q q' f s = ⊎_elim (λ e. subst (Flat (suc k)) (sym e) f) (λ e. subst (Flat (suc k)) (sym e) (none-flat (suc k))) s
@@ -74,8 +74,8 @@ step-shallow (Go q) s at end d h = extent-shallow (extent_at s at end) q d h
 head-shallow : (s : List ℕ) (at end d : ℕ) (q : Rule) → d < 64 → Shallow (head_at s at end d q)
 unfolding head_at
 head-shallow s at end d q h =
-    cond_ind Shallow (eqb at end) (cond (done_at q) Done Missing) (on_step (step_at q (get_or s at 0)) s at end d)
-    (λ _. cond_ind Shallow (done_at q) Done Missing (λ _. tt) (λ _. tt)) (λ _. step-shallow (step_at q (get_or s at 0)) s at end d h)
+    cond-ind Shallow (eqb at end) (cond (done_at q) Done Missing) (on_step (step_at q (get_or s at 0)) s at end d)
+    (λ _. cond-ind Shallow (done_at q) Done Missing (λ _. tt) (λ _. tt)) (λ _. step-shallow (step_at q (get_or s at 0)) s at end d h)
 
 -- ---- Reading by flat rules
 
@@ -88,13 +88,13 @@ fixed-three Short k s at stop d j f g = refl
 fixed-three (Upto b) k s at stop d j f g =
     three-mapped (field (get_or s at 0) (slice (at + 3) b s)) (k s b stop d (rule_of (get_or s at 0)) at) (g s b stop (rule_of (get_or s at 0)) at f)
 
-head_three : (h : Head) (k : Kids) (s : List ℕ) (at end d j : ℕ) (q : Rule) (p : ℕ) → Shallow h → Says s at end q h → Flat (suc j) q →
+head-three : (h : Head) (k : Kids) (s : List ℕ) (at end d j : ℕ) (q : Rule) (p : ℕ) → Shallow h → Says s at end q h → Flat (suc j) q →
     AllThree k (d + 1) j → AllThree k d (suc j) → Three (on_head h k s at end d p)
 unfolding on_head content_by
-head_three Done k s at end d j q p i y f g r = tt
-head_three Missing k s at end d j q p i y f g r = refl
-head_three (Bad w) k s at end d j q p i y f g r = i
-head_three (Child q' stop) k s at end d j q p i y f g r =
+head-three Done k s at end d j q p i y f g r = tt
+head-three Missing k s at end d j q p i y f g r = refl
+head-three (Bad w) k s at end d j q p i y f g r = i
+head-three (Child q' stop) k s at end d j q p i y f g r =
     let n = f (get_or s at 0) q' y.0 in
     three-both more (content_by k s at stop (d + 1)) (k s stop end d q' p)
     (fixed-three (fixed_at s (get_or s at 0) (at + 3) stop) k s at stop (d + 1) j n.0 g) (r s stop end q' p (rest-flat j q q' f n.1))
@@ -112,7 +112,7 @@ children-three zero j d h s at end q p f = refl
 children-three (suc n) zero d h s at end q p f =
     head-last (head_at s at end d q) (children n) s at end d q p (head-shallow s at end d q (omega arith)) (head-says s at end d q) f
 children-three (suc n) (suc j) d h s at end q p f =
-    head_three (head_at s at end d q) (children n) s at end d j q p (head-shallow s at end d q (omega arith)) (head-says s at end d q) f
+    head-three (head_at s at end d q) (children n) s at end d j q p (head-shallow s at end d q (omega arith)) (head-says s at end d q) f
     (children-three n j (d + 1) (omega arith)) (children-three n (suc j) d h)
 
 -- ---- Attributes
@@ -133,13 +133,13 @@ top-flat t q e =
 read-three : (s : List ℕ) → Three (read Attributes s)
 unfolding read children_at
 read-three s =
-    cond_ind Three (eqb (length s) 0) _ (children (suc (length s - 0)) s 0 (length s) 0 (top Attributes) 0) (λ _. refl)
+    cond-ind Three (eqb (length s) 0) _ (children (suc (length s - 0)) s 0 (length s) 0 (top Attributes) 0) (λ _. refl)
     (λ _. children-three (suc (length s - 0)) 2 0 (omega arith) s 0 (length s) (top Attributes) 0 top-flat)
 
 lent-three : (s : List ℕ) → Three (lent s)
 unfolding lent
 lent-three s =
-    cond_ind Three (eqb (length s) 0) (fine none) (mapped attributes_in (read Attributes s)) (λ _. tt)
+    cond-ind Three (eqb (length s) 0) (fine none) (mapped attributes_in (read Attributes s)) (λ _. tt)
     (λ _. three-mapped attributes_in (read Attributes s) (read-three s))
 
 -- 'a broken one gives 3'

@@ -91,15 +91,15 @@ unfolding size
 size-positive (field t x cs) e = omega arith
 
 -- attributes within the grammar, lent as their bytes
-lent_back : (f : Field) → Within Attributes f → lent (encode f) ≡ fine (parts_of f)
+lent-back : (f : Field) → Within Attributes f → lent (encode f) ≡ fine (parts_of f)
 unfolding lent
-lent_back f w =
+lent-back f w =
     let e = size-encode f in
     rw (ne_eqb (length (encode f)) 0 (λ z. size-positive f (omega arith))) (ap (mapped attributes_in) (read-complete Attributes f w))
 
 -- what encoding that is accepted hands back
 record Accepted (m : Metadata) (s : List ℕ) (room n : ℕ) (old : Fields) : Type 0 where
-  is-lent : lent s ≡ fine old
+  is_lent : lent s ≡ fine old
   fits : length (encode (with_metadata m old)) ≤ 65538
   bytes : field_in (encode_out m s room) ≡ encode (with_metadata m old)
 
@@ -110,7 +110,7 @@ module _ (m : Metadata) (s : List ℕ) (room n : ℕ) where
   room-accepted old true e r a =
       let bs = encode (with_metadata m old) in
       record {
-        is-lent = e;
+        is_lent = e;
         fits = (room-true (length bs) room r).0;
         bytes =
             ap (λ (x : Reading Fields). field_in (out_on x m room)) e
@@ -131,10 +131,10 @@ module _ (m : Metadata) (s : List ℕ) (room n : ℕ) where
       let g = answer-accepted (lent s) refl a in
       let old = g.0 in
       let c = g.1 in
-      let w = new-within m s old h (lent-sound s old bs c.is-lent) c.fits in (
+      let w = new-within m s old h (lent-sound s old bs c.is_lent) c.fits in (
         decode old,
-        ap (mapped decode) c.is-lent,
-        ap (λ (x : List ℕ). mapped decode (lent x)) c.bytes ∙ ap (mapped decode) (lent_back (with_metadata m old) w)
+        ap (mapped decode) c.is_lent,
+        ap (λ (x : List ℕ). mapped decode (lent x)) c.bytes ∙ ap (mapped decode) (lent-back (with_metadata m old) w)
             ∙ ap fine (older-merged m old h),
       )
 

@@ -20,7 +20,7 @@ use Rattle.tree.specs.Tree.{field, Fields, none, more, tag_of, encode, size, dep
 use Rattle.tree.specs.Grammar.{within, holds_at, parts0, parts1, slot_at, step_by, step_at, rule_of, pieces_of}
 use Rattle.tree.specs.Access.{value_at, key_at, piece_at, then_piece, fixed_at}
 use Rattle.tree.specs.Within.{Exact, Formed, FormedAll, Within}
-use Rattle.tree.proofs.GrammarLaws.{no_step, many-slot}
+use Rattle.tree.proofs.GrammarLaws.{no-step, many-slot}
 use Rattle.tree.proofs.TreeLaws.{size-encode, content-size, depth-parts, depth-none, depth-first, depth-rest, depth-most}
 use Rattle.metadata.specs.Decimal.{decimal}
 use Rattle.metadata.specs.Metadata.{Metadata, Small, injected_key, context_key, header, attribute, injected_attribute, context_attribute}
@@ -42,7 +42,7 @@ attributes-step t q e = by (holds_at Attribute t) refl (sym (many-slot Attribute
   where
     by : (b : Bool) → holds_at Attribute t ≡ b → cond b (Go attributes) (step_at parts0 t) ≡ Go q → (holds_at Attribute t ≡ true) × (q ≡ attributes)
     by true h e = (h, cc)
-    by false h e = absurd (no_step t e)
+    by false h e = absurd (no-step t e)
 
 formed-append : (fs gs : Fields) → FormedAll fs attributes → FormedAll gs attributes → FormedAll (append fs gs) attributes
 unfolding append

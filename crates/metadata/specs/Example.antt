@@ -15,16 +15,16 @@ largest : List ℕ
 largest = 0x34 ∷ 0x32 ∷ 0x39 ∷ 0x34 ∷ 0x39 ∷ 0x36 ∷ 0x37 ∷ 0x32 ∷ 0x39 ∷ 0x35 ∷ []
 
 -- one more than the largest
-too_large : List ℕ
-too_large = 0x34 ∷ 0x32 ∷ 0x39 ∷ 0x34 ∷ 0x39 ∷ 0x36 ∷ 0x37 ∷ 0x32 ∷ 0x39 ∷ 0x36 ∷ []
+too-large : List ℕ
+too-large = 0x34 ∷ 0x32 ∷ 0x39 ∷ 0x34 ∷ 0x39 ∷ 0x36 ∷ 0x37 ∷ 0x32 ∷ 0x39 ∷ 0x36 ∷ []
 
 -- '"+7" gives 7; "4294967296" none.'
 plus7-parsed : parsed plus7 ≡ some 7
 unfolding parsed number number_from unsigned plus7
 plus7-parsed = refl
 
-too-large-parsed : parsed too_large ≡ nothing
-unfolding parsed number number_from unsigned too_large
+too-large-parsed : parsed too-large ≡ nothing
+unfolding parsed number number_from unsigned too-large
 too-large-parsed = refl
 
 largest-parsed : parsed largest ≡ some 4294967295
@@ -66,12 +66,12 @@ nine-written = refl
 
 -- injected, then "+7", then what does not parse
 three : Fields
-three = more injected_attribute (more (attribute context_key plus7) (more (attribute context_key too_large) none))
+three = more injected_attribute (more (attribute context_key plus7) (more (attribute context_key too-large) none))
 
 three-told : decode three ≡ record { injected = true; context = some 7 }
-unfolding decode decode_from told same starts_with context_in parsed number number_from unsigned injected_attribute three plus7 too_large
+unfolding decode decode_from told same starts_with context_in parsed number number_from unsigned injected_attribute three plus7 too-large
 three-told = refl
 
-none_told : decode none ≡ unset
+none-told : decode none ≡ unset
 unfolding decode decode_from
-none_told = refl
+none-told = refl

@@ -15,5 +15,5 @@ require-set = refl
 others-set : modes_of 0xFFFFFFFE ≡ modes_of 0
 others-set = refl
 
-all_set : modes_of 0xFFFFFFFF ≡ modes_of 1
-all_set = refl
+all-set : modes_of 0xFFFFFFFF ≡ modes_of 1
+all-set = refl

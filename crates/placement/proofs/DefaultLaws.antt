@@ -10,7 +10,7 @@ use borrow.Author.Tests.{eqb-true}
 use Rattle.scope.specs.Id.{local}
 use Rattle.tree.specs.Layout.{same, four, id_at, context_of, value_of}
 use Rattle.tree.specs.Tree.{Field, Fields, none, more, tag_of, fixed_of, parts_of}
-use Rattle.tree.proofs.LayoutLaws.{same_refl, same-equal}
+use Rattle.tree.proofs.LayoutLaws.{same-refl, same-equal}
 use Rattle.inputs.specs.Lists.{is_some, among}
 use Rattle.inputs.specs.Fields.{has, keep, find_field, sole}
 use Rattle.extraction_rules.specs.First.{specifiers_in}
@@ -19,13 +19,13 @@ use Rattle.extraction_rules.proofs.SpaceLaws.{OfImport}
 use Rattle.extraction_rules.proofs.KeepLaws.{Each}
 use Rattle.placement.specs.Placed.{imports_in, shares_none, local_ids, own_locals, sole_namespace, item_at}
 use Rattle.placement.proofs.LocalsLaws.{locals-other, locals-all, whole-specifier}
-use Rattle.placement.proofs.PlacedLaws.{EachImport, EachBut, Apart, shares-apart, each_at, but-with}
+use Rattle.placement.proofs.PlacedLaws.{EachImport, EachBut, Apart, shares-apart, each-at, but-with}
 
 -- ---- Each, by place
 
-each_from : (P : Field → Type 0) (fs : Fields) → ((k : ℕ) (f : Field) → item_at k fs ≡ some f → P f) → Each P fs
-each_from P none h = tt
-each_from P (more f fs) h = (h zero f refl, each_from P fs (λ k g e. h (suc k) g e))
+each-from : (P : Field → Type 0) (fs : Fields) → ((k : ℕ) (f : Field) → item_at k fs ≡ some f → P f) → Each P fs
+each-from P none h = tt
+each-from P (more f fs) h = (h zero f refl, each-from P fs (λ k g e. h (suc k) g e))
 
 but-fill : (P : Field → Type 0) (k : ℕ) (fs : Fields) (f : Field) → EachBut P k fs → item_at k fs ≡ some f → P f → EachImport P fs
 but-fill P k none f h e w = tt
@@ -93,13 +93,13 @@ module _ (own : ℕ) (items : Fields) (shape : Each Shaped items) (share : share
       let one = namespace-sole f m s sole-f es q in
       let w : id_at (fixed_of s) 0 ≡ fixed_of s = whole-specifier s (inr (eqb-true (tag_of s) 0x22 q)) hs in
       let loc =
-      each_at (λ s. same (context_of (id_at (fixed_of s) 0)) (four (local own)) ≡ true) m (specifiers_in (parts_of f)) s
+      each-at (λ s. same (context_of (id_at (fixed_of s) 0)) (four (local own)) ≡ true) m (specifiers_in (parts_of f)) s
       (locals-all (λ i. same (context_of i) (four (local own))) (specifiers_in (parts_of f)) own-f) es in (
         ap context_of (sym w) ∙ same-equal (context_of (id_at (fixed_of s) 0)) (four (local own)) loc,
         but-fill (NoDefault (fixed_of s)) k items f
             (but-with (Apart (fixed_of s) (value_of (fixed_of f))) Shaped (NoDefault (fixed_of s)) k items
             (λ g t a h. apart-default (fixed_of s) (value_of (fixed_of f)) g t h a)
-            (shares-apart (fixed_of s) k items f share e t (rw (one, w, same_refl (fixed_of s)))) shape)
+            (shares-apart (fixed_of s) k items f share e t (rw (one, w, same-refl (fixed_of s)))) shape)
             e
             (subst (Each (λ g. has 0x21 g ≡ true → same (fixed_of g) (fixed_of s) ≡ false)) (sym one)
             ((λ z. absurd (let v : ◌≡◌ {A = ℕ} 0x21 0x22 = sym (eqb-true (tag_of s) 0x21 z) ∙ eqb-true (tag_of s) 0x22 q in omega arith)), tt)),
@@ -112,18 +112,18 @@ module _ (own : ℕ) (items : Fields) (shape : Each Shaped items) (share : share
   of-import : (k : ℕ) (f : Field) → item_at k items ≡ some f → tag_of f ≡ 0x10 → own_locals own f ≡ true → sole_namespace f ≡ true →
       Each (OfImport (SpaceIn own items) own (space-local own items)) (specifiers_in (parts_of f))
   of-import k f e t own-f sole-f =
-      let hs = specifier-shaped (specifiers_in (parts_of f)) (import-parts (parts_of f) (shaped-parts f 0x10 (each_at Shaped k items f shape e) t)).0 in
-      each_from (OfImport (SpaceIn own items) own (space-local own items)) (specifiers_in (parts_of f))
+      let hs = specifier-shaped (specifiers_in (parts_of f)) (import-parts (parts_of f) (shaped-parts f 0x10 (each-at Shaped k items f shape e) t)).0 in
+      each-from (OfImport (SpaceIn own items) own (space-local own items)) (specifiers_in (parts_of f))
       (λ m s es. (
-        (λ q. space-of k f m s e t own-f sole-f es q (each_at Shaped m (specifiers_in (parts_of f)) s hs es)),
+        (λ q. space-of k f m s e t own-f sole-f es q (each-at Shaped m (specifiers_in (parts_of f)) s hs es)),
         λ q sp. true≢false
-            (sym (same_refl (fixed_of s))
-            ∙ each_at (λ g. has 0x21 g ≡ true → same (fixed_of g) (fixed_of s) ≡ false) m (specifiers_in (parts_of f)) s
-            (each_at (λ f. tag_of f ≡ 0x10 → NoDefault (fixed_of s) f) k items f sp.1 e t) es q),
+            (sym (same-refl (fixed_of s))
+            ∙ each-at (λ g. has 0x21 g ≡ true → same (fixed_of g) (fixed_of s) ≡ false) m (specifiers_in (parts_of f)) s
+            (each-at (λ f. tag_of f ≡ 0x10 → NoDefault (fixed_of s) f) k items f sp.1 e t) es q),
       ))
 
   pub imports-of : EachImport (λ f. own_locals own f ≡ true) items → EachImport (λ f. sole_namespace f ≡ true) items →
       EachImport (λ f. Each (OfImport (SpaceIn own items) own (space-local own items)) (specifiers_in (parts_of f))) items
   imports-of h w =
-      each_from (λ f. tag_of f ≡ 0x10 → Each (OfImport (SpaceIn own items) own (space-local own items)) (specifiers_in (parts_of f))) items
-      (λ k f e t. of-import k f e t (each_at (λ f. tag_of f ≡ 0x10 → own_locals own f ≡ true) k items f h e t) (each_at (λ f. tag_of f ≡ 0x10 → sole_namespace f ≡ true) k items f w e t))
+      each-from (λ f. tag_of f ≡ 0x10 → Each (OfImport (SpaceIn own items) own (space-local own items)) (specifiers_in (parts_of f))) items
+      (λ k f e t. of-import k f e t (each-at (λ f. tag_of f ≡ 0x10 → own_locals own f ≡ true) k items f h e t) (each-at (λ f. tag_of f ≡ 0x10 → sole_namespace f ≡ true) k items f w e t))

@@ -19,7 +19,7 @@ use Rattle.extraction_rules.proofs.KeepLaws.{Each}
 use Rattle.placement.specs.Stands.{How, ids_in}
 use Rattle.placement.specs.Placed.{item_at}
 use Rattle.placement.proofs.WaysLaws.{met, ways, ways_all}
-use Rattle.placement.proofs.LocalsLaws.{each_keep}
+use Rattle.placement.proofs.LocalsLaws.{each-keep}
 use Rattle.placement.proofs.PlacedLaws.{Amid, Front}
 
 -- ---- Dropped items hold no id
@@ -43,7 +43,7 @@ dropped (field t x none) i w q = go (eqb t 0x40) (eqb t 0x41) refl refl q
 dropped (field t x (more f fs)) i w q = go (eqb t 0x40) refl q
   where
     go : (a : Bool) → eqb t 0x40 ≡ a → not a ≡ false → ways (field t x (more f fs)) i false ≡ []
-    go true p q = absurd (let e = w.0.empty-bare (eqb-true t 0x40 p) in let z : ◌≡◌ {A = ℕ} 0 1 = cc in omega arith)
+    go true p q = absurd (let e = w.0.empty_bare (eqb-true t 0x40 p) in let z : ◌≡◌ {A = ℕ} 0 1 = cc in omega arith)
     go false p q = absurd (true≢false q)
 
 -- imports, and other items
@@ -81,7 +81,7 @@ place-front (suc k) (more g fs) f e h = rw (import-stays g h.0) (ap suc (place-f
 pub amid-keep : (P Q : Field → Type 0) (k : ℕ) (fs : Fields) → ((f : Field) → P f → stays f ≡ true) → Amid P Q k fs → Amid P Q (place_kept k fs) (keep stays fs)
 unfolding place_kept keep
 amid-keep P Q k none p h = absurd h
-amid-keep P Q zero (more f fs) p h = rw (p f h.0) (h.0, each_keep Q stays fs h.1)
+amid-keep P Q zero (more f fs) p h = rw (p f h.0) (h.0, each-keep Q stays fs h.1)
 amid-keep P Q (suc k) (more f fs) p h = go (stays f) (amid-keep P Q k fs p h.1)
   where
     go : (b : Bool) → Amid P Q (place_kept k fs) (keep stays fs) → Amid P Q (cond b (suc (place_kept k fs)) (place_kept k fs)) (cond b (more f (keep stays fs)) (keep stays fs))

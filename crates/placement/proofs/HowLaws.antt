@@ -7,7 +7,7 @@ use lib.Dec.{eqb}
 use lib.ListN.{get_or}
 use Rattle.tree.specs.Layout.{same, id_at}
 use Rattle.tree.specs.Tree.{field, Fields, none, more, fixed_of}
-use Rattle.tree.proofs.Table.{both_true}
+use Rattle.tree.proofs.Table.{both-true}
 use Rattle.inputs.specs.Lists.{filter}
 use Rattle.inputs.specs.Fields.{has}
 use Rattle.extraction_rules.specs.Walk.{parts_for}
@@ -24,13 +24,13 @@ use Rattle.placement.proofs.WaysLaws.{met, ways, ways_all}
 abbrev pub all_plain : List How → Bool
 all_plain us = all is_plain (filter is_use us)
 
-pub all_append : {A : Type 0} (t : A → Bool) (l m : List A) → all t (l ++ m) ≡ all t l && all t m
+pub all-append : {A : Type 0} (t : A → Bool) (l m : List A) → all t (l ++ m) ≡ all t l && all t m
 unfolding all
-all_append t [] m = refl
-all_append t (a ∷ l) m = rw (all_append t l m) (sym (and_assoc (t a) (all t l) (all t m)))
+all-append t [] m = refl
+all-append t (a ∷ l) m = rw (all-append t l m) (sym (and_assoc (t a) (all t l) (all t m)))
 
 pub plain-append : (l m : List How) → all_plain (l ++ m) ≡ all_plain l && all_plain m
-plain-append l m = ap (all is_plain) (filter-append is_use l m) ∙ all_append is_plain (filter is_use l) (filter is_use m)
+plain-append l m = ap (all is_plain) (filter-append is_use l m) ∙ all-append is_plain (filter is_use l) (filter is_use m)
 
 pub properties-append : (l m : List How) → properties (l ++ m) ≡ properties l ++ properties m
 unfolding properties
@@ -180,9 +180,9 @@ abbrev pub fits : List How → Bool
 fits l = all (λ h. not (is_misplaced h)) l
 
 pub fits-append : (l m : List How) → fits (l ++ m) ≡ true → (fits l ≡ true) × (fits m ≡ true)
-fits-append l m h = both_true (fits l) (fits m) (sym (all_append (λ h. not (is_misplaced h)) l m) ∙ h)
+fits-append l m h = both-true (fits l) (fits m) (sym (all-append (λ h. not (is_misplaced h)) l m) ∙ h)
 
-pub fits_each : (fs : Fields) (i : List ℕ) → fits (ways_all fs i false) ≡ true → Each (λ f. fits (ways f i false) ≡ true) fs
+pub fits-each : (fs : Fields) (i : List ℕ) → fits (ways_all fs i false) ≡ true → Each (λ f. fits (ways f i false) ≡ true) fs
 unfolding ways
-fits_each none i h = tt
-fits_each (more f fs) i h = let w = fits-append (ways f i false) (ways_all fs i false) h in (w.0, fits_each fs i w.1)
+fits-each none i h = tt
+fits-each (more f fs) i h = let w = fits-append (ways f i false) (ways_all fs i false) h in (w.0, fits-each fs i w.1)

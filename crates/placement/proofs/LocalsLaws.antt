@@ -9,7 +9,7 @@ use native.Mathlib.Omega.{arith}
 use lib.Dec.{eqb}
 use lib.ListN.{get_or}
 use borrow.Author.Tests.{eqb-true, eqb-false}
-use Rattle.tree.proofs.Table.{both_true}
+use Rattle.tree.proofs.Table.{both-true}
 use Rattle.tree.specs.declared.grammar.Set.TheVariants.{Specifier}
 use Rattle.tree.specs.Layout.{same, id_at}
 use Rattle.tree.specs.Tree.{Field, field, Fields, none, more, tag_of, fixed_of}
@@ -30,10 +30,10 @@ use Rattle.placement.specs.Placed.{all, local_ids}
 use Rattle.placement.proofs.WaysLaws.{met, ways}
 use Rattle.placement.proofs.HowLaws.{fits}
 
-pub each_keep : (P : Field → Type 0) (p : Field → Bool) (fs : Fields) → Each P fs → Each P (keep p fs)
+pub each-keep : (P : Field → Type 0) (p : Field → Bool) (fs : Fields) → Each P fs → Each P (keep p fs)
 unfolding keep
-each_keep P p none h = tt
-each_keep P p (more f fs) h = go (p f) (each_keep P p fs h.1)
+each-keep P p none h = tt
+each-keep P p (more f fs) h = go (p f) (each-keep P p fs h.1)
   where
     go : (b : Bool) → Each P (keep p fs) → Each P (cond b (more f (keep p fs)) (keep p fs))
     go true k = (h.0, k)
@@ -48,7 +48,7 @@ locals-other i (more f fs) h = let w = or-neither (same i (id_at (fixed_of f) 0)
 pub locals-all : (t : List ℕ → Bool) (fs : Fields) → all t (local_ids fs) ≡ true → Each (λ s. t (id_at (fixed_of s) 0) ≡ true) fs
 unfolding local_ids all
 locals-all t none h = tt
-locals-all t (more f fs) h = let w = both_true (t (id_at (fixed_of f) 0)) (all t (local_ids fs)) h in (w.0, locals-all t fs w.1)
+locals-all t (more f fs) h = let w = both-true (t (id_at (fixed_of f) 0)) (all t (local_ids fs)) h in (w.0, locals-all t fs w.1)
 
 -- a 21 or 22 is an id
 pub id-whole : (t : ℕ) (x : List ℕ) → (t ≡ 0x21) ⊎ (t ≡ 0x22) → Exact t x → id_at x 0 ≡ x

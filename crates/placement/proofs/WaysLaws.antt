@@ -7,13 +7,13 @@ use native.Mathlib.Omega.{arith}
 use lib.Dec.{eqb}
 use lib.ListN.{take}
 use borrow.Author.Tests.{eqb-true}
-use Rattle.scope.specs.Id.{require-atom}
+use Rattle.scope.specs.Id.{require_atom}
 use Rattle.tree.specs.Layout.{same, two, id_at, name_of}
 use Rattle.tree.specs.Tree.{Field, field, Fields, none, more, tag_of, parts_of}
 use Rattle.inputs.specs.Fields.{has}
 use Rattle.extraction_rules.specs.Walk.{Parts, unwalked, member, super, assignment, children, parts_for}
-use Rattle.extraction_rules.proofs.ListLaws.{same_not, not_same}
-use Rattle.extraction_rules.proofs.AlikeLaws.{SameBytes, equal, behind, callee, Alike, AlikeAll, alike-more, alike-none, same-other, alike-tag, first_byte}
+use Rattle.extraction_rules.proofs.ListLaws.{same-not, not-same}
+use Rattle.extraction_rules.proofs.AlikeLaws.{SameBytes, equal, behind, callee, Alike, AlikeAll, alike-more, alike-none, same-other, alike-tag, first-byte}
 use Rattle.placement.specs.Stands.{How, plain, computed, bare, otherwise, ids_in, Standing, matching, head_of, tail_of, by_member, object_ids, standings, standings_all}
 use Rattle.placement.specs.Stands.{standings_member, standings_assignment, standings_target, stands}
 
@@ -148,15 +148,15 @@ stands-ways items i = hows-all items items i false
 
 -- ---- Alike trees
 
-name_in : (x : List ℕ) → name_of (id_at x 0) ≡ name_of x
-name_in [] = refl
-name_in (a ∷ []) = refl
-name_in (a ∷ (b ∷ x)) = refl
+name-in : (x : List ℕ) → name_of (id_at x 0) ≡ name_of x
+name-in [] = refl
+name-in (a ∷ []) = refl
+name-in (a ∷ (b ∷ x)) = refl
 
-module _ (i : List ℕ) (named : same (name_of i) (two require-atom) ≡ false) where
+module _ (i : List ℕ) (named : same (name_of i) (two require_atom) ≡ false) where
   -- an id named require is another
-  pub not-require : (j : List ℕ) → name_of j ≡ two require-atom → same j i ≡ false
-  not-require j q = same_not j i (λ e. not_same (name_of i) (two require-atom) named (ap name_of (sym e) ∙ q))
+  pub not-require : (j : List ℕ) → name_of j ≡ two require_atom → same j i ≡ false
+  not-require j q = same-not j i (λ e. not-same (name_of i) (two require_atom) named (ap name_of (sym e) ∙ q))
 
   pub not-met : (h : How) (j : List ℕ) → same j i ≡ false → met ((h, j) ∷ []) i ≡ []
   unfolding met
@@ -164,12 +164,12 @@ module _ (i : List ℕ) (named : same (name_of i) (two require-atom) ≡ false) 
 
   original-alike : (x y : List ℕ) → take 7 y ≡ take 7 x → (b : Bool) → ids_in 0x23 y b ≡ ids_in 0x23 x b
   unfolding ids_in
-  original-alike x y q b = rw (first_byte y, first_byte x, q)
+  original-alike x y q b = rw (first-byte y, first-byte x, q)
 
-  ident-alike : (x y : List ℕ) (b : Bool) → name_of x ≡ two require-atom → name_of y ≡ two require-atom → met (ids_in 0x60 y b) i ≡ met (ids_in 0x60 x b) i
+  ident-alike : (x y : List ℕ) (b : Bool) → name_of x ≡ two require_atom → name_of y ≡ two require_atom → met (ids_in 0x60 y b) i ≡ met (ids_in 0x60 x b) i
   unfolding ids_in
   ident-alike x y b q r =
-      not-met (cond b otherwise bare) (id_at y 0) (not-require (id_at y 0) (name_in y ∙ r)) ∙ sym (not-met (cond b otherwise bare) (id_at x 0) (not-require (id_at x 0) (name_in x ∙ q)))
+      not-met (cond b otherwise bare) (id_at y 0) (not-require (id_at y 0) (name-in y ∙ r)) ∙ sym (not-met (cond b otherwise bare) (id_at x 0) (not-require (id_at x 0) (name-in x ∙ q)))
 
   pub ids-alike : (t : ℕ) (x y : List ℕ) (b : Bool) → SameBytes t x y → met (ids_in t y b) i ≡ met (ids_in t x b) i
   ids-alike t x y b (equal q) = rw q
@@ -177,11 +177,11 @@ module _ (i : List ℕ) (named : same (name_of i) (two require-atom) ≡ false) 
   ids-alike t x y b (callee k q n r) = rw k (ident-alike x y b q (ap name_of r))
 
   -- the object of a 63
-  by_alike : (ps qs : Fields) → AlikeAll ps qs → by_member qs ≡ by_member ps
-  by_alike none none h = refl
-  by_alike none (more q qs) h = alike-none q qs h
-  by_alike (more p ps) none h = absurd (let e = h.2 in let z : ◌≡◌ {A = ℕ} 0 1 = cc in omega arith)
-  by_alike (more (field k x cs) ps) (more (field m y ds) qs) h =
+  by-alike : (ps qs : Fields) → AlikeAll ps qs → by_member qs ≡ by_member ps
+  by-alike none none h = refl
+  by-alike none (more q qs) h = alike-none q qs h
+  by-alike (more p ps) none h = absurd (let e = h.2 in let z : ◌≡◌ {A = ℕ} 0 1 = cc in omega arith)
+  by-alike (more (field k x cs) ps) (more (field m y ds) qs) h =
       let a = (alike-more (field k x cs) ps (field m y ds) qs h).0 in
       rw a.0 (go (eqb k 0x70) refl a.1)
     where
@@ -204,7 +204,7 @@ module _ (i : List ℕ) (named : same (name_of i) (two require-atom) ≡ false) 
   object-alike ex (more p ps) none h = absurd (let e = h.2 in let z : ◌≡◌ {A = ℕ} 0 1 = cc in omega arith)
   object-alike ex (more (field k x os) ps) (more (field m y us) qs) h =
       let a = alike-more (field k x os) ps (field m y us) qs h in
-      rw (a.0.0, by_alike ps qs a.1) (object-by (eqb k 0x60) (cond ex (by_member ps) otherwise) k x y refl a.0.1)
+      rw (a.0.0, by-alike ps qs a.1) (object-by (eqb k 0x60) (cond ex (by_member ps) otherwise) k x y refl a.0.1)
 
   pub met-append : (l m : List (How × List ℕ)) → met (l ++ m) i ≡ met l i ++ met m i
   unfolding met

@@ -30,15 +30,15 @@ at e = fields 0x63 (ident (own a) ∷ fields 0x71 (e ∷ []) ∷ [])
 abbrev pub n : ℕ
 n = 30
 
-abbrev pub literal-n : List ℕ
-literal-n = two n ++ four 1
+abbrev pub literal_n : List ℕ
+literal_n = two n ++ four 1
 
 abbrev pub ay : Field
 ay = member (ident (own a)) y
 
 -- import * as i from './n'
-abbrev pub spaced-n : List ℕ → Field
-spaced-n i = field 0x10 literal-n (listed (namespace i ∷ []))
+abbrev pub spaced_n : List ℕ → Field
+spaced_n i = field 0x10 literal_n (listed (namespace i ∷ []))
 
 -- behind import * as a from './m'
 abbrev pub behind : List Field → Fields
@@ -93,47 +93,47 @@ abbrev pub late : Fields
 late = listed (statement ax ∷ spaced ∷ [])
 
 -- share no source: import * as a from './m'; import * as b from './m'; a.x
-abbrev pub shared-source : Fields
-shared-source = behind (imports (namespace (own b) ∷ []) ∷ statement ax ∷ [])
+abbrev pub shared_source : Fields
+shared_source = behind (imports (namespace (own b) ∷ []) ∷ statement ax ∷ [])
 
 -- share no local id: import * as a from './m'; import * as a from './n'; a.x
-abbrev pub shared-local : Fields
-shared-local = behind (spaced-n (own a) ∷ statement ax ∷ [])
+abbrev pub shared_local : Fields
+shared_local = behind (spaced_n (own a) ∷ statement ax ∷ [])
 
 -- locals have own local context: import * as x from './m'; x.x, where x has the export context of './m'
-abbrev pub other-context : Fields
-other-context = listed (imports (namespace (exp x) ∷ []) ∷ statement (member (ident (exp x)) x) ∷ [])
+abbrev pub other_context : Fields
+other_context = listed (imports (namespace (exp x) ∷ []) ∷ statement (member (ident (exp x)) x) ∷ [])
 
 -- a 22 is sole: import d, * as a from './m'; a.x
-abbrev pub in-company : Fields
-in-company = listed (imports (default (own d) ∷ namespace (own a) ∷ []) ∷ statement ax ∷ [])
+abbrev pub in_company : Fields
+in_company = listed (imports (default (own d) ∷ namespace (own a) ∷ []) ∷ statement ax ∷ [])
 
 -- namespace ids stand elsewhere only as ..: a.x; a.y = b
 abbrev pub as-target : Fields
 as-target = behind (statement ax ∷ statement (fields 0x66 (ay ∷ ident (own b) ∷ [])) ∷ [])
 
 -- with *object* set: a.x; f(a).y
-abbrev pub below-object : Fields
-below-object = behind (statement ax ∷ statement (member (call (ident (own f)) (ident (own a))) y) ∷ [])
+abbrev pub below_object : Fields
+below_object = behind (statement ax ∷ statement (member (call (ident (own f)) (ident (own a))) y) ∷ [])
 
 -- as shorthand: a.x; ({ a })
-abbrev pub as-shorthand : Fields
-as-shorthand = behind (statement ax ∷ statement (fields 0x69 (leaf 0x77 (own a) ∷ [])) ∷ [])
+abbrev pub as_shorthand : Fields
+as_shorthand = behind (statement ax ∷ statement (fields 0x69 (leaf 0x77 (own a) ∷ [])) ∷ [])
 
 -- with a private name: a.#x
-abbrev pub a-private : Field
-a-private = statement (fields 0x63 (ident (own a) ∷ leaf 0x72 (two x) ∷ []))
+abbrev pub a_private : Field
+a_private = statement (fields 0x63 (ident (own a) ∷ leaf 0x72 (two x) ∷ []))
 
-abbrev pub with-private : Fields
-with-private = behind (a-private ∷ [])
+abbrev pub with_private : Fields
+with_private = behind (a_private ∷ [])
 
 -- no namespace is named require: import * as require from './m'; require('./m')
-abbrev pub namespace-require : Fields
-namespace-require = listed (imports (namespace (own 0) ∷ []) ∷ statement (requiring (own 0)) ∷ [])
+abbrev pub namespace_require : Fields
+namespace_require = listed (imports (namespace (own 0) ∷ []) ∷ statement (requiring (own 0)) ∷ [])
 
 -- nor a property of one: const q = a.require('./n')
-abbrev pub property-require : Fields
-property-require = behind (const (own q) (call (member (ident (own a)) 0) (leaf 0x61 literal-n)) ∷ [])
+abbrev pub property_require : Fields
+property_require = behind (const (own q) (call (member (ident (own a)) 0) (leaf 0x61 literal_n)) ∷ [])
 
 -- the five conjuncts of `well_placed`, in its order
 abbrev clauses : Fields → List Bool
@@ -142,7 +142,7 @@ clauses items =
     imports_precede items ∷ shares_none fs ∷ all (own_locals 0) fs ∷ all sole_namespace fs ∷ all (fit_namespaces items) fs ∷ []
 
 each-breaks-one : map clauses
-    (late ∷ shared-source ∷ shared-local ∷ other-context ∷ in-company ∷ as-target ∷ below-object ∷ as-shorthand ∷ with-private ∷ namespace-require ∷ property-require ∷ []) ≡
+    (late ∷ shared_source ∷ shared_local ∷ other_context ∷ in_company ∷ as-target ∷ below_object ∷ as_shorthand ∷ with_private ∷ namespace_require ∷ property_require ∷ []) ≡
     (false ∷ true ∷ true ∷ true ∷ true ∷ []) ∷
     (true ∷ false ∷ true ∷ true ∷ true ∷ []) ∷
     (true ∷ false ∷ true ∷ true ∷ true ∷ []) ∷

@@ -1,7 +1,7 @@
 -- 'Well placed', clause by clause. Document 01, 'Records and resolving'.
 use Rattle.std.specs.Prelude.{ℕ, zero, suc, Bool, true, false, not, cond, ◌&&◌, ◌||◌, List, [], ◌∷◌}
 use Rattle.std.proofs.Math.Option.{Option, none as nothing, some}
-use Rattle.scope.specs.Id.{require-atom, local}
+use Rattle.scope.specs.Id.{require_atom, local}
 use Rattle.tree.specs.Layout.{two, four, same, id_at, name_of, context_of, value_of}
 use Rattle.tree.specs.Tree.{Field, Fields, none, more, fixed_of, parts_of}
 use Rattle.inputs.specs.Lists.{is_some, among}
@@ -65,7 +65,7 @@ namespaces_of f = local_ids (keep (has 0x22) (parts_of f))
 
 -- 'namespace ids stand elsewhere only as ..'; 'neither a namespace nor a property of one is named require'
 unfoldable pub fit_namespace : List How → List ℕ → Bool
-fit_namespace hs i = all (λ h. not (is_misplaced h)) hs && not (same (name_of i) (two require-atom)) && not (among (two require-atom) (properties hs))
+fit_namespace hs i = all (λ h. not (is_misplaced h)) hs && not (same (name_of i) (two require_atom)) && not (among (two require_atom) (properties hs))
 
 unfoldable pub fit_namespaces : Fields → Field → Bool
 fit_namespaces items f = all (λ i. fit_namespace (stands items i) i) (namespaces_of f)

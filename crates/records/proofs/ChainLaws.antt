@@ -10,7 +10,7 @@ use lib.ListN.{length, get_or, set, drop, length-set, length-drop, drop_of_lengt
 use lib.Seq.{drop-cons, get_or-set_same, get_or-set_other}
 use borrow.Author.Tests.{eq-eqb, ne_eqb, eqb-true, eqb-false}
 use Rattle.writer.specs.Wrote.{Wrote}
-use Rattle.writer.proofs.Wrote.{wrote_none, wrote_then, wrote_as}
+use Rattle.writer.proofs.Wrote.{wrote-none, wrote-then, wrote-as}
 use Rattle.tree.specs.Layout.{two, value_of}
 use Rattle.tree.specs.Tree.{encodes}
 use Rattle.records.specs.Model.{gathered_of, taken_of}
@@ -82,8 +82,8 @@ module _ (g : Place → ℕ) (k : ℕ) where
   chained-pass p ps e = ap (λ (c : Bool). cond c (p ∷ ps) (chained g k ps)) (ne_eqb (g p) k e)
 
 -- the rest of a list from a place on
-rest_more : (ps : List Place) (i : ℕ) → i < length ps → drop i ps ≡ get_or ps i nowhere ∷ drop (i + 1) ps
-rest_more ps i h = let z : suc i ≡ i + 1 = omega arith in drop-cons ps i nowhere h ∙ ap (λ (j : ℕ). get_or ps i nowhere ∷ drop j ps) z
+rest-more : (ps : List Place) (i : ℕ) → i < length ps → drop i ps ≡ get_or ps i nowhere ∷ drop (i + 1) ps
+rest-more ps i h = let z : suc i ≡ i + 1 = omega arith in drop-cons ps i nowhere h ∙ ap (λ (j : ℕ). get_or ps i nowhere ∷ drop j ps) z
 
 -- a chain goes on behind
 chain-later : (g : Place → ℕ) (k : ℕ) (ps : List Place) (i j : ℕ) → i < length ps → drop j ps ≡ chained g k (drop (i + 1) ps) → i < j
@@ -100,21 +100,21 @@ pub record Along (P : Type 0) (g : Place → ℕ) (k : ℕ) (f : Place → List 
   pub first : i < length ps → g (get_or ps i nowhere) ≡ k
   pub is : P → {l'' : List ℕ} {q : ℕ} → Wrote l' p (spread f (drop i ps)) l'' q → Wrote l o (spread f ps) l'' q
 
-on_chain : (g : Place → ℕ) (k : ℕ) (ps qs : List Place) (i : ℕ) → drop i ps ≡ chained g k qs → i < length ps → g (get_or ps i nowhere) ≡ k
-on_chain g k ps qs i e h = chained-first g k qs (drop (i + 1) ps) (get_or ps i nowhere) (sym e ∙ rest_more ps i h)
+on-chain : (g : Place → ℕ) (k : ℕ) (ps qs : List Place) (i : ℕ) → drop i ps ≡ chained g k qs → i < length ps → g (get_or ps i nowhere) ≡ k
+on-chain g k ps qs i e h = chained-first g k qs (drop (i + 1) ps) (get_or ps i nowhere) (sym e ∙ rest-more ps i h)
 
 -- each place of a list that was read
-each_at : (f : Place → ℕ) (s : List ℕ) (ps : List Place) (i : ℕ) → i < length ps → EachRead f s ps → ItemRead s (f (get_or ps i nowhere))
-each_at f s [] zero h a = absurd (omega arith)
-each_at f s [] (suc i) h a = absurd (omega arith)
-each_at f s (p ∷ ps) zero h a = a.0
-each_at f s (p ∷ ps) (suc i) h a = each_at f s ps i (omega arith) a.1
+each-at : (f : Place → ℕ) (s : List ℕ) (ps : List Place) (i : ℕ) → i < length ps → EachRead f s ps → ItemRead s (f (get_or ps i nowhere))
+each-at f s [] zero h a = absurd (omega arith)
+each-at f s [] (suc i) h a = absurd (omega arith)
+each-at f s (p ∷ ps) zero h a = a.0
+each-at f s (p ∷ ps) (suc i) h a = each-at f s ps i (omega arith) a.1
 
 -- nothing is written of a place off the chain
 module _ (P : Type 0) (g : Place → ℕ) (k : ℕ) (f : Place → List ℕ) (off : P → (p : Place) → (g p ≡ k → ⊥) → f p ≡ []) where
   module _ (ps : List Place) where
     along-start : {l : List ℕ} {o : ℕ} (i : ℕ) → drop i ps ≡ chained g k ps → Along P g k f ps l o i l o
-    along-start i e = record { size = refl; first = on_chain g k ps ps i e; is = λ r w. wrote_as w (ap (spread f) e ∙ chained-spread g k f (off r) ps) }
+    along-start i e = record { size = refl; first = on-chain g k ps ps i e; is = λ r w. wrote-as w (ap (spread f) e ∙ chained-spread g k f (off r) ps) }
 
     along-step : {Q : Type 0} {l l' l'' : List ℕ} {o p q : ℕ} (i j : ℕ) → i < length ps → drop j ps ≡ chained g (g (get_or ps i nowhere)) (drop (i + 1) ps) → (P → Q) →
         Along P g k f ps l o i l' p → WroteIf Q (f (get_or ps i nowhere)) l' p l'' q → Along P g k f ps l o j l'' q
@@ -123,17 +123,17 @@ module _ (P : Type 0) (g : Place → ℕ) (k : ℕ) (f : Place → List ℕ) (of
         let z : drop j ps ≡ chained g k (drop (i + 1) ps) = e ∙ ap (λ (c : ℕ). chained g c (drop (i + 1) ps)) (a.first h) in
         record {
           size = w.size ∙ a.size;
-          first = on_chain g k ps (drop (i + 1) ps) j z;
+          first = on-chain g k ps (drop (i + 1) ps) j z;
           is = λ u v.
               a.is u
-              (wrote_as (wrote_then (w.is (r u)) v)
+              (wrote-as (wrote-then (w.is (r u)) v)
               (ap (λ (x : List ℕ). f (get_or ps i nowhere) ++ x) (ap (spread f) z ∙ chained-spread g k f (off u) (drop (i + 1) ps))
-              ∙ ap (spread f) (sym (rest_more ps i h))));
+              ∙ ap (spread f) (sym (rest-more ps i h))));
         }
 
     along-end : {l l' : List ℕ} {o p : ℕ} (i : ℕ) → length ps ≤ i → Along P g k f ps l o i l' p → WroteIf P (spread f ps) l o l' p
     unfolding spread
-    along-end i h a = record { size = a.size; is = λ u. a.is u (wrote_as wrote_none (sym (ap (spread f) (drop_of_length-le ps {i = i} h)))) }
+    along-end i h a = record { size = a.size; is = λ u. a.is u (wrote-as wrote-none (sym (ap (spread f) (drop_of_length-le ps {i = i} h)))) }
 
   -- the same by the first n places of an array
   module _ (a : List ℕ) (n : ℕ) where
@@ -143,15 +143,15 @@ module _ (P : Type 0) (g : Place → ℕ) (k : ℕ) (f : Place → List ℕ) (of
     along-next m s r {l' = l'} {l'' = l''} {p = p} {q = q} i j h e b w =
         let lt : i < length (places_in a n) = let z = places-length a n in omega arith in
         let here = sym (places-at a n i h) in
-        along-step (places_in a n) i j lt (e ∙ ap (λ (x : Place). chained g (g x) (drop (i + 1) (places_in a n))) here) (λ u. each_at m s (places_in a n) i lt (r u)) b
+        along-step (places_in a n) i j lt (e ∙ ap (λ (x : Place). chained g (g x) (drop (i + 1) (places_in a n))) here) (λ u. each-at m s (places_in a n) i lt (r u)) b
         (subst (λ (x : Place). WroteIf (ItemRead s (m x)) (f x) l' p l'' q) here w)
 
     along-last : {l l' : List ℕ} {o p : ℕ} (i : ℕ) → n ≤ i → Along P g k f (places_in a n) l o i l' p → WroteIf P (spread f (places_in a n)) l o l' p
     along-last i h b = along-end (places_in a n) i (let z = places-length a n in omega arith) b
 
 -- the chain of the place i goes on behind it
-pub goes_later : (work a : List ℕ) (n i : ℕ) → Linked work a n 0 → i < n → i < next_in a i
-goes_later work a n i w h =
+pub goes-later : (work a : List ℕ) (n i : ℕ) → Linked work a n 0 → i < n → i < next_in a i
+goes-later work a n i w h =
     chain-later (chain_in work) (chain_in work (place_in a i)) (places_in a n) i (next_in a i) (let z = places-length a n in omega arith) (w.goes i (omega arith) h)
 
 -- ---- Along the chain of a source
@@ -189,15 +189,15 @@ module _ (b : Bool) (v : ℕ) (x work out a : List ℕ) where
   pair-elsewhere : EachRead out_of out (imports_in a) × (value_of x ≡ two v) → (p : Place) → (chain_in work p ≡ v % 2048 → ⊥) → pair_bytes b x work out p ≡ []
   pair-elsewhere r p h = pair-off b work v p h out x r.1
 
-  pub pairs_start : Charted work a → {l : List ℕ} {o i : ℕ} → i ≡ get_or a (v % 2048) 0 → PairsOn b v x work out a l o i l o
-  pairs_start w {i = i} e =
+  pub pairs-start : Charted work a → {l : List ℕ} {o i : ℕ} → i ≡ get_or a (v % 2048) 0 → PairsOn b v x work out a l o i l o
+  pairs-start w {i = i} e =
       along-start (EachRead out_of out (imports_in a) × (value_of x ≡ two v)) (chain_in work) (v % 2048) (pair_bytes b x work out) pair-elsewhere
       (imports_in a) i (ap (λ (j : ℕ). drop j (imports_in a)) e ∙ w.linked.starts (v % 2048) (omega arith))
 
-  pub pairs_next : Charted work a → {l l' l'' : List ℕ} {o p q at made i j : ℕ} → i < count_in a → at ≡ work_of (place_in a i) → made ≡ out_of (place_in a i) → j ≡ next_in a i →
+  pub pairs-next : Charted work a → {l l' l'' : List ℕ} {o p q at made i j : ℕ} → i < count_in a → at ≡ work_of (place_in a i) → made ≡ out_of (place_in a i) → j ≡ next_in a i →
       PairsOn b v x work out a l o i l' p → WroteIf (ItemRead out made) (encodes (sieve b (taken_of x (item_at work at) (item_at out made)))) l' p l'' q →
       PairsOn b v x work out a l o j l'' q
-  pairs_next w {i = i} {j = j} lt e d f u y =
+  pairs-next w {i = i} {j = j} lt e d f u y =
       along-next (EachRead out_of out (imports_in a) × (value_of x ≡ two v)) (chain_in work) (v % 2048) (pair_bytes b x work out) pair-elsewhere a (count_in a) out_of out (λ r. r.0) i j lt
       (ap (λ (m : ℕ). drop m (imports_in a)) f ∙ w.linked.goes i (omega arith) lt) u (pair-placed b x work (place_in a i) e out d y)
 
@@ -254,7 +254,7 @@ module _ (work a : List ℕ) (n i k : ℕ) (fits : i < n) (few : n ≤ 3641) (lo
       size = let z = places-length a n in omega arith
 
       front : drop i (places_in a n) ≡ place_in a i ∷ drop (i + 1) (places_in a n)
-      front = rest_more (places_in a n) i size ∙ ap (λ (p : Place). p ∷ drop (i + 1) (places_in a n)) (places-at a n i fits)
+      front = rest-more (places_in a n) i size ∙ ap (λ (p : Place). p ∷ drop (i + 1) (places_in a n)) (places-at a n i fits)
 
       by : (j : ℕ) → j < 2048 → (c : Bool) → eqb j k ≡ c → drop (get_or put2 j 0) (places_in a n) ≡ chained (chain_in work) j (drop i (places_in a n))
       by j u true q =

@@ -12,7 +12,7 @@ use Rattle.tree.specs.Layout.{Bytes, same, two, value_of, literal_value, literal
 use Rattle.tree.specs.Tree.{Field, field, Fields, none, more, tag_of, fixed_of, parts_of, encode, encodes}
 use Rattle.tree.specs.Access.{fixed_at, extent_at}
 use Rattle.tree.specs.Standing.{row_on, row, row_at}
-use Rattle.tree.proofs.StandingLaws.{row_more, row-none, tree-upto, tree-short}
+use Rattle.tree.proofs.StandingLaws.{row-more, row-none, tree-upto, tree-short}
 use Rattle.tree.proofs.TreeLaws.{encodes-none}
 use Rattle.metadata.specs.Metadata.{append}
 use Rattle.metadata.proofs.EncodeLaws.{framed-field, encodes-append}
@@ -20,12 +20,12 @@ use Rattle.inputs.specs.Lists.{among}
 use Rattle.inputs.specs.Fields.{has, keep, sole}
 use Rattle.writer.specs.Bytes.{framed}
 use Rattle.writer.specs.Wrote.{Wrote, Opened, closed}
-use Rattle.writer.proofs.Wrote.{wrote_then, wrote_as, wrote-field}
+use Rattle.writer.proofs.Wrote.{wrote-then, wrote-as, wrote-field}
 use Rattle.extraction_rules.specs.State.{Record, State}
 use Rattle.extraction_rules.specs.First.{specifiers_in}
 use Rattle.extraction_rules.specs.Second.{lose_namespaces}
 use Rattle.extraction_rules.specs.Records.{record_fields, forced_fields}
-use Rattle.extraction_rules.proofs.TestLaws.{cond_of}
+use Rattle.extraction_rules.proofs.TestLaws.{cond-of}
 use Rattle.extraction_rules.proofs.FirstLaws.{lose-literal}
 use Rattle.state.specs.declared.Literal.{Literal}
 use Rattle.state.specs.Cells.{Env, literal_by, Shows}
@@ -41,7 +41,7 @@ use Rattle.records.proofs.SpecifierLaws.{item-is, item-none, sieve-none, sieve-a
 -- ---- What is written under a premise
 
 pub if-as : {P : Type 0} {bs cs l l' : List ℕ} {o p : ℕ} → WroteIf P bs l o l' p → bs ≡ cs → WroteIf P cs l o l' p
-if-as w e = record { size = w.size; is = λ h. wrote_as (w.is h) e }
+if-as w e = record { size = w.size; is = λ h. wrote-as (w.is h) e }
 
 pub if-from : {P Q : Type 0} {bs l l' : List ℕ} {o p : ℕ} → (Q → P) → WroteIf P bs l o l' p → WroteIf Q bs l o l' p
 if-from k w = record { size = w.size; is = λ h. w.is (k h) }
@@ -64,16 +64,16 @@ parts-read e r = (_, read-parts r e)
 -- ---- The imports of a source
 
 module _ (b : Bool) (s : List ℕ) (at : ℕ) (a : ℕ) where
-  pub gathered_none : (tag_of (item_at s at) ≡ 0x10 → ⊥) → encodes (sieve b (gathered_of (two a) (item_at s at))) ≡ []
+  pub gathered-none : (tag_of (item_at s at) ≡ 0x10 → ⊥) → encodes (sieve b (gathered_of (two a) (item_at s at))) ≡ []
   unfolding gathered_of
-  gathered_none h =
+  gathered-none h =
       sieve-nothing b (gathered_of (two a) (item_at s at))
       (ap (λ (c : Bool). cond (c && same (value_of (fixed_of (item_at s at))) (two a)) (specifiers_in (parts_of (item_at s at))) none) (ne_eqb (tag_of (item_at s at)) 0x10 h))
 
   module _ (stop : ℕ) (i : ImportIs s at stop) (y : Bytes s) (k : a < 65536) where
-    by_value : gathered_of (two a) (item_at s at) ≡ cond (eqb (literal_value s (at + 3)) a) (specifiers_in (row_at s (at + 9) stop)) none
+    by-value : gathered_of (two a) (item_at s at) ≡ cond (eqb (literal_value s (at + 3)) a) (specifiers_in (row_at s (at + 9) stop)) none
     unfolding gathered_of
-    by_value =
+    by-value =
         let u = i.inside in
         let v = i.fits in
         ap (gathered_of (two a)) i.item
@@ -82,12 +82,12 @@ module _ (b : Bool) (s : List ℕ) (at : ℕ) (a : ℕ) where
     pub gathered-is : literal_value s (at + 3) ≡ a → encodes (sieve b (specifiers_in (row_at s (at + 9) stop))) ≡ encodes (sieve b (gathered_of (two a) (item_at s at)))
     gathered-is e =
         ap (λ (fs : Fields). encodes (sieve b fs))
-        (sym (by_value ∙ ap (λ (c : Bool). cond c (specifiers_in (row_at s (at + 9) stop)) none) (eq-eqb (literal_value s (at + 3)) a e)))
+        (sym (by-value ∙ ap (λ (c : Bool). cond c (specifiers_in (row_at s (at + 9) stop)) none) (eq-eqb (literal_value s (at + 3)) a e)))
 
     pub gathered-differs : (literal_value s (at + 3) ≡ a → ⊥) → encodes (sieve b (gathered_of (two a) (item_at s at))) ≡ []
     gathered-differs e =
         sieve-nothing b (gathered_of (two a) (item_at s at))
-        (by_value ∙ ap (λ (c : Bool). cond c (specifiers_in (row_at s (at + 9) stop)) none) (ne_eqb (literal_value s (at + 3)) a e))
+        (by-value ∙ ap (λ (c : Bool). cond c (specifiers_in (row_at s (at + 9) stop)) none) (ne_eqb (literal_value s (at + 3)) a e))
 
 module _ (b : Bool) (v : List ℕ) (s : List ℕ) (at end : ℕ) where
   pub imports-past : end < at → encodes (sieve b (gathered v (row_at s at end))) ≡ []
@@ -103,7 +103,7 @@ module _ (b : Bool) (v : List ℕ) (s : List ℕ) (at : ℕ) where
       encodes (sieve b (gathered v (row_at s at (length s)))) ≡ encodes (sieve b (gathered_of v (item_at s at))) ++ encodes (sieve b (gathered v (row_at s stop (length s))))
   unfolding gathered
   imports-more stop le e =
-      ap (λ (fs : Fields). encodes (sieve b (gathered v fs))) (row_more s at (length s) stop le e)
+      ap (λ (fs : Fields). encodes (sieve b (gathered v fs))) (row-more s at (length s) stop le e)
       ∙ ap (λ (f : Field). encodes (sieve b (append (gathered_of v f) (gathered v (row_at s stop (length s)))))) (sym (item-is s at stop e))
       ∙ sieve-bytes b (gathered_of v (item_at s at)) (gathered v (row_at s stop (length s)))
 
@@ -120,8 +120,8 @@ module _ (s : List ℕ) (at : ℕ) (l : List ℕ) where
     unfolding whole_of
     by-literal = ap (whole_of l) i.item
 
-    pub whole_is : same_literal (literal_at s (at + 3)) l ≡ true → is_namespace (sole (specifiers_in (row_at s (at + 9) stop))) ≡ whole_of l (item_at s at)
-    whole_is e = sym (by-literal ∙ ap (λ (c : Bool). c && is_namespace (sole (specifiers_in (row_at s (at + 9) stop)))) e)
+    pub whole-is : same_literal (literal_at s (at + 3)) l ≡ true → is_namespace (sole (specifiers_in (row_at s (at + 9) stop))) ≡ whole_of l (item_at s at)
+    whole-is e = sym (by-literal ∙ ap (λ (c : Bool). c && is_namespace (sole (specifiers_in (row_at s (at + 9) stop)))) e)
 
     pub whole-differs : same_literal (literal_at s (at + 3)) l ≡ false → false ≡ whole_of l (item_at s at)
     whole-differs e = sym (by-literal ∙ ap (λ (c : Bool). c && is_namespace (sole (specifiers_in (row_at s (at + 9) stop)))) e)
@@ -144,13 +144,13 @@ module _ (b : Bool) (s : List ℕ) (at : ℕ) where
       pub named-is : starts_named (specifiers_in (row_at s c stop)) ≡ true → encodes (sieve b (specifiers_in (row_at s c stop))) ≡ encodes (sieve b (named_parts (item_at s at)))
       named-is h = ap (λ (fs : Fields). encodes (sieve b fs)) (sym (by-start ∙ ap (λ (y : Bool). cond y (specifiers_in (row_at s c stop)) none) h))
 
-      pub named_other : starts_named (specifiers_in (row_at s c stop)) ≡ false → encodes (sieve b (named_parts (item_at s at))) ≡ []
-      named_other h = sieve-nothing b (named_parts (item_at s at)) (by-start ∙ ap (λ (y : Bool). cond y (specifiers_in (row_at s c stop)) none) h)
+      pub named-other : starts_named (specifiers_in (row_at s c stop)) ≡ false → encodes (sieve b (named_parts (item_at s at))) ≡ []
+      named-other h = sieve-nothing b (named_parts (item_at s at)) (by-start ∙ ap (λ (y : Bool). cond y (specifiers_in (row_at s c stop)) none) h)
 
 module _ (b : Bool) (l : List ℕ) (w g : Field) where
-  by_whole : taken_of l w g ≡ cond (whole_of l w) (named_parts g) none
+  by-whole : taken_of l w g ≡ cond (whole_of l w) (named_parts g) none
   unfolding taken_of named_parts
-  by_whole = by (whole_of l w)
+  by-whole = by (whole_of l w)
     where
       by : (c : Bool) →
           cond (c && starts_named (specifiers_in (parts_of g))) (specifiers_in (parts_of g)) none ≡ cond c
@@ -158,41 +158,41 @@ module _ (b : Bool) (l : List ℕ) (w g : Field) where
       by true = refl
       by false = refl
 
-  pub pair_is : whole_of l w ≡ true → encodes (sieve b (named_parts g)) ≡ encodes (sieve b (taken_of l w g))
-  pair_is h = ap (λ (fs : Fields). encodes (sieve b fs)) (sym (by_whole ∙ ap (λ (c : Bool). cond c (named_parts g) none) h))
+  pub pair-is : whole_of l w ≡ true → encodes (sieve b (named_parts g)) ≡ encodes (sieve b (taken_of l w g))
+  pair-is h = ap (λ (fs : Fields). encodes (sieve b fs)) (sym (by-whole ∙ ap (λ (c : Bool). cond c (named_parts g) none) h))
 
   pub pair-other : whole_of l w ≡ false → encodes (sieve b (taken_of l w g)) ≡ []
-  pair-other h = sieve-nothing b (taken_of l w g) (by_whole ∙ ap (λ (c : Bool). cond c (named_parts g) none) h)
+  pair-other h = sieve-nothing b (taken_of l w g) (by-whole ∙ ap (λ (c : Bool). cond c (named_parts g) none) h)
 
 taken-end : (l : List ℕ) (ws : Fields) → taken l ws none ≡ none
 unfolding taken
 taken-end l none = refl
 taken-end l (more w ws) = refl
 
-taken_start : (l : List ℕ) (gs : Fields) → taken l none gs ≡ none
+taken-start : (l : List ℕ) (gs : Fields) → taken l none gs ≡ none
 unfolding taken
-taken_start l gs = refl
+taken-start l gs = refl
 
 module _ (b : Bool) (l : List ℕ) (s : List ℕ) (at end : ℕ) (r : List ℕ) (at' end' : ℕ) where
   pub taken-past : end < at → encodes (sieve b (taken l (row_at s at end) (row_at r at' end'))) ≡ []
-  taken-past h = sieve-nothing b (taken l (row_at s at end) (row_at r at' end')) (ap (λ (ws : Fields). taken l ws (row_at r at' end')) (row-past s at end h) ∙ taken_start l (row_at r at' end'))
+  taken-past h = sieve-nothing b (taken l (row_at s at end) (row_at r at' end')) (ap (λ (ws : Fields). taken l ws (row_at r at' end')) (row-past s at end h) ∙ taken-start l (row_at r at' end'))
 
   pub taken-past-out : end' < at' → encodes (sieve b (taken l (row_at s at end) (row_at r at' end'))) ≡ []
   taken-past-out h = sieve-nothing b (taken l (row_at s at end) (row_at r at' end')) (ap (taken l (row_at s at end)) (row-past r at' end' h) ∙ taken-end l (row_at s at end))
 
-  pub taken_none : at ≤ end → extent_at s at end ≡ Short → encodes (sieve b (taken l (row_at s at end) (row_at r at' end'))) ≡ []
-  taken_none le e = sieve-nothing b (taken l (row_at s at end) (row_at r at' end')) (ap (λ (ws : Fields). taken l ws (row_at r at' end')) (row-none s at end le e) ∙ taken_start l (row_at r at' end'))
+  pub taken-none : at ≤ end → extent_at s at end ≡ Short → encodes (sieve b (taken l (row_at s at end) (row_at r at' end'))) ≡ []
+  taken-none le e = sieve-nothing b (taken l (row_at s at end) (row_at r at' end')) (ap (λ (ws : Fields). taken l ws (row_at r at' end')) (row-none s at end le e) ∙ taken-start l (row_at r at' end'))
 
   pub taken-none-out : at' ≤ end' → extent_at r at' end' ≡ Short → encodes (sieve b (taken l (row_at s at end) (row_at r at' end'))) ≡ []
   taken-none-out le e = sieve-nothing b (taken l (row_at s at end) (row_at r at' end')) (ap (taken l (row_at s at end)) (row-none r at' end' le e) ∙ taken-end l (row_at s at end))
 
 module _ (b : Bool) (l : List ℕ) (s : List ℕ) (at : ℕ) (r : List ℕ) (at' : ℕ) where
-  pub taken_more : (stop stop' : ℕ) → at ≤ length s → extent_at s at (length s) ≡ Upto stop → at' ≤ length r → extent_at r at' (length r) ≡ Upto stop' →
+  pub taken-more : (stop stop' : ℕ) → at ≤ length s → extent_at s at (length s) ≡ Upto stop → at' ≤ length r → extent_at r at' (length r) ≡ Upto stop' →
       encodes (sieve b (taken l (row_at s at (length s)) (row_at r at' (length r)))) ≡ encodes (sieve b (taken_of l (item_at s at) (item_at r at'))) ++
       encodes (sieve b (taken l (row_at s stop (length s)) (row_at r stop' (length r))))
   unfolding taken
-  taken_more stop stop' le e le' e' =
-      ap₂ (λ (ws gs : Fields). encodes (sieve b (taken l ws gs))) (row_more s at (length s) stop le e) (row_more r at' (length r) stop' le' e')
+  taken-more stop stop' le e le' e' =
+      ap₂ (λ (ws gs : Fields). encodes (sieve b (taken l ws gs))) (row-more s at (length s) stop le e) (row-more r at' (length r) stop' le' e')
       ∙ ap₂ (λ (w g : Field). encodes (sieve b (append (taken_of l w g) (taken l (row_at s stop (length s)) (row_at r stop' (length r))))))
       (sym (item-is s at stop e)) (sym (item-is r at' stop' e'))
       ∙ sieve-bytes b (taken_of l (item_at s at) (item_at r at')) (taken l (row_at s stop (length s)) (row_at r stop' (length r)))
@@ -208,7 +208,7 @@ record-written b work out lit a u v w x k z =
     record {
       size = z;
       is = λ h.
-          wrote_as (wrote-field u (wrote_then v (wrote_then (w.is h.0.0) (x.is (h.0.1, h.1)))) k)
+          wrote-as (wrote-field u (wrote-then v (wrote-then (w.is h.0.0) (x.is (h.0.1, h.1)))) k)
           (ap (λ (y : List ℕ). framed 0x80 (lit ++ y)) (sym (sieve-bytes b (gathered (two a) (items_in work)) (taken lit (items_in work) (items_in out))))
           ∙ ap (λ (y : List ℕ). framed 0x80 (lit ++ encodes (sieve b (append (gathered y (items_in work)) (taken lit (items_in work) (items_in out)))))) (sym h.1)
           ∙ framed-field 0x80 lit (sieve b (append (gathered (value_of lit) (items_in work)) (taken lit (items_in work) (items_in out)))));
@@ -221,7 +221,7 @@ rebuilt-specifiers : (works outs : Fields) (forced : List (List ℕ)) (r : Recor
 unfolding rebuilt lose_namespaces sieve
 rebuilt-specifiers works outs forced r b x e h =
     ap (λ (y : List ℕ). (lose_namespaces forced (record { literal = y; specifiers = specifiers_of works outs y })).specifiers) e
-    ∙ cond_of (λ (q : Record). q.specifiers) (among (value_of x) forced) (record { literal = x; specifiers = specifiers_of works outs x })
+    ∙ cond-of (λ (q : Record). q.specifiers) (among (value_of x) forced) (record { literal = x; specifiers = specifiers_of works outs x })
     (record { literal = x; specifiers = keep (λ f. not (has 0x22 f)) (specifiers_of works outs x) })
     ∙ ap (λ (c : Bool). cond c (specifiers_of works outs x) (keep (λ f. not (has 0x22 f)) (specifiers_of works outs x))) h
 
@@ -231,13 +231,13 @@ rebuilt-literal works outs forced r = lose-literal forced (record { literal = r.
 
 module _ (tree work : List ℕ) (lit : Literal) {t : List ℕ} {i : ℕ} (g : Holds (λ s. s.collected) (λ q. q.literal) i t (λ x. literal_by x lit)) where
   -- the literal's value is that of its bytes
-  pub valued_by : Holds (λ s. s.collected) (λ q. value_of q.literal) i t (λ _. two lit.value.0) → {x : Env} (s : State) → Shows x t s →
+  pub valued-by : Holds (λ s. s.collected) (λ q. value_of q.literal) i t (λ _. two lit.value.0) → {x : Env} (s : State) → Shows x t s →
       Placing tree work x → value_of (literal_in tree work lit.place) ≡ two lit.value.0
-  valued_by v s w k =
+  valued-by v s w k =
       let a = g.is s w in
       let c = v.is s w in
       let same : c.0 ≡ a.0 = cons-inj (sym c.2 ∙ a.2) in
-      ap value_of (sym (k.literals-placed lit.place) ∙ sym a.1 ∙ ap (λ (r : Record). r.literal) (sym same)) ∙ c.1
+      ap value_of (sym (k.literals_placed lit.place) ∙ sym a.1 ∙ ap (λ (r : Record). r.literal) (sym same)) ∙ c.1
 
   pub collected-more : (out : List ℕ) (b : Bool) → Holds (λ s. s.collected) (λ q. value_of q.literal) i t (λ _. two lit.value.0) →
       Tells (λ s. among (two lit.value.0) s.forced) t b → {x : Env} (s : State) → Shows x t s → Placing tree work x →
@@ -249,8 +249,8 @@ module _ (tree work : List ℕ) (lit : Literal) {t : List ℕ} {i : ℕ} (g : Ho
       let a = g.is s w in
       let R = rebuilt (items_in work) (items_in out) s.forced in
       let l = literal_in tree work lit.place in
-      let is : a.0.literal ≡ l = a.1 ∙ k.literals-placed lit.place in
-      let forced : among (value_of l) s.forced ≡ b = ap (λ (y : List ℕ). among y s.forced) (valued_by v s w k) ∙ sym (f.is s w) in
+      let is : a.0.literal ≡ l = a.1 ∙ k.literals_placed lit.place in
+      let forced : among (value_of l) s.forced ≡ b = ap (λ (y : List ℕ). among y s.forced) (valued-by v s w k) ∙ sym (f.is s w) in
       ap (λ (q : List Record). encodes (record_fields 0x80 (map R q))) a.2
       ∙ ap (λ (h : Field). encode h ++ encodes (record_fields 0x80 (map R (drop (i + 1) s.collected))))
       (ap₂ (field 0x80) (rebuilt-literal (items_in work) (items_in out) s.forced a.0 ∙ is)
@@ -263,7 +263,7 @@ collected-none works outs forced l e = ap (λ (m : List Record). encodes (record
 pub onward-if : {P : Env → Type 0} {Q : Type 0} {f g h : State → List ℕ} {t l l' l'' bs : List ℕ} {o p q : ℕ} → Onward P f g t l o l' p →
     ((x : Env) (s : State) → Shows x t s → P x → Q × (g s ≡ bs ++ h s)) → WroteIf Q bs l' p l'' q → Onward P f h t l o l'' q
 onward-if i e w =
-    record { size = w.size ∙ i.size; is = λ {x} s v j u. let a = e x s v j in i.is s v j (wrote_as (wrote_then (w.is a.0) u) (sym a.1)) }
+    record { size = w.size ∙ i.size; is = λ {x} s v j u. let a = e x s v j in i.is s v j (wrote-as (wrote-then (w.is a.0) u) (sym a.1)) }
 
 -- ---- The whole tree
 
@@ -283,5 +283,5 @@ pub records-written : (tree work out : List ℕ) {t l l1 l2 l3 l4 l5 : List ℕ}
 records-written tree work out u a b f k z =
     record {
       size = z;
-      is = λ s w h. wrote_as (wrote-field u (wrote_then (a.is s w h) (wrote_then (b.is s w h.0) (f.is s w tt))) k) (records-bytes work out s);
+      is = λ s w h. wrote-as (wrote-field u (wrote-then (a.is s w h) (wrote-then (b.is s w h.0) (f.is s w tt))) k) (records-bytes work out s);
     }

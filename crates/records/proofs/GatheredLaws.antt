@@ -12,7 +12,7 @@ use Rattle.scope.specs.Modules.{Modules}
 use Rattle.tree.specs.Layout.{same, four, id_at, value_of}
 use Rattle.tree.specs.Tree.{Field, field, Fields, none, more, tag_of, fixed_of, parts_of, size}
 use Rattle.tree.specs.Grammar.{rule_of}
-use Rattle.tree.proofs.LayoutLaws.{same_refl, same-equal}
+use Rattle.tree.proofs.LayoutLaws.{same-refl, same-equal}
 use Rattle.metadata.specs.Metadata.{append}
 use Rattle.metadata.proofs.EncodeLaws.{append-none, append-rows}
 use Rattle.inputs.specs.Outcome.{Outcome, done, refused}
@@ -22,12 +22,12 @@ use Rattle.extraction_rules.specs.State.{Record, State, first, Setting, start, g
 use Rattle.extraction_rules.specs.First.{external, module_for, forget, note_id, note_named, note_specifier, noted_context, note_all, note_specifiers}
 use Rattle.extraction_rules.specs.First.{specifiers_in, with_context, collect_in, collect, import_first, stays}
 use Rattle.extraction_rules.specs.Walk.{walk, walk_all, walk_module}
-use Rattle.extraction_rules.proofs.OutcomeLaws.{After, after-bind, after-weaken, after_both, after-if}
-use Rattle.extraction_rules.proofs.TestLaws.{or-neither, cond_same}
-use Rattle.extraction_rules.proofs.ListLaws.{All, same_not, not_same, Distinct}
+use Rattle.extraction_rules.proofs.OutcomeLaws.{After, after-bind, after-weaken, after-both, after-if}
+use Rattle.extraction_rules.proofs.TestLaws.{or-neither, cond-same}
+use Rattle.extraction_rules.proofs.ListLaws.{All, same-not, not-same, Distinct}
 use Rattle.extraction_rules.proofs.FirstLaws.{force-cases, sources_of}
 use Rattle.extraction_rules.proofs.StepLaws.{module_for-stays, note_specifiers-keeps, collect-keeps}
-use Rattle.extraction_rules.proofs.ValueLaws.{after_any, walk_first}
+use Rattle.extraction_rules.proofs.ValueLaws.{after-any, walk-first}
 use Rattle.extraction_rules.proofs.SanityLaws.{OwnRecords}
 use Rattle.extraction_rules.proofs.ShapeLaws.{ShapedAll}
 use Rattle.extraction_rules.proofs.AlikeLaws.{Regular, walk-alike, alike-tag}
@@ -35,7 +35,7 @@ use Rattle.extraction_rules.proofs.RegularLaws.{regular, item-outer}
 use Rattle.extraction_rules.proofs.ReadableLaws.{item-step}
 use Rattle.extraction_rules.proofs.ItemsLaws.{ItemSteps, item-keeps}
 use Rattle.extraction_rules.proofs.StayLaws.{import-stays}
-use Rattle.extraction_rules.proofs.KeepLaws.{Meets, keep_meets, not_attributes}
+use Rattle.extraction_rules.proofs.KeepLaws.{Meets, keep-meets, not_attributes}
 use Rattle.records.specs.Model.{gathered_of, gathered}
 use Rattle.records.proofs.PartLaws.{specifiers-context}
 
@@ -63,7 +63,7 @@ collect-for v r (q ∷ l) = by (same (value_of q.literal) (value_of r.literal)) 
         specifiers_for v (collect_in r l) ≡ append (specifiers_for v l) (cond (same (value_of r.literal) v) r.specifiers none) →
         cond c q.specifiers (specifiers_for v (collect_in r l)) ≡ append (cond c q.specifiers (specifiers_for v l)) (cond (same (value_of r.literal) v) r.specifiers none)
     other true k e ih =
-        let n = same_not (value_of r.literal) v (λ z. not_same (value_of q.literal) (value_of r.literal) e (same-equal (value_of q.literal) v k ∙ sym z)) in
+        let n = same-not (value_of r.literal) v (λ z. not-same (value_of q.literal) (value_of r.literal) e (same-equal (value_of q.literal) v k ∙ sym z)) in
         sym (append-none q.specifiers) ∙ ap (λ (b : Bool). append q.specifiers (cond b r.specifiers none)) (sym n)
     other false k e ih = ih
 
@@ -78,14 +78,14 @@ collect-for v r (q ∷ l) = by (same (value_of q.literal) (value_of r.literal)) 
 -- one without specifiers changes none
 collect-empty : (v x : List ℕ) (l : List Record) → specifiers_for v (collect_in (record { literal = x; specifiers = none }) l) ≡ specifiers_for v l
 collect-empty v x l =
-    collect-for v (record { literal = x; specifiers = none }) l ∙ ap (append (specifiers_for v l)) (cond_same (same (value_of x) v) none) ∙ append-none (specifiers_for v l)
+    collect-for v (record { literal = x; specifiers = none }) l ∙ ap (append (specifiers_for v l)) (cond-same (same (value_of x) v) none) ∙ append-none (specifiers_for v l)
 
 -- where sources differ, each record is the first of its source
-each_first : (l : List Record) → Distinct (sources_of l) → All (λ r. specifiers_for (value_of r.literal) l ≡ r.specifiers) l
+each-first : (l : List Record) → Distinct (sources_of l) → All (λ r. specifiers_for (value_of r.literal) l ≡ r.specifiers) l
 unfolding specifiers_for among
-each_first [] h = tt
-each_first (q ∷ l) h =
-    (ap (λ (b : Bool). cond b q.specifiers (specifiers_for (value_of q.literal) l)) (same_refl (value_of q.literal)), later l h.0 (each_first l h.1))
+each-first [] h = tt
+each-first (q ∷ l) h =
+    (ap (λ (b : Bool). cond b q.specifiers (specifiers_for (value_of q.literal) l)) (same-refl (value_of q.literal)), later l h.0 (each-first l h.1))
   where
     later : (k : List Record) → among (value_of q.literal) (sources_of k) ≡ false → All (λ r. specifiers_for (value_of r.literal) l ≡ r.specifiers) k →
         All (λ r. specifiers_for (value_of r.literal) (q ∷ l) ≡ r.specifiers) k
@@ -100,7 +100,7 @@ Written F l = All (λ r. r.specifiers ≡ F r.literal) l
 
 each-written : (externals : List (List ℕ)) (F : List ℕ → Fields) (l : List Record) → Distinct (sources_of l) → OwnRecords externals l →
     ((v : List ℕ) → among v externals ≡ false → specifiers_for v l ≡ F v) → Written (λ x. F (value_of x)) l
-each-written externals F l d o h = go l (each_first l d) o
+each-written externals F l d o h = go l (each-first l d) o
   where
     go : (k : List Record) → All (λ r. specifiers_for (value_of r.literal) l ≡ r.specifiers) k → OwnRecords externals k → Written (λ x. F (value_of x)) k
     go [] w o = tt
@@ -134,20 +134,20 @@ module _ (e : Setting) where
       after-if (has 0x20 f) (note_named n (fixed_of f) p) _ s (λ g s'. not_attributes g ≡ true)
       (λ _. after-if (eqb (get_or (fixed_of f) 6 0) 2) (refuse 6 p) _ s (λ g s'. not_attributes g ≡ true) (λ _. tt)
       (λ _. after-bind (note_id (record { id = id_at (fixed_of f) 0; context = four (export n) }) p s) _ (λ _ _. Unit {0}) (λ g s'. not_attributes g ≡ true)
-      (after_any (note_id (record { id = id_at (fixed_of f) 0; context = four (export n) }) p s)) λ _ s _. refl))
+      (after-any (note_id (record { id = id_at (fixed_of f) 0; context = four (export n) }) p s)) λ _ s _. refl))
       (λ _. after-bind (note_id (record { id = fixed_of f; context = noted_context n f }) p s) _ (λ _ _. Unit {0}) (λ g s'. not_attributes g ≡ true)
-      (after_any (note_id (record { id = fixed_of f; context = noted_context n f }) p s)) λ _ s _. h)
+      (after-any (note_id (record { id = fixed_of f; context = noted_context n f }) p s)) λ _ s _. h)
 
-  all_meet : (n : ℕ) (fs : Fields) (p : ℕ) (s : State) → Meets not_attributes fs → After (note_all n fs p s) (λ gs s'. Meets not_attributes gs)
+  all-meet : (n : ℕ) (fs : Fields) (p : ℕ) (s : State) → Meets not_attributes fs → After (note_all n fs p s) (λ gs s'. Meets not_attributes gs)
   unfolding note_all
-  all_meet n none p s h = tt
-  all_meet n (more f fs) p s h =
+  all-meet n none p s h = tt
+  all-meet n (more f fs) p s h =
       after-bind (note_specifier n f p s) _ (λ g s'. not_attributes g ≡ true) (λ gs s'. Meets not_attributes gs) (specifier-meets n f p s h.0) λ g s k.
-      after-bind (note_all n fs (p + size f) s) _ (λ gs s'. Meets not_attributes gs) (λ gs s'. Meets not_attributes gs) (all_meet n fs (p + size f) s h.1) λ gs s w. (k, w)
+      after-bind (note_all n fs (p + size f) s) _ (λ gs s'. Meets not_attributes gs) (λ gs s'. Meets not_attributes gs) (all-meet n fs (p + size f) s h.1) λ gs s w. (k, w)
 
   noted-meet : (o : Option ℕ) (fs : Fields) (p : ℕ) (s : State) → Meets not_attributes fs → After (note_specifiers o fs p s) (λ gs s'. Meets not_attributes gs)
   noted-meet nothing fs p s h = h
-  noted-meet (some n) fs p s h = all_meet n fs p s h
+  noted-meet (some n) fs p s h = all-meet n fs p s h
 
   module _ (v : List ℕ) (own : among v e.externals ≡ false) where
     -- the record of the source gets what the item g gathers
@@ -158,13 +158,13 @@ module _ (e : Setting) where
     unfolding import_first external
     import-gathers x cs p s =
         after-if (external e x) (give (field 0x10 x cs)) _ s (Gathers s)
-        (λ b. let n = same_not (value_of x) v (λ z. true≢false (sym b ∙ ap (λ (a : List ℕ). among a e.externals) z ∙ own)) in
+        (λ b. let n = same-not (value_of x) v (λ z. true≢false (sym b ∙ ap (λ (a : List ℕ). among a e.externals) z ∙ own)) in
         sym (append-none (specifiers_for v s.collected))
         ∙ ap (append (specifiers_for v s.collected)) (ap (λ (c : Bool). cond c (specifiers_in cs) none) (sym n) ∙ sym (gathered-import v x cs)))
         (λ _. after-bind (module_for e (value_of x) p s) _ (λ n t. t ≡ set_modules t.modules s) (Gathers s) (module_for-stays e (value_of x) p s) λ n s1 a.
         after-bind (note_specifiers n (specifiers_in cs) (inside p x) s1) _ (λ fs t. Meets not_attributes fs × (t.collected ≡ s1.collected)) (Gathers s)
-        (after_both (note_specifiers n (specifiers_in cs) (inside p x) s1) (λ fs t. Meets not_attributes fs) (λ fs t. t.collected ≡ s1.collected)
-        (noted-meet n (specifiers_in cs) (inside p x) s1 (keep_meets not_attributes cs))
+        (after-both (note_specifiers n (specifiers_in cs) (inside p x) s1) (λ fs t. Meets not_attributes fs) (λ fs t. t.collected ≡ s1.collected)
+        (noted-meet n (specifiers_in cs) (inside p x) s1 (keep-meets not_attributes cs))
         (note_specifiers-keeps (λ t. t.collected ≡ s1.collected) (λ t m h. h) n (specifiers_in cs) (inside p x) s1 refl)) λ fs s2 b.
         after-bind (collect (record { literal = x; specifiers = fs }) p s2) _ (λ _ t. t.collected ≡ collect_in (record { literal = x; specifiers = fs }) s2.collected) (Gathers s)
         (collect-keeps (λ t. t.collected ≡ collect_in (record { literal = x; specifiers = fs }) s2.collected) (record { literal = x; specifiers = fs }) p s2 refl) λ _ s3 c.
@@ -181,12 +181,12 @@ module _ (e : Setting) where
         record {
           common =
               record {
-                requires = record { on-request = λ s g m ms q h. h; on-cjs = λ s m h. h; on-lazy = λ s r b h. h };
-                on-force = λ s i h. force-cases i s (λ s. specifiers_for v s.collected ≡ w) h (λ r w. h);
-                on-top = λ s b h. h;
+                requires = record { on_request = λ s g m ms q h. h; on_cjs = λ s m h. h; on_lazy = λ s r b h. h };
+                on_force = λ s i h. force-cases i s (λ s. specifiers_for v s.collected ≡ w) h (λ r w. h);
+                on_top = λ s b h. h;
               };
-          on-empty = λ s l b h. collect-empty v l s.collected ∙ h;
-          on-usage = λ s j p n r q k h. h;
+          on_empty = λ s l b h. collect-empty v l s.collected ∙ h;
+          on_usage = λ s j p n r q k h. h;
         }
 
     module _ (one : e.pass ≡ first) where
@@ -194,12 +194,12 @@ module _ (e : Setting) where
       item-gathers f p s w = go (has 0x10 f) refl
         where
           go : (b : Bool) → has 0x10 f ≡ b → After (walk f e false p s) (Gathers s)
-          go true q = subst (λ (m : Outcome (Field × State)). After m (Gathers s)) (sym (walk_first e one f p s (eqb-true (tag_of f) 0x10 q))) (import-gathers (fixed_of f) (parts_of f) p s)
+          go true q = subst (λ (m : Outcome (Field × State)). After m (Gathers s)) (sym (walk-first e one f p s (eqb-true (tag_of f) 0x10 q))) (import-gathers (fixed_of f) (parts_of f) p s)
           go false q =
               let n = eqb-false (tag_of f) 0x10 q in
               after-weaken (walk f e false p s) (λ g s'. (specifiers_for v s'.collected ≡ specifiers_for v s.collected) × (tag_of g ≡ tag_of f)) (Gathers s)
               (λ g s' k. k.0 ∙ sym (append-none (specifiers_for v s.collected)) ∙ ap (append (specifiers_for v s.collected)) (sym (gathered-other v g (λ z. n (sym k.1 ∙ z)))))
-              (after_both (walk f e false p s) (λ g s'. specifiers_for v s'.collected ≡ specifiers_for v s.collected) (λ g s'. tag_of g ≡ tag_of f)
+              (after-both (walk f e false p s) (λ g s'. specifiers_for v s'.collected ≡ specifiers_for v s.collected) (λ g s'. tag_of g ≡ tag_of f)
               (item-keeps e (λ s'. specifiers_for v s'.collected ≡ specifiers_for v s.collected) (stays-steps (specifiers_for v s.collected)) one f false p s (w n) refl)
               (after-weaken (walk f e false p s) (λ g s'. _) (λ g s'. tag_of g ≡ tag_of f) (λ g s'. alike-tag f g) (walk-alike e one f false p s (w n))))
 
@@ -240,4 +240,4 @@ first-written e one items ms h =
 -- and what the first pass leaves stays in the second
 pub first-stays : (e : Setting) (items : Fields) (s : State) → After (walk_module e items s) (λ works s'. Meets stays works)
 unfolding walk_module
-first-stays e items s = after-bind (walk_all items e false 3 (set_top true s)) _ (λ _ _. Unit {0}) _ (after_any (walk_all items e false 3 (set_top true s))) λ gs s _. keep_meets stays gs
+first-stays e items s = after-bind (walk_all items e false 3 (set_top true s)) _ (λ _ _. Unit {0}) _ (after-any (walk_all items e false 3 (set_top true s))) λ gs s _. keep-meets stays gs

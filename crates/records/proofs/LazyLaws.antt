@@ -15,7 +15,7 @@ use Rattle.tree.specs.Access.{extent_at}
 use Rattle.tree.specs.Standing.{tree_at}
 use Rattle.writer.specs.Bytes.{two_bytes, framed}
 use Rattle.writer.specs.Wrote.{Wrote}
-use Rattle.writer.proofs.Wrote.{wrote_none, wrote_as}
+use Rattle.writer.proofs.Wrote.{wrote-none, wrote-as}
 use Rattle.extraction_rules.specs.State.{Record, State}
 use Rattle.extraction_rules.specs.First.{bindings}
 use Rattle.extraction_rules.specs.Records.{record_fields, forced_fields}
@@ -29,7 +29,7 @@ use Rattle.records.specs.Writes.{pattern_on, pattern_at, placed, literal_in, Pla
 module _ (s : List ℕ) (at : ℕ) where
   pub pattern-past : {l : List ℕ} {o : ℕ} → length s < at → Wrote l o (encodes (pattern_at s at)) l o
   unfolding pattern_at encodes
-  pattern-past h = wrote_as wrote_none (sym (ap (λ (b : Bool). encodes (cond b (pattern_on (extent_at s at (length s)) s at) none)) (lt-leb at (length s) h)))
+  pattern-past h = wrote-as wrote-none (sym (ap (λ (b : Bool). encodes (cond b (pattern_on (extent_at s at (length s)) s at) none)) (lt-leb at (length s) h)))
 
   here : at ≤ length s → (r : Reach) → extent_at s at (length s) ≡ r → pattern_at s at ≡ pattern_on r s at
   unfolding pattern_at
@@ -37,27 +37,27 @@ module _ (s : List ℕ) (at : ℕ) where
 
   pub pattern-none : {l : List ℕ} {o : ℕ} → at ≤ length s → extent_at s at (length s) ≡ Short → Wrote l o (encodes (pattern_at s at)) l o
   unfolding pattern_on encodes
-  pattern-none h e = wrote_as wrote_none (sym (ap encodes (here h Short e)))
+  pattern-none h e = wrote-as wrote-none (sym (ap encodes (here h Short e)))
 
   pub pattern-here : {l l' : List ℕ} {o p stop : ℕ} → at ≤ length s → extent_at s at (length s) ≡ Upto stop →
       Wrote l o (encodes (bindings (tree_at s at stop))) l' p → Wrote l o (encodes (pattern_at s at)) l' p
   unfolding pattern_on
-  pattern-here {stop = stop} h e w = wrote_as w (sym (ap encodes (here h (Upto stop) e)))
+  pattern-here {stop = stop} h e w = wrote-as w (sym (ap encodes (here h (Upto stop) e)))
 
 module _ (tree work : List ℕ) (q : ℕ) where
   pub placed-none : {l : List ℕ} {o : ℕ} → q ≡ 0 → Wrote l o (encodes (placed tree work q)) l o
   unfolding placed encodes
-  placed-none e = wrote_as wrote_none (sym (ap (λ (b : Bool). encodes (cond b none (cond (ltb q 65536) (pattern_at tree q) (pattern_at work (q - 65536))))) (eq-eqb q 0 e)))
+  placed-none e = wrote-as wrote-none (sym (ap (λ (b : Bool). encodes (cond b none (cond (ltb q 65536) (pattern_at tree q) (pattern_at work (q - 65536))))) (eq-eqb q 0 e)))
 
   behind : (q ≡ 0 → ⊥) → placed tree work q ≡ cond (ltb q 65536) (pattern_at tree q) (pattern_at work (q - 65536))
   unfolding placed
   behind n = ap (λ (b : Bool). cond b none (cond (ltb q 65536) (pattern_at tree q) (pattern_at work (q - 65536)))) (ne_eqb q 0 n)
 
   pub placed-tree : {l l' : List ℕ} {o p : ℕ} → (q ≡ 0 → ⊥) → q < 65536 → Wrote l o (encodes (pattern_at tree q)) l' p → Wrote l o (encodes (placed tree work q)) l' p
-  placed-tree n h w = wrote_as w (sym (ap encodes (behind n ∙ ap (λ (b : Bool). cond b (pattern_at tree q) (pattern_at work (q - 65536))) (lt-ltb q 65536 h))))
+  placed-tree n h w = wrote-as w (sym (ap encodes (behind n ∙ ap (λ (b : Bool). cond b (pattern_at tree q) (pattern_at work (q - 65536))) (lt-ltb q 65536 h))))
 
   pub placed-work : {l l' : List ℕ} {o p : ℕ} → (q ≡ 0 → ⊥) → 65536 ≤ q → Wrote l o (encodes (pattern_at work (q - 65536))) l' p → Wrote l o (encodes (placed tree work q)) l' p
-  placed-work n h w = wrote_as w (sym (ap encodes (behind n ∙ ap (λ (b : Bool). cond b (pattern_at tree q) (pattern_at work (q - 65536))) (le-ltb q 65536 h))))
+  placed-work n h w = wrote-as w (sym (ap encodes (behind n ∙ ap (λ (b : Bool). cond b (pattern_at tree q) (pattern_at work (q - 65536))) (le-ltb q 65536 h))))
 
 -- ---- One entry more
 
@@ -75,7 +75,7 @@ lazy-more tree work lit place {i = i} g h x s w k =
     let same : c.0 ≡ a.0 = cons-inj (sym c.2 ∙ a.2) in
     ap (λ (l : List Record). encodes (record_fields 0x81 l)) a.2
     ∙ ap (λ (f : Field). encode f ++ encodes (record_fields 0x81 (drop (i + 1) s.lazy)))
-    (ap₂ (field 0x81) (a.1 ∙ k.literals-placed lit.place) (ap (λ (r : Record). r.specifiers) (sym same) ∙ c.1 ∙ k.bindings-placed place))
+    (ap₂ (field 0x81) (a.1 ∙ k.literals_placed lit.place) (ap (λ (r : Record). r.specifiers) (sym same) ∙ c.1 ∙ k.bindings_placed place))
 
 pub record-none : (k : ℕ) (l : List Record) → l ≡ [] → encodes (record_fields k l) ≡ []
 unfolding record_fields encodes

@@ -17,14 +17,14 @@ use Rattle.tree.specs.Standing.{row_at}
 use Rattle.tree.proofs.FixedLaws.{no-upto}
 use Rattle.tree.proofs.LayoutLaws.{same-equal}
 use Rattle.inputs.specs.Fields.{has, sole}
-use Rattle.writer.proofs.Wrote.{wrote_then, wrote_as}
+use Rattle.writer.proofs.Wrote.{wrote-then, wrote-as}
 use Rattle.extraction_rules.specs.First.{specifiers_in}
-use Rattle.steps.proofs.SoundLaws.{row_read}
+use Rattle.steps.proofs.SoundLaws.{row-read}
 use Rattle.records.specs.Model.{gathered_of, gathered, is_namespace, whole_of, taken_of, taken}
 use Rattle.records.specs.Writes.{WroteIf, RowRead, sieve, items_in, item_at, ItemRead}
 use Rattle.records.specs.Listing.{Place, work_of, out_of, import_bytes, pair_bytes, spread, EachRead, Listed, Paired, chain_at, chain_in, place_in, places_in, Unchained, Lists}
 use Rattle.records.proofs.SpecifierLaws.{item-is, item-none, item-read, extent-past, tag-import, import-is}
-use Rattle.records.proofs.CollectedLaws.{sieve-nothing, imports-more, pair-other, taken_more}
+use Rattle.records.proofs.CollectedLaws.{sieve-nothing, imports-more, pair-other, taken-more}
 
 -- ---- The places in the array
 
@@ -171,36 +171,36 @@ spread-more f ps p x g g' e k =
     e ∙ ap (λ (y : List ℕ). spread f ps ++ y) k ∙ sym (append_assoc (spread f ps) (f p) g')
     ∙ ap (λ (y : List ℕ). y ++ g') (ap (λ (y : List ℕ). spread f ps ++ y) (sym (spread-one f p)) ∙ sym (spread-append f ps (p ∷ [])))
 
-each_more : (f : Place → ℕ) (s : List ℕ) (ps : List Place) (p : Place) → EachRead f s ps → ItemRead s (f p) → EachRead f s (ps ++ (p ∷ []))
-each_more f s [] p a r = (r, tt)
-each_more f s (q ∷ ps) p a r = (a.0, each_more f s ps p a.1 r)
+each-more : (f : Place → ℕ) (s : List ℕ) (ps : List Place) (p : Place) → EachRead f s ps → ItemRead s (f p) → EachRead f s (ps ++ (p ∷ []))
+each-more f s [] p a r = (r, tt)
+each-more f s (q ∷ ps) p a r = (a.0, each-more f s ps p a.1 r)
 
 spread-pass : (f : Place → List ℕ) (ps : List Place) (x g h g' : List ℕ) → x ≡ spread f ps ++ g → g ≡ h ++ g' → h ≡ [] → x ≡ spread f ps ++ g'
 spread-pass f ps x g h g' e k q = e ∙ ap (λ (y : List ℕ). spread f ps ++ y) (k ∙ ap (λ (y : List ℕ). y ++ g') q)
 
 -- ---- The sweep
 
-listed_start : (work : List ℕ) → Listed work [] 3
+listed-start : (work : List ℕ) → Listed work [] 3
 unfolding spread
-listed_start work = record { is = λ b v. refl; read = λ r. (tt, r) }
+listed-start work = record { is = λ b v. refl; read = λ r. (tt, r) }
 
 paired-start : (work out : List ℕ) → Paired work out [] 3 3
 unfolding spread
 paired-start work out = record { is = λ b l. refl; read = λ r. (tt, r) }
 
 module _ (work : List ℕ) (at stop : ℕ) (le : at ≤ length work) (e : extent_at work at (length work) ≡ Upto stop) where
-  no-import : (get_or work at 0 ≡ 0x10 → ⊥) → tag_of (item_at work at) ≡ 0x10 → ⊥
-  no-import h t = h (tag-import work at stop (sym (ap tag_of (item-is work at stop e)) ∙ t))
+  no_import : (get_or work at 0 ≡ 0x10 → ⊥) → tag_of (item_at work at) ≡ 0x10 → ⊥
+  no_import h t = h (tag-import work at stop (sym (ap tag_of (item-is work at stop e)) ∙ t))
 
-  listed_more : (ps : List Place) (made : ℕ) → Listed work ps at → Listed work (ps ++ ((at, made) ∷ [])) stop
+  listed-more : (ps : List Place) (made : ℕ) → Listed work ps at → Listed work (ps ++ ((at, made) ∷ [])) stop
   unfolding import_bytes
-  listed_more ps made i =
+  listed-more ps made i =
       record {
         is = λ b v. spread-more (import_bytes b v work) ps (at, made) _ _ _ (i.is b v) (imports-more b v work at stop le e);
         read = λ r.
             let a = i.read r in
-            let b = row_read a.1.0 le (omega arith) a.1.1 e in
-            (each_more work_of work ps (at, made) a.0 (item-read e b.0), (b.1.0, b.1.2));
+            let b = row-read a.1.0 le (omega arith) a.1.1 e in
+            (each-more work_of work ps (at, made) a.0 (item-read e b.0), (b.1.0, b.1.2));
       }
 
   listed-pass : (ps : List Place) → (get_or work at 0 ≡ 0x10 → ⊥) → Listed work ps at → Listed work ps stop
@@ -208,8 +208,8 @@ module _ (work : List ℕ) (at stop : ℕ) (le : at ≤ length work) (e : extent
       record {
         is = λ b v.
             spread-pass (import_bytes b v work) ps _ _ _ _ (i.is b v) (imports-more b v work at stop le e)
-            (import-absent b v (item_at work at) (λ t _. no-import h t));
-        read = λ r. let a = i.read r in let b = row_read a.1.0 le (omega arith) a.1.1 e in (a.0, (b.1.0, b.1.2));
+            (import-absent b v (item_at work at) (λ t _. no_import h t));
+        read = λ r. let a = i.read r in let b = row-read a.1.0 le (omega arith) a.1.1 e in (a.0, (b.1.0, b.1.2));
       }
 
   module _ (out : List ℕ) (made until : ℕ) (le' : made ≤ length out) (e' : extent_at out made (length out) ≡ Upto until) where
@@ -217,20 +217,20 @@ module _ (work : List ℕ) (at stop : ℕ) (le : at ≤ length work) (e : extent
     unfolding pair_bytes
     paired-more ps i =
         record {
-          is = λ b l. spread-more (pair_bytes b l work out) ps (at, made) _ _ _ (i.is b l) (taken_more b l work at out made stop until le e le' e');
+          is = λ b l. spread-more (pair_bytes b l work out) ps (at, made) _ _ _ (i.is b l) (taken-more b l work at out made stop until le e le' e');
           read = λ r.
               let a = i.read r in
-              let b = row_read a.1.0 le' (omega arith) a.1.1 e' in
-              (each_more out_of out ps (at, made) a.0 (item-read e' b.0), (b.1.0, b.1.2));
+              let b = row-read a.1.0 le' (omega arith) a.1.1 e' in
+              (each-more out_of out ps (at, made) a.0 (item-read e' b.0), (b.1.0, b.1.2));
         }
 
     paired-pass : (ps : List Place) → (get_or work at 0 ≡ 0x10 → ⊥) → Paired work out ps at made → Paired work out ps stop until
     paired-pass ps h i =
         record {
           is = λ b l.
-              spread-pass (pair_bytes b l work out) ps _ _ _ _ (i.is b l) (taken_more b l work at out made stop until le e le' e')
-              (pair-absent b l (item_at work at) (item_at out made) (λ t _. no-import h t));
-          read = λ r. let a = i.read r in let b = row_read a.1.0 le' (omega arith) a.1.1 e' in (a.0, (b.1.0, b.1.2));
+              spread-pass (pair_bytes b l work out) ps _ _ _ _ (i.is b l) (taken-more b l work at out made stop until le e le' e')
+              (pair-absent b l (item_at work at) (item_at out made) (λ t _. no_import h t));
+          read = λ r. let a = i.read r in let b = row-read a.1.0 le' (omega arith) a.1.1 e' in (a.0, (b.1.0, b.1.2));
         }
 
     -- a place more in the array
@@ -241,14 +241,14 @@ module _ (work : List ℕ) (at stop : ℕ) (le : at ≤ length work) (e : extent
       abbrev put2 : List ℕ
       put2 = set put1 (2050 + 3 * n) made
 
-      put_other : (j : ℕ) → (j ≡ 2049 + 3 * n → ⊥) → (j ≡ 2050 + 3 * n → ⊥) → get_or put2 j 0 ≡ get_or a j 0
-      put_other j x y = get_or-set_other put1 (2050 + 3 * n) j made 0 y ∙ get_or-set_other a (2049 + 3 * n) j at 0 x
+      put-other : (j : ℕ) → (j ≡ 2049 + 3 * n → ⊥) → (j ≡ 2050 + 3 * n → ⊥) → get_or put2 j 0 ≡ get_or a j 0
+      put-other j x y = get_or-set_other put1 (2050 + 3 * n) j made 0 y ∙ get_or-set_other a (2049 + 3 * n) j at 0 x
 
       put-cells : length put2 ≡ 12974
       put-cells = length-set put1 (2050 + 3 * n) made ∙ length-set a (2049 + 3 * n) at ∙ u.cells
 
       put-unchained : Unchained put2
-      put-unchained = record { cells = put-cells; ends = λ k h. put_other k (λ z. omega arith) (λ z. omega arith) ∙ u.ends k h }
+      put-unchained = record { cells = put-cells; ends = λ k h. put-other k (λ z. omega arith) (λ z. omega arith) ∙ u.ends k h }
 
       put-places : places_in put2 (n + 1) ≡ places_in a n ++ ((at, made) ∷ [])
       unfolding places_in
@@ -258,7 +258,7 @@ module _ (work : List ℕ) (at stop : ℕ) (le : at ≤ length work) (e : extent
           let z : n + 1 ≡ suc n = omega arith in
           ap (places_in put2) z
           ∙ ap₂ (λ (ps : List Place) (p : Place). ps ++ (p ∷ []))
-          (places-agree put2 a n (λ i h. place-agree put2 a i (put_other (2049 + 3 * i) (λ e. omega arith) (λ e. omega arith)) (put_other (2050 + 3 * i) (λ e. omega arith) (λ e. omega arith))))
+          (places-agree put2 a n (λ i h. place-agree put2 a i (put-other (2049 + 3 * i) (λ e. omega arith) (λ e. omega arith)) (put-other (2050 + 3 * i) (λ e. omega arith) (λ e. omega arith))))
           (ap₂ (λ (x y : ℕ). (x, y))
           (get_or-set_other put1 (2050 + 3 * n) (2049 + 3 * n) made 0 (λ e. omega arith) ∙ get_or-set_same a (2049 + 3 * n) at 0 (omega arith))
           (get_or-set_same put1 (2050 + 3 * n) made 0 (omega arith)))
@@ -276,8 +276,8 @@ module _ (work : List ℕ) (at stop : ℕ) (le : at ≤ length work) (e : extent
               record {
                 few = omega arith;
                 low = low;
-                low-out = low';
-                listed = subst (λ (ps : List Place). Listed work ps stop) (sym (put-places a n few u)) (listed_more (places_in a n) made i.listed);
+                low_out = low';
+                listed = subst (λ (ps : List Place). Listed work ps stop) (sym (put-places a n few u)) (listed-more (places_in a n) made i.listed);
                 paired = subst (λ (ps : List Place). Paired work out ps stop until) (sym (put-places a n few u)) (paired-more (places_in a n) i.paired);
               },
               put-unchained a n few u,
@@ -290,7 +290,7 @@ module _ (work : List ℕ) (at stop : ℕ) (le : at ≤ length work) (e : extent
               record {
                 few = i.few;
                 low = low;
-                low-out = low';
+                low_out = low';
                 listed = listed-pass (places_in a n) h i.listed;
                 paired = paired-pass (places_in a n) h i.paired;
               },
@@ -299,7 +299,7 @@ module _ (work : List ℕ) (at stop : ℕ) (le : at ≤ length work) (e : extent
 
 pub lists-start : (work out a : List ℕ) → Lists work out a 0 3 3
 unfolding places_in
-lists-start work out a = record { few = omega arith; low = omega arith; low-out = omega arith; listed = listed_start work; paired = paired-start work out }
+lists-start work out a = record { few = omega arith; low = omega arith; low_out = omega arith; listed = listed-start work; paired = paired-start work out }
 
 pub unchained-start : Unchained (replicate 12974 3641)
 unchained-start = record { cells = length-replicate {A = ℕ} 12974 3641; ends = λ k h. get_or-replicate 12974 k 3641 0 (omega arith) }
@@ -311,11 +311,11 @@ module _ (b : Bool) (v : List ℕ) {l l' l'' : List ℕ} {o p q : ℕ} where
       WroteIf (RowRead work at (length work)) (encodes (sieve b (gathered v (row_at work at (length work))))) l' p l'' q →
       WroteIf (RowRead work 3 (length work)) (encodes (sieve b (gathered v (items_in work)))) l o l'' q
   imports-joined i w x =
-      record { size = x.size ∙ w.size; is = λ r. let a = i.read r in wrote_as (wrote_then (w.is a.0) (x.is a.1)) (sym (i.is b v)) }
+      record { size = x.size ∙ w.size; is = λ r. let a = i.read r in wrote-as (wrote-then (w.is a.0) (x.is a.1)) (sym (i.is b v)) }
 
   pub pairs-joined : {Q : Type 0} {work out : List ℕ} {ps : List Place} {at made : ℕ} → Paired work out ps at made →
       WroteIf (EachRead out_of out ps × Q) (spread (pair_bytes b v work out) ps) l o l' p →
       WroteIf (RowRead out made (length out)) (encodes (sieve b (taken v (row_at work at (length work)) (row_at out made (length out))))) l' p l'' q →
       WroteIf (RowRead out 3 (length out) × Q) (encodes (sieve b (taken v (items_in work) (items_in out)))) l o l'' q
   pairs-joined i w x =
-      record { size = x.size ∙ w.size; is = λ r. let a = i.read r.0 in wrote_as (wrote_then (w.is (a.0, r.1)) (x.is a.1)) (sym (i.is b v)) }
+      record { size = x.size ∙ w.size; is = λ r. let a = i.read r.0 in wrote-as (wrote-then (w.is (a.0, r.1)) (x.is a.1)) (sym (i.is b v)) }

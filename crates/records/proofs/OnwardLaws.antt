@@ -5,7 +5,7 @@ use mathlib.Core.Path.{◌≡◌, refl, sym, ◌∙◌}
 use mathlib.Core.List.{List, [], ◌++◌}
 use lib.ListN.{length, drop, drop_of_length-le}
 use Rattle.writer.specs.Wrote.{Wrote}
-use Rattle.writer.proofs.Wrote.{wrote_none, wrote_then, wrote_as}
+use Rattle.writer.proofs.Wrote.{wrote-none, wrote-then, wrote-as}
 use Rattle.extraction_rules.specs.State.{State}
 use Rattle.state.specs.Cells.{Env, Shows}
 use Rattle.state.specs.Does.{Tells}
@@ -17,12 +17,12 @@ onward-start = record { size = refl; is = λ s w k v. v }
 -- some of what is left is written
 pub onward-step : {P : Env → Type 0} {f g h : State → List ℕ} {t l l' l'' bs : List ℕ} {o p q : ℕ} → Onward P f g t l o l' p →
     ((x : Env) (s : State) → Shows x t s → P x → g s ≡ bs ++ h s) → Wrote l' p bs l'' q → Onward P f h t l o l'' q
-onward-step i e w = record { size = w.size ∙ i.size; is = λ {x} s v k u. i.is s v k (wrote_as (wrote_then w u) (sym (e x s v k))) }
+onward-step i e w = record { size = w.size ∙ i.size; is = λ {x} s v k u. i.is s v k (wrote-as (wrote-then w u) (sym (e x s v k))) }
 
 -- nothing is left
 pub onward-end : {P : Env → Type 0} {f g : State → List ℕ} {t l l' : List ℕ} {o p : ℕ} → Onward P f g t l o l' p →
     ((x : Env) (s : State) → Shows x t s → P x → g s ≡ []) → WroteFor P f t l o l' p
-onward-end i e = record { size = i.size; is = λ {x} s v k. i.is s v k (wrote_as wrote_none (sym (e x s v k))) }
+onward-end i e = record { size = i.size; is = λ {x} s v k. i.is s v k (wrote-as wrote-none (sym (e x s v k))) }
 
 -- the entries from a place on, where all are counted
 pub drop-end : {A : Type 0} (f : State → List A) {t : List ℕ} {n : ℕ} (i : ℕ) → Tells (λ s. length (f s)) t n → n ≤ i → (x : Env) (s : State) → Shows x t s → drop i (f s) ≡ []

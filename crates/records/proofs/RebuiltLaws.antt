@@ -14,7 +14,7 @@ use Rattle.extraction_rules.specs.First.{module_for, stays}
 use Rattle.extraction_rules.specs.Second.{wrap_module, wrap_all, lose_namespaces, finish}
 use Rattle.extraction_rules.specs.Walk.{walk_module, walk_again}
 use Rattle.extraction_rules.specs.Call.{Lent, setting}
-use Rattle.extraction_rules.proofs.OutcomeLaws.{After, after-bind, after-weaken, after_both}
+use Rattle.extraction_rules.proofs.OutcomeLaws.{After, after-bind, after-weaken, after-both}
 use Rattle.extraction_rules.proofs.FirstLaws.{lose-literal}
 use Rattle.extraction_rules.proofs.StepLaws.{module_for-stays}
 use Rattle.extraction_rules.proofs.ShapeLaws.{ShapedAll}
@@ -54,8 +54,8 @@ finish-loses e s =
 -- ---- Records that lost their namespaces
 
 -- records are equal if their parts are
-record_is : (r : Record) (fs : Fields) → r.specifiers ≡ fs → record { literal = r.literal; specifiers = fs } ≡ r
-record_is r fs h = ap (λ (gs : Fields). record { literal = r.literal; specifiers = gs }) (sym h)
+record-is : (r : Record) (fs : Fields) → r.specifiers ≡ fs → record { literal = r.literal; specifiers = fs } ≡ r
+record-is r fs h = ap (λ (gs : Fields). record { literal = r.literal; specifiers = gs }) (sym h)
 
 rebuilt-each : (works outs : Fields) (forced : List (List ℕ)) (l : List Record) → Written (specifiers_of works outs) l →
     map (lose_namespaces forced) l ≡ map (rebuilt works outs forced) (map (lose_namespaces forced) l)
@@ -63,15 +63,15 @@ unfolding rebuilt
 rebuilt-each works outs forced [] h = refl
 rebuilt-each works outs forced (r ∷ l) h =
     ap₂ (λ (q : Record) (k : List Record). q ∷ k)
-    (ap (lose_namespaces forced) (sym (record_is r (specifiers_of works outs r.literal) h.0))
+    (ap (lose_namespaces forced) (sym (record-is r (specifiers_of works outs r.literal) h.0))
     ∙ ap (λ (x : List ℕ). lose_namespaces forced (record { literal = x; specifiers = specifiers_of works outs x })) (sym (lose-literal forced r)))
     (rebuilt-each works outs forced l h.1)
 
 -- ---- A run
 
-written_of : (works outs : Fields) (l : List Record) → Written (λ x. append (gathered (value_of x) works) (taken x works outs)) l → Written (specifiers_of works outs) l
+written-of : (works outs : Fields) (l : List Record) → Written (λ x. append (gathered (value_of x) works) (taken x works outs)) l → Written (specifiers_of works outs) l
 unfolding specifiers_of
-written_of works outs l h = h
+written-of works outs l h = h
 
 abbrev Rebuilt : Fields → Fields → State → Type 0
 Rebuilt works outs s = s.collected ≡ map (rebuilt works outs s.forced) s.collected
@@ -83,7 +83,7 @@ again-rebuilt e two works s h v w =
     after-bind (walk_module e works s) _ (λ outs s1. Written (λ x. append (gathered (value_of x) works) (taken x works outs)) s1.collected) _
     (second-written e two (λ x. gathered (value_of x) works) works s h v w) λ outs s1 a.
     after-bind (finish e s1) _ (λ _ s'. (s'.collected ≡ map (lose_namespaces s1.forced) s1.collected) × (s'.forced ≡ s1.forced)) _ (finish-loses e s1) λ _ s2 b.
-    b.0 ∙ rebuilt-each works outs s1.forced s1.collected (written_of works outs s1.collected a)
+    b.0 ∙ rebuilt-each works outs s1.forced s1.collected (written-of works outs s1.collected a)
     ∙ ap₂ (λ (f : List (List ℕ)) (l : List Record). map (rebuilt works outs f) l) (sym b.1) (sym b.0)
 
 pub run-rebuilt : (l : Lent) (rows : List Row) (own : ℕ) (ms : Modules) (items : Fields) → Items items →
@@ -94,6 +94,6 @@ run-rebuilt l rows own ms items h =
     let m = walk_module one items (start ms) in
     after-weaken m (λ works s. (Sane one.externals s × Meets stays works) × (_ × _)) _
     (λ works s a. again-rebuilt (setting second own l rows) refl works s a.1.1.0.shaped a.0.1 (a.1.0 a.0.0.distinct a.0.0.own.0))
-    (after_both m _ _
-    (after_both m (λ works s. Sane one.externals s) (λ works s. Meets stays works) (first-sane one refl items (start ms) (start-sane one.externals ms)) (first-stays one items (start ms)))
-    (after_both m _ _ (first-written one refl items ms h.shaped) (run-within l rows own ms items h)))
+    (after-both m _ _
+    (after-both m (λ works s. Sane one.externals s) (λ works s. Meets stays works) (first-sane one refl items (start ms) (start-sane one.externals ms)) (first-stays one items (start ms)))
+    (after-both m _ _ (first-written one refl items ms h.shaped) (run-within l rows own ms items h)))

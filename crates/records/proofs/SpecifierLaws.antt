@@ -15,19 +15,19 @@ use Rattle.tree.specs.Access.{fixed_at, extent_at}
 use Rattle.tree.specs.Standing.{tree_at, row_at}
 use Rattle.tree.proofs.FixedLaws.{no-upto, upto-inj}
 use Rattle.tree.proofs.AccessLaws.{upto-in, extent-upto}
-use Rattle.tree.proofs.StandingLaws.{row_more, row-none, tree-upto, tree-short}
+use Rattle.tree.proofs.StandingLaws.{row-more, row-none, tree-upto, tree-short}
 use Rattle.tree.proofs.WidthLaws.{plain-ends}
-use Rattle.tree.proofs.TreeLaws.{encodes-none, encodes_one}
+use Rattle.tree.proofs.TreeLaws.{encodes-none, encodes-one}
 use Rattle.tree.specs.declared.grammar.Value.TheVariants.{Literal}
 use Rattle.metadata.specs.Metadata.{append}
 use Rattle.metadata.proofs.EncodeLaws.{encodes-append}
 use Rattle.inputs.specs.Fields.{has, keep, sole}
 use Rattle.writer.specs.Wrote.{Wrote}
-use Rattle.writer.proofs.Wrote.{wrote_none, wrote_then, wrote_as}
+use Rattle.writer.proofs.Wrote.{wrote-none, wrote-then, wrote-as}
 use Rattle.extraction_rules.specs.First.{specifiers_in}
-use Rattle.extraction_rules.proofs.KeepLaws.{keep_append}
+use Rattle.extraction_rules.proofs.KeepLaws.{keep-append}
 use Rattle.steps.specs.Step.{ReadAt}
-use Rattle.steps.proofs.SoundLaws.{read-bytes, row_read}
+use Rattle.steps.proofs.SoundLaws.{read-bytes, row-read}
 use Rattle.records.specs.Model.{is_namespace}
 use Rattle.records.specs.Writes.{WroteIf, RowRead, RowOnward, sieve, specifier_of, is_none, item_on, item_at, ItemRead, ImportIs, ImportAt}
 
@@ -55,16 +55,16 @@ specifiers-end = refl
 
 module _ (s : List ℕ) (at end : ℕ) (le : at ≤ end) where
   -- what a test of the specifiers says where the row ends, and where its first field is a 2F
-  pub row_ends : {A : Type 0} (p : Fields → A) → extent_at s at end ≡ Short → p (specifiers_in (row_at s at end)) ≡ p none
-  row_ends p e = ap (λ (fs : Fields). p (specifiers_in fs)) (row-none s at end le e) ∙ ap p specifiers-end
+  pub row-ends : {A : Type 0} (p : Fields → A) → extent_at s at end ≡ Short → p (specifiers_in (row_at s at end)) ≡ p none
+  row-ends p e = ap (λ (fs : Fields). p (specifiers_in fs)) (row-none s at end le e) ∙ ap p specifiers-end
 
   pub row-skips : {A : Type 0} (p : Fields → A) (stop : ℕ) → extent_at s at end ≡ Upto stop → tag_of (tree_at s at stop) ≡ 0x2F →
       p (specifiers_in (row_at s at end)) ≡ p (specifiers_in (row_at s stop end))
-  row-skips p stop e h = ap (λ (fs : Fields). p (specifiers_in fs)) (row_more s at end stop le e) ∙ ap p (specifiers-skip (tree_at s at stop) (row_at s stop end) h)
+  row-skips p stop e h = ap (λ (fs : Fields). p (specifiers_in fs)) (row-more s at end stop le e) ∙ ap p (specifiers-skip (tree_at s at stop) (row_at s stop end) h)
 
   pub row-takes : {A : Type 0} (p : Fields → A) (stop : ℕ) → extent_at s at end ≡ Upto stop → (tag_of (tree_at s at stop) ≡ 0x2F → ⊥) →
       p (specifiers_in (row_at s at end)) ≡ p (more (tree_at s at stop) (specifiers_in (row_at s stop end)))
-  row-takes p stop e h = ap (λ (fs : Fields). p (specifiers_in fs)) (row_more s at end stop le e) ∙ ap p (specifiers-take (tree_at s at stop) (row_at s stop end) h)
+  row-takes p stop e h = ap (λ (fs : Fields). p (specifiers_in fs)) (row-more s at end stop le e) ∙ ap p (specifiers-take (tree_at s at stop) (row_at s stop end) h)
 
 pub namespace-then : (f : Field) (fs : Fields) → tag_of f ≡ 0x22 → is_none fs ≡ is_namespace (sole (more f fs))
 unfolding sole
@@ -76,9 +76,9 @@ unfolding sole
 namespace-no f none h = sym (ne_eqb (tag_of f) 0x22 h)
 namespace-no f (more g gs) h = refl
 
-pub sole_none : is_namespace (sole none) ≡ false
+pub sole-none : is_namespace (sole none) ≡ false
 unfolding sole
-sole_none = refl
+sole-none = refl
 
 -- ---- The item at a place
 
@@ -156,7 +156,7 @@ sieve-none false = refl
 pub sieve-append : (b : Bool) (fs gs : Fields) → sieve b (append fs gs) ≡ append (sieve b fs) (sieve b gs)
 unfolding sieve
 sieve-append true fs gs = refl
-sieve-append false fs gs = keep_append (λ f. not (has 0x22 f)) fs gs
+sieve-append false fs gs = keep-append (λ f. not (has 0x22 f)) fs gs
 
 -- one part, then the others
 specifiers-more : (b : Bool) (f : Field) (fs : Fields) → sieve b (specifiers_in (more f fs)) ≡ append (specifier_of b f) (sieve b (specifiers_in fs))
@@ -170,19 +170,19 @@ specifiers-more b f fs = by (has 0x2F f) refl
 module _ (s : List ℕ) (at end : ℕ) (le : at ≤ end) (b : Bool) where
   pub bytes-none : extent_at s at end ≡ Short → encodes (sieve b (specifiers_in (row_at s at end))) ≡ []
   unfolding encodes
-  bytes-none e = row_ends s at end le (λ fs. encodes (sieve b fs)) e ∙ ap encodes (sieve-none b)
+  bytes-none e = row-ends s at end le (λ fs. encodes (sieve b fs)) e ∙ ap encodes (sieve-none b)
 
   pub bytes-more : (stop : ℕ) → extent_at s at end ≡ Upto stop →
       encodes (sieve b (specifiers_in (row_at s at end))) ≡ encodes (specifier_of b (tree_at s at stop)) ++ encodes (sieve b (specifiers_in (row_at s stop end)))
   bytes-more stop e =
-      ap (λ (fs : Fields). encodes (sieve b (specifiers_in fs))) (row_more s at end stop le e) ∙ ap encodes (specifiers-more b (tree_at s at stop) (row_at s stop end))
+      ap (λ (fs : Fields). encodes (sieve b (specifiers_in fs))) (row-more s at end stop le e) ∙ ap encodes (specifiers-more b (tree_at s at stop) (row_at s stop end))
       ∙ encodes-append (specifier_of b (tree_at s at stop)) (sieve b (specifiers_in (row_at s stop end)))
 
 -- ---- One part
 
 -- nothing is written
-pub if_none : {P : Type 0} {bs l : List ℕ} {o : ℕ} → bs ≡ [] → WroteIf P bs l o l o
-if_none e = record { size = refl; is = λ _. wrote_as wrote_none (sym e) }
+pub if-none : {P : Type 0} {bs l : List ℕ} {o : ℕ} → bs ≡ [] → WroteIf P bs l o l o
+if-none e = record { size = refl; is = λ _. wrote-as wrote-none (sym e) }
 
 module _ (b : Bool) (f : Field) where
   pub part-attributes : tag_of f ≡ 0x2F → encodes (specifier_of b f) ≡ []
@@ -200,31 +200,31 @@ module _ (b : Bool) (f : Field) where
 
   pub part-any : (tag_of f ≡ 0x2F → ⊥) → b ≡ true → encode f ≡ encodes (specifier_of b f)
   unfolding sieve
-  part-any h q = sym (encodes_one f) ∙ ap encodes (sym (part-other h ∙ ap (λ (c : Bool). sieve c (more f none)) q))
+  part-any h q = sym (encodes-one f) ∙ ap encodes (sym (part-other h ∙ ap (λ (c : Bool). sieve c (more f none)) q))
 
   pub part-named : (tag_of f ≡ 0x2F → ⊥) → b ≡ false → (tag_of f ≡ 0x22 → ⊥) → encode f ≡ encodes (specifier_of b f)
   unfolding sieve keep
   part-named h q k =
-      sym (encodes_one f) ∙ ap encodes (sym (part-other h ∙ ap (λ (c : Bool). sieve c (more f none)) q ∙ ap (λ (c : Bool). cond (not c) (more f none) none) (ne_eqb (tag_of f) 0x22 k)))
+      sym (encodes-one f) ∙ ap encodes (sym (part-other h ∙ ap (λ (c : Bool). sieve c (more f none)) q ∙ ap (λ (c : Bool). cond (not c) (more f none) none) (ne_eqb (tag_of f) 0x22 k)))
 
 -- a part that was read is copied
 pub if-copied : {s : List ℕ} {at stop : ℕ} {bs l l' : List ℕ} {o p : ℕ} → Bytes s → encode (tree_at s at stop) ≡ bs →
     Wrote l o (slice at stop s) l' p → WroteIf (ReadAt s at stop) bs l o l' p
-if-copied bytes e w = record { size = w.size; is = λ r. wrote_as w (sym (read-bytes r bytes) ∙ e) }
+if-copied bytes e w = record { size = w.size; is = λ r. wrote-as w (sym (read-bytes r bytes) ∙ e) }
 
 -- ---- A row that was read
 
 pub row-start : {s : List ℕ} {from end : ℕ} {bs l : List ℕ} {o : ℕ} → RowOnward s from from end bs bs l o l o
 row-start = record { size = refl; read = λ r. r; is = λ r w. w }
 
-pub row_step : {s : List ℕ} {from at end stop : ℕ} {bs cs ds es l l' l'' : List ℕ} {o p q : ℕ} → at ≤ end → end ≤ length s → extent_at s at end ≡ Upto stop →
+pub row-step : {s : List ℕ} {from at end stop : ℕ} {bs cs ds es l l' l'' : List ℕ} {o p q : ℕ} → at ≤ end → end ≤ length s → extent_at s at end ≡ Upto stop →
     RowOnward s from at end bs cs l o l' p → cs ≡ ds ++ es → WroteIf (ReadAt s at stop) ds l' p l'' q → RowOnward s from stop end bs es l o l'' q
-row_step le fits e i k w =
+row-step le fits e i k w =
     record {
       size = w.size ∙ i.size;
-      read = λ r. let a = i.read r in let b = row_read a.0 le fits a.1 e in (b.1.0, b.1.2);
-      is = λ r v. let a = i.read r in i.is r (wrote_as (wrote_then (w.is (row_read a.0 le fits a.1 e).0) v) (sym k));
+      read = λ r. let a = i.read r in let b = row-read a.0 le fits a.1 e in (b.1.0, b.1.2);
+      is = λ r v. let a = i.read r in i.is r (wrote-as (wrote-then (w.is (row-read a.0 le fits a.1 e).0) v) (sym k));
     }
 
 pub row-stop : {s : List ℕ} {from at end : ℕ} {bs cs l l' : List ℕ} {o p : ℕ} → RowOnward s from at end bs cs l o l' p → cs ≡ [] → WroteIf (RowRead s from end) bs l o l' p
-row-stop i e = record { size = i.size; is = λ r. i.is r (wrote_as wrote_none (sym e)) }
+row-stop i e = record { size = i.size; is = λ r. i.is r (wrote-as wrote-none (sym e)) }

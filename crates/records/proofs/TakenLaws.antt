@@ -18,8 +18,8 @@ use Rattle.extraction_rules.specs.State.{Record, Usage, State, second, Setting, 
 use Rattle.extraction_rules.specs.First.{external, force_source, forget, specifiers_in, attributes_in, stays}
 use Rattle.extraction_rules.specs.Second.{usages_of, specifiers_from, extend, take_apart, on_sole, import_second}
 use Rattle.extraction_rules.specs.Walk.{parts_for, walk, walk_all, walk_module}
-use Rattle.extraction_rules.proofs.OutcomeLaws.{After, after-bind, after-weaken, after_both, after-if}
-use Rattle.extraction_rules.proofs.ListLaws.{all-weaken, all_map, same-swap}
+use Rattle.extraction_rules.proofs.OutcomeLaws.{After, after-bind, after-weaken, after-both, after-if}
+use Rattle.extraction_rules.proofs.ListLaws.{all-weaken, all-map, same-swap}
 use Rattle.extraction_rules.proofs.FirstLaws.{source-cases, force-cases}
 use Rattle.extraction_rules.proofs.WalkLaws.{Imports, ImportsAll, ImportsAssignment, ImportsTarget, imports-parts, Steps, walk-keeps}
 use Rattle.extraction_rules.proofs.SanityLaws.{first-second}
@@ -29,7 +29,7 @@ use Rattle.extraction_rules.proofs.AlikeLaws.{Regular, RegularAll}
 use Rattle.extraction_rules.proofs.RegularLaws.{regular, item-outer}
 use Rattle.extraction_rules.proofs.ReadableLaws.{item-step}
 use Rattle.extraction_rules.proofs.StayLaws.{item-no-member, import-stays, walk-stays}
-use Rattle.extraction_rules.proofs.KeepLaws.{Meets, keep_all}
+use Rattle.extraction_rules.proofs.KeepLaws.{Meets, keep-all}
 use Rattle.records.specs.Model.{is_namespace, starts_named, whole_of, taken_of, taken}
 use Rattle.records.proofs.PartLaws.{specifiers-usages}
 use Rattle.records.proofs.GatheredLaws.{Written}
@@ -88,19 +88,19 @@ taken-apart l x cs u us h =
 
 -- ---- Records that are written
 
-written_as : (F G : List ℕ → Fields) (l : List Record) → ((x : List ℕ) → F x ≡ G x) → Written F l → Written G l
-written_as F G l k h = all-weaken (λ r. r.specifiers ≡ F r.literal) (λ r. r.specifiers ≡ G r.literal) l (λ r w. w ∙ k r.literal) h
+written-as : (F G : List ℕ → Fields) (l : List Record) → ((x : List ℕ) → F x ≡ G x) → Written F l → Written G l
+written-as F G l k h = all-weaken (λ r. r.specifiers ≡ F r.literal) (λ r. r.specifiers ≡ G r.literal) l (λ r w. w ∙ k r.literal) h
 
 -- nothing more
-written_none : (F T : List ℕ → Fields) (l : List Record) → ((x : List ℕ) → T x ≡ none) → Written F l → Written (λ x. append (F x) (T x)) l
-written_none F T l k h = written_as F (λ x. append (F x) (T x)) l (λ x. sym (ap (append (F x)) (k x) ∙ append-none (F x))) h
+written-none : (F T : List ℕ → Fields) (l : List Record) → ((x : List ℕ) → T x ≡ none) → Written F l → Written (λ x. append (F x) (T x)) l
+written-none F T l k h = written-as F (λ x. append (F x) (T x)) l (λ x. sym (ap (append (F x)) (k x) ∙ append-none (F x))) h
 
 -- the records of a literal are extended
 written-extend : (F T : List ℕ → Fields) (x : List ℕ) (fs : Fields) (l : List Record) → ((y : List ℕ) → T y ≡ cond (same x y) fs none) → Written F l →
     Written (λ y. append (F y) (T y)) (map (extend x fs) l)
 unfolding extend
 written-extend F T x fs l k h =
-    all_map (λ r. r.specifiers ≡ F r.literal) (λ r. r.specifiers ≡ append (F r.literal) (T r.literal)) (extend x fs) l
+    all-map (λ r. r.specifiers ≡ F r.literal) (λ r. r.specifiers ≡ append (F r.literal) (T r.literal)) (extend x fs) l
     (λ r w. by r w (same r.literal x) refl) h
   where
     by : (r : Record) → r.specifiers ≡ F r.literal → (b : Bool) → same r.literal x ≡ b →
@@ -117,7 +117,7 @@ NoLiteral x = ⊥
 
 mutual
   regular-imports : (f : Field) → Regular f → Imports f NoLiteral
-  regular-imports (field t x cs) w = (λ q. w.0.no-import q, imports-parts (parts_for t) cs NoLiteral (regular-imports-all cs w.1) (regular-imports-assignment cs w.1))
+  regular-imports (field t x cs) w = (λ q. w.0.no_import q, imports-parts (parts_for t) cs NoLiteral (regular-imports-all cs w.1) (regular-imports-assignment cs w.1))
 
   regular-imports-all : (fs : Fields) → RegularAll fs → ImportsAll fs NoLiteral
   regular-imports-all none w = tt
@@ -136,12 +136,12 @@ written-steps e F k =
     record {
       common =
           record {
-            requires = record { on-request = λ s g m ms q h. h; on-cjs = λ s m h. h; on-lazy = λ s r b h. h };
-            on-force = λ s i h. force-cases i s (λ s. Written F s.collected) h (λ r w. h);
-            on-top = λ s b h. h;
+            requires = record { on_request = λ s g m ms q h. h; on_cjs = λ s m h. h; on_lazy = λ s r b h. h };
+            on_force = λ s i h. force-cases i s (λ s. Written F s.collected) h (λ r w. h);
+            on_top = λ s b h. h;
           };
       one = λ q. first-second q k;
-      two = λ _. record { on-extend = λ s x us p h. absurd p; on-source = λ s x b p h. absurd p };
+      two = λ _. record { on_extend = λ s x us p h. absurd p; on_source = λ s x b p h. absurd p };
     }
 
 -- ---- The second pass
@@ -152,13 +152,13 @@ module _ (e : Setting) (two : e.pass ≡ second) where
   abbrev Takes : (List ℕ → Fields) → Field → Field → State → Type 0
   Takes F f g s' = Written (λ l. append (F l) (taken_of l f g)) s'.collected × (stays g ≡ true)
 
-  same_takes : (F : List ℕ → Fields) (x : List ℕ) (cs : Fields) (s : State) → Written F s.collected → Takes F (field 0x10 x cs) (field 0x10 x cs) s
-  same_takes F x cs s h = (written_none F (λ l. taken_of l (field 0x10 x cs) (field 0x10 x cs)) s.collected (λ l. taken-same l (field 0x10 x cs)) h, import-stays (field 0x10 x cs) refl)
+  same-takes : (F : List ℕ → Fields) (x : List ℕ) (cs : Fields) (s : State) → Written F s.collected → Takes F (field 0x10 x cs) (field 0x10 x cs) s
+  same-takes F x cs s h = (written-none F (λ l. taken_of l (field 0x10 x cs) (field 0x10 x cs)) s.collected (λ l. taken-same l (field 0x10 x cs)) h, import-stays (field 0x10 x cs) refl)
 
   apart-takes : (F : List ℕ → Fields) (us : List Usage) (x : List ℕ) (cs : Fields) (s : State) → is_namespace (sole (specifiers_in cs)) ≡ true →
       Written F s.collected → After (take_apart us x cs s) (Takes F (field 0x10 x cs))
   unfolding take_apart
-  apart-takes F [] x cs s n h = same_takes F x cs (force_source (value_of x) s) (source-cases (value_of x) s (λ t. Written F t.collected) (λ _. h) h)
+  apart-takes F [] x cs s n h = same-takes F x cs (force_source (value_of x) s) (source-cases (value_of x) s (λ t. Written F t.collected) (λ _. h) h)
   apart-takes F (u ∷ us) x cs s n h =
       let g : Field = field 0x10 x (append (specifiers_from (u ∷ us)) (attributes_in cs)) in
       (written-extend F (λ l. taken_of l (field 0x10 x cs) g) x (specifiers_from (u ∷ us)) s.collected (λ l. taken-apart l x cs u us n) h, import-stays g refl)
@@ -166,16 +166,16 @@ module _ (e : Setting) (two : e.pass ≡ second) where
   sole-takes : (F : List ℕ → Fields) (o : Option Field) (x : List ℕ) (cs : Fields) (s : State) → sole (specifiers_in cs) ≡ o →
       Written F s.collected → After (on_sole o x cs s) (Takes F (field 0x10 x cs))
   unfolding on_sole
-  sole-takes F nothing x cs s q h = same_takes F x cs s h
+  sole-takes F nothing x cs s q h = same-takes F x cs s h
   sole-takes F (some f) x cs s q h =
       after-if (has 0x22 f) _ (give (field 0x10 x cs)) s (Takes F (field 0x10 x cs))
-      (λ b. apart-takes F (usages_of (fixed_of f) s.usages) x cs s (ap is_namespace q ∙ b) h) (λ _. same_takes F x cs s h)
+      (λ b. apart-takes F (usages_of (fixed_of f) s.usages) x cs s (ap is_namespace q ∙ b) h) (λ _. same-takes F x cs s h)
 
   import-takes : (F : List ℕ → Fields) (x : List ℕ) (cs : Fields) (s : State) → Written F s.collected → After (import_second e x cs s) (Takes F (field 0x10 x cs))
   unfolding import_second
   import-takes F x cs s h =
       after-if (external e x || among (value_of x) s.forced) (give (field 0x10 x cs)) (on_sole (sole (specifiers_in cs)) x cs) s (Takes F (field 0x10 x cs))
-      (λ _. same_takes F x cs s h) (λ _. sole-takes F (sole (specifiers_in cs)) x cs s refl h)
+      (λ _. same-takes F x cs s h) (λ _. sole-takes F (sole (specifiers_in cs)) x cs s refl h)
 
   -- ---- The items
 
@@ -190,21 +190,21 @@ module _ (e : Setting) (two : e.pass ≡ second) where
       go f false q w m v =
           let n = eqb-false (tag_of f) 0x10 q in
           after-weaken (walk f e false p s) (λ g s'. Written F s'.collected × (stays g ≡ true)) (Takes F f)
-          (λ g s' r. (written_none F (λ l. taken_of l f g) s'.collected (λ l. taken-other l f g n) r.0, r.1))
-          (after_both (walk f e false p s) (λ g s'. Written F s'.collected) (λ g s'. stays g ≡ true)
+          (λ g s' r. (written-none F (λ l. taken_of l f g) s'.collected (λ l. taken-other l f g n) r.0, r.1))
+          (after-both (walk f e false p s) (λ g s'. Written F s'.collected) (λ g s'. stays g ≡ true)
           (walk-keeps e NoLiteral (λ s'. Written F s'.collected) (written-steps e F two) f false p s (regular-imports f (w n)) h) (walk-stays e f p s n m v))
 
   pub items-take : (F : List ℕ → Fields) (fs : Fields) (p : ℕ) (s : State) → ShapedAll fs (rule_of 0x01) → Meets stays fs → Written F s.collected →
       After (walk_all fs e false p s) (λ gs s'. Written (λ l. append (F l) (taken l fs gs)) s'.collected × Meets stays gs)
   unfolding walk_all taken
-  items-take F none p s h v w = (written_none F (λ l. taken l none none) s.collected (λ l. refl) w, tt)
+  items-take F none p s h v w = (written-none F (λ l. taken l none none) s.collected (λ l. refl) w, tt)
   items-take F (more f fs) p s h v w =
       let i = item-step (tag_of f) h.0 h.1 in
       after-bind (walk f e false p s) _ (Takes F f) _
       (item-takes F f p s (λ n. regular f (item-outer (tag_of f) i.0 (ne_eqb (tag_of f) 0x10 n)) h.2) (item-no-member (tag_of f) i.0) v.0 w) λ g s1 a.
       after-bind (walk_all fs e false (p + size f) s1) _ (λ gs s'. Written (λ l. append (append (F l) (taken_of l f g)) (taken l fs gs)) s'.collected × Meets stays gs) _
       (items-take (λ l. append (F l) (taken_of l f g)) fs (p + size f) s1 (subst (ShapedAll fs) i.1 h.3) v.1 a.0) λ gs s2 b. (
-        written_as (λ l. append (append (F l) (taken_of l f g)) (taken l fs gs)) (λ l. append (F l) (append (taken_of l f g) (taken l fs gs)))
+        written-as (λ l. append (append (F l) (taken_of l f g)) (taken l fs gs)) (λ l. append (F l) (append (taken_of l f g) (taken l fs gs)))
             s2.collected (λ l. append-rows (F l) (taken_of l f g) (taken l fs gs)) b.0,
         (a.1, b.1),
       )
@@ -217,4 +217,4 @@ module _ (e : Setting) (two : e.pass ≡ second) where
       after-bind (walk_all works e false 3 (set_top true s)) _
       (λ gs s'. Written (λ l. append (F l) (taken l works gs)) s'.collected × Meets stays gs) _ (items-take F works 3 (set_top true s) h v w)
       λ gs s' a.
-      subst (λ (outs : Fields). Written (λ l. append (F l) (taken l works outs)) s'.collected) (sym (keep_all stays gs a.1)) a.0
+      subst (λ (outs : Fields). Written (λ l. append (F l) (taken l works outs)) s'.collected) (sym (keep-all stays gs a.1)) a.0

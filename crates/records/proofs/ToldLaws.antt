@@ -18,7 +18,7 @@ use Rattle.tree.specs.Access.{length_at, extent_at}
 use Rattle.tree.specs.Read.{fine, read}
 use Rattle.tree.specs.Standing.{tree_at}
 use Rattle.tree.proofs.FixedLaws.{no-upto}
-use Rattle.tree.proofs.WidthLaws.{read_module}
+use Rattle.tree.proofs.WidthLaws.{read-module}
 use Rattle.inputs.specs.Table.{Row as TableRow}
 use Rattle.extraction_rules.specs.State.{Record, State, first, second, start}
 use Rattle.extraction_rules.specs.First.{bindings}
@@ -40,7 +40,7 @@ parts-inj e = cc
 
 -- a module that was read: its items, and that they are read
 pub items-read : (s : List ℕ) (fs : Fields) → read Module s ≡ fine (more (module_with fs) none) → (items_in s ≡ fs) × RowRead s 3 (length s)
-items-read s fs e = let m = read_module s (more (module_with fs) none) e in (sym (parts-inj m.tree), (rule_of 0x01, m.row))
+items-read s fs e = let m = read-module s (more (module_with fs) none) e in (sym (parts-inj m.tree), (rule_of 0x01, m.row))
 
 -- ---- Places
 
@@ -71,10 +71,10 @@ module _ (tree work : List ℕ) where
   placed-0 = refl
 
   -- a pattern of the lent tree
-  pub placed_first : (at end stop : ℕ) → 0 < at → at < 65536 → at ≤ end → end ≤ length tree → extent_at tree at end ≡ Upto stop →
+  pub placed-first : (at end stop : ℕ) → 0 < at → at < 65536 → at ≤ end → end ≤ length tree → extent_at tree at end ≡ Upto stop →
       placed tree work at ≡ bindings (tree_at tree at stop)
   unfolding placed
-  placed_first at end stop n l le fits e =
+  placed-first at end stop n l le fits e =
       ap (λ (b : Bool). cond b none (cond (ltb at 65536) (pattern_at tree at) (pattern_at work (at - 65536)))) (ne_eqb at 0 (λ z. omega arith))
       ∙ ap (λ (b : Bool). cond b (pattern_at tree at) (pattern_at work (at - 65536))) (lt-ltb at 65536 l) ∙ pattern-is tree at end stop le fits e
 

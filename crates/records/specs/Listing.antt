@@ -102,7 +102,7 @@ pub record Unchained (a : List ℕ) : Type 0 where
 pub record Lists (work out a : List ℕ) (n at made : ℕ) : Type 0 where
   pub few : n ≤ 3641
   pub low : at < 65536
-  pub low-out : made < 65536
+  pub low_out : made < 65536
   pub listed : Listed work (places_in a n) at
   pub paired : Paired work out (places_in a n) at made
 

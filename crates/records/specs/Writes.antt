@@ -42,8 +42,8 @@ literal_in tree work q = cond (ltb q 65536) (literal_on tree q) (literal_on work
 
 -- what stands at places is read off these trees
 pub record Placing (tree work : List ℕ) (x : Env) : Type 0 where
-  pub bindings-placed : (q : ℕ) → x.bound q ≡ placed tree work q
-  pub literals-placed : (q : ℕ) → x.literal q ≡ literal_in tree work q
+  pub bindings_placed : (q : ℕ) → x.bound q ≡ placed tree work q
+  pub literals_placed : (q : ℕ) → x.literal q ≡ literal_in tree work q
 
 -- ---- What is written
 

@@ -23,7 +23,7 @@ use Rattle.writer.proofs.Finished.{delivered-none, delivers}
 use Rattle.inputs.specs.Outcome.{Outcome, done, refused, onto, refuse_if, refusal_in, number_in, place_in}
 use Rattle.inputs.specs.Table.{rows_in, bad_table, repeats, table_of}
 use Rattle.inputs.specs.Buffer.{fits, buffer_of}
-use Rattle.inputs.proofs.AcceptedLaws.{done_inj, done_refused, onto-done}
+use Rattle.inputs.proofs.AcceptedLaws.{done-inj, done-refused, onto-done}
 use Rattle.resolving_rules.specs.Resolve.{sources_in, forced_in, number_all, resolved_all}
 use Rattle.resolving_rules.specs.Call.{records_read, Numbered, numbered, Resolved, listed, resolved, modules_after, Left, resolving}
 use Rattle.resolving.specs.declared.specifiers.Why.{Why}
@@ -51,25 +51,25 @@ tested table records =
 
 module _ (table records : List ℕ) where
   -- the answer by the three tests
-  listed_by : (a b : Bool) (v : Verdict) → bad_table table ≡ a → repeats (rows_in table) ≡ b → verdict (read Records records) ≡ v →
+  listed-by : (a b : Bool) (v : Verdict) → bad_table table ≡ a → repeats (rows_in table) ≡ b → verdict (read Records records) ≡ v →
       lists_of table records ≡ cond a Bad (cond b Twice (read_as v))
   unfolding lists_of
-  listed_by a b v e f q = rw (e, f, q)
+  listed-by a b v e f q = rw (e, f, q)
 
   module _ {a : Bool} (bad : a ≡ bad_table table) where
     pub lists-bad : a ≡ true → Bad ≡ lists_of table records
-    lists-bad e = sym (listed_by true (repeats (rows_in table)) (verdict (read Records records)) (sym bad ∙ e) refl refl)
+    lists-bad e = sym (listed-by true (repeats (rows_in table)) (verdict (read Records records)) (sym bad ∙ e) refl refl)
 
     module _ {b : Bool} (twice : b ≡ repeats (rows_in table)) where
       pub lists-twice : a ≡ false → b ≡ true → Twice ≡ lists_of table records
-      lists-twice e f = sym (listed_by false true (verdict (read Records records)) (sym bad ∙ e) (sym twice ∙ f) refl)
+      lists-twice e f = sym (listed-by false true (verdict (read Records records)) (sym bad ∙ e) (sym twice ∙ f) refl)
 
       module _ {v : Verdict} (is : v ≡ verdict (read Records records)) (e : a ≡ false) (f : b ≡ false) where
         pub lists-read : v ≡ Well → Passable ≡ lists_of table records
-        lists-read q = sym (listed_by false false Well (sym bad ∙ e) (sym twice ∙ f) (sym is ∙ q))
+        lists-read q = sym (listed-by false false Well (sym bad ∙ e) (sym twice ∙ f) (sym is ∙ q))
 
         pub lists-unread : {w : ReadWhy} {p : ℕ} → v ≡ Broken w p → NotRead w p ≡ lists_of table records
-        lists-unread {w} {p} q = sym (listed_by false false (Broken w p) (sym bad ∙ e) (sym twice ∙ f) (sym is ∙ q))
+        lists-unread {w} {p} q = sym (listed-by false false (Broken w p) (sym bad ∙ e) (sym twice ∙ f) (sym is ∙ q))
 
 -- what each answer says: the records were read, or the rules refuse
 abbrev Says : List ℕ → List ℕ → Tested → Type 0
@@ -101,9 +101,9 @@ records-good table records d e bs = let s = said table records Passable d e in r
 
 -- ---- '11 or 6, then 9'
 
-fits_by : (g : Field) (room : ℕ) {c : Bool} → has_room (length (encode g)) room ≡ c → fits g room ≡ refuse_if (not c) 9
+fits-by : (g : Field) (room : ℕ) {c : Bool} → has_room (length (encode g)) room ≡ c → fits g room ≡ refuse_if (not c) 9
 unfolding fits
-fits_by g room e = ap (λ (c : Bool). refuse_if (not c) 9) (ap (λ (n : ℕ). has_room n room) (size-encode g) ∙ e)
+fits-by g room e = ap (λ (c : Bool). refuse_if (not c) 9) (ap (λ (n : ℕ). has_room n room) (size-encode g) ∙ e)
 
 module _ (table records : List ℕ) (ms : Modules) where
   abbrev all : Outcome Fields
@@ -127,7 +127,7 @@ module _ (table records : List ℕ) (ms : Modules) where
         ap (left_in (NotListed v q) ms) (z ∙ ap (λ (n : ℕ). replicate n 0) w.size) ∙ sym (list-as (length l) (back all (w.turned v q e)))
       where
         back : (m : Outcome Fields) → list_with m ≡ refused (why_number v) q → m ≡ refused (why_number v) q
-        back (done gs) e = done_refused (sym e)
+        back (done gs) e = done-refused (sym e)
         back (refused n p) e = ap (λ (o : Outcome Field). refused (number_in (refusal_in o)) (place_in (refusal_in o))) e
 
     module _ {n : ℕ} {r : Bool} (e : k ≡ Done n) (f : Finished n l1 r l2) where
@@ -135,7 +135,7 @@ module _ (table records : List ℕ) (ms : Modules) where
       list-given =
           let u = w.put n e in
           let o = onto-done all (λ gs. done (field 0x03 [] gs)) u.value u.is in
-          (o.0, o.1, subst (λ (g : Field). Delivered (encode g) l r l2) (sym (done_inj o.2)) (delivers u.wrote f))
+          (o.0, o.1, subst (λ (g : Field). Delivered (encode g) l r l2) (sym (done-inj o.2)) (delivers u.wrote f))
 
       -- by what finishing it answers
       list-by : {c : Bool} → r ≡ c →
@@ -144,7 +144,7 @@ module _ (table records : List ℕ) (ms : Modules) where
           let g = list-given in
           let h = field 0x03 [] g.0 in
           list-as (length l) g.1
-          ∙ ap (λ (o : Outcome (Unit {0})). left_as (onto o (λ _. done (record { modules = ms; list = h }))) (length l)) (fits_by h (length l) (sym g.2.room ∙ z))
+          ∙ ap (λ (o : Outcome (Unit {0})). left_as (onto o (λ _. done (record { modules = ms; list = h }))) (length l)) (fits-by h (length l) (sym g.2.room ∙ z))
 
       pub list-fits : r ≡ true → left_in Fits ms l2 ≡ listed_left table records (length l) ms
       list-fits z = ap (left_in Fits ms) list-given.2.buffer ∙ sym (list-by z)
@@ -196,10 +196,10 @@ zeroed-is l e = e
 given-as : {q p : Resolution} {l : List ℕ} {x : Left} (r : Reading Fields) → q ≡ p → (left p l ≡ x) × UnreadAs p.answer r → (left q l ≡ x) × UnreadAs q.answer r
 given-as {l = l} {x = x} r e h = subst (λ (q : Resolution). (left q l ≡ x) × UnreadAs q.answer r) (sym e) h
 
-list_read : (k : Listed) (r : Reading Fields) → UnreadAs (list_answer k) r
-list_read Fits r = tt
-list_read (NotListed w p) r = tt
-list_read Short r = tt
+list-read : (k : Listed) (r : Reading Fields) → UnreadAs (list_answer k) r
+list-read Fits r = tt
+list-read (NotListed w p) r = tt
+list-read Short r = tt
 
 module _ (modes : Modes) (table records : List ℕ) (scope : Scope) (l : List ℕ) {r : Tested} (d : r ≡ lists_of table records) where
   abbrev before : List ℕ → Resolution → Type 0
@@ -228,9 +228,9 @@ module _ (modes : Modes) (table records : List ℕ) (scope : Scope) (l : List �
 
   module _ (e : r ≡ Passable) where
     -- 5
-    pub refused_over : {l' : List ℕ} {r : Resolution} {p : ℕ} → number_all (rows_in table) (sources_in (records_in records)) (modules_of scope) 3 ≡ refused 5 p →
+    pub refused-over : {l' : List ℕ} {r : Resolution} {p : ℕ} → number_all (rows_in table) (sources_in (records_in records)) (modules_of scope) 3 ≡ refused 5 p →
         (r ≡ as_it_was (TooManyFiles p)) × (l' ≡ zeroed l) → before l' r
-    refused_over {p = p} q z =
+    refused-over {p = p} q z =
         given-as (read Records records) z.0 (
           ap (left_by (TooManyFiles p) (modules_of scope) no_counts) (zeroed-is l z.1)
               ∙ sym (left-numbered modes table records (modules_of scope) (length l) (said table records Passable d e).0 q),
@@ -245,4 +245,4 @@ module _ (modes : Modes) (table records : List ℕ) (scope : Scope) (l : List �
       answers-list {n} i h =
           given-as (read Records records)
           (ap (λ (a : ResolveAnswer). record { scope = new; report = n; answer = a }) h ∙ ap (λ (n : Report). record { scope = new; report = n; answer = list_answer k }) i)
-          (f ∙ sym (left-numbered modes table records (modules_of scope) (length l) (said table records Passable d e).0 q), list_read k (read Records records))
+          (f ∙ sym (left-numbered modes table records (modules_of scope) (length l) (said table records Passable d e).0 q), list-read k (read Records records))

@@ -5,7 +5,7 @@ use mathlib.Core.Path.{◌≡◌, refl, sym, ap, ap₂, subst, ◌∙◌}
 use mathlib.Core.List.{List}
 use mathlib.Core.Option.{Option, none as nothing, some}
 use lib.ListN.{length}
-use Rattle.scope.specs.Modules.{Modules, too-many-files, Generated, generated_by, number_of, request, gen}
+use Rattle.scope.specs.Modules.{Modules, too_many_files, Generated, generated_by, number_of, request, gen}
 use Rattle.scope.specs.declared.id.FileName.{FileName}
 use Rattle.scope.proofs.Laws.{request-numbers}
 use Rattle.tree.specs.declared.layout.Reach.TheVariants.{Upto, Short}
@@ -16,7 +16,7 @@ use Rattle.tree.proofs.SliceLaws.{take-slice}
 use Rattle.tree.proofs.LayoutLaws.{two_at-is}
 use Rattle.inputs.specs.Outcome.{Outcome, done, refused, onto}
 use Rattle.inputs.specs.Table.{Row, file_of}
-use Rattle.inputs.proofs.AcceptedLaws.{done_inj, done_refused, onto-done}
+use Rattle.inputs.proofs.AcceptedLaws.{done-inj, done-refused, onto-done}
 use Rattle.resolving_rules.specs.Resolve.{source_of, sources_in, requested, number_one, number_all}
 use Rattle.resolving_rules.proofs.ResolveLaws.{number_all-keeps}
 use Rattle.resolving.specs.Records.{RecordsFrom, SourceRead, source_end}
@@ -34,7 +34,7 @@ module _ (rows : List Row) (a : List ℕ) (ms : Modules) (p : ℕ) where
   given (some r) e = refl
   given nothing e = absurd (let z : ◌≡◌ {A = ℕ} 0 1 = cc in omega arith)
 
-  over : (o : Option (ℕ × Modules)) → (generated_by o ms).refusal ≡ some too-many-files → refused 5 p ≡ requested o p
+  over : (o : Option (ℕ × Modules)) → (generated_by o ms).refusal ≡ some too_many_files → refused 5 p ≡ requested o p
   over (some r) e = absurd (let z : ◌≡◌ {A = ℕ} 0 1 = cc in omega arith)
   over nothing e = refl
 
@@ -45,7 +45,7 @@ module _ (rows : List Row) (a : List ℕ) (ms : Modules) (p : ℕ) where
         ap (λ (k : Generated). done k.modules) e ∙ given (request file.0 ms) (sym (ap (λ (k : Generated). k.refusal) e) ∙ z)
         ∙ sym (ap (λ (o : Option ℕ). number_one o ms p) h)
 
-    pub number-over : g.refusal ≡ some too-many-files → refused 5 p ≡ number_one (file_of a rows) ms p
+    pub number-over : g.refusal ≡ some too_many_files → refused 5 p ≡ number_one (file_of a rows) ms p
     unfolding gen number_one
     number-over z = over (request file.0 ms) (sym (ap (λ (k : Generated). k.refusal) e) ∙ z) ∙ sym (ap (λ (o : Option ℕ). number_one o ms p) h)
 
@@ -78,9 +78,9 @@ module _ (rows : List Row) {s : List ℕ} {at : ℕ} (ms : Modules) (r : Records
         (source-value w.source ∙ ap two (sym l))
         ∙ ap₂ (λ (o : Outcome Modules) (p : ℕ). onto o (λ new. number_all rows (sources_in (row_at s stop (length s))) new p)) q (source-after w.source)
 
-    pub numbers_more : {new : Modules} → number_one (file_of (two v) rows) ms at ≡ done new →
+    pub numbers-more : {new : Modules} → number_one (file_of (two v) rows) ms at ≡ done new →
         number_all rows (sources_in (row_at s at (length s))) ms at ≡ number_all rows (sources_in (row_at s stop (length s))) new stop
-    numbers_more q = numbers-step q
+    numbers-more q = numbers-step q
 
     pub numbers-stop : {n p : ℕ} → number_one (file_of (two v) rows) ms at ≡ refused n p →
         refused n p ≡ number_all rows (sources_in (row_at s at (length s))) ms at
@@ -93,8 +93,8 @@ unfolding number_one
 number-has o ms new p file e h = go (request file ms) refl (sym (ap (λ (q : Option ℕ). number_one q ms p) h) ∙ e)
   where
     go : (r : Option (ℕ × Modules)) → request file ms ≡ r → requested r p ≡ done new → (n : ℕ) × (number_of file new ≡ some n)
-    go nothing w e = done_refused e
-    go (some r) w e = (r.0, subst (λ (m : Modules). number_of file m ≡ some r.0) (done_inj e) (request-numbers file ms w))
+    go nothing w e = done-refused e
+    go (some r) w e = (r.0, subst (λ (m : Modules). number_of file m ≡ some r.0) (done-inj e) (request-numbers file ms w))
 
 pub numbers-all : (rows : List Row) (fs : Fields) (ms new : Modules) (p : ℕ) → number_all rows fs ms p ≡ done new → NumbersAll rows new fs
 unfolding number_all

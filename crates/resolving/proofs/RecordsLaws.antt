@@ -25,10 +25,10 @@ use Rattle.tree.specs.Read.{fine, read}
 use Rattle.tree.specs.Standing.{tree_at, row_at, Whole, Row}
 use Rattle.tree.specs.Within.{FormedAll}
 use Rattle.tree.proofs.FixedLaws.{no-upto, upto-inj}
-use Rattle.tree.proofs.GrammarLaws.{go-inj, many-slot, no_step}
+use Rattle.tree.proofs.GrammarLaws.{go-inj, many-slot, no-step}
 use Rattle.tree.proofs.AccessLaws.{extent-upto, upto-in}
 use Rattle.tree.proofs.LayoutLaws.{two_at-is, same-two}
-use Rattle.tree.proofs.StandingLaws.{row_more, row-none, tree-upto, whole-step, whole-tag, row_next, read-field}
+use Rattle.tree.proofs.StandingLaws.{row-more, row-none, tree-upto, whole-step, whole-tag, row-next, read-field}
 use Rattle.tree.proofs.WidthLaws.{Plainly, plain-ends, tree-bare}
 use Rattle.tree.proofs.SoundLaws.{row-sound, whole-sound}
 use Rattle.tree.proofs.TreeLaws.{size-encode}
@@ -62,31 +62,31 @@ only-forced : (t : ℕ) (q : Rule) → step_at (left_rule 3) t ≡ Go q → (t �
 unfolding holds_at
 only-forced t q e =
     many-step Forced Nothing Nothing Nothing t q ((t ≡ 0x83) × (q ≡ left_rule 3)) e
-    (λ h r. (eqb-true t 0x83 h, r)) (λ z. absurd (no_step t z))
+    (λ h r. (eqb-true t 0x83 h, r)) (λ z. absurd (no-step t z))
 
-kind_3 : (t : ℕ) (q : Rule) → step_at (left_rule 3) t ≡ Go q → Kind t q
-kind_3 t q e = let o = only-forced t q e in record { kind = 3; most = omega arith; tag = o.0; rule = o.1 }
+kind-3 : (t : ℕ) (q : Rule) → step_at (left_rule 3) t ≡ Go q → Kind t q
+kind-3 t q e = let o = only-forced t q e in record { kind = 3; most = omega arith; tag = o.0; rule = o.1 }
 
-kind_2 : (t : ℕ) (q : Rule) → step_at (left_rule 2) t ≡ Go q → Kind t q
+kind-2 : (t : ℕ) (q : Rule) → step_at (left_rule 2) t ≡ Go q → Kind t q
 unfolding holds_at
-kind_2 t q e =
+kind-2 t q e =
     many-step Dynamic (Many Forced) Nothing Nothing t q (Kind t q) e
-    (λ h r. record { kind = 2; most = omega arith; tag = eqb-true t 0x82 h; rule = r }) (λ z. kind_3 t q z)
+    (λ h r. record { kind = 2; most = omega arith; tag = eqb-true t 0x82 h; rule = r }) (λ z. kind-3 t q z)
 
-kind_1 : (t : ℕ) (q : Rule) → step_at (left_rule 1) t ≡ Go q → Kind t q
+kind-1 : (t : ℕ) (q : Rule) → step_at (left_rule 1) t ≡ Go q → Kind t q
 unfolding holds_at
-kind_1 t q e =
+kind-1 t q e =
     many-step Lazy (Many Dynamic) (Many Forced) Nothing t q (Kind t q) e
-    (λ h r. record { kind = 1; most = omega arith; tag = eqb-true t 0x81 h; rule = r }) (λ z. kind_2 t q z)
+    (λ h r. record { kind = 1; most = omega arith; tag = eqb-true t 0x81 h; rule = r }) (λ z. kind-2 t q z)
 
 kind-of : (k t : ℕ) (q : Rule) → step_at (left_rule k) t ≡ Go q → Kind t q
 unfolding holds_at
 kind-of zero t q e =
     many-step Collected (Many Lazy) (Many Dynamic) (Many Forced) t q (Kind t q) e
-    (λ h r. record { kind = 0; most = omega arith; tag = eqb-true t 0x80 h; rule = r }) (λ z. kind_1 t q z)
-kind-of (suc zero) t q e = kind_1 t q e
-kind-of (suc (suc zero)) t q e = kind_2 t q e
-kind-of (suc (suc (suc k))) t q e = kind_3 t q e
+    (λ h r. record { kind = 0; most = omega arith; tag = eqb-true t 0x80 h; rule = r }) (λ z. kind-1 t q z)
+kind-of (suc zero) t q e = kind-1 t q e
+kind-of (suc (suc zero)) t q e = kind-2 t q e
+kind-of (suc (suc (suc k))) t q e = kind-3 t q e
 
 -- ---- Which have a source
 
@@ -118,10 +118,10 @@ field-long s at end stop bs le fits e w =
     size-encode (tree_at s at stop) ∙ ap length (whole-sound s at end stop bs le fits e w).0 ∙ length-slice at stop s (omega arith)
 
 module _ {s : List ℕ} {at end stop : ℕ} (r : FieldsRead s at end) (e : extent_at s at end ≡ Upto stop) where
-  next_field : (q : Rule) × (step_at r.rule (get_or s at 0) ≡ Go q) × FieldRead s at stop × Row s stop end q
-  next_field =
+  next-field : (q : Rule) × (step_at r.rule (get_or s at 0) ≡ Go q) × FieldRead s at stop × Row s stop end q
+  next-field =
       let i = extent-upto s at end r.inside e in
-      let f = row_next s at end r.rule r.inside r.row (λ z. omega arith) in
+      let f = row-next s at end r.rule r.inside r.row (λ z. omega arith) in
       let z : f.1 ≡ stop = upto-inj (sym f.3 ∙ e) in
       let whole = subst (Whole s at) z f.4 in
       let n = r.fits in (
@@ -134,7 +134,7 @@ module _ {s : List ℕ} {at end stop : ℕ} (r : FieldsRead s at end) (e : exten
   -- the first of some fields, and the others
   pub fields-next : FieldRead s at stop × FieldsRead s stop end
   fields-next =
-      let n = next_field in
+      let n = next-field in
       (n.2, record { bytes = r.bytes; inside = (extent-upto s at end r.inside e).1; fits = r.fits; rule = n.0; row = n.3 })
 
 -- ---- Records in bytes
@@ -153,7 +153,7 @@ record Next (s : List ℕ) (at stop : ℕ) : Type 0 where
 module _ {s : List ℕ} {at stop : ℕ} (r : RecordsFrom s at) (e : extent_at s at (length s) ≡ Upto stop) where
   next-record : Next s at stop
   next-record =
-      let f = next_field (record { bytes = r.bytes; inside = r.inside; fits = omega arith; rule = left_rule r.kind; row = r.row }) e in
+      let f = next-field (record { bytes = r.bytes; inside = r.inside; fits = omega arith; rule = left_rule r.kind; row = r.row }) e in
       let k = kind-of r.kind (get_or s at 0) f.0 f.1 in
       let w = whole-step s at stop f.2.whole in
       record {
@@ -171,7 +171,7 @@ module _ {s : List ℕ} {at stop : ℕ} (r : RecordsFrom s at) (e : extent_at s 
   records-next = let n = next-record in record { bytes = r.bytes; inside = n.read.fits; kind = n.kind; row = n.row }
 
   records-more : row_at s at (length s) ≡ more (tree_at s at stop) (row_at s stop (length s))
-  records-more = row_more s at (length s) stop r.inside e
+  records-more = row-more s at (length s) stop r.inside e
 
   record-tag : tag_of (tree_at s at stop) ≡ get_or s at 0
   record-tag = whole-tag s at stop next-record.read.whole
@@ -210,8 +210,8 @@ module _ {s : List ℕ} {at stop : ℕ} (r : RecordsFrom s at) (e : extent_at s 
               };
         }
 
-    source_more : sources_in (row_at s at (length s)) ≡ more (tree_at s at stop) (sources_in (row_at s stop (length s)))
-    source_more = ap sources_in records-more ∙ source-take (tree_at s at stop) (row_at s stop (length s)) (λ q. h (sym record-tag ∙ q))
+    source-more : sources_in (row_at s at (length s)) ≡ more (tree_at s at stop) (sources_in (row_at s stop (length s)))
+    source-more = ap sources_in records-more ∙ source-take (tree_at s at stop) (row_at s stop (length s)) (λ q. h (sym record-tag ∙ q))
 
   -- ---- the forced ones behind them
 
@@ -243,7 +243,7 @@ module _ {s : List ℕ} {at : ℕ} (r : RecordsFrom s at) where
       by false i x t q =
           let y : extent_at s at (length s) ≡ Upto stop = x ∙ q in
           let h = eqb-false (get_or s at 0) 0x83 t in
-          record { source = source-here r y h; rest = records-next r y; row = source_more r y h }
+          record { source = source-here r y h; rest = records-next r y; row = source-more r y h }
 
       on : (k : Reach) → extent_at s at (length s) ≡ k → source_on k (get_or s at 0) ≡ Upto stop → Standing s at stop
       on Short x q = absurd (no-upto q)

@@ -18,10 +18,10 @@ use Rattle.tree.specs.Grammar.{pieces_of}
 use Rattle.tree.specs.Tree.{Field, field, Fields, none, encode, size}
 use Rattle.tree.specs.Access.{value_at, choice_of, on_choice, kind_at, piece_at, then_piece, fixed_at, extent_at}
 use Rattle.tree.specs.Standing.{tree_at, row_at}
-use Rattle.tree.proofs.AccessLaws.{ReachIn, cond_ind, value_in}
+use Rattle.tree.proofs.AccessLaws.{ReachIn, cond-ind, value_in}
 use Rattle.tree.proofs.FixedLaws.{no-upto}
 use Rattle.tree.proofs.SliceLaws.{get_d-slice}
-use Rattle.tree.proofs.StandingLaws.{row_more, row-none, tree-upto, whole-step}
+use Rattle.tree.proofs.StandingLaws.{row-more, row-none, tree-upto, whole-step}
 use Rattle.tree.proofs.WidthLaws.{skip-ends}
 use Rattle.writer.specs.Bytes.{two_bytes, four_bytes, framed}
 use Rattle.inputs.specs.Outcome.{Outcome, done, refused}
@@ -43,7 +43,7 @@ choice-ends (Take v) at stop b h e = (subst (ReachIn at stop) e (value_in v at s
 kind-ends : (s : List ℕ) (at stop b : ℕ) → kind_at s Outside at stop ≡ Upto b → at + 1 ≤ b
 unfolding kind_at
 kind-ends s at stop b =
-    cond_ind (λ (r : Reach). r ≡ Upto b → at + 1 ≤ b) (ltb at stop) (on_choice (choice_of Outside (get_or s at 0)) (at + 1) stop) Short
+    cond-ind (λ (r : Reach). r ≡ Upto b → at + 1 ≤ b) (ltb at stop) (on_choice (choice_of Outside (get_or s at 0)) (at + 1) stop) Short
     (λ q e. let h = ltb-true at stop q in choice-ends (choice_of Outside (get_or s at 0)) (at + 1) stop b (omega arith) e) (λ _ e. absurd (no-upto e))
 
 outside-ends : (n at stop b : ℕ) (s : List ℕ) (r : Reach) → skip_at at n stop ≡ r → then_piece r s Outside stop ≡ Upto b → at + n + 1 ≤ b
@@ -107,8 +107,8 @@ module _ (all : Bool) (s : List ℕ) (at stop b : ℕ) (e : fixed_at s (get_or s
       go false false t = refl
 
 -- the fixed bytes of a field that was read are whole
-pub read_short : {A : Type 0} {s : List ℕ} {at stop : ℕ} → FieldRead s at stop → fixed_at s (get_or s at 0) (at + 3) stop ≡ Short → A
-read_short {s = s} {at} {stop} r e = absurd (let w = whole-step s at stop r.whole in no-upto (sym e ∙ w.1))
+pub read-short : {A : Type 0} {s : List ℕ} {at stop : ℕ} → FieldRead s at stop → fixed_at s (get_or s at 0) (at + 3) stop ≡ Short → A
+read-short {s = s} {at} {stop} r e = absurd (let w = whole-step s at stop r.whole in no-upto (sym e ∙ w.1))
 
 -- ---- All of them
 
@@ -126,6 +126,6 @@ module _ (all : Bool) (s : List ℕ) (at end : ℕ) (le : at ≤ end) where
       let z : at + size (tree_at s at stop) ≡ stop = omega arith in
       record {
         is =
-            ap (λ (fs : Fields). resolved_specifiers all fs at) (row_more s at end stop le e)
+            ap (λ (fs : Fields). resolved_specifiers all fs at) (row-more s at end stop le e)
             ∙ ap (λ (p : ℕ). consed (resolved_specifier all (tree_at s at stop) at) (resolved_specifiers all (row_at s stop end) p)) z;
       }

@@ -5,10 +5,10 @@ use mathlib.Core.List.{List, ◌++◌, append-nil}
 use native.Mathlib.Omega.{arith}
 use lib.ListN.{length, length-set}
 use Rattle.tree.specs.Tree.{Field, field, Fields, none, more, framed as framed_field, encode, encodes}
-use Rattle.tree.proofs.TreeLaws.{encodes-none, encodes_more}
+use Rattle.tree.proofs.TreeLaws.{encodes-none, encodes-more}
 use Rattle.writer.specs.Bytes.{framed}
 use Rattle.writer.specs.Wrote.{Wrote, Opened, closed}
-use Rattle.writer.proofs.Wrote.{wrote_none, wrote_then, wrote_as, wrote-field}
+use Rattle.writer.proofs.Wrote.{wrote-none, wrote-then, wrote-as, wrote-field}
 use Rattle.inputs.specs.Outcome.{Outcome, done, refused, onto}
 use Rattle.resolving.specs.declared.specifiers.Why.{Why}
 use Rattle.resolving.specs.declared.specifiers.Step.{Step}
@@ -72,8 +72,8 @@ pub record Cons (m : Outcome Fields) (one : Outcome Field) (n : Outcome Fields) 
   pub is : m ≡ consed one n
 
 module _ {one : Outcome Field} (n : Outcome Fields) {l l1 : List ℕ} {o : ℕ} {j : Step} (a : Puts encode one l o l1 j) where
-  puts_then : {l2 : List ℕ} {k : Step} {p : ℕ} → j ≡ Done p → Puts encodes n l1 p l2 k → Puts encodes (consed one n) l o l2 k
-  puts_then {p = p} e b =
+  puts-then : {l2 : List ℕ} {k : Step} {p : ℕ} → j ≡ Done p → Puts encodes n l1 p l2 k → Puts encodes (consed one n) l o l2 k
+  puts-then {p = p} e b =
       let u = a.put p e in
       record {
         size = b.size ∙ a.size;
@@ -82,28 +82,28 @@ module _ {one : Outcome Field} (n : Outcome Fields) {l l1 : List ℕ} {o : ℕ} 
             record {
               value = more u.value v.value;
               is = ap (λ (i : Outcome Field). consed i n) u.is ∙ ap (λ (i : Outcome Fields). onto i (λ gs. done (more u.value gs))) v.is;
-              wrote = wrote_as (wrote_then u.wrote v.wrote) (sym (encodes_more u.value v.value));
+              wrote = wrote-as (wrote-then u.wrote v.wrote) (sym (encodes-more u.value v.value));
             };
         turned = λ w q z.
             ap (λ (i : Outcome Field). consed i n) u.is ∙ ap (λ (i : Outcome Fields). onto i (λ gs. done (more u.value gs))) (b.turned w q z);
       }
 
-  puts_first : {w : Why} {q : ℕ} → j ≡ Refused w q → Puts encodes (consed one n) l o l1 (Refused w q)
-  puts_first {w} {q} e = puts-refused a.size (ap (λ (i : Outcome Field). consed i n) (a.turned w q e))
+  puts-first : {w : Why} {q : ℕ} → j ≡ Refused w q → Puts encodes (consed one n) l o l1 (Refused w q)
+  puts-first {w} {q} e = puts-refused a.size (ap (λ (i : Outcome Field). consed i n) (a.turned w q e))
 
 pub onward-all : {m : Outcome Fields} {l : List ℕ} {o : ℕ} → Onward m m l o l o
 onward-all = record { size = refl; rest = λ w. w }
 
 module _ {m n : Outcome Fields} {l l1 : List ℕ} {o p : ℕ} (w : Onward m n l o l1 p) where
   pub onward-end : n ≡ done none → Puts encodes m l o l1 (Done p)
-  onward-end e = w.rest (puts-done e (wrote_as wrote_none (sym encodes-none)))
+  onward-end e = w.rest (puts-done e (wrote-as wrote-none (sym encodes-none)))
 
   module _ {one : Outcome Field} {rest : Outcome Fields} (e : Cons n one rest) {l2 : List ℕ} {j : Step} (a : Puts encode one l1 p l2 j) where
     pub onward-more : {q : ℕ} → j ≡ Done q → Onward m rest l o l2 q
-    onward-more z = record { size = a.size ∙ w.size; rest = λ b. w.rest (puts-as e.is (puts_then rest a z b)) }
+    onward-more z = record { size = a.size ∙ w.size; rest = λ b. w.rest (puts-as e.is (puts-then rest a z b)) }
 
     pub onward-stop : {v : Why} {q : ℕ} → j ≡ Refused v q → Puts encodes m l o l2 (Refused v q)
-    onward-stop z = w.rest (puts-as e.is (puts_first rest a z))
+    onward-stop z = w.rest (puts-as e.is (puts-first rest a z))
 
 -- ---- A field with its parts
 
@@ -112,7 +112,7 @@ module _ {m : Outcome Fields} {l l1 l2 l3 : List ℕ} {o t c d : ℕ} {x : List 
   puts-field {l'} {p} e z =
       let u = w.put p e in
       puts-done (ap (λ (i : Outcome Fields). onto i (λ gs. done (field t x gs))) u.is)
-      (wrote_as (wrote-field a (wrote_then b u.wrote) z) (framed-parts t x u.value))
+      (wrote-as (wrote-field a (wrote-then b u.wrote) z) (framed-parts t x u.value))
 
   pub puts-parts : {v : Why} {q : ℕ} → j ≡ Refused v q → Puts encode (onto m (λ gs. done (field t x gs))) l o l3 (Refused v q)
   puts-parts {v} {q} e =

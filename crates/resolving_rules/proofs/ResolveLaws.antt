@@ -13,7 +13,7 @@ use Rattle.inputs.specs.Outcome.{done, refused}
 use Rattle.inputs.specs.Lists.{among}
 use Rattle.inputs.specs.Fields.{inside}
 use Rattle.inputs.specs.Table.{Row, file_of}
-use Rattle.inputs.proofs.AcceptedLaws.{done_inj, done_refused, onto-done}
+use Rattle.inputs.proofs.AcceptedLaws.{done-inj, done-refused, onto-done}
 use Rattle.resolving_rules.specs.Resolve.{source_of, requested, number_one, number_all, resolved_named, resolved_namespace, resolved_specifier}
 use Rattle.resolving_rules.specs.Resolve.{resolved_specifiers, module_of, heading, resolved_record, resolved_all}
 
@@ -22,16 +22,16 @@ use Rattle.resolving_rules.specs.Resolve.{resolved_specifiers, module_of, headin
 module _ (rows : List Row) (g k : ℕ) where
   number_one-keeps : (o : Option ℕ) (ms new : Modules) (p : ℕ) → number_one o ms p ≡ done new → number_of g ms ≡ some k → number_of g new ≡ some k
   unfolding number_one
-  number_one-keeps nothing ms new p e h = subst (λ (m : Modules). number_of g m ≡ some k) (done_inj e) h
+  number_one-keeps nothing ms new p e h = subst (λ (m : Modules). number_of g m ≡ some k) (done-inj e) h
   number_one-keeps (some file) ms new p e h = go (request file ms) refl e
     where
       go : (r : Option (ℕ × Modules)) → request file ms ≡ r → requested r p ≡ done new → number_of g new ≡ some k
-      go nothing w e = done_refused e
-      go (some r) w e = subst (λ (m : Modules). number_of g m ≡ some k) (done_inj e) (request-keeps-numbers file ms w g k h)
+      go nothing w e = done-refused e
+      go (some r) w e = subst (λ (m : Modules). number_of g m ≡ some k) (done-inj e) (request-keeps-numbers file ms w g k h)
 
   pub number_all-keeps : (fs : Fields) (ms new : Modules) (p : ℕ) → number_all rows fs ms p ≡ done new → number_of g ms ≡ some k → number_of g new ≡ some k
   unfolding number_all
-  number_all-keeps none ms new p e h = subst (λ (m : Modules). number_of g m ≡ some k) (done_inj e) h
+  number_all-keeps none ms new p e h = subst (λ (m : Modules). number_of g m ≡ some k) (done-inj e) h
   number_all-keeps (more f fs) ms new p e h =
       let w = onto-done (number_one (file_of (source_of f) rows) ms p) _ new e in
       number_all-keeps fs w.0 new (p + size f) w.2 (number_one-keeps (file_of (source_of f) rows) ms w.0 p w.1 h)
@@ -49,21 +49,21 @@ pub record Made (o : Option ℕ) (forced : List (List ℕ)) (ms : Modules) (f : 
 pub record-made : (o : Option ℕ) (forced : List (List ℕ)) (ms : Modules) (f : Field) (p : ℕ) (g : Field) →
     resolved_record o forced ms f p ≡ done g → Made o forced ms f p g
 unfolding resolved_record
-record-made nothing forced ms f p g e = done_refused e
+record-made nothing forced ms f p g e = done-refused e
 record-made (some file) forced ms f p g e =
     let w = onto-done (resolved_specifiers (among (source_of f) forced) (parts_of f) (inside p (fixed_of f))) _ g e in
-    record { file = file; resolves = refl; parts = w.0; specifiers = w.1; made = sym (done_inj w.2) }
+    record { file = file; resolves = refl; parts = w.0; specifiers = w.1; made = sym (done-inj w.2) }
 
 -- an accepted row: its first 90, and the rest
-pub all_made : (rows : List Row) (forced : List (List ℕ)) (ms : Modules) (f : Field) (fs : Fields) (p : ℕ) (gs : Fields) →
+pub all-made : (rows : List Row) (forced : List (List ℕ)) (ms : Modules) (f : Field) (fs : Fields) (p : ℕ) (gs : Fields) →
     resolved_all rows forced ms (more f fs) p ≡ done gs →
     (g : Field) × (rest : Fields) × (gs ≡ more g rest) × Made (file_of (source_of f) rows) forced ms f p g
     × (resolved_all rows forced ms fs (p + size f) ≡ done rest)
 unfolding resolved_all
-all_made rows forced ms f fs p gs e =
+all-made rows forced ms f fs p gs e =
     let w = onto-done (resolved_record (file_of (source_of f) rows) forced ms f p) _ gs e in
     let v = onto-done (resolved_all rows forced ms fs (p + size f)) _ gs w.2 in
-    (w.0, v.0, sym (done_inj v.2), record-made (file_of (source_of f) rows) forced ms f p w.0 w.1, v.1)
+    (w.0, v.0, sym (done-inj v.2), record-made (file_of (source_of f) rows) forced ms f p w.0 w.1, v.1)
 
 -- ---- Specifiers
 
@@ -73,8 +73,8 @@ unfolding resolved_specifier resolved_named
 named-made all x p g e = go (eqb (get_or x 6 0) 2) e
   where
     go : (b : Bool) → cond b (refused 6 p) (done (field 0x91 x none)) ≡ done g → g ≡ field 0x91 x none
-    go true e = done_refused e
-    go false e = sym (done_inj e)
+    go true e = done-refused e
+    go false e = sym (done-inj e)
 
 -- fields with the tag t and these fixed bytes
 abbrev pub leaves : ℕ → List (List ℕ) → Fields
@@ -84,16 +84,16 @@ leaves t (x ∷ l) = more (field t x none) (leaves t l)
 -- accepted 20s become 91s, in order
 pub nameds-made : (all : Bool) (l : List (List ℕ)) (p : ℕ) (gs : Fields) → resolved_specifiers all (leaves 0x20 l) p ≡ done gs → gs ≡ leaves 0x91 l
 unfolding resolved_specifiers
-nameds-made all [] p gs e = sym (done_inj e)
+nameds-made all [] p gs e = sym (done-inj e)
 nameds-made all (x ∷ l) p gs e =
     let w = onto-done (resolved_specifier all (field 0x20 x none) p) _ gs e in
     let v = onto-done (resolved_specifiers all (leaves 0x20 l) (p + size (field 0x20 x none))) _ gs w.2 in
     let a = named-made all x p w.0 w.1 in
     let b = nameds-made all l (p + size (field 0x20 x none)) v.0 v.1 in
-    sym (done_inj v.2) ∙ ap (λ (g : Field). more g v.0) a ∙ ap (more (field 0x91 x none)) b
+    sym (done-inj v.2) ∙ ap (λ (g : Field). more g v.0) a ∙ ap (more (field 0x91 x none)) b
 
 -- a sole 22 becomes a 92
 pub namespace-made : (all : Bool) (i : List ℕ) (p : ℕ) (gs : Fields) → resolved_specifiers all (more (field 0x22 i none) none) p ≡ done gs →
     gs ≡ more (resolved_namespace all i) none
 unfolding resolved_specifiers resolved_specifier
-namespace-made all i p gs e = sym (done_inj e)
+namespace-made all i p gs e = sym (done-inj e)

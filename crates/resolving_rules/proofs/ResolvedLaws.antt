@@ -13,7 +13,7 @@ use Rattle.writer.specs.Finished.{has_room}
 use Rattle.inputs.specs.Outcome.{Outcome, done, refuse_if}
 use Rattle.inputs.specs.Table.{Row, rows_in, bad_table, table_of}
 use Rattle.inputs.specs.Buffer.{fits}
-use Rattle.inputs.proofs.AcceptedLaws.{done_inj, onto-done, table-rows, fits-room}
+use Rattle.inputs.proofs.AcceptedLaws.{done-inj, onto-done, table-rows, fits-room}
 use Rattle.resolving_rules.specs.Resolve.{sources_in, forced_in, number_all, resolved_all}
 use Rattle.resolving_rules.specs.Call.{Lent, records_read, Numbered, numbered, Resolved, listed, resolved, modules_after, Left, resolving}
 use Rattle.resolving_rules.proofs.ResolveLaws.{number_all-keeps}
@@ -36,7 +36,7 @@ numbered-made l ms q e =
     let b = onto-done (table_of l.table) _ q a.2 in
     let c = onto-done (records_read (read Records l.records)) _ q b.2 in
     let d = onto-done (number_all b.0 (sources_in c.0) ms 3) _ q c.2 in
-    let m = done_inj d.2 in
+    let m = done-inj d.2 in
     let u : c.0 ≡ q.records = ap (λ (n : Numbered). n.records) m in
     let v : b.0 ≡ q.rows = ap (λ (n : Numbered). n.rows) m in
     let w : d.0 ≡ q.modules = ap (λ (n : Numbered). n.modules) m in
@@ -50,7 +50,7 @@ unfolding listed
 listed-made q room r e =
     let a = onto-done (resolved_all q.rows (forced_in q.records) q.modules (sources_in q.records) 3) _ r e in
     let b = onto-done (fits (field 0x03 [] a.0) room) _ r a.2 in
-    let m = done_inj b.2 in (
+    let m = done-inj b.2 in (
       sym (ap (λ (n : Resolved). n.modules) m),
       a.1 ∙ ap (λ (n : Resolved). done (parts_of n.list)) m,
       subst (λ (n : Resolved). has_room (size n.list) room ≡ true) m (fits-room (field 0x03 [] a.0) room b.0 b.1),
@@ -63,7 +63,7 @@ call-listed l room ms q cs e r =
     let a = onto-done (numbered l ms) _ q e in
     let n = numbered-made l ms a.0 a.1 in
     let m = listed-made a.0 room q a.2 in
-    let c : a.0.records ≡ cs = done_inj (sym n.1 ∙ r) in
+    let c : a.0.records ≡ cs = done-inj (sym n.1 ∙ r) in
     record { numbers = rw (n.0, c, sym m.0) at n.2; lists = rw (n.0, c, sym m.0) at m.1 }
 
 -- the buffer of an accepted call has room for the list

@@ -2,7 +2,7 @@
 use Rattle.std.specs.Prelude.{ℕ, ◌+◌, Bool, not, cond, List, [], ◌∷◌, ◌++◌, eqb, get_or}
 use Rattle.std.proofs.Math.Option
 use Rattle.std.proofs.Math.Option.{Option, none as nothing, some}
-use Rattle.scope.specs.Id.{default-atom, empty, local, export}
+use Rattle.scope.specs.Id.{default_atom, empty, local, export}
 use Rattle.scope.specs.Modules.{Modules, number_of, request}
 use Rattle.tree.specs.Layout.{two, four, value_of}
 use Rattle.tree.specs.Tree.{Field, field, Fields, none, more, tag_of, fixed_of, parts_of, size}
@@ -49,7 +49,7 @@ resolved_named x p = cond (eqb (get_or x 6 0) 2) (refused 6 p) (done (field 0x91
 
 -- 'Default's alias is (default, 0).'
 abbrev pub resolved_default : List ℕ → Field
-resolved_default x = field 0x91 (x ++ 1 ∷ two default-atom ++ four empty) none
+resolved_default x = field 0x91 (x ++ 1 ∷ two default_atom ++ four empty) none
 
 -- '92 (I; all byte, 1 if forced)'
 abbrev pub resolved_namespace : Bool → List ℕ → Field

@@ -17,8 +17,8 @@ use Rattle.scope.specs.declared.id.Id.{Id}
 use Rattle.scope.specs.declared.Mark.{Mark}
 use Rattle.scope.specs.declared.Mark.TheVariants.{Loaded, Stored, Cjs, Wrapping}
 use Rattle.scope.specs.Id.{local, export}
-use Rattle.scope.specs.Modules.{Module, Modules, next, place_of, number_of, unmarked, request_by, request, too-many-files, generated_by, gen, Left, go_on}
-use Rattle.scope.specs.Modules.{request_all, marked, with_mark, is_marked, set_mark, given, not-given, marking, done, refused, read_mark, esm_id, wrapped_esm_id}
+use Rattle.scope.specs.Modules.{Module, Modules, next, place_of, number_of, unmarked, request_by, request, too_many_files, generated_by, gen, Left, go_on}
+use Rattle.scope.specs.Modules.{request_all, marked, with_mark, is_marked, set_mark, given, not_given, marking, done, refused, read_mark, esm_id, wrapped_esm_id}
 use Rattle.scope.specs.ScopeValue.{module_by, modules_in, Rewrites}
 
 -- ---- Contexts: distinct modules have distinct contexts, and local and export contexts never meet each other or 0
@@ -44,27 +44,27 @@ pub none-some : {A B : Type 0} {b : B} → none ≡ some b → A
 none-some {b = b} e = absurd (let z : ◌≡◌ {A = ℕ} 0 1 = cc in omega arith)
 
 -- the first place, or one behind a place further on
-here_or_on : (P : ℕ → Type 0) (b : Bool) (o : Option ℕ) → P zero → ((m : ℕ) → o ≡ some m → P (suc m)) → {n : ℕ} → cond b (some zero) (next o) ≡ some n → P n
-here_or_on P true o z s {n} e = subst P (let q : zero ≡ n = cc in q) z
-here_or_on P false none z s e = none-some e
-here_or_on P false (some m) z s {n} e = subst P (let q : suc m ≡ n = cc in q) (s m refl)
+here-or-on : (P : ℕ → Type 0) (b : Bool) (o : Option ℕ) → P zero → ((m : ℕ) → o ≡ some m → P (suc m)) → {n : ℕ} → cond b (some zero) (next o) ≡ some n → P n
+here-or-on P true o z s {n} e = subst P (let q : zero ≡ n = cc in q) z
+here-or-on P false none z s e = none-some e
+here-or-on P false (some m) z s {n} e = subst P (let q : suc m ≡ n = cc in q) (s m refl)
 
 -- a file's place is below the number of files
 pub place-below : (f : ℕ) (l : List ℕ) {n : ℕ} → place_of f l ≡ some n → n < length l
 unfolding place_of
 place-below f [] e = none-some e
-place-below f (g ∷ l) e = here_or_on (λ n. n < suc (length l)) (eqb f g) (place_of f l) (omega arith) (λ m q. let h = place-below f l q in omega arith) e
+place-below f (g ∷ l) e = here-or-on (λ n. n < suc (length l)) (eqb f g) (place_of f l) (omega arith) (λ m q. let h = place-below f l q in omega arith) e
 
-placed_on : (b : Bool) (o o' : Option ℕ) → ((n : ℕ) → o ≡ some n → o' ≡ some n) → {n : ℕ} → cond b (some zero) (next o) ≡ some n → cond b (some zero) (next o') ≡ some n
-placed_on true o o' h e = e
-placed_on false none o' h e = none-some e
-placed_on false (some m) o' h e = ap next (h m refl) ∙ e
+placed-on : (b : Bool) (o o' : Option ℕ) → ((n : ℕ) → o ≡ some n → o' ≡ some n) → {n : ℕ} → cond b (some zero) (next o) ≡ some n → cond b (some zero) (next o') ≡ some n
+placed-on true o o' h e = e
+placed-on false none o' h e = none-some e
+placed-on false (some m) o' h e = ap next (h m refl) ∙ e
 
 -- a place stays where files are appended
 pub place-stays : (f : ℕ) (l r : List ℕ) {n : ℕ} → place_of f l ≡ some n → place_of f (l ++ r) ≡ some n
 unfolding place_of
 place-stays f [] r e = none-some e
-place-stays f (g ∷ l) r e = placed_on (eqb f g) (place_of f l) (place_of f (l ++ r)) (λ n q. place-stays f l r q) e
+place-stays f (g ∷ l) r e = placed-on (eqb f g) (place_of f l) (place_of f (l ++ r)) (λ n q. place-stays f l r q) e
 
 placed-last : (b : Bool) (o o' : Option ℕ) (n : ℕ) → (o ≡ none → o' ≡ some n) → cond b (some zero) (next o) ≡ none → cond b (some zero) (next o') ≡ some (suc n)
 placed-last true o o' n h e = none-some (sym e)
@@ -209,28 +209,28 @@ mark-keeps-modules k j zero (suc i) (m ∷ ms) d = refl
 mark-keeps-modules k j (suc n) zero (m ∷ ms) d = refl
 mark-keeps-modules k j (suc n) (suc i) (m ∷ ms) d = mark-keeps-modules k j n i ms (λ e. d (ap suc e))
 
-marked_other : (k j : Mark) (m : Module) → (j ≡ k → ⊥) → marked j (with_mark k m) ≡ marked j m
-marked_other Loaded Loaded m d = absurd (d refl)
-marked_other Loaded Stored m d = refl
-marked_other Loaded Cjs m d = refl
-marked_other Loaded Wrapping m d = refl
-marked_other Stored Loaded m d = refl
-marked_other Stored Stored m d = absurd (d refl)
-marked_other Stored Cjs m d = refl
-marked_other Stored Wrapping m d = refl
-marked_other Cjs Loaded m d = refl
-marked_other Cjs Stored m d = refl
-marked_other Cjs Cjs m d = absurd (d refl)
-marked_other Cjs Wrapping m d = refl
-marked_other Wrapping Loaded m d = refl
-marked_other Wrapping Stored m d = refl
-marked_other Wrapping Cjs m d = refl
-marked_other Wrapping Wrapping m d = absurd (d refl)
+marked-other : (k j : Mark) (m : Module) → (j ≡ k → ⊥) → marked j (with_mark k m) ≡ marked j m
+marked-other Loaded Loaded m d = absurd (d refl)
+marked-other Loaded Stored m d = refl
+marked-other Loaded Cjs m d = refl
+marked-other Loaded Wrapping m d = refl
+marked-other Stored Loaded m d = refl
+marked-other Stored Stored m d = absurd (d refl)
+marked-other Stored Cjs m d = refl
+marked-other Stored Wrapping m d = refl
+marked-other Cjs Loaded m d = refl
+marked-other Cjs Stored m d = refl
+marked-other Cjs Cjs m d = absurd (d refl)
+marked-other Cjs Wrapping m d = refl
+marked-other Wrapping Loaded m d = refl
+marked-other Wrapping Stored m d = refl
+marked-other Wrapping Cjs m d = refl
+marked-other Wrapping Wrapping m d = absurd (d refl)
 
 pub mark-keeps-kinds : (k j : Mark) (n i : ℕ) (ms : Modules) → (j ≡ k → ⊥) → is_marked j i (set_mark k n ms) ≡ is_marked j i ms
 unfolding is_marked set_mark
 mark-keeps-kinds k j n i [] d = refl
-mark-keeps-kinds k j zero zero (m ∷ ms) d = marked_other k j m d
+mark-keeps-kinds k j zero zero (m ∷ ms) d = marked-other k j m d
 mark-keeps-kinds k j zero (suc i) (m ∷ ms) d = refl
 mark-keeps-kinds k j (suc n) zero (m ∷ ms) d = refl
 mark-keeps-kinds k j (suc n) (suc i) (m ∷ ms) d = mark-keeps-kinds k j n i ms d
@@ -258,13 +258,13 @@ pub request-all-more : (f : FileName) (fs : List ℕ) (ms : Modules) → (gen f 
 unfolding request_all gen
 request-all-more f fs ms e = onward (request f.0 ms) (λ r. request_all fs r) ms e
 
-stopped : (o : Option (ℕ × Modules)) (rest : Modules → Left) (ms : Modules) → (generated_by o ms).refusal ≡ some too-many-files →
-    go_on o rest ms ≡ record { modules = (generated_by o ms).modules; refusal = some too-many-files }
+stopped : (o : Option (ℕ × Modules)) (rest : Modules → Left) (ms : Modules) → (generated_by o ms).refusal ≡ some too_many_files →
+    go_on o rest ms ≡ record { modules = (generated_by o ms).modules; refusal = some too_many_files }
 stopped (some r) rest ms e = absurd (let z : ◌≡◌ {A = ℕ} 0 1 = cc in omega arith)
 stopped none rest ms e = refl
 
-pub request-all-stops : (f : FileName) (fs : List ℕ) (ms : Modules) → (gen f ms).refusal ≡ some too-many-files →
-    request_all (f.0 ∷ fs) ms ≡ record { modules = (gen f ms).modules; refusal = some too-many-files }
+pub request-all-stops : (f : FileName) (fs : List ℕ) (ms : Modules) → (gen f ms).refusal ≡ some too_many_files →
+    request_all (f.0 ∷ fs) ms ≡ record { modules = (gen f ms).modules; refusal = some too_many_files }
 unfolding request_all gen
 request-all-stops f fs ms e = stopped (request f.0 ms) (λ r. request_all fs r) ms e
 
@@ -272,7 +272,7 @@ pub marking-given : (k : Mark) (m : ModuleId) (ms : Modules) → m.0 < length ms
 unfolding marking
 marking-given k m ms h = rw (lt-ltb m.0 (length ms) h)
 
-pub marking-refused : (k : Mark) (m : ModuleId) (ms : Modules) → length ms ≤ m.0 → marking k m ms ≡ record { modules = ms; refusal = some not-given }
+pub marking-refused : (k : Mark) (m : ModuleId) (ms : Modules) → length ms ≤ m.0 → marking k m ms ≡ record { modules = ms; refusal = some not_given }
 unfolding marking
 marking-refused k m ms h = rw (le-ltb m.0 (length ms) h)
 
@@ -280,13 +280,13 @@ pub read-given : (k : Mark) (m : ModuleId) (ms : Modules) → m.0 < length ms �
 unfolding read_mark
 read-given k m ms h = rw (lt-ltb m.0 (length ms) h)
 
-pub read-refused : (k : Mark) (m : ModuleId) (ms : Modules) → length ms ≤ m.0 → read_mark k m ms ≡ refused not-given
+pub read-refused : (k : Mark) (m : ModuleId) (ms : Modules) → length ms ≤ m.0 → read_mark k m ms ≡ refused not_given
 unfolding read_mark
 read-refused k m ms h = rw (le-ltb m.0 (length ms) h)
 
 -- the id of a wrapped module is what reading its two marks says
-esm-by : (b x y w v : Bool) (m : ModuleId) → cond b (done x) (refused not-given) ≡ done w → cond b (done y) (refused not-given) ≡ done v →
-    cond b (done (esm_id x y m)) (refused not-given) ≡ done (esm_id w v m)
+esm-by : (b x y w v : Bool) (m : ModuleId) → cond b (done x) (refused not_given) ≡ done w → cond b (done y) (refused not_given) ≡ done v →
+    cond b (done (esm_id x y m)) (refused not_given) ≡ done (esm_id w v m)
 esm-by true x y w v m p q = let a : x ≡ w = cc in let c : y ≡ v = cc in rw (a, c)
 esm-by false x y w v m p q = absurd (let z : ◌≡◌ {A = ℕ} 0 1 = cc in omega arith)
 
@@ -294,24 +294,24 @@ pub esm-read : (m : ModuleId) (ms : Modules) (w v : Bool) → read_mark Wrapping
 unfolding read_mark wrapped_esm_id
 esm-read m ms w v p q = esm-by (given m ms) (is_marked Wrapping m.0 ms) (is_marked Stored m.0 ms) w v m p q
 
-esm-none : (b x : Bool) (o : Option Id) → cond b (done x) (refused not-given) ≡ refused not-given → cond b (done o) (refused not-given) ≡ refused not-given
+esm-none : (b x : Bool) (o : Option Id) → cond b (done x) (refused not_given) ≡ refused not_given → cond b (done o) (refused not_given) ≡ refused not_given
 esm-none true x o e = absurd (let z : ◌≡◌ {A = ℕ} 0 1 = cc in omega arith)
 esm-none false x o e = refl
 
-pub esm-refused : (k : Mark) (m : ModuleId) (ms : Modules) → read_mark k m ms ≡ refused not-given → wrapped_esm_id m ms ≡ refused not-given
+pub esm-refused : (k : Mark) (m : ModuleId) (ms : Modules) → read_mark k m ms ≡ refused not_given → wrapped_esm_id m ms ≡ refused not_given
 unfolding read_mark wrapped_esm_id
 esm-refused k m ms e = esm-none (given m ms) (is_marked k m.0 ms) (esm_id (is_marked Wrapping m.0 ms) (is_marked Stored m.0 ms) m) e
 
 -- ---- Modules in cells
 
 -- cells that agree on the modules stand for the same
-pub cells_agree : (k at : ℕ) (t t' : List ℕ) → ((i : ℕ) → at ≤ i → i < at + 2 * k → get_or t' i 0 ≡ get_or t i 0) → modules_in k at t' ≡ modules_in k at t
+pub cells-agree : (k at : ℕ) (t t' : List ℕ) → ((i : ℕ) → at ≤ i → i < at + 2 * k → get_or t' i 0 ≡ get_or t i 0) → modules_in k at t' ≡ modules_in k at t
 unfolding modules_in
-cells_agree zero at t t' h = refl
-cells_agree (suc k) at t t' h =
+cells-agree zero at t t' h = refl
+cells-agree (suc k) at t t' h =
     let f = h at (omega arith) (omega arith) in
     let m = h (at + 1) (omega arith) (omega arith) in
-    let e = cells_agree k (at + 2) t t' (λ i a b. h i (omega arith) (omega arith)) in
+    let e = cells-agree k (at + 2) t t' (λ i a b. h i (omega arith) (omega arith)) in
     cc
 
 -- one module more
@@ -324,10 +324,10 @@ cells-more (suc k) at t =
     cc
 
 -- files in cells are of two bytes, marks of four bits
-pub small_put : (t : List ℕ) (base n f m : ℕ) → base + 2 * n + 2 ≤ length t → f < 65536 → m < 16 →
+pub small-put : (t : List ℕ) (base n f m : ℕ) → base + 2 * n + 2 ≤ length t → f < 65536 → m < 16 →
     ((i : ℕ) → i < n → (get_or t (base + 2 * i) 0 < 65536) × (get_or t (base + 2 * i + 1) 0 < 16)) → (i : ℕ) → i < n + 1 →
     (get_or (set (set t (base + 2 * n) f) (base + 2 * n + 1) m) (base + 2 * i) 0 < 65536) × (get_or (set (set t (base + 2 * n) f) (base + 2 * n + 1) m) (base + 2 * i + 1) 0 < 16)
-small_put t base n f m h hf hm b i k = by (ltb i n) refl
+small-put t base n f m h hf hm b i k = by (ltb i n) refl
   where
     by : (c : Bool) → ltb i n ≡ c → (get_or (set (set t (base + 2 * n) f) (base + 2 * n + 1) m) (base + 2 * i) 0 < 65536)
         × (get_or (set (set t (base + 2 * n) f) (base + 2 * n + 1) m) (base + 2 * i + 1) 0 < 16)

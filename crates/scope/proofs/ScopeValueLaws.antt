@@ -13,8 +13,8 @@ use native.Mathlib.Numerals.{add-one}
 use lib.Seq.{get_or-set_same, get_or-set_other, get_or-take, drop-cons}
 use Rattle.scope.specs.declared.Mark.{Mark}
 use Rattle.scope.specs.declared.Mark.TheVariants.{Loaded, Stored, Cjs, Wrapping}
-use Rattle.scope.specs.Modules.{Modules, next, place_of, number_of, too-many-files, Generated, generated_by, gen, files_in, request_all, unmarked, with_mark, marked, set_mark, is_marked}
-use Rattle.scope.proofs.Laws.{gen-added, request-all-more, request-all-stops, cells_agree, cells-more}
+use Rattle.scope.specs.Modules.{Modules, next, place_of, number_of, too_many_files, Generated, generated_by, gen, files_in, request_all, unmarked, with_mark, marked, set_mark, is_marked}
+use Rattle.scope.proofs.Laws.{gen-added, request-all-more, request-all-stops, cells-agree, cells-more}
 use Rattle.scope.specs.ScopeValue.{rank_of, slot_of, module_at, stored, modules_from, modules_of, modules_in, place_by, generated, file_refusal}
 use Rattle.scope.specs.declared.id.FileName.{FileName}
 use Rattle.scope.specs.declared.Scope.{Scope}
@@ -38,10 +38,10 @@ from-agree (suc k) n fs fs' ms ms' h =
     cc
 
 -- one module more
-pub from_more : (k n : ℕ) (fs : List ℕ) (ms : List Bool) → modules_from (suc k) n fs ms ≡ modules_from k n fs ms ++ (module_at fs ms (n + k) ∷ [])
+pub from-more : (k n : ℕ) (fs : List ℕ) (ms : List Bool) → modules_from (suc k) n fs ms ≡ modules_from k n fs ms ++ (module_at fs ms (n + k) ∷ [])
 unfolding modules_from
-from_more zero n fs ms = rw add-zero
-from_more (suc k) n fs ms = ap (λ (l : Modules). module_at fs ms n ∷ l) (from_more k (suc n) fs ms ∙ ap (λ (i : ℕ). modules_from k (suc n) fs ms ++ (module_at fs ms i ∷ [])) (omega arith))
+from-more zero n fs ms = rw add-zero
+from-more (suc k) n fs ms = ap (λ (l : Modules). module_at fs ms n ∷ l) (from-more k (suc n) fs ms ∙ ap (λ (i : ℕ). modules_from k (suc n) fs ms ++ (module_at fs ms i ∷ [])) (omega arith))
 
 pub from-files : (k n : ℕ) (fs : List ℕ) (ms : List Bool) → n + k ≤ length fs → map (λ m. m.file) (modules_from k n fs ms) ≡ take k (drop n fs)
 unfolding modules_from
@@ -56,8 +56,8 @@ from-marked c (suc k) n (suc i) fs ms h = from-marked c k (suc n) i fs ms (omega
 
 -- ---- A store of a mark
 
-slot_same : (ms : List Bool) (c : Mark) (n : ℕ) (v : Bool) → length ms ≡ 1024 → n < 256 → rank_of c < 4 → get_or (set ms (slot_of c n) v) (slot_of c n) false ≡ v
-slot_same ms c n v l h r = get_or-set_same ms (slot_of c n) v false (omega arith)
+slot-same : (ms : List Bool) (c : Mark) (n : ℕ) (v : Bool) → length ms ≡ 1024 → n < 256 → rank_of c < 4 → get_or (set ms (slot_of c n) v) (slot_of c n) false ≡ v
+slot-same ms c n v l h r = get_or-set_same ms (slot_of c n) v false (omega arith)
 
 slot-other : (ms : List Bool) (c d : Mark) (n j : ℕ) (v : Bool) → n < 256 → j < 256 → ((rank_of d ≡ rank_of c) → j ≡ n → ⊥) →
     get_or (set ms (slot_of c n) v) (slot_of d j) false ≡ get_or ms (slot_of d j) false
@@ -71,7 +71,7 @@ module-other fs ms c n j v a b h =
 module-marked : (fs : List ℕ) (ms : List Bool) (c : Mark) (n : ℕ) → length ms ≡ 1024 → n < 256 → module_at fs (set ms (slot_of c n) true) n ≡ with_mark c (module_at fs ms n)
 module-marked fs ms Loaded n l a =
     cc (
-      slot_same ms Loaded n true l a (omega arith),
+      slot-same ms Loaded n true l a (omega arith),
       slot-other ms Loaded Stored n n true a a (λ e _. omega arith),
       slot-other ms Loaded Cjs n n
           true a a (λ e _. omega arith),
@@ -80,7 +80,7 @@ module-marked fs ms Loaded n l a =
 module-marked fs ms Stored n l a =
     cc (
       slot-other ms Stored Loaded n n true a a (λ e _. omega arith),
-      slot_same ms Stored n true l a (omega arith),
+      slot-same ms Stored n true l a (omega arith),
       slot-other ms Stored Cjs n n
           true a a (λ e _. omega arith),
       slot-other ms Stored Wrapping n n true a a (λ e _. omega arith),
@@ -89,7 +89,7 @@ module-marked fs ms Cjs n l a =
     cc (
       slot-other ms Cjs Loaded n n true a a (λ e _. omega arith),
       slot-other ms Cjs Stored n n true a a (λ e _. omega arith),
-      slot_same ms Cjs n
+      slot-same ms Cjs n
           true l a (omega arith),
       slot-other ms Cjs Wrapping n n true a a (λ e _. omega arith),
     )
@@ -99,7 +99,7 @@ module-marked fs ms Wrapping n l a =
       slot-other ms Wrapping Stored n n true a a (λ e _. omega arith),
       slot-other
           ms Wrapping Cjs n n true a a (λ e _. omega arith),
-      slot_same ms Wrapping n true l a (omega arith),
+      slot-same ms Wrapping n true l a (omega arith),
     )
 
 pub from-set : (c : Mark) (k n i : ℕ) (fs : List ℕ) (ms : List Bool) → length ms ≡ 1024 → i < k → n + k ≤ 256 →
@@ -136,23 +136,23 @@ module _ (ms : List Bool) (n : ℕ) (a b c d : Bool) (l : length ms ≡ 1024) (h
   four = remarked ms n a b c d
 
   mark-cjs : get_or four (slot_of Cjs n) false ≡ c
-  mark-cjs = slot-other three Wrapping Cjs n n d h h (λ e _. omega arith) ∙ slot_same two Cjs n c (simp length-set l) h (omega arith)
+  mark-cjs = slot-other three Wrapping Cjs n n d h h (λ e _. omega arith) ∙ slot-same two Cjs n c (simp length-set l) h (omega arith)
 
   mark-stored : get_or four (slot_of Stored n) false ≡ b
   mark-stored =
       slot-other three Wrapping Stored n n d h h (λ e _. omega arith) ∙
       slot-other two Cjs Stored n n c h h (λ e _. omega arith) ∙
-      slot_same one Stored n b (simp length-set l) h (omega arith)
+      slot-same one Stored n b (simp length-set l) h (omega arith)
 
   mark-loaded : get_or four (slot_of Loaded n) false ≡ a
   mark-loaded =
       slot-other three Wrapping Loaded n n d h h (λ e _. omega arith) ∙
       slot-other two Cjs Loaded n n c h h (λ e _. omega arith) ∙
       slot-other one Stored Loaded n n b h h (λ e _. omega arith) ∙
-      slot_same ms Loaded n a l h (omega arith)
+      slot-same ms Loaded n a l h (omega arith)
 
   module-put : (fs : List ℕ) (f : ℕ) → n < length fs → module_at (set fs n f) four n ≡ record { file = f; loaded = a; stored = b; cjs = c; wrapping = d }
-  module-put fs f k = cc (get_or-set_same fs n f 0 k, mark-loaded, mark-stored, mark-cjs, slot_same three Wrapping n d (simp length-set l) h (omega arith))
+  module-put fs f k = cc (get_or-set_same fs n f 0 k, mark-loaded, mark-stored, mark-cjs, slot-same three Wrapping n d (simp length-set l) h (omega arith))
 
   module-kept : (fs : List ℕ) (f j : ℕ) → j < n → module_at (set fs n f) four j ≡ module_at fs ms j
   module-kept fs f j k =
@@ -174,7 +174,7 @@ module _ (ms : List Bool) (n : ℕ) (a b c d : Bool) (l : length ms ≡ 1024) (h
   pub from-put : (fs : List ℕ) (f : ℕ) → n < length fs →
       modules_from (suc n) 0 (set fs n f) four ≡ modules_from n 0 fs ms ++ (record { file = f; loaded = a; stored = b; cjs = c; wrapping = d } ∷ [])
   from-put fs f k =
-      let m = from_more n 0 (set fs n f) four in
+      let m = from-more n 0 (set fs n f) four in
       let o = from-agree n 0 fs (set fs n f) ms four (λ j p q. module-kept fs f j (omega arith)) in
       let u = module-put fs f k in
       let z : 0 + n ≡ n = omega arith in
@@ -218,29 +218,29 @@ cells-put t fs ms base n f m p q r s h ef hf ea eb ec ed ep eq er es e =
     let t' = set t (base + 2 * n) f in
     let o = cells-more n base (set t' (base + 2 * n + 1) m) in
     let g =
-    cells_agree n base t (set t' (base + 2 * n + 1) m)
+    cells-agree n base t (set t' (base + 2 * n + 1) m)
     (λ j lo hi. get_or-set_other t' (base + 2 * n + 1) j m 0 (λ x. omega arith) ∙ get_or-set_other t (base + 2 * n) j f 0 (λ x. omega arith)) in
     let x = get_or-set_other t' (base + 2 * n + 1) (base + 2 * n) m 0 (λ w. omega arith) ∙ get_or-set_same t (base + 2 * n) f 0 (omega arith) in
     let y = get_or-set_same t' (base + 2 * n + 1) m 0 (simp length-set (omega arith)) in
     let v : f % 65536 ≡ f = omega arith in
-    let k = from_more n 0 fs ms in
+    let k = from-more n 0 fs ms in
     let z : n + 1 ≡ suc n = omega arith in
     let u : 0 + n ≡ n = omega arith in
     cc
 
-low_bit : (a : Bool) (x y : ℕ) → x ≡ cond a 1 0 → eqb ((x + 2 * y) % 2) 1 ≡ a
-low_bit true x y e = eq-eqb ((x + 2 * y) % 2) 1 (omega arith)
-low_bit false x y e = ne_eqb ((x + 2 * y) % 2) 1 (λ w. omega arith)
+low-bit : (a : Bool) (x y : ℕ) → x ≡ cond a 1 0 → eqb ((x + 2 * y) % 2) 1 ≡ a
+low-bit true x y e = eq-eqb ((x + 2 * y) % 2) 1 (omega arith)
+low-bit false x y e = ne_eqb ((x + 2 * y) % 2) 1 (λ w. omega arith)
 
 -- four bits are read back
-pub bits_back : (a b c d : Bool) (x y z w r : ℕ) → x ≡ cond a 1 0 → x ≤ 1 → y ≡ cond b 1 0 → y ≤ 1 → z ≡ cond c 1 0 → z ≤ 1 → w ≡ cond d 1 0 → w ≤ 1 →
+pub bits-back : (a b c d : Bool) (x y z w r : ℕ) → x ≡ cond a 1 0 → x ≤ 1 → y ≡ cond b 1 0 → y ≤ 1 → z ≡ cond c 1 0 → z ≤ 1 → w ≡ cond d 1 0 → w ≤ 1 →
     r ≡ x + 2 * y + 4 * z + 8 * w → (eqb (r % 2) 1 ≡ a) × (eqb (r / 2 % 2) 1 ≡ b) × (eqb (r / 4 % 2) 1 ≡ c) × (eqb (r / 8 % 2) 1 ≡ d) × (r < 16)
-bits_back a b c d x y z w r ex hx ey hy ez hz ew hw e =
+bits-back a b c d x y z w r ex hx ey hy ez hz ew hw e =
     let i : r ≡ x + 2 * (y + 2 * z + 4 * w) = omega arith in
     let j : r / 2 ≡ y + 2 * (z + 2 * w) = omega arith in
     let k : r / 4 ≡ z + 2 * w = omega arith in
     let l : r / 8 ≡ w + 2 * 0 = omega arith in
-    (rw i (low_bit a x _ ex), rw j (low_bit b y _ ey), rw k (low_bit c z _ ez), rw l (low_bit d w 0 ew), omega arith)
+    (rw i (low-bit a x _ ex), rw j (low-bit b y _ ey), rw k (low-bit c z _ ez), rw l (low-bit d w 0 ew), omega arith)
 
 -- ---- The place of a file
 
@@ -248,13 +248,13 @@ abbrev pub shifted : ℕ → Option ℕ → Option ℕ
 shifted i none = none
 shifted i (some n) = some (i + n)
 
-pub shifted_none : (o : Option ℕ) → shifted 0 o ≡ o
-shifted_none none = refl
-shifted_none (some n) = ap some (omega arith)
+pub shifted-none : (o : Option ℕ) → shifted 0 o ≡ o
+shifted-none none = refl
+shifted-none (some n) = ap some (omega arith)
 
-shifted_next : (i : ℕ) (o : Option ℕ) → shifted i (next o) ≡ shifted (i + 1) o
-shifted_next i none = refl
-shifted_next i (some n) = ap some (omega arith)
+shifted-next : (i : ℕ) (o : Option ℕ) → shifted i (next o) ≡ shifted (i + 1) o
+shifted-next i none = refl
+shifted-next i (some n) = ap some (omega arith)
 
 module _ (f n i : ℕ) (l : List ℕ) (h : i < n) (b : n ≤ length l) where
   rest : drop i (take n l) ≡ get_or l i 0 ∷ drop (suc i) (take n l)
@@ -263,21 +263,21 @@ module _ (f n i : ℕ) (l : List ℕ) (h : i < n) (b : n ≤ length l) where
   pub place-passed : (f ≡ get_or l i 0 → ⊥) → shifted i (place_of f (drop i (take n l))) ≡ shifted (i + 1) (place_of f (drop (i + 1) (take n l)))
   unfolding place_of
   place-passed e =
-      rw (rest, ne_eqb f (get_or l i 0) e, add-one) (shifted_next i (place_of f (drop (suc i) (take n l))) ∙ ap (λ (k : ℕ). shifted k (place_of f (drop (suc i) (take n l)))) (add-one i))
+      rw (rest, ne_eqb f (get_or l i 0) e, add-one) (shifted-next i (place_of f (drop (suc i) (take n l))) ∙ ap (λ (k : ℕ). shifted k (place_of f (drop (suc i) (take n l)))) (add-one i))
 
-  pub place_here : f ≡ get_or l i 0 → shifted i (place_of f (drop i (take n l))) ≡ some i
+  pub place-here : f ≡ get_or l i 0 → shifted i (place_of f (drop i (take n l))) ≡ some i
   unfolding place_of
-  place_here e = rw (rest, eq-eqb f (get_or l i 0) e) (ap some (omega arith))
+  place-here e = rw (rest, eq-eqb f (get_or l i 0) e) (ap some (omega arith))
 
-drop_all : (i : ℕ) (l : List ℕ) → length l ≤ i → drop i l ≡ []
-drop_all zero [] h = refl
-drop_all zero (x ∷ l) h = absurd (omega arith)
-drop_all (suc i) [] h = refl
-drop_all (suc i) (x ∷ l) h = drop_all i l (omega arith)
+drop-all : (i : ℕ) (l : List ℕ) → length l ≤ i → drop i l ≡ []
+drop-all zero [] h = refl
+drop-all zero (x ∷ l) h = absurd (omega arith)
+drop-all (suc i) [] h = refl
+drop-all (suc i) (x ∷ l) h = drop-all i l (omega arith)
 
-pub place_end : (f n i : ℕ) (l : List ℕ) → n ≤ i → shifted i (place_of f (drop i (take n l))) ≡ none
+pub place-end : (f n i : ℕ) (l : List ℕ) → n ≤ i → shifted i (place_of f (drop i (take n l))) ≡ none
 unfolding place_of
-place_end f n i l h = rw (drop_all i (take n l) (simp length-take (omega arith)))
+place-end f n i l h = rw (drop-all i (take n l) (simp length-take (omega arith)))
 
 -- ---- A whole scope
 
@@ -290,9 +290,9 @@ unfolding modules_of number_of
 modules-number s f l = ap (place_of f) (from-files (min s.count 256) 0 s.files s.marks (omega arith))
 
 -- what the search among the files found is the file's number
-pub found_number : (s : Scope) (f n : ℕ) (p : Place) → length s.files ≡ 256 → n ≡ min s.count 256 → place_by p ≡ place_of f (take n s.files) →
+pub found-number : (s : Scope) (f n : ℕ) (p : Place) → length s.files ≡ 256 → n ≡ min s.count 256 → place_by p ≡ place_of f (take n s.files) →
     number_of f (modules_of s) ≡ place_by p
-found_number s f n p l e h = modules-number s f l ∙ ap (λ (k : ℕ). place_of f (take k s.files)) (sym e) ∙ sym h
+found-number s f n p l e h = modules-number s f l ∙ ap (λ (k : ℕ). place_of f (take k s.files)) (sym e) ∙ sym h
 
 kept-mark : (k : Mark) (fs : List ℕ) (ms : List Bool) (n : ℕ) → marked k (module_at fs ms n) ≡ get_or ms (slot_of k n) false
 kept-mark Loaded fs ms n = refl
@@ -336,14 +336,14 @@ files-two l i h =
     let b : suc (suc i) ≡ i + 2 = omega arith in
     rw (one, two) (cc)
 
-short_none : (l : List ℕ) → length l < 2 → files_in l ≡ []
+short-none : (l : List ℕ) → length l < 2 → files_in l ≡ []
 unfolding files_in
-short_none [] h = refl
-short_none (a ∷ []) h = refl
-short_none (a ∷ (b ∷ l)) h = absurd (omega arith)
+short-none [] h = refl
+short-none (a ∷ []) h = refl
+short-none (a ∷ (b ∷ l)) h = absurd (omega arith)
 
 pub files-none : (l : List ℕ) (i : ℕ) → length l < i + 2 → files_in (drop i l) ≡ []
-files-none l i h = short_none (drop i l) (simp length-drop (omega arith))
+files-none l i h = short-none (drop i l) (simp length-drop (omega arith))
 
 module _ (l : List ℕ) (i : ℕ) (f : FileName) (ms : Modules) (g : Gen) (h : i + 2 ≤ length l) (w : f.0 ≡ get_or l i 0 * 256 + get_or l (i + 1) 0) (e : generated g ≡ gen f ms) where
   here : request_all (files_in (drop i l)) ms ≡ request_all (f.0 ∷ files_in (drop (i + 2) l)) ms
@@ -355,11 +355,11 @@ module _ (l : List ℕ) (i : ℕ) (f : FileName) (ms : Modules) (g : Gen) (h : i
       let m : (gen f ms).modules ≡ modules_of g.scope = ap (λ (x : Generated). x.modules) (sym e) in
       here ∙ request-all-more f (files_in (drop (i + 2) l)) ms r ∙ ap (request_all (files_in (drop (i + 2) l))) m
 
-  pub list-stops : g.answer ≡ TooManyFiles → request_all (files_in (drop i l)) ms ≡ record { modules = modules_of g.scope; refusal = some too-many-files }
+  pub list-stops : g.answer ≡ TooManyFiles → request_all (files_in (drop i l)) ms ≡ record { modules = modules_of g.scope; refusal = some too_many_files }
   list-stops a =
-      let r : (gen f ms).refusal ≡ some too-many-files = ap (λ (x : Generated). x.refusal) (sym e) ∙ ap file_refusal a in
+      let r : (gen f ms).refusal ≡ some too_many_files = ap (λ (x : Generated). x.refusal) (sym e) ∙ ap file_refusal a in
       let m : (gen f ms).modules ≡ modules_of g.scope = ap (λ (x : Generated). x.modules) (sym e) in
-      here ∙ request-all-stops f (files_in (drop (i + 2) l)) ms r ∙ ap (λ (x : Modules). record { modules = x; refusal = some too-many-files }) m
+      here ∙ request-all-stops f (files_in (drop (i + 2) l)) ms r ∙ ap (λ (x : Modules). record { modules = x; refusal = some too_many_files }) m
 
 pub list-ends : (l : List ℕ) (i : ℕ) (ms : Modules) → length l < i + 2 → request_all (files_in (drop i l)) ms ≡ record { modules = ms; refusal = none }
 unfolding request_all

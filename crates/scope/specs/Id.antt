@@ -6,20 +6,20 @@ use Rattle.scope.specs.declared.id.SyntaxContext.{SyntaxContext}
 use Rattle.scope.specs.declared.id.ModuleId.{ModuleId}
 
 -- 'Atoms 0 to 4 are require, module, exports, default, mod.'
-abbrev pub require-atom : ℕ
-require-atom = 0
+abbrev pub require_atom : ℕ
+require_atom = 0
 
-abbrev pub module-atom : ℕ
-module-atom = 1
+abbrev pub module_atom : ℕ
+module_atom = 1
 
-abbrev pub exports-atom : ℕ
-exports-atom = 2
+abbrev pub exports_atom : ℕ
+exports_atom = 2
 
-abbrev pub default-atom : ℕ
-default-atom = 3
+abbrev pub default_atom : ℕ
+default_atom = 3
 
-abbrev pub mod-atom : ℕ
-mod-atom = 4
+abbrev pub mod_atom : ℕ
+mod_atom = 4
 
 -- 'empty is 0, local 2 + 2 × n, export 3 + 2 × n'
 abbrev pub empty : ℕ

@@ -2,7 +2,7 @@
 -- Document 01, 'Scope', and the rows 5 and 12 of 'Where a call turns back': place 0 for both.
 use Rattle.std.specs.Prelude.{ℕ, zero, suc, ◌+◌, ◌*◌, Bool, true, false, cond, ◌&&◌, List, [], ◌∷◌, ◌++◌, map, ltb, eqb, length}
 use Rattle.std.proofs.Math.Option.{Option, none, some}
-use Rattle.scope.specs.Id.{empty, mod-atom, atom, context, module_id, local_ctxt, export_ctxt}
+use Rattle.scope.specs.Id.{empty, mod_atom, atom, context, module_id, local_ctxt, export_ctxt}
 use Rattle.scope.specs.declared.id.SyntaxContext.{SyntaxContext}
 use Rattle.scope.specs.declared.id.ModuleId.{ModuleId}
 use Rattle.scope.specs.declared.id.FileName.{FileName}
@@ -54,21 +54,21 @@ abbrev pub Refusal : Type 0
 Refusal = Option (ℕ × ℕ)
 
 -- 5: a 257th file, 'in file requests (place 0)'
-abbrev pub too-many-files : ℕ × ℕ
-too-many-files = (5, 0)
+abbrev pub too_many_files : ℕ × ℕ
+too_many_files = (5, 0)
 
 -- what a request leaves and answers: the modules, the number and its contexts; refused, all else as it was
 pub record Generated : Type 0 where
   pub modules : Modules
   pub id : ModuleId
-  pub local-ctxt : SyntaxContext
-  pub export-ctxt : SyntaxContext
+  pub local_ctxt : SyntaxContext
+  pub export_ctxt : SyntaxContext
   pub refusal : Refusal
 
 abbrev pub generated_by : Option (ℕ × Modules) → Modules → Generated
 generated_by (some r) ms =
-    record { modules = r.1; id = module_id r.0; local-ctxt = local_ctxt (module_id r.0); export-ctxt = export_ctxt (module_id r.0); refusal = none }
-generated_by none ms = record { modules = ms; id = module_id 0; local-ctxt = context empty; export-ctxt = context empty; refusal = some too-many-files }
+    record { modules = r.1; id = module_id r.0; local_ctxt = local_ctxt (module_id r.0); export_ctxt = export_ctxt (module_id r.0); refusal = none }
+generated_by none ms = record { modules = ms; id = module_id 0; local_ctxt = context empty; export_ctxt = context empty; refusal = some too_many_files }
 
 unfoldable pub gen : FileName → Modules → Generated
 gen f ms = generated_by (request f.0 ms) ms
@@ -87,7 +87,7 @@ pub record Left : Type 0 where
 -- the files in order, up to the first that is refused
 abbrev pub go_on : Option (ℕ × Modules) → (Modules → Left) → Modules → Left
 go_on (some r) rest ms = rest r.1
-go_on none rest ms = record { modules = ms; refusal = some too-many-files }
+go_on none rest ms = record { modules = ms; refusal = some too_many_files }
 
 unfoldable pub request_all : List ℕ → Modules → Left
 request_all [] ms = record { modules = ms; refusal = none }
@@ -121,15 +121,15 @@ set_mark k zero (m ∷ ms) = with_mark k m ∷ ms
 set_mark k (suc n) (m ∷ ms) = m ∷ set_mark k n ms
 
 -- 12: 'module number not given', place 0
-abbrev pub not-given : ℕ × ℕ
-not-given = (12, 0)
+abbrev pub not_given : ℕ × ℕ
+not_given = (12, 0)
 
 abbrev pub given : ModuleId → Modules → Bool
 given m ms = ltb m.0 (length ms)
 
 -- a mark is set
 unfoldable pub marking : Mark → ModuleId → Modules → Left
-marking k m ms = cond (given m ms) (record { modules = set_mark k m.0 ms; refusal = none }) (record { modules = ms; refusal = some not-given })
+marking k m ms = cond (given m ms) (record { modules = set_mark k m.0 ms; refusal = none }) (record { modules = ms; refusal = some not_given })
 
 -- what a reading call answers: a value, or a refusal's number and place
 pub data Outcome (A : Type 0) : Type 0 where
@@ -138,11 +138,11 @@ pub data Outcome (A : Type 0) : Type 0 where
 
 -- a mark is read
 unfoldable pub read_mark : Mark → ModuleId → Modules → Outcome Bool
-read_mark k m ms = cond (given m ms) (done (is_marked k m.0 ms)) (refused not-given)
+read_mark k m ms = cond (given m ms) (done (is_marked k m.0 ms)) (refused not_given)
 
 -- '`wrapped_esm_id` gives (mod, export context) for wrapped stored modules, else none.'
 abbrev pub esm_id : Bool → Bool → ModuleId → Option Id
-esm_id wrapping stored m = cond (wrapping && stored) (some (record { 0 = atom mod-atom; 1 = export_ctxt m })) none
+esm_id wrapping stored m = cond (wrapping && stored) (some (record { 0 = atom mod_atom; 1 = export_ctxt m })) none
 
 unfoldable pub wrapped_esm_id : ModuleId → Modules → Outcome (Option Id)
-wrapped_esm_id m ms = cond (given m ms) (done (esm_id (is_marked Wrapping m.0 ms) (is_marked Stored m.0 ms) m)) (refused not-given)
+wrapped_esm_id m ms = cond (given m ms) (done (esm_id (is_marked Wrapping m.0 ms) (is_marked Stored m.0 ms) m)) (refused not_given)

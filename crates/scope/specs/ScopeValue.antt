@@ -1,7 +1,7 @@
 -- How the code keeps a scope: the modules that a `Scope` stands for, and document 01's number and values for each answer.
 use Rattle.std.specs.Prelude.{ℕ, zero, suc, ◌+◌, ◌*◌, ◌/◌, ◌%◌, ◌<◌, ◌≤◌, min, ◌≡◌, Bool, false, List, [], ◌∷◌, eqb, length, get_or, set}
 use Rattle.std.proofs.Math.Option.{Option, none, some}
-use Rattle.scope.specs.Modules.{Module, Modules, Refusal, too-many-files, Generated, Left, not-given, Outcome, done, refused}
+use Rattle.scope.specs.Modules.{Module, Modules, Refusal, too_many_files, Generated, Left, not_given, Outcome, done, refused}
 use Rattle.scope.specs.declared.id.Id.{Id}
 use Rattle.scope.specs.declared.Mark.{Mark}
 use Rattle.scope.specs.declared.Mark.TheVariants.{Loaded, Stored, Cjs, Wrapping}
@@ -75,15 +75,15 @@ place_by Nowhere = none
 -- numbers and places of the refusals
 abbrev pub file_refusal : FileAnswer → Refusal
 file_refusal Given = none
-file_refusal TooManyFiles = some too-many-files
+file_refusal TooManyFiles = some too_many_files
 
 abbrev pub set_refusal : SetAnswer → Refusal
 set_refusal Set = none
-set_refusal NoSuchModule = some not-given
+set_refusal NoSuchModule = some not_given
 
 -- what the answers stand for
 abbrev pub generated : Gen → Generated
-generated r = record { modules = modules_of r.scope; id = r.id; local-ctxt = r.local_ctxt; export-ctxt = r.export_ctxt; refusal = file_refusal r.answer }
+generated r = record { modules = modules_of r.scope; id = r.id; local_ctxt = r.local_ctxt; export_ctxt = r.export_ctxt; refusal = file_refusal r.answer }
 
 abbrev pub requested : Requested → Left
 requested r = record { modules = modules_of r.scope; refusal = file_refusal r.answer }
@@ -93,9 +93,9 @@ marked_by r = record { modules = modules_of r.scope; refusal = set_refusal r.ans
 
 abbrev pub read_by : ReadAnswer → Outcome Bool
 read_by (Is b) = done b
-read_by NotRead = refused not-given
+read_by NotRead = refused not_given
 
 abbrev pub esm_by : EsmAnswer → Outcome (Option Id)
 esm_by (Wrapped i) = done (some i)
 esm_by NotWrapped = done none
-esm_by NotKnown = refused not-given
+esm_by NotKnown = refused not_given

@@ -10,31 +10,31 @@ use lib.ListN.{length, get_or, set}
 use lib.Seq.{get_or-set_same, get_or-set_other}
 use lib.Dec.{eqb}
 use borrow.Author.Tests.{leb-true, eqb-true, eqb-false}
-use Rattle.tree.proofs.Table.{both_true}
+use Rattle.tree.proofs.Table.{both-true}
 use Rattle.tables.specs.Rows.{Row, rows, between, first_in, NoneBefore, without, without_row, with_value}
 use Rattle.tables.specs.Only.{Only}
 use Rattle.inputs.specs.Lists.{is_some}
-use Rattle.state.specs.Cells.{id-limit, Kind, imports, uses, records, namespaces, modules, table_of, top-cell, pass-cell, own-cell, require-cell, InLimits, held, Good}
+use Rattle.state.specs.Cells.{id_limit, Kind, imports, uses, records, namespaces, modules, table_of, top_cell, pass_cell, own_cell, require_cell, InLimits, held, Good}
 use Rattle.state.specs.Cells.{cell_at, hint_at, import_hint, namespace_hint, use_hint, named_in, source_in, name_cell, row_hint, module_hint, Covered, Hinted}
 use Rattle.state.specs.Does.{CellsKept, Others, Changes, Aside, Behind, HintsModules, Grows, Starts}
-use Rattle.state.proofs.ListLaws.{below-append, below-value, below-without, length_more, length-value, length_without, row_of}
-use Rattle.state.proofs.HintLaws.{none_out, distinct_append, distinct_without, covered-append, covered-without, covered_none}
-use Rattle.state.proofs.HintLaws.{row_out, named-append, named_value, named-at, source-at, reached-append, grows_same, grows-stays, grows-set}
-use Rattle.state.proofs.FrameLaws.{cells_same, cells-then, beside-hint, beside-set, beside-rows, beside-good, changed, room-for}
+use Rattle.state.proofs.ListLaws.{below-append, below-value, below-without, length-more, length-value, length-without, row_of}
+use Rattle.state.proofs.HintLaws.{none-out, distinct-append, distinct-without, covered-append, covered-without, covered-none}
+use Rattle.state.proofs.HintLaws.{row-out, named-append, named-value, named-at, source-at, reached-append, grows-same, grows-stays, grows-set}
+use Rattle.state.proofs.FrameLaws.{cells-same, cells-then, beside-hint, beside-set, beside-rows, beside-good, changed, room-for}
 
 -- ---- A cell is stored
 
-cells-beside : (t : List ℕ) (i v : ℕ) → (top-cell ≡ i → ⊥) → ((j : ℕ) → pass-cell ≤ j → j ≤ require-cell → j ≡ i → ⊥) → CellsKept t (set t i v)
+cells-beside : (t : List ℕ) (i v : ℕ) → (top_cell ≡ i → ⊥) → ((j : ℕ) → pass_cell ≤ j → j ≤ require_cell → j ≡ i → ⊥) → CellsKept t (set t i v)
 cells-beside t i v n h =
     record {
-      top_kept = get_or-set_other t i top-cell v 0 n;
-      pass_kept = get_or-set_other t i pass-cell v 0 (h pass-cell (omega arith) (omega arith));
-      own-kept = get_or-set_other t i own-cell v 0 (h own-cell (omega arith) (omega arith));
-      require-kept = get_or-set_other t i require-cell v 0 (h require-cell (omega arith) (omega arith));
+      top_kept = get_or-set_other t i top_cell v 0 n;
+      pass_kept = get_or-set_other t i pass_cell v 0 (h pass_cell (omega arith) (omega arith));
+      own_kept = get_or-set_other t i own_cell v 0 (h own_cell (omega arith) (omega arith));
+      require_kept = get_or-set_other t i require_cell v 0 (h require_cell (omega arith) (omega arith));
     }
 
-pub cell_set : {t : List ℕ} (h v : ℕ) → Good t → h < 2003 → Grows (cell_at t h) v → Aside t (set t (15994 + h) v) × (cell_at (set t (15994 + h) v) h ≡ v)
-cell_set {t} h v g b k =
+pub cell-set : {t : List ℕ} (h v : ℕ) → Good t → h < 2003 → Grows (cell_at t h) v → Aside t (set t (15994 + h) v) × (cell_at (set t (15994 + h) v) h ≡ v)
+cell-set {t} h v g b k =
     let size = g.size in
     let f = beside-hint h b in
     let c = cells-beside t (15994 + h) v (λ z. omega arith) (λ j p q z. omega arith) in (
@@ -44,9 +44,9 @@ cell_set {t} h v g b k =
             (record {
               grown = λ i d. grows-set t h v (omega arith) k i;
               reaching = λ i d. let e = get_or-set_other t (15994 + h) (21074 + i) v 0 (λ z. omega arith) in omega arith;
-            }) (let e = c.own-kept in let n = g.own_below in omega arith);
+            }) (let e = c.own_kept in let n = g.own_below in omega arith);
         same_rows = beside-rows (15994 + h) v g f;
-        same-cells = c;
+        same_cells = c;
       },
       get_or-set_same t (15994 + h) v 0 (omega arith),
     )
@@ -71,23 +71,23 @@ module _ {t : List ℕ} (h v : ℕ) (g : Good t) (b : h < 1280) (k : row_hint t 
           good =
               beside-good (21074 + h) v g f
               (record { grown = λ i d. grows-stays (get_or-set_other t (21074 + h) (15994 + i) v 0 (λ z. omega arith)); reaching = raised })
-              (let e = c.own-kept in let n = g.own_below in omega arith);
+              (let e = c.own_kept in let n = g.own_below in omega arith);
           same_rows = beside-rows (21074 + h) v g f;
-          same-cells = c;
+          same_cells = c;
         },
         record { same = λ i d. get_or-set_other t (21074 + h) i v 0 (λ z. omega arith); grown = raised },
         let s = raised-same in omega arith,
       )
 
-pub cell_stays : {t : List ℕ} → Good t → Aside t t
-cell_stays g = record { good = g; same_rows = λ k. refl; same-cells = cells_same _ }
+pub cell-stays : {t : List ℕ} → Good t → Aside t t
+cell-stays g = record { good = g; same_rows = λ k. refl; same_cells = cells-same _ }
 
 pub behind-stays : (t : List ℕ) → Behind t t
 behind-stays t = record { same = λ i d. refl; grown = λ h d. omega arith }
 
 -- hints of modules, one by one
 pub hints-none : {t : List ℕ} → Good t → HintsModules 0 t t
-hints-none g = record { aside = cell_stays g; behind = behind-stays _; hinted = λ i h. absurd (omega arith) }
+hints-none g = record { aside = cell-stays g; behind = behind-stays _; hinted = λ i h. absurd (omega arith) }
 
 pub hints-more : {i file : ℕ} {t m t' : List ℕ} → HintsModules i t m → i < 256 → file ≡ get_or m (15482 + 2 * i) 0 → Aside m t' → Behind m t' → 256 ≤ i + module_hint t' (file % 256) →
     HintsModules (i + 1) t t'
@@ -97,7 +97,7 @@ hints-more {i} {file} {t} {m} {t'} w b e a d h =
           record {
             good = a.good;
             same_rows = λ k. a.same_rows k ∙ w.aside.same_rows k;
-            same-cells = cells-then w.aside.same-cells a.same-cells;
+            same_cells = cells-then w.aside.same_cells a.same_cells;
           };
       behind =
           record {
@@ -122,8 +122,8 @@ module _ (v h : ℕ) (b : h < 512) where
   abbrev renamed : ℕ
   renamed = v / 4294967296 * 4294967296 + h * 8388608 + v % 8388608
 
-  renamed_low : renamed % 8388608 ≡ v % 8388608
-  renamed_low = omega arith
+  renamed-low : renamed % 8388608 ≡ v % 8388608
+  renamed-low = omega arith
 
   renamed-tag : renamed / 2199023255552 ≡ v / 2199023255552
   renamed-tag = omega arith
@@ -137,7 +137,7 @@ module _ (v h : ℕ) (b : h < 512) where
   pub named-grows : (c : ℕ) → v ≡ c → named_in v ≤ h → Grows c renamed
   named-grows c e l =
       subst (λ (x : ℕ). Grows x renamed) e
-      (grows_same renamed-tag renamed_low (let n = renamed-now in omega arith) (let q = ap (λ (x : ℕ). x % 512) renamed-high in omega arith))
+      (grows-same renamed-tag renamed-low (let n = renamed-now in omega arith) (let q = ap (λ (x : ℕ). x % 512) renamed-high in omega arith))
 
   abbrev resourced : ℕ
   resourced = v / 2199023255552 * 2199023255552 + h * 4294967296 + v % 4294967296
@@ -157,7 +157,7 @@ module _ (v h : ℕ) (b : h < 512) where
   pub source-grows : (c : ℕ) → v ≡ c → source_in v ≤ h → Grows c resourced
   source-grows c e l =
       subst (λ (x : ℕ). Grows x resourced) e
-      (grows_same resourced-tag resourced-low (let n = resourced-name in omega arith) (let n = resourced-now in omega arith))
+      (grows-same resourced-tag resourced-low (let n = resourced-name in omega arith) (let n = resourced-now in omega arith))
 
 -- the first record whose first namespace has a name stands at the hint or behind; so does the first whose literal has it
 pub starts : {t : List ℕ} {from id : ℕ} → Good t → from ≤ 256 - named_in (cell_at t (name_cell id)) → Starts from id t
@@ -177,7 +177,7 @@ opens {t} {from} id g h = record { passed = λ i p q. by i p q (between (id - id
         between (id - id % 4294967296) (id - id % 4294967296 + 4294967295) (row_of (rows (table_of records) t) i).0 ≡ b → b ≡ false
     by i p q true e =
         let n = (row_of (rows (table_of records) t) i).0 in
-        let k = both_true _ _ e in
+        let k = both-true _ _ e in
         let l = leb-true (id - id % 4294967296) n k.0 in
         let u = leb-true n (id - id % 4294967296 + 4294967295) k.1 in
         let z : n / 4294967296 ≡ id / 4294967296 = omega arith in
@@ -189,46 +189,46 @@ opens {t} {from} id g h = record { passed = λ i p q. by i p q (between (id - id
 -- ---- A row enters
 
 others-after : {k : Kind} {t m t' : List ℕ} → Aside t m → Others k m t' → Others k t t'
-others-after a o = record { rows-kept = λ m e. o.rows-kept m e ∙ a.same_rows m; cells-kept = cells-then a.same-cells o.cells-kept }
+others-after a o = record { rows_kept = λ m e. o.rows_kept m e ∙ a.same_rows m; cells_kept = cells-then a.same_cells o.cells_kept }
 
 after : (k : Kind) {t m t' : List ℕ} {l : List Row} → Aside t m → Only (table_of k) m t' → rows (table_of k) t' ≡ l → length l ≤ (table_of k).room → InLimits k l → Hinted k m l →
     Changes k l t t'
-after k a o e n b h = let c = changed k a.good o e n b h in record { good = c.good; now-rows = e; others = others-after a c.others }
+after k a o e n b h = let c = changed k a.good o e n b h in record { good = c.good; now_rows = e; others = others-after a c.others }
 
 module _ {t m t' : List ℕ} (g : Good t) (a : Aside t m) where
-  pub import-added : {id c : ℕ} → id < id-limit → c < 4294967296 → held imports t < 512 → first_in id id (rows (table_of imports) t) ≡ nothing →
+  pub import-added : {id c : ℕ} → id < id_limit → c < 4294967296 → held imports t < 512 → first_in id id (rows (table_of imports) t) ≡ nothing →
       0 < import_hint (hint_at m id) → rows (table_of imports) t' ≡ rows (table_of imports) m ++ ((id, c) ∷ []) → Only (table_of imports) m t' →
       Changes imports (rows (table_of imports) t ++ ((id, c) ∷ [])) t t'
   import-added {id} {c} h b n f z e o =
       let l = rows (table_of imports) t in
-      let k = length_more l (id, c) in
+      let k = length-more l (id, c) in
       after imports a o (e ∙ ap (λ (x : List Row). x ++ ((id, c) ∷ [])) (a.same_rows imports)) (omega arith) (below-append _ _ l (id, c) (g.below imports) h b) (
         covered-append import_hint m l (id, c) (subst (Covered import_hint m) (a.same_rows imports) (a.good.hinted imports).0) z,
-        distinct_append l (id, c) (g.hinted imports).1 f,
+        distinct-append l (id, c) (g.hinted imports).1 f,
       )
 
-  pub use-added : {id q : ℕ} → id < id-limit → q < id-limit → held uses t < 2048 → 0 < use_hint (hint_at m id) →
+  pub use-added : {id q : ℕ} → id < id_limit → q < id_limit → held uses t < 2048 → 0 < use_hint (hint_at m id) →
       rows (table_of uses) t' ≡ rows (table_of uses) m ++ ((id, q) ∷ []) → Only (table_of uses) m t' → Changes uses (rows (table_of uses) t ++ ((id, q) ∷ [])) t t'
   use-added {id} {q} h b n z e o =
       let l = rows (table_of uses) t in
-      let k = length_more l (id, q) in
+      let k = length-more l (id, q) in
       after uses a o (e ∙ ap (λ (x : List Row). x ++ ((id, q) ∷ [])) (a.same_rows uses)) (omega arith) (below-append _ _ l (id, q) (g.below uses) h b)
       (covered-append use_hint m l (id, q) (subst (Covered use_hint m) (a.same_rows uses) (a.good.hinted uses)) z)
 
-  pub held-added : {id i : ℕ} → id < id-limit → i < 256 → held namespaces t < 3641 → 0 < namespace_hint (hint_at m id) →
+  pub held-added : {id i : ℕ} → id < id_limit → i < 256 → held namespaces t < 3641 → 0 < namespace_hint (hint_at m id) →
       rows (table_of namespaces) t' ≡ rows (table_of namespaces) m ++ ((id, i) ∷ []) → Only (table_of namespaces) m t' →
       Changes namespaces (rows (table_of namespaces) t ++ ((id, i) ∷ [])) t t'
   held-added {id} {i} h b n z e o =
       let l = rows (table_of namespaces) t in
-      let k = length_more l (id, i) in
+      let k = length-more l (id, i) in
       after namespaces a o (e ∙ ap (λ (x : List Row). x ++ ((id, i) ∷ [])) (a.same_rows namespaces)) (omega arith) (below-append _ _ l (id, i) (g.below namespaces) h b)
       (covered-append namespace_hint m l (id, i) (subst (Covered namespace_hint m) (a.same_rows namespaces) (a.good.hinted namespaces)) z)
 
-  pub record-added : {x : ℕ} → x < id-limit → held records t < 256 → 256 ≤ held records t + source_in (cell_at m (name_cell x)) →
+  pub record-added : {x : ℕ} → x < id_limit → held records t < 256 → 256 ≤ held records t + source_in (cell_at m (name_cell x)) →
       rows (table_of records) t' ≡ rows (table_of records) m ++ ((x, 0) ∷ []) → Only (table_of records) m t' → Changes records (rows (table_of records) t ++ ((x, 0) ∷ [])) t t'
   record-added {x} h n z e o =
       let l = rows (table_of records) t in
-      let k = length_more l (x, 0) in
+      let k = length-more l (x, 0) in
       after records a o (e ∙ ap (λ (y : List Row). y ++ ((x, 0) ∷ [])) (a.same_rows records)) (omega arith) (below-append _ _ l (x, 0) (g.below records) h (omega arith))
       (named-append 0 m l (x, 0) (subst (λ (y : List Row). Hinted records m y) (a.same_rows records) (a.good.hinted records)) refl (omega arith))
 
@@ -236,19 +236,19 @@ module _ {t m t' : List ℕ} (g : Good t) (a : Aside t m) where
       rows (table_of modules) t' ≡ rows (table_of modules) m ++ ((f, 0) ∷ []) → Only (table_of modules) m t' → Changes modules (rows (table_of modules) t ++ ((f, 0) ∷ [])) t t'
   module-added {f} h n z e o =
       let l = rows (table_of modules) t in
-      let k = length_more l (f, 0) in
+      let k = length-more l (f, 0) in
       after modules a o (e ∙ ap (λ (y : List Row). y ++ ((f, 0) ∷ [])) (a.same_rows modules)) (omega arith) (below-append _ _ l (f, 0) (g.below modules) h (omega arith))
       (reached-append 256 (λ c. module_hint m (c % 256)) 0 l (f, 0) (subst (λ (y : List Row). Hinted modules m y) (a.same_rows modules) (a.good.hinted modules)) (omega arith))
 
   -- a record's first namespace
-  pub first-set : {id : ℕ} (i : ℕ) → id < id-limit → 256 ≤ i + named_in (cell_at m (name_cell id)) → rows (table_of records) t' ≡ with_value i (id + 1) (rows (table_of records) m) →
+  pub first-set : {id : ℕ} (i : ℕ) → id < id_limit → 256 ≤ i + named_in (cell_at m (name_cell id)) → rows (table_of records) t' ≡ with_value i (id + 1) (rows (table_of records) m) →
       Only (table_of records) m t' → Changes records (with_value i (id + 1) (rows (table_of records) t)) t t'
   first-set {id} i h n e o =
       let l = rows (table_of records) t in
       let k = length-value l i (id + 1) in
       let r = room-for records g in
       after records a o (e ∙ ap (with_value i (id + 1)) (a.same_rows records)) (omega arith) (below-value _ _ l i (id + 1) (g.below records) (omega arith))
-      (named_value 0 i m l id (subst (λ (x : List Row). Hinted records m x) (a.same_rows records) (a.good.hinted records)) (omega arith))
+      (named-value 0 i m l id (subst (λ (x : List Row). Hinted records m x) (a.same_rows records) (a.good.hinted records)) (omega arith))
 
 -- ---- Rows are taken out
 
@@ -257,22 +257,22 @@ module _ (id : ℕ) {t t' : List ℕ} (g : Good t) where
       Only (table_of imports) t t' → Changes imports (without id (rows (table_of imports) t)) t t'
   import-dropped {i} f e o =
       let l = rows (table_of imports) t in
-      let n = length_without id l in
+      let n = length-without id l in
       let r = room-for imports g in
-      changed imports g o (e ∙ row_out id l i (g.hinted imports).1 (sym f)) (omega arith) (below-without _ _ id l (g.below imports))
-      (covered-without import_hint t id l (g.hinted imports).0, distinct_without id l (g.hinted imports).1)
+      changed imports g o (e ∙ row-out id l i (g.hinted imports).1 (sym f)) (omega arith) (below-without _ _ id l (g.below imports))
+      (covered-without import_hint t id l (g.hinted imports).0, distinct-without id l (g.hinted imports).1)
 
   pub uses-dropped : rows (table_of uses) t' ≡ without id (rows (table_of uses) t) → Only (table_of uses) t t' → Changes uses (without id (rows (table_of uses) t)) t t'
   uses-dropped e o =
       let l = rows (table_of uses) t in
-      let n = length_without id l in
+      let n = length-without id l in
       let r = room-for uses g in
       changed uses g o e (omega arith) (below-without _ _ id l (g.below uses)) (covered-without use_hint t id l (g.hinted uses))
 
 -- none are there
 pub absent : (k : Kind) (id : ℕ) {t : List ℕ} → Good t → first_in id id (rows (table_of k) t) ≡ nothing → Changes k (without id (rows (table_of k) t)) t t
 absent k id {t} g e =
-    record { good = g; now-rows = sym (none_out id (rows (table_of k) t) e); others = record { rows-kept = λ m h. refl; cells-kept = cells_same _ } }
+    record { good = g; now_rows = sym (none-out id (rows (table_of k) t) e); others = record { rows_kept = λ m h. refl; cells_kept = cells-same _ } }
 
 pub some-none : (o : Option ℕ) → is_some o ≡ false → o ≡ nothing
 some-none nothing e = refl
@@ -280,10 +280,10 @@ some-none (some n) e = absurd (let z : ◌≡◌ {A = ℕ} 0 1 = cc in omega ari
 
 -- a hint of 0
 pub not-imported : {t : List ℕ} (id : ℕ) → Good t → import_hint (hint_at t id) ≡ 0 → first_in id id (rows (table_of imports) t) ≡ nothing
-not-imported {t} id g e = covered_none import_hint t id (rows (table_of imports) t) (g.hinted imports).0 e
+not-imported {t} id g e = covered-none import_hint t id (rows (table_of imports) t) (g.hinted imports).0 e
 
 pub not-used : {t : List ℕ} (id : ℕ) → Good t → use_hint (hint_at t id) ≡ 0 → first_in id id (rows (table_of uses) t) ≡ nothing
-not-used {t} id g e = covered_none use_hint t id (rows (table_of uses) t) (g.hinted uses) e
+not-used {t} id g e = covered-none use_hint t id (rows (table_of uses) t) (g.hinted uses) e
 
-pub not-held : {t : List ℕ} (id : ℕ) → Good t → namespace_hint (hint_at t id) ≡ 0 → first_in id id (rows (table_of namespaces) t) ≡ nothing
-not-held {t} id g e = covered_none namespace_hint t id (rows (table_of namespaces) t) (g.hinted namespaces) e
+pub not_held : {t : List ℕ} (id : ℕ) → Good t → namespace_hint (hint_at t id) ≡ 0 → first_in id id (rows (table_of namespaces) t) ≡ nothing
+not_held {t} id g e = covered-none namespace_hint t id (rows (table_of namespaces) t) (g.hinted namespaces) e

@@ -16,11 +16,11 @@ use Rattle.inputs.specs.Fields.{find_field}
 use Rattle.inputs.specs.Outcome.{done, refused}
 use Rattle.extraction_rules.specs.State.{Record, State, set_collected}
 use Rattle.extraction_rules.specs.First.{holds_namespace, collect_in, collect}
-use Rattle.state.specs.Cells.{Env, id-limit, records, table_of, held, Good, id_of, literal_by, Valued, Brief, brief, brief_of, index_of, namespaces_in, count_namespaces, sources_in, Shows}
+use Rattle.state.specs.Cells.{Env, id_limit, records, table_of, held, Good, id_of, literal_by, Valued, Brief, brief, brief_of, index_of, namespaces_in, count_namespaces, sources_in, Shows}
 use Rattle.state.specs.Does.{Changes, extend_at, Gathered, Collects}
 use Rattle.state.specs.declared.Literal.{Literal}
 use Rattle.state.specs.declared.Place.TheVariants.{Index, NoRoom}
-use Rattle.state.proofs.ListLaws.{length_more, first_below}
+use Rattle.state.proofs.ListLaws.{length-more, first-below}
 use Rattle.state.proofs.IndexLaws.{index-map, index-row, index-more}
 use Rattle.state.proofs.RecordLaws.{name-range, held-shown}
 use Rattle.state.proofs.FrameLaws.{room-for, shows-collected}
@@ -93,7 +93,7 @@ sources-more y (q ∷ l) a e = by (same a (value_of q.literal)) (sources-more y 
 -- ---- The record that is found
 
 -- x is the number of a literal
-module _ (x : ℕ) (l : Literal) (a : x / 4294967296 ≡ l.value.0) (c : x % 4294967296 ≡ l.place) (h : x < id-limit) {t : List ℕ} (g : Good t) where
+module _ (x : ℕ) (l : Literal) (a : x / 4294967296 ≡ l.value.0) (c : x % 4294967296 ≡ l.place) (h : x < id_limit) {t : List ℕ} (g : Good t) where
   value-is : (y : Env) → Valued y l → value_of (literal_by y l) ≡ two (x / 4294967296)
   value-is y v = v ∙ ap two (sym a)
 
@@ -127,7 +127,7 @@ module _ (x : ℕ) (l : Literal) (a : x / 4294967296 ≡ l.value.0) (c : x % 429
   collected-again {i} e =
       record {
         good = g;
-        below = λ j p. let z : i ≡ j = cc in let b = first_below _ _ (rows (table_of records) t) i (sym e) in omega arith;
+        below = λ j p. let z : i ≡ j = cc in let b = first-below _ _ (rows (table_of records) t) i (sym e) in omega arith;
         made = λ j p {y} s w v. let z : i ≡ j = cc in subst (λ (k : ℕ). Gathered y (literal_by y l) k s t) z (gathered-again i e s w v);
         full = λ p s w v fs q. absurd (let z : ◌≡◌ {A = ℕ} 0 1 = cc in omega arith);
       }
@@ -148,7 +148,7 @@ module _ (x : ℕ) (l : Literal) (a : x / 4294967296 ≡ l.value.0) (c : x % 429
         list = list;
         shows =
             shows-collected w d.others
-            (ap (map (brief_of y)) d.now-rows ∙ map-append (brief_of y) (rows (table_of records) t) ((x, 0) ∷ [])
+            (ap (map (brief_of y)) d.now_rows ∙ map-append (brief_of y) (rows (table_of records) t) ((x, 0) ∷ [])
             ∙ ap₂ (λ (m : List Brief) (b : Brief). m ++ (b ∷ [])) w.collected (brief-new y v)
             ∙ sym (map-append brief s.collected (record { literal = literal_by y l; specifiers = none } ∷ [])))
             (λ i. index-more (holds_namespace (id_of i)) s.collected (record { literal = literal_by y l; specifiers = none }) refl)
@@ -156,7 +156,7 @@ module _ (x : ℕ) (l : Literal) (a : x / 4294967296 ≡ l.value.0) (c : x % 429
         is = λ fs p.
             let m' = collect_in (record { literal = literal_by y l; specifiers = fs }) s.collected in
             let c = collect-new (literal_by y l) fs s.collected (sym (e ∙ value-index w v)) in
-            let m = ap length c ∙ length_more s.collected (record { literal = literal_by y l; specifiers = fs }) in
+            let m = ap length c ∙ length-more s.collected (record { literal = literal_by y l; specifiers = fs }) in
             room-made (length m') 256 p (set_collected m') s (omega arith)
             ∙ ap (λ (k : List Record). done (tt, set_collected k s)) (c ∙ sym (extend-last (literal_by y l) fs s.collected) ∙ ap (λ (j : ℕ). extend_at j fs list) (sym n));
       }
@@ -164,8 +164,8 @@ module _ (x : ℕ) (l : Literal) (a : x / 4294967296 ≡ l.value.0) (c : x % 429
   pub collected-new : {t' : List ℕ} {i : ℕ} → i ≡ held records t → nothing ≡ first_in (x - x % 4294967296) (x - x % 4294967296 + 4294967295) (rows (table_of records) t) →
       held records t < 256 → Changes records (rows (table_of records) t ++ ((x, 0) ∷ [])) t t' → Collects l t t' (Index i)
   collected-new {t'} {i} c e k d =
-      let m = length_more (rows (table_of records) t) (x, 0) in
-      let size = ap length d.now-rows in
+      let m = length-more (rows (table_of records) t) (x, 0) in
+      let size = ap length d.now_rows in
       record {
         good = d.good;
         below = λ j p. let z : i ≡ j = cc in omega arith;
@@ -179,7 +179,7 @@ module _ (x : ℕ) (l : Literal) (a : x / 4294967296 ≡ l.value.0) (c : x % 429
   collect-refused e k {y} s w v fs p =
       let n = held-shown w in
       let m' = collect_in (record { literal = literal_by y l; specifiers = fs }) s.collected in
-      let m = ap length (collect-new (literal_by y l) fs s.collected (sym (e ∙ value-index w v))) ∙ length_more s.collected (record { literal = literal_by y l; specifiers = fs }) in
+      let m = ap length (collect-new (literal_by y l) fs s.collected (sym (e ∙ value-index w v))) ∙ length-more s.collected (record { literal = literal_by y l; specifiers = fs }) in
       room-full (length m') 256 p (set_collected m') s (omega arith)
 
   pub collected-full : nothing ≡ first_in (x - x % 4294967296) (x - x % 4294967296 + 4294967295) (rows (table_of records) t) → 256 ≤ held records t → Collects l t t NoRoom

@@ -9,27 +9,27 @@ use lib.ListN.{length, length-map}
 use Rattle.tables.specs.Rows.{Row, rows, next, between, first_in}
 use Rattle.tables.specs.Only.{Only}
 use Rattle.tree.specs.Layout.{two, same, value_of}
-use Rattle.tree.proofs.LayoutLaws.{same_refl, same-equal, same-two}
-use Rattle.tree.proofs.FixedLaws.{or_right}
+use Rattle.tree.proofs.LayoutLaws.{same-refl, same-equal, same-two}
+use Rattle.tree.proofs.FixedLaws.{or-right}
 use Rattle.inputs.specs.Lists.{find, is_some, among}
 use Rattle.extraction_rules.specs.State.{Record, State, set_forced}
 use Rattle.extraction_rules.specs.First.{holds_namespace, force_source, force_holder, forget, force_id}
 use Rattle.state.specs.Cells.{imports, uses, hint_at, import_hint, namespace_hint, use_hint}
-use Rattle.state.specs.Cells.{Env, id-limit, id_of, records, forces, table_of, Below, held, Good, atom_of, sources_in, Once, Sourced, Shows}
+use Rattle.state.specs.Cells.{Env, id_limit, id_of, records, forces, table_of, Below, held, Good, atom_of, sources_in, Once, Sourced, Shows}
 use Rattle.state.specs.Does.{Tells, Turns, Forces, source_of}
-use Rattle.state.proofs.IdLaws.{between-one, eqb_swap}
-use Rattle.state.proofs.ListLaws.{below-append, length_more}
+use Rattle.state.proofs.IdLaws.{between-one, eqb-swap}
+use Rattle.state.proofs.ListLaws.{below-append, length-more}
 use Rattle.state.proofs.FrameLaws.{others-kept, good-kept, room-for, shows-forced}
 use Rattle.state.proofs.RecordLaws.{held-shown, holder-told}
 use Rattle.state.proofs.HintLaws.{none-least}
-use Rattle.state.proofs.ChangeLaws.{absent, not-imported, not-used, not-held}
+use Rattle.state.proofs.ChangeLaws.{absent, not-imported, not-used, not_held}
 use Rattle.state.proofs.UsageLaws.{forgotten}
 use Rattle.state.proofs.SourcedLaws.{find-among, sourced-force}
 
 -- ---- The search
 
 same-atom : (a n : ℕ) → a < 65536 → n < 65536 → same (two a) (two n) ≡ between a a n
-same-atom a n h k = same-two a n h k ∙ eqb_swap a n ∙ sym (between-one a n)
+same-atom a n h k = same-two a n h k ∙ eqb-swap a n ∙ sym (between-one a n)
 
 pub among-rows : (a v : ℕ) (l : List Row) → a < 65536 → Below 65536 v l → among (two a) (map atom_of l) ≡ is_some (first_in a a l)
 unfolding among first_in Below
@@ -73,7 +73,7 @@ among-remove a b (c ∷ m) n e = by (same a c) refl (same b c) refl (among-remov
         among b (cond x m (c ∷ remove a m)) ≡ true
     by true p true q h f =
         absurd
-        (let z : b ≡ a = same-equal b c q ∙ sym (same-equal a c p) in let u : true ≡ false = sym (same_refl a) ∙ ap (λ (k : List ℕ). same k a) (sym z)
+        (let z : b ≡ a = same-equal b c q ∙ sym (same-equal a c p) in let u : true ≡ false = sym (same-refl a) ∙ ap (λ (k : List ℕ). same k a) (sym z)
         ∙ n in let w : ◌≡◌ {A = ℕ} 0 1 = cc in omega arith)
     by true p false q h f = f
     by false p true q h f = ap (λ (k : Bool). k || among b (remove a m)) q
@@ -84,9 +84,9 @@ once-fits : (l m : List (List ℕ)) → Once l → ((a : List ℕ) → among a l
 unfolding among Once
 once-fits [] m o h = omega arith
 once-fits (a ∷ l) m o h =
-    let here = h a (ap (λ (x : Bool). x || among a l) (same_refl a)) in
+    let here = h a (ap (λ (x : Bool). x || among a l) (same-refl a)) in
     let n = length-remove a m here in
-    let r = once-fits l (remove a m) o.1 (λ b e. among-remove a b m (apart b e) (h b (or_right (same b a) (among b l) e))) in
+    let r = once-fits l (remove a m) o.1 (λ b e. among-remove a b m (apart b e) (h b (or-right (same b a) (among b l) e))) in
     omega arith
   where
     apart : (b : List ℕ) → among b l ≡ true → same b a ≡ false
@@ -124,7 +124,7 @@ module _ {t : List ℕ} (a : ℕ) (g : Good t) where
       rows (table_of forces) t' ≡ rows (table_of forces) t ++ ((a, 0) ∷ []) → Only (table_of forces) t t' → Forces (two a) t t'
   unfolding force_source
   force-new {t'} h n k e o =
-      let m = length_more (rows (table_of forces) t) (a, 0) in
+      let m = length-more (rows (table_of forces) t) (a, 0) in
       record {
         good = good-kept forces g o e (omega arith) (below-append _ _ (rows (table_of forces) t) (a, 0) (g.below forces) h (omega arith)) tt;
         shows = λ {x = y} s f w.
@@ -171,8 +171,8 @@ module _ {t m : List ℕ} (i : List ℕ) (u : Turns (forget i) t m) where
       }
 
 -- an id that no hint names is nowhere
-pub forced-nowhere : {t x : List ℕ} (id : ℕ) → Good t → id_of id ≡ x → id < id-limit → hint_at t id ≡ 0 → Turns (force_id x) t t
+pub forced-nowhere : {t x : List ℕ} (id : ℕ) → Good t → id_of id ≡ x → id < id_limit → hint_at t id ≡ 0 → Turns (force_id x) t t
 forced-nowhere id g n h e =
     forced-none _
     (forgotten g n h (absent uses id g (not-used id g (ap use_hint e))) (absent imports id g (not-imported id g (ap import_hint e))))
-    (holder-told n h (sym (none-least id _ (not-held id g (ap namespace_hint e)))))
+    (holder-told n h (sym (none-least id _ (not_held id g (ap namespace_hint e)))))

@@ -7,7 +7,7 @@ use mathlib.Core.List.{List, map}
 use lib.Dec.{leb, ltb, eqb}
 use lib.ListN.{length, get_or, set}
 use borrow.Author.Tests.{leb-true, ltb-true, eqb-true}
-use Rattle.tree.proofs.Table.{both_true}
+use Rattle.tree.proofs.Table.{both-true}
 use Rattle.scope.specs.Modules.{Modules}
 use Rattle.tables.specs.declared.Table.{Table}
 use Rattle.tables.specs.Rows.{Row, rows, Lies, least_of}
@@ -18,7 +18,7 @@ use Rattle.extraction_rules.specs.State.{Record, Imported, Usage, State, Setting
 use Rattle.inputs.specs.Lists.{among}
 use Rattle.extraction_rules.specs.First.{holds_namespace}
 use Rattle.state.specs.Cells.{Kind, imports, uses, records, namespaces, lazies, forces, modules, externals, table, table_of, InLimits, Good, Env}
-use Rattle.state.specs.Cells.{top-cell, pass-cell, own-cell, require-cell, cells}
+use Rattle.state.specs.Cells.{top_cell, pass_cell, own_cell, require_cell, cells}
 use Rattle.state.specs.Cells.{Sourced, Sets, Shows, id_of, imported_of, usage_of, brief, brief_of, index_of, namespaces_in, sources_in, lazy_of, atom_of, lent_of}
 use Rattle.state.specs.Cells.{module_of, flag, Hinted}
 use Rattle.state.specs.Does.{one?, CellsKept, Others, Changes, with_setting}
@@ -37,7 +37,7 @@ either false y e f g = g e
 clear : (b : Table) (lo hi : ℕ) → clear? b lo hi ≡ true → (i : ℕ) → lo ≤ i → i < hi → Outside b i
 unfolding clear?
 clear b lo hi e i p q =
-    let h = both_true _ _ e in
+    let h = both-true _ _ e in
     record {
       cell = λ z. either (ltb b.count lo) (leb hi b.count) h.0 (λ u. let w = ltb-true b.count lo u in omega arith) (λ u. let w = leb-true hi b.count u in omega arith);
       row = λ m n.
@@ -48,10 +48,10 @@ clear b lo hi e i p q =
 unfoldable apart? : Table → Table → Bool
 apart? b c = clear? b c.count (c.count + 1) && clear? b c.base (c.base + 2 * c.room)
 
-apart_by : (b c : Table) → apart? b c ≡ true → Apart b c
+apart-by : (b c : Table) → apart? b c ≡ true → Apart b c
 unfolding apart?
-apart_by b c e =
-    let h = both_true _ _ e in
+apart-by b c e =
+    let h = both-true _ _ e in
     record { cell = clear b c.count (c.count + 1) h.0 c.count (omega arith) (omega arith); row = clear b c.base (c.base + 2 * c.room) h.1 }
 
 -- ---- The layout: two kinds are one, or their tables are apart
@@ -67,24 +67,24 @@ each P a b c d e f g h i modules = g
 each P a b c d e f g h i externals = h
 each P a b c d e f g h i table = i
 
-laid_out : (k m : Kind) → (one? k m || apart? (table_of k) (table_of m)) ≡ true
+laid-out : (k m : Kind) → (one? k m || apart? (table_of k) (table_of m)) ≡ true
 unfolding apart? clear?
-laid_out imports = each _ refl refl refl refl refl refl refl refl refl
-laid_out uses = each _ refl refl refl refl refl refl refl refl refl
-laid_out records = each _ refl refl refl refl refl refl refl refl refl
-laid_out namespaces = each _ refl refl refl refl refl refl refl refl refl
-laid_out lazies = each _ refl refl refl refl refl refl refl refl refl
-laid_out forces = each _ refl refl refl refl refl refl refl refl refl
-laid_out modules = each _ refl refl refl refl refl refl refl refl refl
-laid_out externals = each _ refl refl refl refl refl refl refl refl refl
-laid_out table = each _ refl refl refl refl refl refl refl refl refl
+laid-out imports = each _ refl refl refl refl refl refl refl refl refl
+laid-out uses = each _ refl refl refl refl refl refl refl refl refl
+laid-out records = each _ refl refl refl refl refl refl refl refl refl
+laid-out namespaces = each _ refl refl refl refl refl refl refl refl refl
+laid-out lazies = each _ refl refl refl refl refl refl refl refl refl
+laid-out forces = each _ refl refl refl refl refl refl refl refl refl
+laid-out modules = each _ refl refl refl refl refl refl refl refl refl
+laid-out externals = each _ refl refl refl refl refl refl refl refl refl
+laid-out table = each _ refl refl refl refl refl refl refl refl refl
 
 or-true : (x y : Bool) → (x || y) ≡ true → x ≡ false → y ≡ true
 or-true true y e f = absurd (let z : ◌≡◌ {A = ℕ} 0 1 = cc in omega arith)
 or-true false y e f = e
 
 kinds-apart : (k m : Kind) → one? k m ≡ false → Apart (table_of k) (table_of m)
-kinds-apart k m e = apart_by (table_of k) (table_of m) (or-true _ _ (laid_out k m) e)
+kinds-apart k m e = apart-by (table_of k) (table_of m) (or-true _ _ (laid-out k m) e)
 
 kind_at : ℕ → Kind
 kind_at n =
@@ -103,12 +103,12 @@ kinds-one k m e = sym (kind-at k) ∙ ap kind_at (eqb-true _ _ e) ∙ kind-at m
 abbrev pub Beside : ℕ → Type 0
 Beside i = (k : Kind) → Outside (table_of k) i
 
-top-clear : (k : Kind) → clear? (table_of k) top-cell 8 ≡ true
+top-clear : (k : Kind) → clear? (table_of k) top_cell 8 ≡ true
 unfolding clear?
 top-clear = each _ refl refl refl refl refl refl refl refl refl
 
-pub beside-top : Beside top-cell
-beside-top k = clear (table_of k) top-cell 8 (top-clear k) top-cell (omega arith) (omega arith)
+pub beside-top : Beside top_cell
+beside-top k = clear (table_of k) top_cell 8 (top-clear k) top_cell (omega arith) (omega arith)
 
 hints-clear : (k : Kind) → clear? (table_of k) 15994 17997 ≡ true
 unfolding clear?
@@ -117,36 +117,36 @@ hints-clear = each _ refl refl refl refl refl refl refl refl refl
 pub beside-hint : (h : ℕ) → h < 2003 → Beside (15994 + h)
 beside-hint h b k = clear (table_of k) 15994 17997 (hints-clear k) (15994 + h) (omega arith) (omega arith)
 
-set-clear : (k : Kind) → clear? (table_of k) pass-cell cells ≡ true
+set-clear : (k : Kind) → clear? (table_of k) pass_cell cells ≡ true
 unfolding clear?
 set-clear = each _ refl refl refl refl refl refl refl refl refl
 
-pub beside-set : (i : ℕ) → pass-cell ≤ i → i < cells → Beside i
-beside-set i p q k = clear (table_of k) pass-cell cells (set-clear k) i p q
+pub beside-set : (i : ℕ) → pass_cell ≤ i → i < cells → Beside i
+beside-set i p q k = clear (table_of k) pass_cell cells (set-clear k) i p q
 
 cells-only : (k : Kind) {t t' : List ℕ} → Only (table_of k) t t' → CellsKept t t'
 cells-only k o =
     record {
-      top_kept = o.same top-cell (beside-top k);
-      pass_kept = o.same pass-cell (beside-set pass-cell (omega arith) (omega arith) k);
-      own-kept = o.same own-cell (beside-set own-cell (omega arith) (omega arith) k);
-      require-kept = o.same require-cell (beside-set require-cell (omega arith) (omega arith) k);
+      top_kept = o.same top_cell (beside-top k);
+      pass_kept = o.same pass_cell (beside-set pass_cell (omega arith) (omega arith) k);
+      own_kept = o.same own_cell (beside-set own_cell (omega arith) (omega arith) k);
+      require_kept = o.same require_cell (beside-set require_cell (omega arith) (omega arith) k);
     }
 
-pub cells_same : (t : List ℕ) → CellsKept t t
-cells_same t = record { top_kept = refl; pass_kept = refl; own-kept = refl; require-kept = refl }
+pub cells-same : (t : List ℕ) → CellsKept t t
+cells-same t = record { top_kept = refl; pass_kept = refl; own_kept = refl; require_kept = refl }
 
 pub cells-then : {t m t' : List ℕ} → CellsKept t m → CellsKept m t' → CellsKept t t'
 cells-then a b =
     record {
       top_kept = b.top_kept ∙ a.top_kept;
       pass_kept = b.pass_kept ∙ a.pass_kept;
-      own-kept = b.own-kept ∙ a.own-kept;
-      require-kept = b.require-kept ∙ a.require-kept;
+      own_kept = b.own_kept ∙ a.own_kept;
+      require_kept = b.require_kept ∙ a.require_kept;
     }
 
-hints-kept : (k : Kind) {t t' : List ℕ} → Only (table_of k) t t' → (m : Kind) (l : List Row) → Hinted m t l → Hinted m t' l
-hints-kept k {t} {t'} o =
+hints_kept : (k : Kind) {t t' : List ℕ} → Only (table_of k) t t' → (m : Kind) (l : List Row) → Hinted m t l → Hinted m t' l
+hints_kept k {t} {t'} o =
     hinted-agree t t'
     (record {
       grown = λ h b. grows-stays (o.same (15994 + h) (beside-hint h b k));
@@ -158,8 +158,8 @@ hints-kept k {t} {t'} o =
 pub others-kept : (k : Kind) {t t' : List ℕ} → Good t → Only (table_of k) t t' → Others k t t'
 others-kept k g o =
     record {
-      rows-kept = λ m e. apart-rows (kinds-apart k m e) o (g.lies m);
-      cells-kept = cells-only k o;
+      rows_kept = λ m e. apart-rows (kinds-apart k m e) o (g.lies m);
+      cells_kept = cells-only k o;
     }
 
 lies-kept : {b : Table} {t t' : List ℕ} → Lies b t → Only b t t' → length (rows b t') ≤ b.room → Lies b t'
@@ -177,7 +177,7 @@ good-kept k {t} {t'} {l} g o e n b f =
       lies = λ m. lies m (one? k m) refl;
       below = λ m. limits m (one? k m) refl;
       hinted = λ m. hints m (one? k m) refl;
-      own_below = let b = g.own_below in let e = (cells-only k o).own-kept in omega arith;
+      own_below = let b = g.own_below in let e = (cells-only k o).own_kept in omega arith;
     }
   where
     lies : (m : Kind) (x : Bool) → one? k m ≡ x → Lies (table_of m) t'
@@ -186,15 +186,15 @@ good-kept k {t} {t'} {l} g o e n b f =
 
     limits : (m : Kind) (x : Bool) → one? k m ≡ x → InLimits m (rows (table_of m) t')
     limits m true h = subst (λ (x : Kind). InLimits x (rows (table_of x) t')) (kinds-one k m h) (subst (InLimits k) (sym e) b)
-    limits m false h = subst (InLimits m) (sym ((others-kept k g o).rows-kept m h)) (g.below m)
+    limits m false h = subst (InLimits m) (sym ((others-kept k g o).rows_kept m h)) (g.below m)
 
     hints : (m : Kind) (x : Bool) → one? k m ≡ x → Hinted m t' (rows (table_of m) t')
-    hints m true h = subst (λ (x : Kind). Hinted x t' (rows (table_of x) t')) (kinds-one k m h) (subst (Hinted k t') (sym e) (hints-kept k o k l f))
-    hints m false h = subst (Hinted m t') (sym ((others-kept k g o).rows-kept m h)) (hints-kept k o m (rows (table_of m) t) (g.hinted m))
+    hints m true h = subst (λ (x : Kind). Hinted x t' (rows (table_of x) t')) (kinds-one k m h) (subst (Hinted k t') (sym e) (hints_kept k o k l f))
+    hints m false h = subst (Hinted m t') (sym ((others-kept k g o).rows_kept m h)) (hints_kept k o m (rows (table_of m) t) (g.hinted m))
 
 pub changed : (k : Kind) {t t' : List ℕ} {l : List Row} → Good t → Only (table_of k) t t' → rows (table_of k) t' ≡ l → length l ≤ (table_of k).room →
     InLimits k l → Hinted k t l → Changes k l t t'
-changed k g o e n b f = record { good = good-kept k g o e n b f; now-rows = e; others = others-kept k g o }
+changed k g o e n b f = record { good = good-kept k g o e n b f; now_rows = e; others = others-kept k g o }
 
 -- how many rows a good array holds
 pub room-for : (k : Kind) {t : List ℕ} → Good t → length (rows (table_of k) t) ≤ (table_of k).room
@@ -216,7 +216,7 @@ module _ {t : List ℕ} (i v : ℕ) (g : Good t) (f : Beside i) where
   pub beside-rows : (k : Kind) → rows (table_of k) (set t i v) ≡ rows (table_of k) t
   beside-rows k = apart-rows (lone-apart (table_of k) i (f k)) (store-count (lone i) t v) (g.lies k)
 
-  pub beside-good : Agrees t (set t i v) → get_or (set t i v) own-cell 0 < 65536 → Good (set t i v)
+  pub beside-good : Agrees t (set t i v) → get_or (set t i v) own_cell 0 < 65536 → Good (set t i v)
   beside-good a b =
       record {
         size = let z = g.size in let s = (store-count (lone i) t v).size in omega arith;
@@ -235,8 +235,8 @@ sets-kept a b c w =
       externals = ap (map atom_of) a ∙ w.externals;
       table = ap (map lent_of) b ∙ w.table;
       pass = c.pass_kept ∙ w.pass;
-      own = c.own-kept ∙ w.own;
-      require = c.require-kept ∙ w.require;
+      own = c.own_kept ∙ w.own;
+      require = c.require_kept ∙ w.require;
     }
 
 module _ {x : Env} {t t' : List ℕ} {s : State} (w : Shows x t s) where
@@ -244,32 +244,32 @@ module _ {x : Env} {t t' : List ℕ} {s : State} (w : Shows x t s) where
   shows-imported o e =
       record {
         imported = e;
-        usages = ap (map usage_of) (o.rows-kept uses refl) ∙ w.usages;
-        collected = ap (map (brief_of x)) (o.rows-kept records refl) ∙ w.collected;
-        holders = λ n h. ap (least_of n) (o.rows-kept namespaces refl) ∙ w.holders n h;
-        met = ap length (o.rows-kept namespaces refl) ∙ w.met;
-        lazy = ap (map (lazy_of x)) (o.rows-kept lazies refl) ∙ w.lazy;
-        forced = ap (map atom_of) (o.rows-kept forces refl) ∙ w.forced;
-        top = o.cells-kept.top_kept ∙ w.top;
-        modules = ap (map module_of) (o.rows-kept modules refl) ∙ w.modules;
+        usages = ap (map usage_of) (o.rows_kept uses refl) ∙ w.usages;
+        collected = ap (map (brief_of x)) (o.rows_kept records refl) ∙ w.collected;
+        holders = λ n h. ap (least_of n) (o.rows_kept namespaces refl) ∙ w.holders n h;
+        met = ap length (o.rows_kept namespaces refl) ∙ w.met;
+        lazy = ap (map (lazy_of x)) (o.rows_kept lazies refl) ∙ w.lazy;
+        forced = ap (map atom_of) (o.rows_kept forces refl) ∙ w.forced;
+        top = o.cells_kept.top_kept ∙ w.top;
+        modules = ap (map module_of) (o.rows_kept modules refl) ∙ w.modules;
         sourced = record { once = w.sourced.once; from = w.sourced.from };
-        sets = sets-kept (o.rows-kept externals refl) (o.rows-kept table refl) o.cells-kept w.sets;
+        sets = sets-kept (o.rows_kept externals refl) (o.rows_kept table refl) o.cells_kept w.sets;
       }
 
   pub shows-usages : {y : List Usage} → Others uses t t' → map usage_of (rows (table_of uses) t') ≡ y → Shows x t' (set_usages y s)
   shows-usages o e =
       record {
-        imported = ap (map imported_of) (o.rows-kept imports refl) ∙ w.imported;
+        imported = ap (map imported_of) (o.rows_kept imports refl) ∙ w.imported;
         usages = e;
-        collected = ap (map (brief_of x)) (o.rows-kept records refl) ∙ w.collected;
-        holders = λ n h. ap (least_of n) (o.rows-kept namespaces refl) ∙ w.holders n h;
-        met = ap length (o.rows-kept namespaces refl) ∙ w.met;
-        lazy = ap (map (lazy_of x)) (o.rows-kept lazies refl) ∙ w.lazy;
-        forced = ap (map atom_of) (o.rows-kept forces refl) ∙ w.forced;
-        top = o.cells-kept.top_kept ∙ w.top;
-        modules = ap (map module_of) (o.rows-kept modules refl) ∙ w.modules;
+        collected = ap (map (brief_of x)) (o.rows_kept records refl) ∙ w.collected;
+        holders = λ n h. ap (least_of n) (o.rows_kept namespaces refl) ∙ w.holders n h;
+        met = ap length (o.rows_kept namespaces refl) ∙ w.met;
+        lazy = ap (map (lazy_of x)) (o.rows_kept lazies refl) ∙ w.lazy;
+        forced = ap (map atom_of) (o.rows_kept forces refl) ∙ w.forced;
+        top = o.cells_kept.top_kept ∙ w.top;
+        modules = ap (map module_of) (o.rows_kept modules refl) ∙ w.modules;
         sourced = record { once = w.sourced.once; from = w.sourced.from };
-        sets = sets-kept (o.rows-kept externals refl) (o.rows-kept table refl) o.cells-kept w.sets;
+        sets = sets-kept (o.rows_kept externals refl) (o.rows_kept table refl) o.cells_kept w.sets;
       }
 
   pub shows-collected : {y : List Record} → Others records t t' → map (brief_of x) (rows (table_of records) t') ≡ map brief y →
@@ -277,70 +277,70 @@ module _ {x : Env} {t t' : List ℕ} {s : State} (w : Shows x t s) where
       ((a : List ℕ) → among a (sources_in s.collected) ≡ true → among a (sources_in y) ≡ true) → Shows x t' (set_collected y s)
   shows-collected o e f n h =
       record {
-        imported = ap (map imported_of) (o.rows-kept imports refl) ∙ w.imported;
-        usages = ap (map usage_of) (o.rows-kept uses refl) ∙ w.usages;
+        imported = ap (map imported_of) (o.rows_kept imports refl) ∙ w.imported;
+        usages = ap (map usage_of) (o.rows_kept uses refl) ∙ w.usages;
         collected = e;
-        holders = λ i h. ap (least_of i) (o.rows-kept namespaces refl) ∙ w.holders i h ∙ sym (f i);
-        met = ap length (o.rows-kept namespaces refl) ∙ w.met ∙ sym n;
-        lazy = ap (map (lazy_of x)) (o.rows-kept lazies refl) ∙ w.lazy;
-        forced = ap (map atom_of) (o.rows-kept forces refl) ∙ w.forced;
-        top = o.cells-kept.top_kept ∙ w.top;
-        modules = ap (map module_of) (o.rows-kept modules refl) ∙ w.modules;
+        holders = λ i h. ap (least_of i) (o.rows_kept namespaces refl) ∙ w.holders i h ∙ sym (f i);
+        met = ap length (o.rows_kept namespaces refl) ∙ w.met ∙ sym n;
+        lazy = ap (map (lazy_of x)) (o.rows_kept lazies refl) ∙ w.lazy;
+        forced = ap (map atom_of) (o.rows_kept forces refl) ∙ w.forced;
+        top = o.cells_kept.top_kept ∙ w.top;
+        modules = ap (map module_of) (o.rows_kept modules refl) ∙ w.modules;
         sourced = record { once = w.sourced.once; from = λ a k. h a (w.sourced.from a k) };
-        sets = sets-kept (o.rows-kept externals refl) (o.rows-kept table refl) o.cells-kept w.sets;
+        sets = sets-kept (o.rows_kept externals refl) (o.rows_kept table refl) o.cells_kept w.sets;
       }
 
   pub shows-forced : {y : List (List ℕ)} → Others forces t t' → map atom_of (rows (table_of forces) t') ≡ y → Sourced (set_forced y s) → Shows x t' (set_forced y s)
   shows-forced o e h =
       record {
-        imported = ap (map imported_of) (o.rows-kept imports refl) ∙ w.imported;
-        usages = ap (map usage_of) (o.rows-kept uses refl) ∙ w.usages;
-        collected = ap (map (brief_of x)) (o.rows-kept records refl) ∙ w.collected;
-        holders = λ n h. ap (least_of n) (o.rows-kept namespaces refl) ∙ w.holders n h;
-        met = ap length (o.rows-kept namespaces refl) ∙ w.met;
-        lazy = ap (map (lazy_of x)) (o.rows-kept lazies refl) ∙ w.lazy;
+        imported = ap (map imported_of) (o.rows_kept imports refl) ∙ w.imported;
+        usages = ap (map usage_of) (o.rows_kept uses refl) ∙ w.usages;
+        collected = ap (map (brief_of x)) (o.rows_kept records refl) ∙ w.collected;
+        holders = λ n h. ap (least_of n) (o.rows_kept namespaces refl) ∙ w.holders n h;
+        met = ap length (o.rows_kept namespaces refl) ∙ w.met;
+        lazy = ap (map (lazy_of x)) (o.rows_kept lazies refl) ∙ w.lazy;
         forced = e;
-        top = o.cells-kept.top_kept ∙ w.top;
-        modules = ap (map module_of) (o.rows-kept modules refl) ∙ w.modules;
+        top = o.cells_kept.top_kept ∙ w.top;
+        modules = ap (map module_of) (o.rows_kept modules refl) ∙ w.modules;
         sourced = h;
-        sets = sets-kept (o.rows-kept externals refl) (o.rows-kept table refl) o.cells-kept w.sets;
+        sets = sets-kept (o.rows_kept externals refl) (o.rows_kept table refl) o.cells_kept w.sets;
       }
 
   pub shows-lazy : {y : List Record} → Others lazies t t' → map (lazy_of x) (rows (table_of lazies) t') ≡ y → Shows x t' (set_lazy y s)
   shows-lazy o e =
       record {
-        imported = ap (map imported_of) (o.rows-kept imports refl) ∙ w.imported;
-        usages = ap (map usage_of) (o.rows-kept uses refl) ∙ w.usages;
-        collected = ap (map (brief_of x)) (o.rows-kept records refl) ∙ w.collected;
-        holders = λ n h. ap (least_of n) (o.rows-kept namespaces refl) ∙ w.holders n h;
-        met = ap length (o.rows-kept namespaces refl) ∙ w.met;
+        imported = ap (map imported_of) (o.rows_kept imports refl) ∙ w.imported;
+        usages = ap (map usage_of) (o.rows_kept uses refl) ∙ w.usages;
+        collected = ap (map (brief_of x)) (o.rows_kept records refl) ∙ w.collected;
+        holders = λ n h. ap (least_of n) (o.rows_kept namespaces refl) ∙ w.holders n h;
+        met = ap length (o.rows_kept namespaces refl) ∙ w.met;
         lazy = e;
-        forced = ap (map atom_of) (o.rows-kept forces refl) ∙ w.forced;
-        top = o.cells-kept.top_kept ∙ w.top;
-        modules = ap (map module_of) (o.rows-kept modules refl) ∙ w.modules;
+        forced = ap (map atom_of) (o.rows_kept forces refl) ∙ w.forced;
+        top = o.cells_kept.top_kept ∙ w.top;
+        modules = ap (map module_of) (o.rows_kept modules refl) ∙ w.modules;
         sourced = record { once = w.sourced.once; from = w.sourced.from };
-        sets = sets-kept (o.rows-kept externals refl) (o.rows-kept table refl) o.cells-kept w.sets;
+        sets = sets-kept (o.rows_kept externals refl) (o.rows_kept table refl) o.cells_kept w.sets;
       }
 
   pub shows-modules : {y : Modules} → Others modules t t' → map module_of (rows (table_of modules) t') ≡ y → Shows x t' (set_modules y s)
   shows-modules o e =
       record {
-        imported = ap (map imported_of) (o.rows-kept imports refl) ∙ w.imported;
-        usages = ap (map usage_of) (o.rows-kept uses refl) ∙ w.usages;
-        collected = ap (map (brief_of x)) (o.rows-kept records refl) ∙ w.collected;
-        holders = λ n h. ap (least_of n) (o.rows-kept namespaces refl) ∙ w.holders n h;
-        met = ap length (o.rows-kept namespaces refl) ∙ w.met;
-        lazy = ap (map (lazy_of x)) (o.rows-kept lazies refl) ∙ w.lazy;
-        forced = ap (map atom_of) (o.rows-kept forces refl) ∙ w.forced;
-        top = o.cells-kept.top_kept ∙ w.top;
+        imported = ap (map imported_of) (o.rows_kept imports refl) ∙ w.imported;
+        usages = ap (map usage_of) (o.rows_kept uses refl) ∙ w.usages;
+        collected = ap (map (brief_of x)) (o.rows_kept records refl) ∙ w.collected;
+        holders = λ n h. ap (least_of n) (o.rows_kept namespaces refl) ∙ w.holders n h;
+        met = ap length (o.rows_kept namespaces refl) ∙ w.met;
+        lazy = ap (map (lazy_of x)) (o.rows_kept lazies refl) ∙ w.lazy;
+        forced = ap (map atom_of) (o.rows_kept forces refl) ∙ w.forced;
+        top = o.cells_kept.top_kept ∙ w.top;
         modules = e;
         sourced = record { once = w.sourced.once; from = w.sourced.from };
-        sets = sets-kept (o.rows-kept externals refl) (o.rows-kept table refl) o.cells-kept w.sets;
+        sets = sets-kept (o.rows_kept externals refl) (o.rows_kept table refl) o.cells_kept w.sets;
       }
 
   -- with other settings: the tables of the state are kept
   pub shows-set : (f : Setting → Setting) → ((m : Kind) → one? externals m ≡ false → one? table m ≡ false → rows (table_of m) t' ≡ rows (table_of m) t) →
-      get_or t' top-cell 0 ≡ get_or t top-cell 0 → Sets (f x.setting) t' → Shows (with_setting f x) t' s
+      get_or t' top_cell 0 ≡ get_or t top_cell 0 → Sets (f x.setting) t' → Shows (with_setting f x) t' s
   unfolding brief_of
   shows-set f o c e =
       record {
@@ -357,7 +357,7 @@ module _ {x : Env} {t t' : List ℕ} {s : State} (w : Shows x t s) where
         sets = e;
       }
 
-  pub shows-top : {b : Bool} → ((m : Kind) → rows (table_of m) t' ≡ rows (table_of m) t) → get_or t' top-cell 0 ≡ flag b → Sets x.setting t' → Shows x t' (set_top b s)
+  pub shows-top : {b : Bool} → ((m : Kind) → rows (table_of m) t' ≡ rows (table_of m) t) → get_or t' top_cell 0 ≡ flag b → Sets x.setting t' → Shows x t' (set_top b s)
   shows-top o c e =
       record {
         imported = ap (map imported_of) (o imports) ∙ w.imported;

@@ -10,7 +10,7 @@ use lib.Dec.{leb, eqb}
 use lib.ListN.{length, length-map, get_or, set}
 use lib.Seq.{get_or-set_same, get_or-set_other}
 use borrow.Author.Tests.{leb-true, lt-leb, eqb-true, eqb-false, eq-eqb, ne_eqb}
-use Rattle.tree.proofs.Table.{both_true}
+use Rattle.tree.proofs.Table.{both-true}
 use Rattle.scope.proofs.Laws.{none-some}
 use Rattle.tables.specs.Rows.{Row, rows_from, next, between, flip, first_in, NoneBefore, least_of, lesser, without, without_row, with_value}
 use Rattle.tables.proofs.RowLaws.{get_d_map}
@@ -37,47 +37,47 @@ next-none nothing e = refl
 next-none (some n) e = none-some (sym e)
 
 -- where nothing is found, neither is it in the first row nor behind it
-none_first : (k : ℕ) (r : Row) (l : List Row) → first_in k k (r ∷ l) ≡ nothing → r.0 ≡ k → ⊥
-none_first k r l e h = none-some (sym e ∙ first-here k r l h)
+none-first : (k : ℕ) (r : Row) (l : List Row) → first_in k k (r ∷ l) ≡ nothing → r.0 ≡ k → ⊥
+none-first k r l e h = none-some (sym e ∙ first-here k r l h)
 
-none_rest : (k : ℕ) (r : Row) (l : List Row) → first_in k k (r ∷ l) ≡ nothing → first_in k k l ≡ nothing
-none_rest k r l e = next-none (first_in k k l) (sym (first-other k r l (none_first k r l e)) ∙ e)
+none-rest : (k : ℕ) (r : Row) (l : List Row) → first_in k k (r ∷ l) ≡ nothing → first_in k k l ≡ nothing
+none-rest k r l e = next-none (first_in k k l) (sym (first-other k r l (none-first k r l e)) ∙ e)
 
-none_more : (k : ℕ) (r : Row) (l : List Row) → (r.0 ≡ k → ⊥) → first_in k k l ≡ nothing → first_in k k (r ∷ l) ≡ nothing
-none_more k r l h e = first-other k r l h ∙ ap next e
+none-more : (k : ℕ) (r : Row) (l : List Row) → (r.0 ≡ k → ⊥) → first_in k k l ≡ nothing → first_in k k (r ∷ l) ≡ nothing
+none-more k r l h e = first-other k r l h ∙ ap next e
 
 none-append : (k : ℕ) (l : List Row) (r : Row) → first_in k k l ≡ nothing → (r.0 ≡ k → ⊥) → first_in k k (l ++ (r ∷ [])) ≡ nothing
 unfolding first_in
-none-append k [] r e h = none_more k r [] h refl
-none-append k (q ∷ l) r e h = none_more k q (l ++ (r ∷ [])) (none_first k q l e) (none-append k l r (none_rest k q l e) h)
+none-append k [] r e h = none-more k r [] h refl
+none-append k (q ∷ l) r e h = none-more k q (l ++ (r ∷ [])) (none-first k q l e) (none-append k l r (none-rest k q l e) h)
 
 none-value : (k i x : ℕ) (l : List Row) → first_in k k l ≡ nothing → first_in k k (with_value i x l) ≡ nothing
 unfolding with_value
 none-value k i x [] e = e
-none-value k zero x (r ∷ l) e = none_more k (r.0, x) l (none_first k r l e) (none_rest k r l e)
-none-value k (suc i) x (r ∷ l) e = none_more k r (with_value i x l) (none_first k r l e) (none-value k i x l (none_rest k r l e))
+none-value k zero x (r ∷ l) e = none-more k (r.0, x) l (none-first k r l e) (none-rest k r l e)
+none-value k (suc i) x (r ∷ l) e = none-more k r (with_value i x l) (none-first k r l e) (none-value k i x l (none-rest k r l e))
 
 none-without : (k a : ℕ) (l : List Row) → first_in k k l ≡ nothing → first_in k k (without a l) ≡ nothing
 unfolding without
 none-without k a [] e = e
-none-without k a (r ∷ l) e = by (eqb r.0 a) (none-without k a l (none_rest k r l e))
+none-without k a (r ∷ l) e = by (eqb r.0 a) (none-without k a l (none-rest k r l e))
   where
     by : (b : Bool) → first_in k k (without a l) ≡ nothing → first_in k k (cond b (without a l) (r ∷ without a l)) ≡ nothing
     by true f = f
-    by false f = none_more k r (without a l) (none_first k r l e) f
+    by false f = none-more k r (without a l) (none-first k r l e) f
 
 -- a key that is not there has no least value, and its rows need not be taken out
 pub none-least : (k : ℕ) (l : List Row) → first_in k k l ≡ nothing → least_of k l ≡ nothing
 unfolding least_of
 none-least k [] e = refl
 none-least k (r ∷ l) e =
-    ap (λ (b : Bool). cond b (lesser r.1 (least_of k l)) (least_of k l)) (ne_eqb r.0 k (none_first k r l e)) ∙ none-least k l (none_rest k r l e)
+    ap (λ (b : Bool). cond b (lesser r.1 (least_of k l)) (least_of k l)) (ne_eqb r.0 k (none-first k r l e)) ∙ none-least k l (none-rest k r l e)
 
-pub none_out : (k : ℕ) (l : List Row) → first_in k k l ≡ nothing → without k l ≡ l
+pub none-out : (k : ℕ) (l : List Row) → first_in k k l ≡ nothing → without k l ≡ l
 unfolding without
-none_out k [] e = refl
-none_out k (r ∷ l) e =
-    ap (λ (b : Bool). cond b (without k l) (r ∷ without k l)) (ne_eqb r.0 k (none_first k r l e)) ∙ ap (λ (m : List Row). r ∷ m) (none_out k l (none_rest k r l e))
+none-out k [] e = refl
+none-out k (r ∷ l) e =
+    ap (λ (b : Bool). cond b (without k l) (r ∷ without k l)) (ne_eqb r.0 k (none-first k r l e)) ∙ ap (λ (m : List Row). r ∷ m) (none-out k l (none-rest k r l e))
 
 -- ---- A row that a hint names
 
@@ -89,18 +89,18 @@ next-some : (o : Option ℕ) (i : ℕ) → next o ≡ some (suc i) → o ≡ som
 next-some nothing i e = none-some e
 next-some (some n) i e = ap some (let z : suc n ≡ suc i = cc in omega arith)
 
-some_next : (o : Option ℕ) → is_some (next o) ≡ is_some o
-some_next nothing = refl
-some_next (some n) = refl
+some-next : (o : Option ℕ) → is_some (next o) ≡ is_some o
+some-next nothing = refl
+some-next (some n) = refl
 
-pub some_at : (k : ℕ) (l : List Row) (i : ℕ) → i < length l → (row_of l i).0 ≡ k → is_some (first_in k k l) ≡ true
-some_at k [] i h e = absurd (omega arith)
-some_at k (r ∷ l) zero h e = ap (λ (o : Option ℕ). is_some o) (first-here k r l e)
-some_at k (r ∷ l) (suc i) h e = by (eqb r.0 k) refl (some_at k l i (omega arith) e)
+pub some-at : (k : ℕ) (l : List Row) (i : ℕ) → i < length l → (row_of l i).0 ≡ k → is_some (first_in k k l) ≡ true
+some-at k [] i h e = absurd (omega arith)
+some-at k (r ∷ l) zero h e = ap (λ (o : Option ℕ). is_some o) (first-here k r l e)
+some-at k (r ∷ l) (suc i) h e = by (eqb r.0 k) refl (some-at k l i (omega arith) e)
   where
     by : (b : Bool) → eqb r.0 k ≡ b → is_some (first_in k k l) ≡ true → is_some (first_in k k (r ∷ l)) ≡ true
     by true p f = ap (λ (o : Option ℕ). is_some o) (first-here k r l (eqb-true r.0 k p))
-    by false p f = ap (λ (o : Option ℕ). is_some o) (first-other k r l (eqb-false r.0 k p)) ∙ some_next (first_in k k l) ∙ f
+    by false p f = ap (λ (o : Option ℕ). is_some o) (first-other k r l (eqb-false r.0 k p)) ∙ some-next (first_in k k l) ∙ f
 
 -- keys stand once: a row with the key is the first
 pub distinct-at : (k : ℕ) (l : List Row) (i : ℕ) → Distinct l → i < length l → (row_of l i).0 ≡ k → first_in k k l ≡ some i
@@ -111,11 +111,11 @@ distinct-at k (r ∷ l) (suc i) d h e =
     first-other k r l (λ z. none-some (sym d.0 ∙ distinct-at r.0 l i d.1 (omega arith) (e ∙ sym z)))
     ∙ ap next (distinct-at k l i d.1 (omega arith) e)
 
-pub distinct_append : (l : List Row) (r : Row) → Distinct l → first_in r.0 r.0 l ≡ nothing → Distinct (l ++ (r ∷ []))
+pub distinct-append : (l : List Row) (r : Row) → Distinct l → first_in r.0 r.0 l ≡ nothing → Distinct (l ++ (r ∷ []))
 unfolding Distinct first_in
-distinct_append [] r d e = (refl, tt)
-distinct_append (q ∷ l) r d e =
-    (none-append q.0 l r d.0 (λ z. none_first r.0 q l e (sym z)), distinct_append l r d.1 (none_rest r.0 q l e))
+distinct-append [] r d e = (refl, tt)
+distinct-append (q ∷ l) r d e =
+    (none-append q.0 l r d.0 (λ z. none-first r.0 q l e (sym z)), distinct-append l r d.1 (none-rest r.0 q l e))
 
 pub distinct-value : (l : List Row) (i x : ℕ) → Distinct l → Distinct (with_value i x l)
 unfolding Distinct with_value
@@ -123,25 +123,25 @@ distinct-value [] i x d = tt
 distinct-value (r ∷ l) zero x d = d
 distinct-value (r ∷ l) (suc i) x d = (none-value r.0 i x l d.0, distinct-value l i x d.1)
 
-pub distinct_without : (k : ℕ) (l : List Row) → Distinct l → Distinct (without k l)
+pub distinct-without : (k : ℕ) (l : List Row) → Distinct l → Distinct (without k l)
 unfolding Distinct without
-distinct_without k [] d = tt
-distinct_without k (r ∷ l) d = by (eqb r.0 k) (distinct_without k l d.1)
+distinct-without k [] d = tt
+distinct-without k (r ∷ l) d = by (eqb r.0 k) (distinct-without k l d.1)
   where
     by : (b : Bool) → Distinct (without k l) → Distinct (cond b (without k l) (r ∷ without k l))
     by true f = f
     by false f = (none-without r.0 k l d.0, f)
 
 -- keys stand once: taking out the row that the search gives takes out all of the key
-pub row_out : (k : ℕ) (l : List Row) (i : ℕ) → Distinct l → first_in k k l ≡ some i → without_row i l ≡ without k l
+pub row-out : (k : ℕ) (l : List Row) (i : ℕ) → Distinct l → first_in k k l ≡ some i → without_row i l ≡ without k l
 unfolding Distinct without without_row
-row_out k [] i d e = refl
-row_out k (r ∷ l) zero d e = by (eqb r.0 k) refl
+row-out k [] i d e = refl
+row-out k (r ∷ l) zero d e = by (eqb r.0 k) refl
   where
     by : (b : Bool) → eqb r.0 k ≡ b → l ≡ cond b (without k l) (r ∷ without k l)
-    by true p = sym (none_out k l (subst (λ (x : ℕ). first_in x x l ≡ nothing) (eqb-true r.0 k p) d.0))
+    by true p = sym (none-out k l (subst (λ (x : ℕ). first_in x x l ≡ nothing) (eqb-true r.0 k p) d.0))
     by false p = not-next (first_in k k l) (sym (first-other k r l (eqb-false r.0 k p)) ∙ e)
-row_out k (r ∷ l) (suc i) d e = by (eqb r.0 k) refl (row_out k l i d.1)
+row-out k (r ∷ l) (suc i) d e = by (eqb r.0 k) refl (row-out k l i d.1)
   where
     by : (b : Bool) → eqb r.0 k ≡ b → (first_in k k l ≡ some i → without_row i l ≡ without k l) → r ∷ without_row i l ≡ cond b (without k l) (r ∷ without k l)
     by true p h = absurd (let z : zero ≡ suc i = cc (sym (first-here k r l (eqb-true r.0 k p)) ∙ e) in omega arith)
@@ -171,11 +171,11 @@ module _ (p : ℕ → ℕ) (t : List ℕ) where
       by false f = (c.0, f)
 
   -- a hint of 0: the key is not there
-  pub covered_none : (k : ℕ) (l : List Row) → Covered p t l → p (hint_at t k) ≡ 0 → first_in k k l ≡ nothing
+  pub covered-none : (k : ℕ) (l : List Row) → Covered p t l → p (hint_at t k) ≡ 0 → first_in k k l ≡ nothing
   unfolding Covered first_in
-  covered_none k [] c e = refl
-  covered_none k (r ∷ l) c e =
-      none_more k r l (λ z. let h = c.0 in let f : p (hint_at t r.0) ≡ 0 = ap (λ (n : ℕ). p (hint_at t n)) z ∙ e in omega arith) (covered_none k l c.1 e)
+  covered-none k [] c e = refl
+  covered-none k (r ∷ l) c e =
+      none-more k r l (λ z. let h = c.0 in let f : p (hint_at t r.0) ≡ 0 = ap (λ (n : ℕ). p (hint_at t n)) z ∙ e in omega arith) (covered-none k l c.1 e)
 
 -- ---- Records with hints
 
@@ -185,12 +185,12 @@ unfolding Named
 named-append i t [] r n e h = (λ m f. absurd (omega arith), omega arith, tt)
 named-append i t (q ∷ l) r n e h = (n.0, n.1, named-append (suc i) t l r n.2 e (omega arith))
 
-pub named_value : (j i : ℕ) (t : List ℕ) (l : List Row) (k : ℕ) → Named j t l → 256 ≤ j + i + named_in (cell_at t (name_cell k)) → Named j t (with_value i (k + 1) l)
+pub named-value : (j i : ℕ) (t : List ℕ) (l : List Row) (k : ℕ) → Named j t l → 256 ≤ j + i + named_in (cell_at t (name_cell k)) → Named j t (with_value i (k + 1) l)
 unfolding Named with_value
-named_value j i t [] k n h = tt
-named_value j zero t (r ∷ l) k n h =
+named-value j i t [] k n h = tt
+named-value j zero t (r ∷ l) k n h =
     (λ m e. let z : k ≡ m = omega arith in let f = ap (λ (x : ℕ). named_in (cell_at t (name_cell x))) z in omega arith, n.1, n.2)
-named_value j (suc i) t (r ∷ l) k n h = (n.0, n.1, named_value (suc j) i t l k n.2 (omega arith))
+named-value j (suc i) t (r ∷ l) k n h = (n.0, n.1, named-value (suc j) i t l k n.2 (omega arith))
 
 pub named-at : (j : ℕ) (t : List ℕ) (l : List Row) (i n : ℕ) → Named j t l → i < length l → (row_of l i).1 ≡ suc n → 256 ≤ j + i + named_in (cell_at t (name_cell n))
 unfolding Named
@@ -245,10 +245,10 @@ module _ (n : ℕ) (p : ℕ → ℕ) where
       )
 
 -- no first namespace before a place is from lo to hi, where those are of one name
-pub none_from : (lo hi id from : ℕ) (l : List Row) →
+pub none-from : (lo hi id from : ℕ) (l : List Row) →
     ((i n : ℕ) → i < from → i < length l → (row_of l i).1 ≡ suc n → n / 4294967296 ≡ id / 4294967296 → ⊥) →
     0 < lo → ((n : ℕ) → lo ≤ suc n → suc n ≤ hi → n / 4294967296 ≡ id / 4294967296) → NoneBefore from lo hi (map flip l)
-none_from lo hi id from l none z name =
+none-from lo hi id from l none z name =
     record {
       passed = λ i p q. let m = length-map l flip in ap (λ (r : Row). between lo hi r.0) (get_d_map flip l i (0, 0)) ∙ by i p (omega arith) (row_of l i).1 refl;
     }
@@ -258,7 +258,7 @@ none_from lo hi id from l none z name =
     by i p q (suc n) e = test (between lo hi (suc n)) refl
       where
         test : (b : Bool) → between lo hi (suc n) ≡ b → b ≡ false
-        test true f = let h = both_true _ _ f in absurd (none i n p q e (name n (leb-true lo (suc n) h.0) (leb-true (suc n) hi h.1)))
+        test true f = let h = both-true _ _ f in absurd (none i n p q e (name n (leb-true lo (suc n) h.0) (leb-true (suc n) hi h.1)))
         test false f = refl
 
 -- ---- Arrays with other hints
@@ -272,8 +272,8 @@ named-agree : (t t' : List ℕ) → ((h : ℕ) → h < 2003 → Grows (cell_at t
 unfolding Named
 named-agree t t' h i [] n = tt
 named-agree t t' h i (r ∷ l) n = (
-  λ m e. let a = n.0 m e in let b = (h (name_cell m) (omega arith)).named-kept in omega arith,
-  let a = n.1 in let b = (h (name_cell r.0) (omega arith)).source-kept in omega arith,
+  λ m e. let a = n.0 m e in let b = (h (name_cell m) (omega arith)).named_kept in omega arith,
+  let a = n.1 in let b = (h (name_cell r.0) (omega arith)).source_kept in omega arith,
   named-agree t t' h (suc i) l n.2,
 )
 
@@ -288,10 +288,10 @@ pub record Agrees (t t' : List ℕ) : Type 0 where
   pub reaching : (h : ℕ) → h < 1280 → row_hint t h ≤ row_hint t' h
 
 pub hinted-agree : (t t' : List ℕ) → Agrees t t' → (k : Kind) (l : List Row) → Hinted k t l → Hinted k t' l
-hinted-agree t t' a imports l h = (covered-agree import_hint t t' (λ n. ((a.grown (n % 2003) (omega arith)).hints-kept n).import-kept) l h.0, h.1)
-hinted-agree t t' a uses l h = covered-agree use_hint t t' (λ n. ((a.grown (n % 2003) (omega arith)).hints-kept n).use_kept) l h
+hinted-agree t t' a imports l h = (covered-agree import_hint t t' (λ n. ((a.grown (n % 2003) (omega arith)).hints_kept n).import_kept) l h.0, h.1)
+hinted-agree t t' a uses l h = covered-agree use_hint t t' (λ n. ((a.grown (n % 2003) (omega arith)).hints_kept n).use_kept) l h
 hinted-agree t t' a records l h = named-agree t t' a.grown 0 l h
-hinted-agree t t' a namespaces l h = covered-agree namespace_hint t t' (λ n. ((a.grown (n % 2003) (omega arith)).hints-kept n).namespace-kept) l h
+hinted-agree t t' a namespaces l h = covered-agree namespace_hint t t' (λ n. ((a.grown (n % 2003) (omega arith)).hints_kept n).namespace_kept) l h
 hinted-agree t t' a lazies l h = tt
 hinted-agree t t' a forces l h = tt
 hinted-agree t t' a modules l h =
@@ -300,31 +300,31 @@ hinted-agree t t' a externals l h = tt
 hinted-agree t t' a table l h =
     reached-agree 1024 (λ k. row_hint t (k % 1024)) (λ k. row_hint t' (k % 1024)) (λ k. a.reaching (k % 1024) (omega arith)) 0 l h
 
-keeps_same : {v w : ℕ} → w ≡ v → Keeps v w
-keeps_same e =
+keeps-same : {v w : ℕ} → w ≡ v → Keeps v w
+keeps-same e =
     record {
-      import-kept = subst (λ (x : ℕ). 0 < import_hint x) (sym e);
-      namespace-kept = subst (λ (x : ℕ). 0 < namespace_hint x) (sym e);
+      import_kept = subst (λ (x : ℕ). 0 < import_hint x) (sym e);
+      namespace_kept = subst (λ (x : ℕ). 0 < namespace_hint x) (sym e);
       use_kept = subst (λ (x : ℕ). 0 < use_hint x) (sym e);
     }
 
 -- a hint of 0 names nothing
 keeps-none : (w : ℕ) → Keeps 0 w
-keeps-none w = record { import-kept = λ h. absurd (omega arith); namespace-kept = λ h. absurd (omega arith); use_kept = λ h. absurd (omega arith) }
+keeps-none w = record { import_kept = λ h. absurd (omega arith); namespace_kept = λ h. absurd (omega arith); use_kept = λ h. absurd (omega arith) }
 
 -- a cell with the same hint and tag
-pub grows_same : {v w : ℕ} → w / 2199023255552 ≡ v / 2199023255552 → w % 8388608 ≡ v % 8388608 → named_in v ≤ named_in w → source_in v ≤ source_in w → Grows v w
+pub grows-same : {v w : ℕ} → w / 2199023255552 ≡ v / 2199023255552 → w % 8388608 ≡ v % 8388608 → named_in v ≤ named_in w → source_in v ≤ source_in w → Grows v w
 unfolding hint_in
-grows_same e f p q =
+grows-same e f p q =
     record {
-      hints-kept = λ n. keeps_same (ap₂ (λ (x y : ℕ). cond (eqb x 0 || eqb x (tag_of n)) y 0) e f);
-      named-kept = p;
-      source-kept = q;
+      hints_kept = λ n. keeps-same (ap₂ (λ (x y : ℕ). cond (eqb x 0 || eqb x (tag_of n)) y 0) e f);
+      named_kept = p;
+      source_kept = q;
     }
 
 pub grows-stays : {v w : ℕ} → w ≡ v → Grows v w
 grows-stays {v} {w} e =
-    grows_same (ap (λ (x : ℕ). x / 2199023255552) e) (ap (λ (x : ℕ). x % 8388608) e) (let f = ap named_in e in omega arith) (let f = ap source_in e in omega arith)
+    grows-same (ap (λ (x : ℕ). x / 2199023255552) e) (ap (λ (x : ℕ). x % 8388608) e) (let f = ap named_in e in omega arith) (let f = ap source_in e in omega arith)
 
 -- a cell that is no hint is stored
 pub agrees-set : (t : List ℕ) (i v : ℕ) → ((h : ℕ) → h < 2003 → 15994 + h ≡ i → ⊥) → ((h : ℕ) → h < 1280 → 21074 + h ≡ i → ⊥) → Agrees t (set t i v)
@@ -362,9 +362,9 @@ module _ (v tag hint : ℕ) (h : hint < 8388608) where
   entered-source : source_in (entered v tag hint) ≡ source_in v
   entered-source = omega arith
 
-either_true : (a b : Bool) → a ≡ true → (a || b) ≡ true
-either_true true b e = refl
-either_true false b e = absurd (let z : ◌≡◌ {A = ℕ} 0 1 = cc in omega arith)
+either-true : (a b : Bool) → a ≡ true → (a || b) ≡ true
+either-true true b e = refl
+either-true false b e = absurd (let z : ◌≡◌ {A = ℕ} 0 1 = cc in omega arith)
 
 or-second : (a b : Bool) → b ≡ true → (a || b) ≡ true
 or-second true b e = refl
@@ -393,24 +393,24 @@ module _ (v id hint : ℕ) (h : hint < 8388608) (k : Keeps (v % 8388608) hint) w
   keeps-fresh tag n e =
       subst (λ (x : ℕ). Keeps x (hint_in (new tag) n)) (sym (ap (λ (x : ℕ). cond (tagged v n) x 0) e ∙ cond-none (tagged v n))) (keeps-none (hint_in (new tag) n))
 
-  tag_open : (n : ℕ) → tagged (new 0) n ≡ true
-  tag_open n = either_true (eqb (new 0 / 2199023255552) 0) (eqb (new 0 / 2199023255552) (tag_of n)) (eq-eqb (new 0 / 2199023255552) 0 (entered-tag v 0 hint h))
+  tag-open : (n : ℕ) → tagged (new 0) n ≡ true
+  tag-open n = either-true (eqb (new 0 / 2199023255552) 0) (eqb (new 0 / 2199023255552) (tag_of n)) (eq-eqb (new 0 / 2199023255552) 0 (entered-tag v 0 hint h))
 
-  tag_stays : (n : ℕ) → v / 2199023255552 ≡ tag_of id → tagged v n ≡ true → tagged (new (tag_of id)) n ≡ true
-  tag_stays n e f = ap (λ (x : ℕ). eqb x 0 || eqb x (tag_of n)) (entered-tag v (tag_of id) hint h ∙ sym e) ∙ f
+  tag-stays : (n : ℕ) → v / 2199023255552 ≡ tag_of id → tagged v n ≡ true → tagged (new (tag_of id)) n ≡ true
+  tag-stays n e f = ap (λ (x : ℕ). eqb x 0 || eqb x (tag_of n)) (entered-tag v (tag_of id) hint h ∙ sym e) ∙ f
 
   keeps-tagged : (x y : Bool) → eqb (v % 8388608) 0 ≡ x → eqb (v / 2199023255552) (tag_of id) ≡ y → (n : ℕ) →
       Keeps (hint_in v n) (hint_in (new (cond x (tag_of id) (cond y (tag_of id) 0))) n)
   keeps-tagged true y p q n = keeps-fresh (tag_of id) n (eqb-true (v % 8388608) 0 p)
-  keeps-tagged false true p q n = keeps-entered (tag_of id) n (tag_stays n (eqb-true (v / 2199023255552) (tag_of id) q))
-  keeps-tagged false false p q n = keeps-entered 0 n (λ f. tag_open n)
+  keeps-tagged false true p q n = keeps-entered (tag_of id) n (tag-stays n (eqb-true (v / 2199023255552) (tag_of id) q))
+  keeps-tagged false false p q n = keeps-entered 0 n (λ f. tag-open n)
 
   grows-entered : Grows v (new (tag_for v id))
   grows-entered =
       record {
-        hints-kept = keeps-tagged (eqb (v % 8388608) 0) (eqb (v / 2199023255552) (tag_of id)) refl refl;
-        named-kept = let e = entered-named v (tag_for v id) hint h in omega arith;
-        source-kept = let e = entered-source v (tag_for v id) hint h in omega arith;
+        hints_kept = keeps-tagged (eqb (v % 8388608) 0) (eqb (v / 2199023255552) (tag_of id)) refl refl;
+        named_kept = let e = entered-named v (tag_for v id) hint h in omega arith;
+        source_kept = let e = entered-source v (tag_for v id) hint h in omega arith;
       }
 
   -- the id itself has the hint
@@ -420,7 +420,7 @@ module _ (v id hint : ℕ) (h : hint < 8388608) (k : Keeps (v % 8388608) hint) w
   hint-by : (x y : Bool) → tagged (new (cond x (tag_of id) (cond y (tag_of id) 0))) id ≡ true
   hint-by true y = own-tag
   hint-by false true = own-tag
-  hint-by false false = tag_open id
+  hint-by false false = tag-open id
 
   hint-entered : hint_in (new (tag_for v id)) id ≡ hint
   unfolding hint_in
@@ -436,7 +436,7 @@ module _ (v c n : ℕ) (e : v ≡ c) where
   hint-by-tag b f = ap (λ (x : Bool). cond x (v % 8388608) 0) (sym f) ∙ ap (λ (x : ℕ). cond (tagged x n) (x % 8388608) 0) e
 
   pub hint-open : v / 2199023255552 ≡ 0 → v % 8388608 ≡ hint_in c n
-  hint-open f = hint-by-tag true (either_true (eqb (v / 2199023255552) 0) (eqb (v / 2199023255552) (tag_of n)) (eq-eqb (v / 2199023255552) 0 f))
+  hint-open f = hint-by-tag true (either-true (eqb (v / 2199023255552) 0) (eqb (v / 2199023255552) (tag_of n)) (eq-eqb (v / 2199023255552) 0 f))
 
   pub hint-own : v / 2199023255552 ≡ tag_of n → v % 8388608 ≡ hint_in c n
   hint-own f = hint-by-tag true (or-second (eqb (v / 2199023255552) 0) (eqb (v / 2199023255552) (tag_of n)) (eq-eqb (v / 2199023255552) (tag_of n) f))
@@ -460,13 +460,13 @@ module _ (v n : ℕ) where
 
 -- an id enters its cell
 module _ (v c id tag hint : ℕ) (e : v ≡ c) (f : tag ≡ tag_for v id) (h : hint < 8388608) (k : Keeps (c % 8388608) hint) where
-  keeps_here : Keeps (v % 8388608) hint
-  keeps_here = subst (λ (x : ℕ). Keeps (x % 8388608) hint) (sym e) k
+  keeps-here : Keeps (v % 8388608) hint
+  keeps-here = subst (λ (x : ℕ). Keeps (x % 8388608) hint) (sym e) k
 
   pub cell-grows : Grows c (tag * 2199023255552 + v / 8388608 % 262144 * 8388608 + hint)
   cell-grows =
       subst (λ (x : ℕ). Grows x (tag * 2199023255552 + v / 8388608 % 262144 * 8388608 + hint)) e
-      (subst (λ (x : ℕ). Grows v (x * 2199023255552 + v / 8388608 % 262144 * 8388608 + hint)) (sym f) (grows-entered v id hint h keeps_here))
+      (subst (λ (x : ℕ). Grows v (x * 2199023255552 + v / 8388608 % 262144 * 8388608 + hint)) (sym f) (grows-entered v id hint h keeps-here))
 
   pub cell-hint : hint_in (tag * 2199023255552 + v / 8388608 % 262144 * 8388608 + hint) id ≡ hint
-  cell-hint = ap (λ (x : ℕ). hint_in (x * 2199023255552 + v / 8388608 % 262144 * 8388608 + hint) id) f ∙ hint-entered v id hint h keeps_here
+  cell-hint = ap (λ (x : ℕ). hint_in (x * 2199023255552 + v / 8388608 % 262144 * 8388608 + hint) id) f ∙ hint-entered v id hint h keeps-here

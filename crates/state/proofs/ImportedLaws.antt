@@ -15,12 +15,12 @@ use Rattle.inputs.specs.Lists.{mapped}
 use Rattle.inputs.specs.Outcome.{done, refused}
 use Rattle.extraction_rules.specs.State.{Imported, State, room_for, set_imported}
 use Rattle.extraction_rules.specs.First.{imported_as, note_in, note_id}
-use Rattle.state.specs.Cells.{Env, id-limit, imports, table_of, Below, import_hint, Good, Shows, id_of, imported_of}
+use Rattle.state.specs.Cells.{Env, id_limit, imports, table_of, Below, import_hint, Good, Shows, id_of, imported_of}
 use Rattle.state.specs.Does.{Others, Changes, Tells, Did, Anyhow, Acts}
 use Rattle.state.specs.declared.Room.{Room}
 use Rattle.state.specs.declared.Room.TheVariants.{Made, Full}
-use Rattle.state.proofs.IdLaws.{same_id, same_key, between-one}
-use Rattle.state.proofs.ListLaws.{below-value, length-value, length_more, row_of, find-row}
+use Rattle.state.proofs.IdLaws.{same-id, same-key, between-one}
+use Rattle.state.proofs.ListLaws.{below-value, length-value, length-more, row_of, find-row}
 use Rattle.state.proofs.HintLaws.{covered-value, distinct-value}
 use Rattle.state.proofs.FrameLaws.{room-for, changed, shows-imported}
 
@@ -38,14 +38,14 @@ pub mapped-mapped : {A B C : Type 0} (g : B → C) (f : A → B) (o : Option A) 
 mapped-mapped g f nothing = refl
 mapped-mapped g f (some a) = refl
 
-imported-found : (id v : ℕ) (l : List Row) → id < id-limit → Below id-limit v l →
+imported-found : (id v : ℕ) (l : List Row) → id < id_limit → Below id_limit v l →
     imported_as (id_of id) (map imported_of l) ≡ mapped (λ i. four (row_of l i).1) (first_in id id l)
 unfolding imported_as
 imported-found id v l h b =
-    ap (mapped (λ (m : Imported). m.context)) (find-row (λ (m : Imported). same m.id (id_of id)) imported_of id id id-limit v (λ r k. same_key id r.0 h k) l b)
+    ap (mapped (λ (m : Imported). m.context)) (find-row (λ (m : Imported). same m.id (id_of id)) imported_of id id id_limit v (λ r k. same-key id r.0 h k) l b)
     ∙ mapped-mapped (λ (m : Imported). m.context) (λ i. imported_of (row_of l i)) (first_in id id l)
 
-pub context-told : {t x : List ℕ} {id : ℕ} {o : Option ℕ} → Good t → id_of id ≡ x → id < id-limit → o ≡ first_in id id (rows (table_of imports) t) →
+pub context-told : {t x : List ℕ} {id : ℕ} {o : Option ℕ} → Good t → id_of id ≡ x → id < id_limit → o ≡ first_in id id (rows (table_of imports) t) →
     Tells (λ s. imported_as x s.imported) t (mapped (λ i. four (row_of (rows (table_of imports) t) i).1) o)
 context-told {t} {x} {id} {o} g n h e =
     record {
@@ -67,12 +67,12 @@ unfolding with_value
 noted-next nothing k c r l = refl
 noted-next (some i) k c r l = refl
 
-note-rows : (k c v : ℕ) (l : List Row) → k < id-limit → Below id-limit v l →
+note-rows : (k c v : ℕ) (l : List Row) → k < id_limit → Below id_limit v l →
     note_in (imported_of (k, c)) (map imported_of l) ≡ map imported_of (noted (first_in k k l) k c l)
 unfolding note_in first_in Below with_value
 note-rows k c v [] h b = refl
 note-rows k c v (r ∷ l) h b =
-    ap (λ (x : Bool). cond x (imported_of (k, c) ∷ map imported_of l) (imported_of r ∷ note_in (imported_of (k, c)) (map imported_of l))) (same_id r.0 k b.0 h)
+    ap (λ (x : Bool). cond x (imported_of (k, c) ∷ map imported_of l) (imported_of r ∷ note_in (imported_of (k, c)) (map imported_of l))) (same-id r.0 k b.0 h)
     ∙ by (eqb r.0 k) refl (note-rows k c v l h b.2)
     ∙ ap (λ (x : Bool). map imported_of (noted (cond x (some zero) (next (first_in k k l))) k c (r ∷ l))) (sym (between-one k r.0))
   where
@@ -82,7 +82,7 @@ note-rows k c v (r ∷ l) h b =
     by true p e = ap (λ (n : ℕ). imported_of (n, c) ∷ map imported_of l) (sym (eqb-true r.0 k p))
     by false p e = ap (λ (m : List Imported). imported_of r ∷ m) e ∙ sym (ap (map imported_of) (noted-next (first_in k k l) k c r l))
 
-module _ {t x : List ℕ} {k c : ℕ} (g : Good t) (i : id_of k ≡ x) (h : k < id-limit) (hc : c < 4294967296) where
+module _ {t x : List ℕ} {k c : ℕ} (g : Good t) (i : id_of k ≡ x) (h : k < id_limit) (hc : c < 4294967296) where
   noted-shown : {y : Env} (s : State) → Shows y t s →
       map imported_of (noted (first_in k k (rows (table_of imports) t)) k c (rows (table_of imports) t)) ≡ note_in (imported_of (k, c)) s.imported
   noted-shown s w = sym (note-rows k c _ (rows (table_of imports) t) h (g.below imports)) ∙ ap (note_in (imported_of (k, c))) w.imported
@@ -110,7 +110,7 @@ module _ {t x : List ℕ} {k c : ℕ} (g : Good t) (i : id_of k ≡ x) (h : k < 
       record {
         good = d.good;
         made = λ m {x = y} s p w u. subst (λ (z : List ℕ). Did y (note_id (record { id = z; context = four c }) p s) t') i
-            (noted-done (d.now-rows ∙ ap (λ (x : Option ℕ). noted x k c (rows (table_of imports) t)) f) (rw d.now-rows n) d.others s p w);
+            (noted-done (d.now_rows ∙ ap (λ (x : Option ℕ). noted x k c (rows (table_of imports) t)) f) (rw d.now_rows n) d.others s p w);
         full = λ m s p w u. absurd (let z : ◌≡◌ {A = ℕ} 0 1 = cc in omega arith);
       }
 
@@ -129,7 +129,7 @@ module _ {t x : List ℕ} {k c : ℕ} (g : Good t) (i : id_of k ≡ x) (h : k < 
   pub noted-new : {t' : List ℕ} → nothing ≡ first_in k k (rows (table_of imports) t) → length (rows (table_of imports) t) < 512 →
       Changes imports (rows (table_of imports) t ++ ((k, c) ∷ [])) t t' → Notes t t' Made
   noted-new {t'} f m d =
-      let n = length_more (rows (table_of imports) t) (k, c) in
+      let n = length-more (rows (table_of imports) t) (k, c) in
       noted-acts {o = nothing} f (omega arith) d
 
   note-refused : nothing ≡ first_in k k (rows (table_of imports) t) → 512 ≤ length (rows (table_of imports) t) → {y : Env} (s : State) (p : ℕ) → Shows y t s →
@@ -140,7 +140,7 @@ module _ {t x : List ℕ} {k c : ℕ} (g : Good t) (i : id_of k ≡ x) (h : k < 
       let x = note_in (imported_of (k, c)) s.imported in
       let shown : map imported_of (l ++ ((k, c) ∷ [])) ≡ x = ap (λ (o : Option ℕ). map imported_of (noted o k c l)) f ∙ noted-shown s w in
       let size : length x ≡ length (l ++ ((k, c) ∷ [])) = sym (ap length shown) ∙ length-map (l ++ ((k, c) ∷ [])) imported_of in
-      let n = length_more l (k, c) in
+      let n = length-more l (k, c) in
       room-full (length x) 512 p (set_imported x) s (omega arith)
 
   pub noted-full : nothing ≡ first_in k k (rows (table_of imports) t) → 512 ≤ length (rows (table_of imports) t) → Notes t t Full

@@ -35,11 +35,11 @@ below-without k v key (s ∷ l) b = by (eqb s.0 key) (below-without k v key l b.
     by true c = c
     by false c = (b.0, b.1, c)
 
-pub below_row : (k v : ℕ) (l : List Row) (i : ℕ) → Below k v l → i < length l → ((get_or l i (0, 0)).0 < k) × ((get_or l i (0, 0)).1 < v)
+pub below-row : (k v : ℕ) (l : List Row) (i : ℕ) → Below k v l → i < length l → ((get_or l i (0, 0)).0 < k) × ((get_or l i (0, 0)).1 < v)
 unfolding Below
-below_row k v [] i b h = absurd (omega arith)
-below_row k v (s ∷ l) zero b h = (b.0, b.1)
-below_row k v (s ∷ l) (suc i) b h = below_row k v l i b.2 (omega arith)
+below-row k v [] i b h = absurd (omega arith)
+below-row k v (s ∷ l) zero b h = (b.0, b.1)
+below-row k v (s ∷ l) (suc i) b h = below-row k v l i b.2 (omega arith)
 
 -- ---- Lengths
 
@@ -49,14 +49,14 @@ length-value [] i x = refl
 length-value (s ∷ l) zero x = refl
 length-value (s ∷ l) (suc i) x = ap suc (length-value l i x)
 
-pub length_more : {A : Type 0} (l : List A) (r : A) → length (l ++ (r ∷ [])) ≡ length l + 1
-length_more [] r = refl
-length_more (s ∷ l) r = ap suc (length_more l r) ∙ omega arith
+pub length-more : {A : Type 0} (l : List A) (r : A) → length (l ++ (r ∷ [])) ≡ length l + 1
+length-more [] r = refl
+length-more (s ∷ l) r = ap suc (length-more l r) ∙ omega arith
 
-pub length_without : (key : ℕ) (l : List Row) → length (without key l) ≤ length l
+pub length-without : (key : ℕ) (l : List Row) → length (without key l) ≤ length l
 unfolding without
-length_without key [] = omega arith
-length_without key (s ∷ l) = by (eqb s.0 key) (length_without key l)
+length-without key [] = omega arith
+length-without key (s ∷ l) = by (eqb s.0 key) (length-without key l)
   where
     by : (x : Bool) → length (without key l) ≤ length l → length (cond x (without key l) (s ∷ without key l)) ≤ suc (length l)
     by true h = omega arith
@@ -67,9 +67,9 @@ length_without key (s ∷ l) = by (eqb s.0 key) (length_without key l)
 abbrev pub row_of : List Row → ℕ → Row
 row_of l i = get_or l i (0, 0)
 
-next_row : {A : Type 0} (f : Row → A) (r : Row) (l : List Row) (o : Option ℕ) → mapped (λ i. f (row_of (r ∷ l) i)) (next o) ≡ mapped (λ i. f (row_of l i)) o
-next_row f r l none = refl
-next_row f r l (some i) = refl
+next-row : {A : Type 0} (f : Row → A) (r : Row) (l : List Row) (o : Option ℕ) → mapped (λ i. f (row_of (r ∷ l) i)) (next o) ≡ mapped (λ i. f (row_of l i)) o
+next-row f r l none = refl
+next-row f r l (some i) = refl
 
 -- what is found stands among the rest, or first
 pub here-below : {n i : ℕ} (x : Bool) (o : Option ℕ) → ((j : ℕ) → o ≡ some j → j < n) → cond x (some zero) (next o) ≡ some i → i < suc n
@@ -78,10 +78,10 @@ here-below false none h p = none-some p
 here-below {i = i} false (some j) h p = let z : suc j ≡ i = cc in let w = h j refl in omega arith
 
 -- a row that is found stands among the rows
-pub first_below : (lo hi : ℕ) (l : List Row) (i : ℕ) → first_in lo hi l ≡ some i → i < length l
+pub first-below : (lo hi : ℕ) (l : List Row) (i : ℕ) → first_in lo hi l ≡ some i → i < length l
 unfolding first_in
-first_below lo hi [] i e = none-some e
-first_below lo hi (r ∷ l) i e = here-below (between lo hi r.0) (first_in lo hi l) (first_below lo hi l) e
+first-below lo hi [] i e = none-some e
+first-below lo hi (r ∷ l) i e = here-below (between lo hi r.0) (first_in lo hi l) (first-below lo hi l) e
 
 module _ {A : Type 0} (p : A → Bool) (f : Row → A) (lo hi k v : ℕ) (h : (r : Row) → r.0 < k → p (f r) ≡ between lo hi r.0) where
   -- the first of a list that meets a test is the row that the search gives
@@ -93,7 +93,7 @@ module _ {A : Type 0} (p : A → Bool) (f : Row → A) (lo hi k v : ℕ) (h : (r
       by : (x : Bool) → find p (map f l) ≡ mapped (λ i. f (row_of l i)) (first_in lo hi l) →
           cond x (some (f r)) (find p (map f l)) ≡ mapped (λ i. f (row_of (r ∷ l) i)) (cond x (some zero) (next (first_in lo hi l)))
       by true e = refl
-      by false e = e ∙ sym (next_row f r l (first_in lo hi l))
+      by false e = e ∙ sym (next-row f r l (first_in lo hi l))
 
   -- there is one just where the search finds one
   pub any-row : (l : List Row) → Below k v l → any (filter p (map f l)) ≡ is_some (first_in lo hi l)

@@ -17,7 +17,7 @@ use Rattle.scope.specs.declared.Mark.TheVariants.{Loaded, Stored, Cjs, Wrapping}
 use Rattle.tables.specs.Rows.{Row, rows_from, rows, next, between, first_in, with_value}
 use Rattle.tables.specs.Only.{Outside, Only}
 use Rattle.tables.proofs.RowLaws.{from-agree, rows-length}
-use Rattle.tables.proofs.OnlyLaws.{only_then, store-count}
+use Rattle.tables.proofs.OnlyLaws.{only-then, store-count}
 use Rattle.inputs.specs.Outcome.{done}
 use Rattle.inputs.specs.Table.{file_of}
 use Rattle.extraction_rules.specs.State.{State, set_modules}
@@ -26,8 +26,8 @@ use Rattle.state.specs.Cells.{Env, modules, table_of, Below, held, Good, Reached
 use Rattle.state.specs.Does.{Changes, HintsModules, Tells, Says, Turns, Resolves, bit_of}
 use Rattle.state.specs.declared.Module.{Module as Found}
 use Rattle.state.specs.declared.Module.TheVariants.{Is, Unresolved, TooMany}
-use Rattle.state.proofs.IdLaws.{between-one, eqb_swap}
-use Rattle.state.proofs.ListLaws.{below-value, below_row, length-value, row_of}
+use Rattle.state.proofs.IdLaws.{between-one, eqb-swap}
+use Rattle.state.proofs.ListLaws.{below-value, below-row, length-value, row_of}
 use Rattle.state.proofs.HintLaws.{reached-value, reached-from}
 use Rattle.state.proofs.FrameLaws.{cells-then, others-kept, good-kept, room-for, shows-modules}
 
@@ -69,7 +69,7 @@ cells-below (suc k) at t h =
 
 module _ {t m : List ℕ} (g : Good t) (r : Rewrites 15482 (15482 + 512) (set t 6 0) m) where
   loading-only : Only (table_of modules) t m
-  loading-only = only_then (store-count (table_of modules) t 0) (only-cells r)
+  loading-only = only-then (store-count (table_of modules) t 0) (only-cells r)
 
   -- before the count is set there is no module
   loading-rows : rows (table_of modules) m ≡ []
@@ -99,8 +99,8 @@ module _ {t m : List ℕ} (g : Good t) (r : Rewrites 15482 (15482 + 512) (set t 
         shows = λ s v.
             shows-modules v
             (record {
-              rows-kept = λ y q. p.rows-kept y q ∙ w.aside.same_rows y ∙ o.rows-kept y q;
-              cells-kept = cells-then (cells-then o.cells-kept w.aside.same-cells) p.cells-kept;
+              rows_kept = λ y q. p.rows_kept y q ∙ w.aside.same_rows y ∙ o.rows_kept y q;
+              cells_kept = cells-then (cells-then o.cells_kept w.aside.same_cells) p.cells_kept;
             }) (ap (map module_of) f ∙ cells-rows n 15482 m ∙ e);
       }
 
@@ -111,7 +111,7 @@ next-same nothing = refl
 next-same (some n) = refl
 
 same-file : (f n : ℕ) → n < 65536 → eqb f (n % 65536) ≡ between f f n
-same-file f n h = let e : n % 65536 ≡ n = omega arith in ap (eqb f) e ∙ eqb_swap f n ∙ sym (between-one f n)
+same-file f n h = let e : n % 65536 ≡ n = omega arith in ap (eqb f) e ∙ eqb-swap f n ∙ sym (between-one f n)
 
 -- the number of a file is the row that the search gives
 number-found : (f v : ℕ) (l : List Row) → Below 65536 v l → number_of f (map module_of l) ≡ first_in f f l
@@ -168,7 +168,7 @@ module _ (f : ℕ) {t : List ℕ} (g : Good t) where
                   ∙ ap (λ (k : ℕ). done (some k, set_modules ms s)) (c ∙ sym j ∙ z);
               shows =
                   shows-modules w d.others
-                  (ap (map module_of) d.now-rows ∙ map-append module_of l ((f, 0) ∷ []) ∙ ap (λ (x : Modules). x ++ (module_of (f, 0) ∷ [])) w.modules
+                  (ap (map module_of) d.now_rows ∙ map-append module_of l ((f, 0) ∷ []) ∙ ap (λ (x : Modules). x ++ (module_of (f, 0) ∷ [])) w.modules
                   ∙ ap (λ (x : ℕ). s.modules ++ (unmarked x ∷ [])) u);
             };
         unresolved = λ q s p w. absurd (let z : ◌≡◌ {A = ℕ} 0 1 = cc in omega arith);
@@ -284,29 +284,29 @@ halves n = omega arith
 quarters : (n : ℕ) → n / 8 ≡ n / 4 / 2
 quarters n = omega arith
 
-bit_added : (k : Mark) (f v : ℕ) → v / bit_of k % 2 ≡ 0 → module_by f (v + bit_of k) ≡ with_mark k (module_by f v)
-bit_added Loaded f v h =
+bit-added : (k : Mark) (f v : ℕ) → v / bit_of k % 2 ≡ 0 → module_by f (v + bit_of k) ≡ with_mark k (module_by f v)
+bit-added Loaded f v h =
     let z : v % 2 ≡ 0 = let y : v / 1 ≡ v = omega arith in omega arith in
     let a = added-bit (v + 1) v refl z in
     let b = next-half v z in
     let c = halves (v + 1) ∙ ap (λ (x : ℕ). x / 2) b ∙ sym (halves v) in
     let d = quarters (v + 1) ∙ ap (λ (x : ℕ). x / 2) c ∙ sym (quarters v) in
     rw (a, b, c, d)
-bit_added Stored f v h =
+bit-added Stored f v h =
     let a = other-bit (v + 2) v 1 (omega arith) in
     let b = added-bit ((v + 2) / 2) (v / 2) (omega arith) h in
     let e : (v + 2) / 2 ≡ v / 2 + 1 = omega arith in
     let c = halves (v + 2) ∙ ap (λ (x : ℕ). x / 2) e ∙ next-half (v / 2) h ∙ sym (halves v) in
     let d = quarters (v + 2) ∙ ap (λ (x : ℕ). x / 2) c ∙ sym (quarters v) in
     rw (a, b, c, d)
-bit_added Cjs f v h =
+bit-added Cjs f v h =
     let a = other-bit (v + 4) v 2 (omega arith) in
     let b = other-bit ((v + 4) / 2) (v / 2) 1 (omega arith) in
     let c = added-bit ((v + 4) / 4) (v / 4) (omega arith) h in
     let e : (v + 4) / 4 ≡ v / 4 + 1 = omega arith in
     let d = quarters (v + 4) ∙ ap (λ (x : ℕ). x / 2) e ∙ next-half (v / 4) h ∙ sym (quarters v) in
     rw (a, b, c, d)
-bit_added Wrapping f v h =
+bit-added Wrapping f v h =
     let a = other-bit (v + 8) v 4 (omega arith) in
     let b = other-bit ((v + 8) / 2) (v / 2) 2 (omega arith) in
     let c = other-bit ((v + 8) / 4) (v / 4) 1 (omega arith) in
@@ -338,10 +338,10 @@ module _ (k : Mark) (i : ℕ) {t : List ℕ} {b v : ℕ} (g : Good t) (n : i < h
       let r = row_of (rows (table_of modules) t) i in
       marked-again k i g (bit-there k r.0 r.1 (λ z. h (ap₂ (λ (x y : ℕ). x / y % 2) e c ∙ z)))
 
-  pub mark_set : {t' : List ℕ} → v / b % 2 ≡ 0 → rows (table_of modules) t' ≡ with_value i (v + b) (rows (table_of modules) t) → Only (table_of modules) t t' →
+  pub mark-set : {t' : List ℕ} → v / b % 2 ≡ 0 → rows (table_of modules) t' ≡ with_value i (v + b) (rows (table_of modules) t) → Only (table_of modules) t t' →
       Turns (λ s. set_modules (set_mark k i s.modules) s) t t'
-  mark_set h f o =
+  mark-set h f o =
       let r = row_of (rows (table_of modules) t) i in
       let z : r.1 / bit_of k % 2 ≡ 0 = sym (ap₂ (λ (x y : ℕ). x / y % 2) e c) ∙ h in
-      let q = bit-fits k r.1 (below_row _ _ (rows (table_of modules) t) i (g.below modules) n).1 z in
-      marked-new k i g (bit_added k r.0 r.1 z) q (f ∙ ap₂ (λ (x y : ℕ). with_value i (x + y) (rows (table_of modules) t)) e c) o
+      let q = bit-fits k r.1 (below-row _ _ (rows (table_of modules) t) i (g.below modules) n).1 z in
+      marked-new k i g (bit-added k r.0 r.1 z) q (f ∙ ap₂ (λ (x y : ℕ). with_value i (x + y) (rows (table_of modules) t)) e c) o

@@ -18,9 +18,9 @@ use Rattle.inputs.specs.Lists.{is_some, mapped}
 use Rattle.inputs.specs.Fields.{has, find_field}
 use Rattle.extraction_rules.specs.State.{Record}
 use Rattle.extraction_rules.specs.First.{holds_namespace}
-use Rattle.state.specs.Cells.{Env, id-limit, id_of, Brief, brief, brief_of, namespace_of, index_of, flag, count_namespaces, namespaces_in}
+use Rattle.state.specs.Cells.{Env, id_limit, id_of, Brief, brief, brief_of, namespace_of, index_of, flag, count_namespaces, namespaces_in}
 use Rattle.state.specs.Does.{extend_at}
-use Rattle.state.proofs.IdLaws.{same_id}
+use Rattle.state.proofs.IdLaws.{same-id}
 use Rattle.state.proofs.ListLaws.{row_of}
 
 -- ---- A specifier behind others
@@ -71,11 +71,11 @@ namespaces-extended i f [] h = absurd (omega arith)
 namespaces-extended zero f (r ∷ l) h = let e = count-append r.specifiers f in omega arith
 namespaces-extended (suc i) f (r ∷ l) h = let e = namespaces-extended i f l (omega arith) in omega arith
 
-index_kept : (p : Record → Bool) (i : ℕ) (f : Field) (l : List Record) → ((r : Record) → p (with f r) ≡ p r) → index_of p (extend_at i (more f none) l) ≡ index_of p l
+index-kept : (p : Record → Bool) (i : ℕ) (f : Field) (l : List Record) → ((r : Record) → p (with f r) ≡ p r) → index_of p (extend_at i (more f none) l) ≡ index_of p l
 unfolding index_of extend_at
-index_kept p i f [] h = refl
-index_kept p zero f (r ∷ l) h = ap (λ (b : Bool). cond b (some zero) (next (index_of p l))) (h r)
-index_kept p (suc i) f (r ∷ l) h = ap (λ (o : Option ℕ). cond (p r) (some zero) (next o)) (index_kept p i f l h)
+index-kept p i f [] h = refl
+index-kept p zero f (r ∷ l) h = ap (λ (b : Bool). cond b (some zero) (next (index_of p l))) (h r)
+index-kept p (suc i) f (r ∷ l) h = ap (λ (o : Option ℕ). cond (p r) (some zero) (next o)) (index-kept p i f l h)
 
 lesser-zero : (o : Option ℕ) → lesser zero o ≡ some zero
 lesser-zero nothing = refl
@@ -141,10 +141,10 @@ lesser-swap v w (some u) =
     let d = least-high (least w (least v u)) v (least w u) (omega arith) (least-high _ w u b.0 (omega arith)) in
     ap some (let e : least v (least w u) ≡ least w (least v u) = omega arith in e)
 
-pub least_more : (n k v : ℕ) (l : List Row) → least_of n (l ++ ((k, v) ∷ [])) ≡ cond (eqb k n) (lesser v (least_of n l)) (least_of n l)
+pub least-more : (n k v : ℕ) (l : List Row) → least_of n (l ++ ((k, v) ∷ [])) ≡ cond (eqb k n) (lesser v (least_of n l)) (least_of n l)
 unfolding least_of
-least_more n k v [] = refl
-least_more n k v (r ∷ l) = ap (λ (o : Option ℕ). cond (eqb r.0 n) (lesser r.1 o) o) (least_more n k v l) ∙ by (eqb r.0 n) (eqb k n)
+least-more n k v [] = refl
+least-more n k v (r ∷ l) = ap (λ (o : Option ℕ). cond (eqb r.0 n) (lesser r.1 o) o) (least-more n k v l) ∙ by (eqb r.0 n) (eqb k n)
   where
     by : (a b : Bool) →
         cond a (lesser r.1 (cond b (lesser v (least_of n l)) (least_of n l))) (cond b (lesser v (least_of n l)) (least_of n l)) ≡
@@ -154,10 +154,10 @@ least_more n k v (r ∷ l) = ap (λ (o : Option ℕ). cond (eqb r.0 n) (lesser r
     by false b = refl
 
 -- which record is the first to hold a namespace, once record i holds the id k too
-pub holders-extended : (n k i : ℕ) (f : Field) (N : List Row) (l : List Record) → n < id-limit → k < id-limit → i < length l →
+pub holders-extended : (n k i : ℕ) (f : Field) (N : List Row) (l : List Record) → n < id_limit → k < id_limit → i < length l →
     has 0x22 f ≡ true → fixed_of f ≡ id_of k → least_of n N ≡ index_of (holds_namespace (id_of n)) l →
     least_of n (N ++ ((k, i) ∷ [])) ≡ index_of (holds_namespace (id_of n)) (extend_at i (more f none) l)
-holders-extended n k i f N l hn hk hi tag x e = least_more n k i N ∙ by (eqb k n) (same_id k n hk hn)
+holders-extended n k i f N l hn hk hi tag x e = least-more n k i N ∙ by (eqb k n) (same-id k n hk hn)
   where
     meets : (b : Bool) → same (id_of k) (id_of n) ≡ b → (r : Record) → holds_namespace (id_of n) (with f r) ≡ (holds_namespace (id_of n) r || b)
     meets b s r =
@@ -165,21 +165,21 @@ holders-extended n k i f N l hn hk hi tag x e = least_more n k i N ∙ by (eqb k
 
     by : (b : Bool) → same (id_of k) (id_of n) ≡ b → cond b (lesser i (least_of n N)) (least_of n N) ≡ index_of (holds_namespace (id_of n)) (extend_at i (more f none) l)
     by true s = ap (lesser i) e ∙ sym (index-lesser (holds_namespace (id_of n)) i f l hi (λ r. meets true s r ∙ or-true (holds_namespace (id_of n) r)))
-    by false s = e ∙ sym (index_kept (holds_namespace (id_of n)) i f l (λ r. meets false s r ∙ or-false (holds_namespace (id_of n) r)))
+    by false s = e ∙ sym (index-kept (holds_namespace (id_of n)) i f l (λ r. meets false s r ∙ or-false (holds_namespace (id_of n) r)))
 
 -- ---- What is seen of the extended record
 
-first_either : (a b : Option Field) → mapped fixed_of (either a b) ≡ either (mapped fixed_of a) (mapped fixed_of b)
+first-either : (a b : Option Field) → mapped fixed_of (either a b) ≡ either (mapped fixed_of a) (mapped fixed_of b)
 unfolding either
-first_either nothing b = refl
-first_either (some a) b = refl
+first-either nothing b = refl
+first-either (some a) b = refl
 
 brief-with : (f : Field) (r : Record) →
     brief (with f r) ≡ record { value = value_of r.literal; literal = r.literal; namespace = either (brief r).namespace (mapped fixed_of (cond (has 0x22 f) (some f) nothing)) }
 unfolding brief
 brief-with f r =
     ap (λ (o : Option (List ℕ)). record { value = value_of r.literal; literal = r.literal; namespace = o })
-    (ap (mapped fixed_of) (find-append (has 0x22) r.specifiers f) ∙ first_either (find_field (has 0x22) r.specifiers) (cond (has 0x22 f) (some f) nothing))
+    (ap (mapped fixed_of) (find-append (has 0x22) r.specifiers f) ∙ first-either (find_field (has 0x22) r.specifiers) (cond (has 0x22 f) (some f) nothing))
 
 either-nothing : (o : Option (List ℕ)) → either o nothing ≡ o
 unfolding either
@@ -248,7 +248,7 @@ briefs-kept y (suc i) f (r ∷ R) (q ∷ l) k e =
 
 -- a specifier that is no namespace changes no holder
 pub holders-other : (x : List ℕ) (i : ℕ) (f : Field) (l : List Record) → has 0x22 f ≡ false → index_of (holds_namespace x) (extend_at i (more f none) l) ≡ index_of (holds_namespace x) l
-holders-other x i f l e = index_kept (holds_namespace x) i f l (λ r. holds-with x f r ∙ ap (λ (b : Bool). holds_namespace x r || (b && same (fixed_of f) x)) e ∙ or-false (holds_namespace x r))
+holders-other x i f l e = index-kept (holds_namespace x) i f l (λ r. holds-with x f r ∙ ap (λ (b : Bool). holds_namespace x r || (b && same (fixed_of f) x)) e ∙ or-false (holds_namespace x r))
 
 -- specifiers one by one
 pub extend-more : (i : ℕ) (f : Field) (fs : Fields) (l : List Record) → extend_at i (more f fs) l ≡ extend_at i fs (extend_at i (more f none) l)

@@ -8,10 +8,10 @@ use lib.ListN.{length, length-map, drop}
 use Rattle.tables.specs.Rows.{Row, rows}
 use Rattle.tree.specs.Layout.{two, value_of}
 use Rattle.extraction_rules.specs.State.{Record}
-use Rattle.state.specs.Cells.{Env, records, lazies, forces, id-limit, table_of, held, Good, literal_by, Brief, brief, brief_of, lazy_of, atom_of}
+use Rattle.state.specs.Cells.{Env, records, lazies, forces, id_limit, table_of, held, Good, literal_by, Brief, brief, brief_of, lazy_of, atom_of}
 use Rattle.state.specs.declared.Literal.{Literal}
 use Rattle.state.specs.Does.{Tells, Holds}
-use Rattle.state.proofs.ListLaws.{below_row, row_of}
+use Rattle.state.proofs.ListLaws.{below-row, row_of}
 
 -- two lists that are told alike have alike entries
 place-suc : {A B : Type 0} (h : Row → B) (g : A → B) (l : List Row) (m : List A) (i : ℕ) → map h l ≡ map g m → i < length l →
@@ -27,9 +27,9 @@ place_in h g l m i e n =
     let w = place-suc h g l m i e n in
     (w.0, w.1, w.2 ∙ ap (λ (j : ℕ). w.0 ∷ drop j m) (sym (add-one i)))
 
-map_same : {A : Type 0} (m : List A) → map (λ a. a) m ≡ m
-map_same [] = refl
-map_same (a ∷ m) = ap (λ (l : List _). a ∷ l) (map_same m)
+map-same : {A : Type 0} (m : List A) → map (λ a. a) m ≡ m
+map-same [] = refl
+map-same (a ∷ m) = ap (λ (l : List _). a ∷ l) (map-same m)
 
 -- ---- Collected records
 
@@ -37,8 +37,8 @@ pub records-counted : {t : List ℕ} {n : ℕ} → n ≡ held records t → Tell
 records-counted {t} e =
     record { is = λ {x} s w. e ∙ sym (length-map (rows (table_of records) t) (brief_of x)) ∙ ap length w.collected ∙ length-map s.collected brief }
 
-pub record-small : {t : List ℕ} {i n : ℕ} → Good t → i < held records t → n ≡ (row_of (rows (table_of records) t) i).0 → n < id-limit
-record-small {t} {i} g h e = let b = (below_row _ _ (rows (table_of records) t) i (g.below records) h).0 in omega arith
+pub record-small : {t : List ℕ} {i n : ℕ} → Good t → i < held records t → n ≡ (row_of (rows (table_of records) t) i).0 → n < id_limit
+record-small {t} {i} g h e = let b = (below-row _ _ (rows (table_of records) t) i (g.below records) h).0 in omega arith
 
 brief-literal : (x : Env) (q : Record) (r : Row) → brief q ≡ brief_of x r → q.literal ≡ x.literal (r.0 % 4294967296)
 unfolding brief brief_of
@@ -71,7 +71,7 @@ module _ {t : List ℕ} {i n : ℕ} {l : Literal} (v : l.value.0 ≡ n / 4294967
       let m = rows (table_of lazies) t in
       record {
         is = λ {x} s w.
-            let k = place_in (lazy_of x) (λ q. q) m s.lazy i (w.lazy ∙ sym (map_same s.lazy)) h in
+            let k = place_in (lazy_of x) (λ q. q) m s.lazy i (w.lazy ∙ sym (map-same s.lazy)) h in
             (k.0, ap (λ (q : Record). q.literal) k.1 ∙ ap (λ (j : ℕ). x.literal (j % 4294967296)) (sym e) ∙ ap x.literal (sym p), k.2);
       }
 
@@ -81,15 +81,15 @@ pub lazies-counted : {t : List ℕ} {n : ℕ} → n ≡ held lazies t → Tells 
 lazies-counted {t} e = record { is = λ {x} s w. e ∙ sym (length-map (rows (table_of lazies) t) (lazy_of x)) ∙ ap length w.lazy }
 
 -- numbers of its row
-pub lazy-small : {t : List ℕ} {i : ℕ} → Good t → i < held lazies t → ((row_of (rows (table_of lazies) t) i).0 < id-limit) × ((row_of (rows (table_of lazies) t) i).1 < 4294967296)
-lazy-small {t} {i} g h = below_row _ _ (rows (table_of lazies) t) i (g.below lazies) h
+pub lazy-small : {t : List ℕ} {i : ℕ} → Good t → i < held lazies t → ((row_of (rows (table_of lazies) t) i).0 < id_limit) × ((row_of (rows (table_of lazies) t) i).1 < 4294967296)
+lazy-small {t} {i} g h = below-row _ _ (rows (table_of lazies) t) i (g.below lazies) h
 
 pub lazy-place-at : {t : List ℕ} {i r : ℕ} → i < held lazies t → r ≡ (row_of (rows (table_of lazies) t) i).1 → Holds (λ s. s.lazy) (λ q. q.specifiers) i t (λ x. x.bound r)
 lazy-place-at {t} {i} {r} h e =
     let m = rows (table_of lazies) t in
     record {
       is = λ {x} s w.
-          let k = place_in (lazy_of x) (λ q. q) m s.lazy i (w.lazy ∙ sym (map_same s.lazy)) h in
+          let k = place_in (lazy_of x) (λ q. q) m s.lazy i (w.lazy ∙ sym (map-same s.lazy)) h in
           (k.0, ap (λ (q : Record). q.specifiers) k.1 ∙ ap x.bound (sym e), k.2);
     }
 
@@ -100,9 +100,9 @@ forced-counted {t} e = record { is = λ s w. e ∙ sym (length-map (rows (table_
 
 -- a source's number fits two bytes
 pub forced-small : {t : List ℕ} {i r : ℕ} → Good t → i < held forces t → r ≡ (row_of (rows (table_of forces) t) i).0 → r < 65536
-forced-small {t} {i} g h e = let b = (below_row _ _ (rows (table_of forces) t) i (g.below forces) h).0 in omega arith
+forced-small {t} {i} g h e = let b = (below-row _ _ (rows (table_of forces) t) i (g.below forces) h).0 in omega arith
 
 pub forced-source : {t : List ℕ} {i r : ℕ} → i < held forces t → r ≡ (row_of (rows (table_of forces) t) i).0 → Holds (λ s. s.forced) (λ a. a) i t (λ _. two r)
 forced-source {t} {i} {r} h e =
     let l = rows (table_of forces) t in
-    record { is = λ s w. let k = place_in atom_of (λ a. a) l s.forced i (w.forced ∙ sym (map_same s.forced)) h in (k.0, k.1 ∙ ap two (sym e), k.2) }
+    record { is = λ s w. let k = place_in atom_of (λ a. a) l s.forced i (w.forced ∙ sym (map-same s.forced)) h in (k.0, k.1 ∙ ap two (sym e), k.2) }

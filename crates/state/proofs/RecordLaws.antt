@@ -8,7 +8,7 @@ use mathlib.Core.Option.{Option, none as nothing, some}
 use lib.Dec.{eqb}
 use lib.ListN.{length, get_or, length-map}
 use borrow.Author.Tests.{le-leb, lt-leb, leb-true, eqb-true, eq-eqb, ne_eqb}
-use Rattle.tree.proofs.Table.{both_true}
+use Rattle.tree.proofs.Table.{both-true}
 use Rattle.scope.specs.Id.{local}
 use Rattle.tables.specs.Rows.{Row, rows, between, flip, first_in, NoneBefore, least_of}
 use Rattle.tables.proofs.RowLaws.{get_d_map}
@@ -19,11 +19,11 @@ use Rattle.inputs.specs.Lists.{find, mapped}
 use Rattle.inputs.specs.Fields.{has, find_field}
 use Rattle.extraction_rules.specs.State.{Record, State}
 use Rattle.extraction_rules.specs.First.{holds_namespace, suits, used_record}
-use Rattle.state.specs.Cells.{Env, id-limit, records, namespaces, table_of, held, Good, id_of, Brief, brief, brief_of, namespace_of, index_of, Shows}
+use Rattle.state.specs.Cells.{Env, id_limit, records, namespaces, table_of, held, Good, id_of, Brief, brief, brief_of, namespace_of, index_of, Shows}
 use Rattle.state.specs.Does.{Starts, Tells, source_of, source_at}
 use Rattle.state.proofs.IdLaws.{id-name, id-context, between-one}
-use Rattle.state.proofs.HintLaws.{none_from}
-use Rattle.state.proofs.IndexLaws.{index-map, index_same, index-value, find-index, index_below}
+use Rattle.state.proofs.HintLaws.{none-from}
+use Rattle.state.proofs.IndexLaws.{index-map, index-same, index-value, find-index, index-below}
 
 -- ---- The source of the record at a place
 
@@ -56,18 +56,18 @@ held-shown {y} {t} {s} w = sym (length-map (rows (table_of records) t) (brief_of
 
 -- ---- The first that holds a namespace
 
-holder-below : {y : Env} {t : List ℕ} {s : State} {id i : ℕ} → Shows y t s → id < id-limit → some i ≡ least_of id (rows (table_of namespaces) t) → i < held records t
+holder-below : {y : Env} {t : List ℕ} {s : State} {id i : ℕ} → Shows y t s → id < id_limit → some i ≡ least_of id (rows (table_of namespaces) t) → i < held records t
 holder-below {s = s} {id} {i} w h e =
-    let b = index_below (holds_namespace (id_of id)) s.collected i (sym (e ∙ w.holders id h)) in
+    let b = index-below (holds_namespace (id_of id)) s.collected i (sym (e ∙ w.holders id h)) in
     let n = held-shown w in
     omega arith
 
 -- no place past the records is shown
-pub holder-past : (x : List ℕ) {t : List ℕ} {id i : ℕ} → id < id-limit → some i ≡ least_of id (rows (table_of namespaces) t) → held records t ≤ i →
+pub holder-past : (x : List ℕ) {t : List ℕ} {id i : ℕ} → id < id_limit → some i ≡ least_of id (rows (table_of namespaces) t) → held records t ≤ i →
     Tells (λ s. source_of (find (holds_namespace x) s.collected)) t nothing
 holder-past x h e p = record { is = λ s w. absurd (let b = holder-below w h e in omega arith) }
 
-pub holder-told : {t x : List ℕ} {id : ℕ} {o : Option ℕ} → id_of id ≡ x → id < id-limit → o ≡ least_of id (rows (table_of namespaces) t) →
+pub holder-told : {t x : List ℕ} {id : ℕ} {o : Option ℕ} → id_of id ≡ x → id < id_limit → o ≡ least_of id (rows (table_of namespaces) t) →
     Tells (λ s. source_of (find (holds_namespace x) s.collected)) t (mapped (source_at t) o)
 holder-told {t} {x} {id} {o} n h e =
     record { is = λ s w. source-found (holds_namespace x) o w (e ∙ w.holders id h ∙ ap (λ (y : List ℕ). index_of (holds_namespace y) s.collected) n) }
@@ -88,8 +88,8 @@ bools true b f g = sym (f refl)
 bools false true f g = g refl
 bools false false f g = refl
 
-same_name : (m n : ℕ) → m < id-limit → n < id-limit → same (name_of (id_of m)) (name_of (id_of n)) ≡ eqb (m / 4294967296) (n / 4294967296)
-same_name m n a b = ap₂ same (id-name m) (id-name n) ∙ same-two (m / 4294967296) (n / 4294967296) (omega arith) (omega arith)
+same-name : (m n : ℕ) → m < id_limit → n < id_limit → same (name_of (id_of m)) (name_of (id_of n)) ≡ eqb (m / 4294967296) (n / 4294967296)
+same-name m n a b = ap₂ same (id-name m) (id-name n) ∙ same-two (m / 4294967296) (n / 4294967296) (omega arith) (omega arith)
 
 same-context : (m n : ℕ) → n < 4294967296 → same (context_of (id_of m)) (four n) ≡ eqb (m % 4294967296) n
 same-context m n b = ap (λ (x : List ℕ). same x (four n)) (id-context m) ∙ same-four (m % 4294967296) n (omega arith) b
@@ -104,7 +104,7 @@ name-range m n =
     let hi : m ≤ n - n % 4294967296 + 4294967295 = omega arith in
     ap₂ ◌&&◌ (le-leb (n - n % 4294967296) m lo) (le-leb m (n - n % 4294967296 + 4294967295) hi))
     (λ e.
-    let h = both_true _ _ e in
+    let h = both-true _ _ e in
     let lo = leb-true (n - n % 4294967296) m h.0 in
     let hi = leb-true m (n - n % 4294967296 + 4294967295) h.1 in
     eq-eqb (m / 4294967296) (n / 4294967296) (omega arith))
@@ -113,41 +113,41 @@ between-suc : (lo hi m : ℕ) → between lo hi m ≡ between (lo + 1) (hi + 1) 
 between-suc lo hi m =
     bools _ _
     (λ e.
-    let h = both_true _ _ e in
+    let h = both-true _ _ e in
     let p = leb-true lo m h.0 in
     let q = leb-true m hi h.1 in
     ap₂ ◌&&◌ (le-leb (lo + 1) (suc m) (omega arith)) (le-leb (suc m) (hi + 1) (omega arith)))
     (λ e.
-    let h = both_true _ _ e in
+    let h = both-true _ _ e in
     let p = leb-true (lo + 1) (suc m) h.0 in
     let q = leb-true (suc m) (hi + 1) h.1 in
     ap₂ ◌&&◌ (le-leb lo m (omega arith)) (le-leb m hi (omega arith)))
 
 -- in the own local context: the name alone
-suits-name : (own id n : ℕ) → id < id-limit → n < 281474976710657 → id % 4294967296 ≡ local own →
+suits-name : (own id n : ℕ) → id < id_limit → n < 281474976710657 → id % 4294967296 ≡ local own →
     suits_first own (id_of id) (namespace_of n) ≡ between (id - id % 4294967296 + 1) (id - id % 4294967296 + 4294967296) n
 unfolding suits_first
 suits-name own id zero a b e = sym (rw (lt-leb (id - id % 4294967296 + 1) zero (omega arith)))
 suits-name own id (suc m) a b e =
     let hi : id - id % 4294967296 + 4294967295 + 1 ≡ id - id % 4294967296 + 4294967296 = omega arith in
-    ap₂ (λ (x y : Bool). x && (y || same (context_of (id_of id)) (context_of (id_of m)))) (same_name m id (omega arith) a)
+    ap₂ (λ (x y : Bool). x && (y || same (context_of (id_of id)) (context_of (id_of m)))) (same-name m id (omega arith) a)
     (same-context id (local own) (omega arith) ∙ eq-eqb (id % 4294967296) (local own) e)
     ∙ and-true _ ∙ name-range m id ∙ between-suc (id - id % 4294967296) (id - id % 4294967296 + 4294967295) m
     ∙ ap (λ (x : ℕ). between (id - id % 4294967296 + 1) x (suc m)) hi
 
 -- else: the id itself
-suits-id : (own id n : ℕ) → own < 65536 → id < id-limit → n < 281474976710657 → (id % 4294967296 ≡ local own → ⊥) →
+suits-id : (own id n : ℕ) → own < 65536 → id < id_limit → n < 281474976710657 → (id % 4294967296 ≡ local own → ⊥) →
     suits_first own (id_of id) (namespace_of n) ≡ between (id + 1) (id + 1) n
 unfolding suits_first
 suits-id own id zero o a b e = sym (rw (lt-leb (id + 1) zero (omega arith)))
 suits-id own id (suc m) o a b e =
-    ap₂ (λ (x y : Bool). x && (y || same (context_of (id_of id)) (context_of (id_of m)))) (same_name m id (omega arith) a)
+    ap₂ (λ (x y : Bool). x && (y || same (context_of (id_of id)) (context_of (id_of m)))) (same-name m id (omega arith) a)
     (same-context id (local own) (omega arith) ∙ ne_eqb (id % 4294967296) (local own) e)
     ∙ ap (λ (x : Bool). eqb (m / 4294967296) (id / 4294967296) && x)
     (ap (same (context_of (id_of id))) (id-context m) ∙ same-context id (m % 4294967296) (omega arith))
     ∙ bools _ _
     (λ f.
-    let h = both_true _ _ f in
+    let h = both-true _ _ f in
     let p = eqb-true (m / 4294967296) (id / 4294967296) h.0 in
     let q = eqb-true (id % 4294967296) (m % 4294967296) h.1 in
     eq-eqb m id (omega arith))
@@ -164,29 +164,29 @@ module _ {t : List ℕ} (g : Good t) (own id lo hi : ℕ) (h : (n : ℕ) → n <
       let q : Brief → Bool = λ b. suits_first own (id_of id) b.namespace in
       sym (index-value (λ (n : ℕ). suits_first own (id_of id) (namespace_of n)) lo hi _ _ h (rows (table_of records) t) (g.below records))
       ∙ index-map q (brief_of y) (rows (table_of records) t) ∙ ap (index_of q) w.collected ∙ sym (index-map q brief s.collected)
-      ∙ index_same _ _ (λ (r : Record). sym (suits-first own (id_of id) (find_field (has 0x22) r.specifiers))) s.collected
+      ∙ index-same _ _ (λ (r : Record). sym (suits-first own (id_of id) (find_field (has 0x22) r.specifiers))) s.collected
 
   used-by : {o : Option ℕ} → o ≡ first_in lo hi (map flip (rows (table_of records) t)) →
       Tells (λ s. source_of (used_record own (id_of id) s.collected)) t (mapped (source_at t) o)
   unfolding used_record
   used-by {o} e = record { is = λ s w. source-found (λ r. suits own (id_of id) (find_field (has 0x22) r.specifiers)) o w (e ∙ used-index s w) }
 
-pub used-name : (own id : ℕ) {t x : List ℕ} {o : Option ℕ} → Good t → id_of id ≡ x → id < id-limit → id % 4294967296 ≡ local own →
+pub used-name : (own id : ℕ) {t x : List ℕ} {o : Option ℕ} → Good t → id_of id ≡ x → id < id_limit → id % 4294967296 ≡ local own →
     o ≡ first_in (id - id % 4294967296 + 1) (id - id % 4294967296 + 4294967296) (map flip (rows (table_of records) t)) →
     Tells (λ s. source_of (used_record own x s.collected)) t (mapped (source_at t) o)
 used-name own id {t} {o = p} g m h e f =
     subst (λ (y : List ℕ). Tells (λ s. source_of (used_record own y s.collected)) t (mapped (source_at t) p)) m (used-by g own id _ _ (λ n b. suits-name own id n h b e) f)
 
-pub used-id : (own id : ℕ) {t x : List ℕ} {o : Option ℕ} → Good t → own < 65536 → id_of id ≡ x → id < id-limit → (id % 4294967296 ≡ local own → ⊥) →
+pub used-id : (own id : ℕ) {t x : List ℕ} {o : Option ℕ} → Good t → own < 65536 → id_of id ≡ x → id < id_limit → (id % 4294967296 ≡ local own → ⊥) →
     o ≡ first_in (id + 1) (id + 1) (map flip (rows (table_of records) t)) → Tells (λ s. source_of (used_record own x s.collected)) t (mapped (source_at t) o)
 used-id own id {t} {o = p} g o m h e f =
     subst (λ (y : List ℕ). Tells (λ s. source_of (used_record own y s.collected)) t (mapped (source_at t) p)) m (used-by g own id _ _ (λ n b. suits-id own id n o h b e) f)
 
 -- no first namespace before the hint of an id's name is in either range
-pub named_past : {t : List ℕ} {from id : ℕ} → Starts from id t →
+pub named-past : {t : List ℕ} {from id : ℕ} → Starts from id t →
     NoneBefore from (id - id % 4294967296 + 1) (id - id % 4294967296 + 4294967296) (map flip (rows (table_of records) t))
-named_past {t} {from} {id} h = none_from _ _ id from (rows (table_of records) t) h.none_named (omega arith) (λ n p q. omega arith)
+named-past {t} {from} {id} h = none-from _ _ id from (rows (table_of records) t) h.none_named (omega arith) (λ n p q. omega arith)
 
 pub id-past : {t : List ℕ} {from id : ℕ} → Starts from id t → NoneBefore from (id + 1) (id + 1) (map flip (rows (table_of records) t))
 id-past {t} {from} {id} h =
-    none_from _ _ id from (rows (table_of records) t) h.none_named (omega arith) (λ n p q. let z : n ≡ id = omega arith in ap (λ (x : ℕ). x / 4294967296) z)
+    none-from _ _ id from (rows (table_of records) t) h.none_named (omega arith) (λ n p q. let z : n ≡ id = omega arith in ap (λ (x : ℕ). x / 4294967296) z)

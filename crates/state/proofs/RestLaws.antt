@@ -14,14 +14,14 @@ use Rattle.tree.specs.Tree.{Fields}
 use Rattle.inputs.specs.Outcome.{refused}
 use Rattle.extraction_rules.specs.State.{Record, State, first, Act, start, set_lazy, set_top}
 use Rattle.extraction_rules.specs.First.{add_lazy}
-use Rattle.state.specs.Cells.{Env, id-limit, Kind, imports, uses, records, namespaces, lazies, forces, modules, externals, table, table_of}
-use Rattle.state.specs.Cells.{top-cell, pass-cell, own-cell, require-cell}
+use Rattle.state.specs.Cells.{Env, id_limit, Kind, imports, uses, records, namespaces, lazies, forces, modules, externals, table, table_of}
+use Rattle.state.specs.Cells.{top_cell, pass_cell, own_cell, require_cell}
 use Rattle.state.specs.Cells.{cells, InLimits, Below, held, Good, literal_by, imported_of, usage_of, brief_of, lazy_of, atom_of, lent_of, module_of, index_of, flag}
 use Rattle.state.specs.Cells.{namespaces_in, Shows, Covered, Distinct, Named, Reached, Hinted}
 use Rattle.state.specs.Does.{Tells, Turns, Did, Anyhow, Acts}
 use Rattle.state.specs.declared.Literal.{Literal}
 use Rattle.state.specs.declared.Room.TheVariants.{Made, Full}
-use Rattle.state.proofs.ListLaws.{below-append, length_more}
+use Rattle.state.proofs.ListLaws.{below-append, length-more}
 use Rattle.state.proofs.HintLaws.{agrees-set}
 use Rattle.state.proofs.FrameLaws.{each, beside-top, beside-rows, beside-good, others-kept, good-kept, shows-lazy, shows-top}
 use Rattle.state.proofs.ImportedLaws.{room-made, room-full}
@@ -46,7 +46,7 @@ module _ (x : ℕ) (a : Literal) (q : ℕ) (v : x % 4294967296 ≡ a.place) {t :
   lazy-done {t'} e n o {y} s p w =
       let r : Record = lazy_of y (x, q) in
       let l = s.lazy ++ (r ∷ []) in
-      let size = length_more s.lazy r in
+      let size = length-more s.lazy r in
       let k = lazy-length s w in
       record {
         state = set_lazy l s;
@@ -56,10 +56,10 @@ module _ (x : ℕ) (a : Literal) (q : ℕ) (v : x % 4294967296 ≡ a.place) {t :
             (ap (map (lazy_of y)) e ∙ map-append (lazy_of y) (rows (table_of lazies) t) ((x, q) ∷ []) ∙ ap (λ (m : List Record). m ++ (r ∷ [])) w.lazy);
       }
 
-  pub lazy-made : {t' : List ℕ} → x < id-limit → q < 4294967296 → rows (table_of lazies) t' ≡ rows (table_of lazies) t ++ ((x, q) ∷ []) →
+  pub lazy-made : {t' : List ℕ} → x < id_limit → q < 4294967296 → rows (table_of lazies) t' ≡ rows (table_of lazies) t ++ ((x, q) ∷ []) →
       held lazies t < 1024 → Only (table_of lazies) t t' → Acts Anyhow (lazily a q) t t' Made
   lazy-made {t'} h b e n o =
-      let m = length_more (rows (table_of lazies) t) (x, q) in
+      let m = length-more (rows (table_of lazies) t) (x, q) in
       record {
         good = good-kept lazies g o e (omega arith) (below-append _ _ (rows (table_of lazies) t) (x, q) (g.below lazies) h b) tt;
         made = λ r {x = y} s p w u. subst (λ (c : Record). Did y (add_lazy c p s) t') (one-lazy y) (lazy-done e n o s p w);
@@ -70,7 +70,7 @@ lazy-refused : (r : Record) {y : Env} {t : List ℕ} (s : State) (p : ℕ) → S
 unfolding add_lazy
 lazy-refused r s p w n =
     let l = s.lazy ++ (r ∷ []) in
-    let size = length_more s.lazy r in
+    let size = length-more s.lazy r in
     let k = lazy-length s w in
     room-full (length l) 1024 p (set_lazy l) s (omega arith)
 
@@ -84,26 +84,26 @@ pub flag-told : (b : Bool) → eqb (flag b) 1 ≡ b
 flag-told true = refl
 flag-told false = refl
 
-pub top-told : (t : List ℕ) → Tells (λ s. s.top) t (eqb (get_or t top-cell 0) 1)
+pub top-told : (t : List ℕ) → Tells (λ s. s.top) t (eqb (get_or t top_cell 0) 1)
 top-told t = record { is = λ s w. ap (λ (n : ℕ). eqb n 1) w.top ∙ flag-told s.top }
 
-pub top_set : {t : List ℕ} (b : Bool) → Good t → Turns (set_top b) t (set t top-cell (flag b))
-top_set {t} b g =
-    let f = beside-rows top-cell (flag b) g beside-top in
+pub top-set : {t : List ℕ} (b : Bool) → Good t → Turns (set_top b) t (set t top_cell (flag b))
+top-set {t} b g =
+    let f = beside-rows top_cell (flag b) g beside-top in
     let size = g.size in
-    let c = get_or-set_other t top-cell own-cell (flag b) 0 (λ e. omega arith) in
+    let c = get_or-set_other t top_cell own_cell (flag b) 0 (λ e. omega arith) in
     record {
       good =
-          beside-good top-cell (flag b) g beside-top (agrees-set t top-cell (flag b) (λ h k e. omega arith) (λ h k e. omega arith))
+          beside-good top_cell (flag b) g beside-top (agrees-set t top_cell (flag b) (λ h k e. omega arith) (λ h k e. omega arith))
           (let n = g.own_below in omega arith);
       shows = λ s w.
-          shows-top w f (get_or-set_same t top-cell (flag b) 0 (omega arith))
+          shows-top w f (get_or-set_same t top_cell (flag b) 0 (omega arith))
           (record {
             externals = ap (map atom_of) (f externals) ∙ w.sets.externals;
             table = ap (map lent_of) (f table) ∙ w.sets.table;
-            pass = get_or-set_other t top-cell pass-cell (flag b) 0 (λ e. omega arith) ∙ w.sets.pass;
+            pass = get_or-set_other t top_cell pass_cell (flag b) 0 (λ e. omega arith) ∙ w.sets.pass;
             own = c ∙ w.sets.own;
-            require = get_or-set_other t top-cell require-cell (flag b) 0 (λ e. omega arith) ∙ w.sets.require;
+            require = get_or-set_other t top_cell require_cell (flag b) 0 (λ e. omega arith) ∙ w.sets.require;
           });
     }
 
@@ -140,7 +140,7 @@ module _ (t : List ℕ) (n : length t ≡ cells) (z : (i : ℕ) → get_or t i 0
         below = λ k. subst (InLimits k) (sym (zero-rows k)) (nothing-over k);
         size = omega arith;
         hinted = λ k. subst (Hinted k t) (sym (zero-rows k)) (nothing-hinted k);
-        own_below = let e = z own-cell in omega arith;
+        own_below = let e = z own_cell in omega arith;
       }
 
   -- what it is set to: the first pass, module 0, no mode, no lent list
@@ -155,15 +155,15 @@ module _ (t : List ℕ) (n : length t ≡ cells) (z : (i : ℕ) → get_or t i 0
         met = ap length (zero-rows namespaces);
         lazy = ap (map (lazy_of (unset literal bound))) (zero-rows lazies);
         forced = ap (map atom_of) (zero-rows forces);
-        top = z top-cell;
+        top = z top_cell;
         modules = ap (map module_of) (zero-rows modules);
         sourced = record { once = (sourced-start []).once; from = (sourced-start []).from };
         sets =
             record {
               externals = ap (map atom_of) (zero-rows externals);
               table = ap (map lent_of) (zero-rows table);
-              pass = z pass-cell;
-              own = z own-cell;
-              require = z require-cell;
+              pass = z pass_cell;
+              own = z own_cell;
+              require = z require_cell;
             };
       }

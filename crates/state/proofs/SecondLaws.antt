@@ -14,8 +14,8 @@ use Rattle.extraction_rules.specs.State.{Record, Usage, State, set_collected}
 use Rattle.extraction_rules.specs.First.{holds_namespace}
 use Rattle.extraction_rules.specs.Second.{specifiers_from, extend}
 use Rattle.state.specs.Cells.{Env, id_of, brief, flag, count_namespaces, namespaces_in, Shows}
-use Rattle.state.proofs.IndexLaws.{index-map, index_same}
-use Rattle.state.proofs.FrameLaws.{cells_same, shows-collected}
+use Rattle.state.proofs.IndexLaws.{index-map, index-same}
+use Rattle.state.proofs.FrameLaws.{cells-same, shows-collected}
 use Rattle.state.proofs.SourcedLaws.{extend-sources}
 
 flag-zero : (b : Bool) → flag b ≡ 0 → b ≡ false
@@ -79,8 +79,8 @@ module _ (fs : Fields) (z : count_namespaces fs ≡ 0) where
   -- 'appended to the record whose LITERAL is equal'
   pub shows-extended : {y : Env} {t : List ℕ} {s : State} (x : List ℕ) → Shows y t s → Shows y t (set_collected (map (extend x fs) s.collected) s)
   shows-extended {t} {s} x w =
-      shows-collected w (record { rows-kept = λ m h. refl; cells-kept = cells_same _ }) (w.collected ∙ sym (briefs-behind x s.collected))
+      shows-collected w (record { rows_kept = λ m h. refl; cells_kept = cells-same _ }) (w.collected ∙ sym (briefs-behind x s.collected))
       (λ n.
       sym (index-map (holds_namespace (id_of n)) (extend x fs) s.collected)
-      ∙ index_same (λ r. holds_namespace (id_of n) (extend x fs r)) (holds_namespace (id_of n)) (λ r. extend-by (holds_namespace (id_of n)) x r (holds-behind (id_of n) r)) s.collected)
+      ∙ index-same (λ r. holds_namespace (id_of n) (extend x fs r)) (holds_namespace (id_of n)) (λ r. extend-by (holds_namespace (id_of n)) x r (holds-behind (id_of n) r)) s.collected)
       (namespaces-behind x s.collected) (λ a k. ap (among a) (extend-sources x fs s.collected) ∙ k)

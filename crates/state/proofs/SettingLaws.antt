@@ -14,16 +14,16 @@ use Rattle.tree.specs.Layout.{Bytes, two, two_at, same}
 use Rattle.tree.proofs.LayoutLaws.{same-two}
 use Rattle.inputs.specs.Lists.{is_some, mapped, among}
 use Rattle.inputs.specs.Table.{Row as LentRow, atoms_in, rows_in, row_of as row_for, file_of}
-use Rattle.inputs.proofs.TableLaws.{bytes-two, rows_step, rows_end}
+use Rattle.inputs.proofs.TableLaws.{bytes-two, rows-step, rows-end}
 use Rattle.extraction_rules.specs.State.{Pass, first, second, Setting}
 use Rattle.state.specs.Cells.{Kind, pass_flag, externals, table, table_of, InLimits, Below, held, Good, Hinted, row_hint, atom_of, lent_of, flag, Sets}
-use Rattle.state.specs.Cells.{top-cell, pass-cell, own-cell, require-cell}
+use Rattle.state.specs.Cells.{top_cell, pass_cell, own_cell, require_cell}
 use Rattle.modes.specs.declared.Modes.{Modes}
 use Rattle.state.specs.Does.{Aside, Others, Says, Resets, is_second, place_in, with_setting, with_second, with_own, with_modes, with_externals, with_table}
 use Rattle.state.proofs.IdLaws.{between-one}
-use Rattle.state.proofs.ListLaws.{length_more, below-append, find-row, row_of, below_row, first_below}
+use Rattle.state.proofs.ListLaws.{length-more, below-append, find-row, row_of, below-row, first-below}
 use Rattle.state.proofs.HintLaws.{agrees-set, reached-append}
-use Rattle.state.proofs.FrameLaws.{cells_same, cells-then, Beside, beside-set, beside-rows, beside-good, others-kept, good-kept, shows-set}
+use Rattle.state.proofs.FrameLaws.{cells-same, cells-then, Beside, beside-set, beside-rows, beside-good, others-kept, good-kept, shows-set}
 use Rattle.state.proofs.ImportedLaws.{mapped-mapped}
 use Rattle.state.proofs.ForcedLaws.{among-rows}
 use Rattle.state.proofs.RestLaws.{flag-told}
@@ -56,16 +56,16 @@ file-told {t} {a} {o} g h e =
 
 -- a file's number fits two bytes
 pub file-small : (a : ℕ) {t : List ℕ} {i n : ℕ} → Good t → first_in a a (rows (table_of table) t) ≡ some i → n ≡ (row_of (rows (table_of table) t) i).1 → n < 65536
-file-small a {t} {i} g f e = let b = (below_row _ _ (rows (table_of table) t) i (g.below table) (first_below a a (rows (table_of table) t) i f)).1 in omega arith
+file-small a {t} {i} g f e = let b = (below-row _ _ (rows (table_of table) t) i (g.below table) (first-below a a (rows (table_of table) t) i f)).1 in omega arith
 
-pub pass-told : (t : List ℕ) → Says (λ e. is_second e.pass) t (eqb (get_or t pass-cell 0) 1)
+pub pass-told : (t : List ℕ) → Says (λ e. is_second e.pass) t (eqb (get_or t pass_cell 0) 1)
 pass-told t = record { is = λ {x} s w. ap (λ (n : ℕ). eqb n 1) w.sets.pass ∙ by x.setting.pass }
   where
     by : (p : Pass) → eqb (pass_flag p) 1 ≡ is_second p
     by first = refl
     by second = refl
 
-pub require-told : (t : List ℕ) → Says (λ e. e.config.require) t (eqb (get_or t require-cell 0) 1)
+pub require-told : (t : List ℕ) → Says (λ e. e.config.require) t (eqb (get_or t require_cell 0) 1)
 require-told t = record { is = λ {x} s w. ap (λ (n : ℕ). eqb n 1) w.sets.require ∙ flag-told x.setting.config.require }
 
 -- the place in the tree that the pass walks
@@ -100,7 +100,7 @@ to_externals l e = record { pass = e.pass; own = e.own; config = e.config; exter
 abbrev to_table : List LentRow → Setting → Setting
 to_table l e = record { pass = e.pass; own = e.own; config = e.config; externals = e.externals; table = l }
 
-module _ {t : List ℕ} (i v : ℕ) (g : Good t) (p : pass-cell ≤ i) (q : i < 21074) where
+module _ {t : List ℕ} (i v : ℕ) (g : Good t) (p : pass_cell ≤ i) (q : i < 21074) where
   beside : Beside i
   beside = beside-set i p (omega arith)
 
@@ -108,8 +108,8 @@ module _ {t : List ℕ} (i v : ℕ) (g : Good t) (p : pass-cell ≤ i) (q : i < 
   set-rows = beside-rows i v g beside
 
   -- the lists are kept
-  cells-set : {e : Setting} (m : Pass) (o : ℕ) (c : Modes) → Sets e t → get_or (set t i v) pass-cell 0 ≡ pass_flag m → get_or (set t i v) own-cell 0 ≡ o →
-      get_or (set t i v) require-cell 0 ≡ flag c.require → Sets (record { pass = m; own = o; config = c; externals = e.externals; table = e.table }) (set t i v)
+  cells-set : {e : Setting} (m : Pass) (o : ℕ) (c : Modes) → Sets e t → get_or (set t i v) pass_cell 0 ≡ pass_flag m → get_or (set t i v) own_cell 0 ≡ o →
+      get_or (set t i v) require_cell 0 ≡ flag c.require → Sets (record { pass = m; own = o; config = c; externals = e.externals; table = e.table }) (set t i v)
   cells-set m o c w x y z =
       record {
         externals = ap (map atom_of) (set-rows externals) ∙ w.externals;
@@ -119,37 +119,37 @@ module _ {t : List ℕ} (i v : ℕ) (g : Good t) (p : pass-cell ≤ i) (q : i < 
         require = z;
       }
 
-  set-resets : (f : Setting → Setting) → get_or (set t i v) own-cell 0 < 65536 → ((e : Setting) → Sets e t → Sets (f e) (set t i v)) → Resets (with_setting f) t (set t i v)
+  set-resets : (f : Setting → Setting) → get_or (set t i v) own_cell 0 < 65536 → ((e : Setting) → Sets e t → Sets (f e) (set t i v)) → Resets (with_setting f) t (set t i v)
   set-resets f n k =
       record {
         good = beside-good i v g beside (agrees-set t i v (λ h b e. omega arith) (λ h b e. omega arith)) n;
-        shows = λ {x} s w. shows-set w f (λ m a b. set-rows m) (get_or-set_other t i top-cell v 0 (λ e. omega arith)) (k x.setting w.sets);
+        shows = λ {x} s w. shows-set w f (λ m a b. set-rows m) (get_or-set_other t i top_cell v 0 (λ e. omega arith)) (k x.setting w.sets);
       }
 
-pub second-set : {t : List ℕ} → Good t → Resets with_second t (set t pass-cell 1)
+pub second-set : {t : List ℕ} → Good t → Resets with_second t (set t pass_cell 1)
 second-set {t} g =
     let size = g.size in
-    let c = get_or-set_other t pass-cell own-cell 1 0 (λ e. omega arith) in
-    set-resets pass-cell 1 g (omega arith) (omega arith) to_second (let n = g.own_below in omega arith) (λ e w.
-    cells-set pass-cell 1 g (omega arith) (omega arith) second e.own e.config w (get_or-set_same t pass-cell 1 0 (omega arith)) (c ∙ w.own)
-    (get_or-set_other t pass-cell require-cell 1 0 (λ z. omega arith) ∙ w.require))
+    let c = get_or-set_other t pass_cell own_cell 1 0 (λ e. omega arith) in
+    set-resets pass_cell 1 g (omega arith) (omega arith) to_second (let n = g.own_below in omega arith) (λ e w.
+    cells-set pass_cell 1 g (omega arith) (omega arith) second e.own e.config w (get_or-set_same t pass_cell 1 0 (omega arith)) (c ∙ w.own)
+    (get_or-set_other t pass_cell require_cell 1 0 (λ z. omega arith) ∙ w.require))
 
-pub own-set : {t : List ℕ} (n : ℕ) → n < 65536 → Good t → Resets (with_own n) t (set t own-cell n)
+pub own-set : {t : List ℕ} (n : ℕ) → n < 65536 → Good t → Resets (with_own n) t (set t own_cell n)
 own-set {t} n h g =
     let size = g.size in
-    let c = get_or-set_same t own-cell n 0 (omega arith) in
-    set-resets own-cell n g (omega arith) (omega arith) (to_own n) (omega arith) (λ e w.
-    cells-set own-cell n g (omega arith) (omega arith) e.pass n e.config w (get_or-set_other t own-cell pass-cell n 0 (λ z. omega arith) ∙ w.pass) c
-    (get_or-set_other t own-cell require-cell n 0 (λ z. omega arith) ∙ w.require))
+    let c = get_or-set_same t own_cell n 0 (omega arith) in
+    set-resets own_cell n g (omega arith) (omega arith) (to_own n) (omega arith) (λ e w.
+    cells-set own_cell n g (omega arith) (omega arith) e.pass n e.config w (get_or-set_other t own_cell pass_cell n 0 (λ z. omega arith) ∙ w.pass) c
+    (get_or-set_other t own_cell require_cell n 0 (λ z. omega arith) ∙ w.require))
 
-pub modes-set : {t : List ℕ} (m : Modes) → Good t → Resets (with_modes m) t (set t require-cell (flag m.require))
+pub modes-set : {t : List ℕ} (m : Modes) → Good t → Resets (with_modes m) t (set t require_cell (flag m.require))
 modes-set {t} m g =
     let size = g.size in
     let v = flag m.require in
-    let c = get_or-set_other t require-cell own-cell v 0 (λ e. omega arith) in
-    set-resets require-cell v g (omega arith) (omega arith) (to_modes m) (let n = g.own_below in omega arith) (λ e w.
-    cells-set require-cell v g (omega arith) (omega arith) e.pass e.own m w (get_or-set_other t require-cell pass-cell v 0 (λ z. omega arith) ∙ w.pass)
-    (c ∙ w.own) (get_or-set_same t require-cell v 0 (omega arith)))
+    let c = get_or-set_other t require_cell own_cell v 0 (λ e. omega arith) in
+    set-resets require_cell v g (omega arith) (omega arith) (to_modes m) (let n = g.own_below in omega arith) (λ e w.
+    cells-set require_cell v g (omega arith) (omega arith) e.pass e.own m w (get_or-set_other t require_cell pass_cell v 0 (λ z. omega arith) ∙ w.pass)
+    (c ∙ w.own) (get_or-set_same t require_cell v 0 (omega arith)))
 
 -- ---- A lent list is put into its table
 
@@ -166,14 +166,14 @@ lend-start {f = f} {said} {s} g e =
       good = g;
       size = refl;
       lent = ap (λ (l : List Row). map f l ++ said s) e;
-      others = record { rows-kept = λ m h. refl; cells-kept = cells_same _ };
+      others = record { rows_kept = λ m h. refl; cells_kept = cells-same _ };
     }
 
 module _ {A : Type 0} {k : Kind} {f : Row → A} {said : List ℕ → List A} {s t₀ t : List ℕ} {i : ℕ} (l : Lending k f said s i t₀ t) where
   lend-more : {j : ℕ} {t' : List ℕ} (r : Row) → held k t < (table_of k).room → InLimits k (rows (table_of k) t ++ (r ∷ [])) → Hinted k t (rows (table_of k) t ++ (r ∷ [])) →
       said (drop i s) ≡ f r ∷ said (drop j s) → rows (table_of k) t' ≡ rows (table_of k) t ++ (r ∷ []) → Only (table_of k) t t' → Lending k f said s j t₀ t'
   lend-more {j} {t'} r n b h d e o =
-      let m = length_more (rows (table_of k) t) r in
+      let m = length-more (rows (table_of k) t) r in
       let c = others-kept k l.good o in
       record {
         good = good-kept k l.good o e (omega arith) b h;
@@ -183,8 +183,8 @@ module _ {A : Type 0} {k : Kind} {f : Row → A} {said : List ℕ → List A} {s
             ∙ append_assoc (map f (rows (table_of k) t)) (f r ∷ []) (said (drop j s)) ∙ ap (λ (x : List A). map f (rows (table_of k) t) ++ x) (sym d) ∙ l.lent;
         others =
             record {
-              rows-kept = λ m h. c.rows-kept m h ∙ l.others.rows-kept m h;
-              cells-kept = cells-then l.others.cells-kept c.cells-kept;
+              rows_kept = λ m h. c.rows_kept m h ∙ l.others.rows_kept m h;
+              cells_kept = cells-then l.others.cells_kept c.cells_kept;
             };
       }
 
@@ -197,8 +197,8 @@ module _ {A : Type 0} {k : Kind} {f : Row → A} {said : List ℕ → List A} {s
         lent = ap (λ (x : List Row). map f x ++ said (drop i s)) (a.same_rows k) ∙ l.lent;
         others =
             record {
-              rows-kept = λ m h. a.same_rows m ∙ l.others.rows-kept m h;
-              cells-kept = cells-then l.others.cells-kept a.same-cells;
+              rows_kept = λ m h. a.same_rows m ∙ l.others.rows_kept m h;
+              cells_kept = cells-then l.others.cells_kept a.same_cells;
             };
       }
 
@@ -232,47 +232,47 @@ module _ {s t₀ t : List ℕ} {i : ℕ} (l : Lending externals atom_of atoms_in
 
   pub externals-lent : length s < i + 2 → Resets (with_externals (atoms_in s)) t₀ t
   externals-lent h =
-      let c = l.others.cells-kept in
+      let c = l.others.cells_kept in
       record {
         good = l.good;
         shows = λ q w.
-            shows-set w (to_externals (atoms_in s)) (λ m a b. l.others.rows-kept m a) c.top_kept
+            shows-set w (to_externals (atoms_in s)) (λ m a b. l.others.rows_kept m a) c.top_kept
             (record {
               externals = lend-end l (atoms-end (drop i s) (simp length-drop (omega arith)));
-              table = ap (map lent_of) (l.others.rows-kept table refl) ∙ w.sets.table;
+              table = ap (map lent_of) (l.others.rows_kept table refl) ∙ w.sets.table;
               pass = c.pass_kept ∙ w.sets.pass;
-              own = c.own-kept ∙ w.sets.own;
-              require = c.require-kept ∙ w.sets.require;
+              own = c.own_kept ∙ w.sets.own;
+              require = c.require_kept ∙ w.sets.require;
             });
       }
 
 -- ---- The table, four bytes to a row
 
 module _ {s t₀ t : List ℕ} {i : ℕ} (l : Lending table lent_of rows_in s i t₀ t) where
-  pub row_more : {n v : ℕ} {m t' : List ℕ} → Bytes s → i + 4 ≤ length s → held table t < 1024 → n < 65536 → v < 65536 → n ≡ two_at s i → v ≡ two_at s (i + 2) →
+  pub row-more : {n v : ℕ} {m t' : List ℕ} → Bytes s → i + 4 ≤ length s → held table t < 1024 → n < 65536 → v < 65536 → n ≡ two_at s i → v ≡ two_at s (i + 2) →
       Aside t m → length m ≡ length t → 1024 ≤ held table t + row_hint m (n % 1024) →
       rows (table_of table) t' ≡ rows (table_of table) m ++ ((n, v) ∷ []) → Only (table_of table) m t' → Lending table lent_of rows_in s (i + 4) t₀ t'
-  row_more {n} {v} {m} b h r k j e f a z c =
+  row-more {n} {v} {m} b h r k j e f a z c =
       let q = lend-aside l a z in
       let x = ap length (a.same_rows table) in
       lend-more q (n, v) (omega arith) (below-append _ _ (rows (table_of table) m) (n, v) (q.good.below table) k j)
       (reached-append 1024 (λ y. row_hint m (y % 1024)) 0 (rows (table_of table) m) (n, v) (q.good.hinted table) (omega arith))
-      (rows_step s i h
+      (rows-step s i h
       ∙ ap₂ (λ (y : List ℕ) (d : ℕ). record { source = y; file = d } ∷ rows_in (drop (i + 4) s))
       (bytes-two (get_or s i 0) (get_or s (i + 1) 0) (b i) (b (i + 1)) ∙ ap two (sym e)) (sym f))
 
   pub table-lent : length s < i + 4 → Resets (with_table (rows_in s)) t₀ t
   table-lent h =
-      let c = l.others.cells-kept in
+      let c = l.others.cells_kept in
       record {
         good = l.good;
         shows = λ q w.
-            shows-set w (to_table (rows_in s)) (λ m a b. l.others.rows-kept m b) c.top_kept
+            shows-set w (to_table (rows_in s)) (λ m a b. l.others.rows_kept m b) c.top_kept
             (record {
-              externals = ap (map atom_of) (l.others.rows-kept externals refl) ∙ w.sets.externals;
-              table = lend-end l (rows_end s i h);
+              externals = ap (map atom_of) (l.others.rows_kept externals refl) ∙ w.sets.externals;
+              table = lend-end l (rows-end s i h);
               pass = c.pass_kept ∙ w.sets.pass;
-              own = c.own-kept ∙ w.sets.own;
-              require = c.require-kept ∙ w.sets.require;
+              own = c.own_kept ∙ w.sets.own;
+              require = c.require_kept ∙ w.sets.require;
             });
       }

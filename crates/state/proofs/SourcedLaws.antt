@@ -8,8 +8,8 @@ use mathlib.Core.Option.{some}
 use Rattle.scope.specs.Modules.{Modules}
 use Rattle.tree.specs.Layout.{same, value_of}
 use Rattle.tree.specs.Tree.{Fields}
-use Rattle.tree.proofs.LayoutLaws.{same_refl, same-equal}
-use Rattle.tree.proofs.FixedLaws.{or_right}
+use Rattle.tree.proofs.LayoutLaws.{same-refl, same-equal}
+use Rattle.tree.proofs.FixedLaws.{or-right}
 use Rattle.inputs.specs.Lists.{find, among}
 use Rattle.extraction_rules.specs.State.{Record, State, start, set_forced, set_collected}
 use Rattle.extraction_rules.specs.First.{force_source}
@@ -32,17 +32,17 @@ find-among p (r ∷ l) x e = by (p r) (find-among p l x) e
   where
     by : (b : Bool) → (some x ≡ source_of (find p l) → among x (sources_in l) ≡ true) → some x ≡ source_of (cond b (some r) (find p l)) →
         (same x (value_of r.literal) || among x (sources_in l)) ≡ true
-    by true h f = let z : x ≡ value_of r.literal = cc in ap (λ (k : Bool). k || among x (sources_in l)) (ap (same x) (sym z) ∙ same_refl x)
-    by false h f = or_right (same x (value_of r.literal)) (among x (sources_in l)) (h f)
+    by true h f = let z : x ≡ value_of r.literal = cc in ap (λ (k : Bool). k || among x (sources_in l)) (ap (same x) (sym z) ∙ same-refl x)
+    by false h f = or-right (same x (value_of r.literal)) (among x (sources_in l)) (h f)
 
 -- ---- A source is forced
 
-once_more : (a : List ℕ) (l : List (List ℕ)) → Once l → among a l ≡ false → Once (l ++ (a ∷ []))
+once-more : (a : List ℕ) (l : List (List ℕ)) → Once l → among a l ≡ false → Once (l ++ (a ∷ []))
 unfolding Once among
-once_more a [] o e = (refl, tt)
-once_more a (b ∷ l) o e =
+once-more a [] o e = (refl, tt)
+once-more a (b ∷ l) o e =
     let h = or-neither (same a b) (among a l) e in
-    (among-last b a l ∙ ap (λ (x : Bool). x || same b a) o.0 ∙ same-swap b a ∙ h.0, once_more a l o.1 h.1)
+    (among-last b a l ∙ ap (λ (x : Bool). x || same b a) o.0 ∙ same-swap b a ∙ h.0, once-more a l o.1 h.1)
 
 pub sourced-force : (a : List ℕ) {s : State} → Sourced s → among a (sources_in s.collected) ≡ true → Sourced (force_source a s)
 unfolding force_source
@@ -57,7 +57,7 @@ sourced-force a {s} k h = by (among a s.forced) refl
     by true e = k
     by false e =
         record {
-          once = once_more a s.forced k.once e;
+          once = once-more a s.forced k.once e;
           from = λ c f. from c (same c a) refl (among c s.forced) refl (sym (among-last c a s.forced) ∙ f);
         }
 

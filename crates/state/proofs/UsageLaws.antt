@@ -17,11 +17,11 @@ use Rattle.inputs.specs.Outcome.{refused}
 use Rattle.extraction_rules.specs.State.{Imported, Usage, State, set_usages}
 use Rattle.extraction_rules.specs.First.{forget, add_usage}
 use Rattle.extraction_rules.specs.Second.{usages_of}
-use Rattle.state.specs.Cells.{Env, id-limit, imports, uses, table_of, Below, held, Good, Shows, id_of, id_by, imported_of, usage_of}
+use Rattle.state.specs.Cells.{Env, id_limit, imports, uses, table_of, Below, held, Good, Shows, id_of, id_by, imported_of, usage_of}
 use Rattle.state.specs.Does.{Changes, Tells, Turns, Did, Anyhow, Acts, Lists, any}
 use Rattle.state.specs.declared.Room.TheVariants.{Made, Full}
-use Rattle.state.proofs.IdLaws.{same_id, same_key}
-use Rattle.state.proofs.ListLaws.{length_more, any-row, filter-rows, below_row, row_of}
+use Rattle.state.proofs.IdLaws.{same-id, same-key}
+use Rattle.state.proofs.ListLaws.{length-more, any-row, filter-rows, below-row, row_of}
 use Rattle.tables.proofs.RowLaws.{get_d_map}
 use Rattle.state.specs.declared.Property.TheVariants.{Is, Other}
 use Rattle.state.proofs.FrameLaws.{shows-imported, shows-usages}
@@ -29,16 +29,16 @@ use Rattle.state.proofs.ImportedLaws.{room-made, room-full}
 
 -- ---- Whether there are some
 
-any_found : (id v : ℕ) (l : List Row) → id < id-limit → Below id-limit v l → any (usages_of (id_of id) (map usage_of l)) ≡ is_some (first_in id id l)
+any-found : (id v : ℕ) (l : List Row) → id < id_limit → Below id_limit v l → any (usages_of (id_of id) (map usage_of l)) ≡ is_some (first_in id id l)
 unfolding usages_of
-any_found id v l h b = any-row (λ (u : Usage). same u.id (id_of id)) usage_of id id id-limit v (λ r k. same_key id r.0 h k) l b
+any-found id v l h b = any-row (λ (u : Usage). same u.id (id_of id)) usage_of id id id_limit v (λ r k. same-key id r.0 h k) l b
 
-pub usages-told : {t x : List ℕ} {id : ℕ} {b : Bool} → Good t → id_of id ≡ x → id < id-limit → b ≡ is_some (first_in id id (rows (table_of uses) t)) →
+pub usages-told : {t x : List ℕ} {id : ℕ} {b : Bool} → Good t → id_of id ≡ x → id < id_limit → b ≡ is_some (first_in id id (rows (table_of uses) t)) →
     Tells (λ s. any (usages_of x s.usages)) t b
 usages-told {t} {x} {id} g n h e =
     record {
       is = λ s w.
-          e ∙ sym (any_found id _ (rows (table_of uses) t) h (g.below uses))
+          e ∙ sym (any-found id _ (rows (table_of uses) t) h (g.below uses))
           ∙ ap (λ (l : List Usage). any (usages_of (id_of id) l)) w.usages ∙ ap (λ (y : List ℕ). any (usages_of y s.usages)) n;
     }
 
@@ -55,8 +55,8 @@ module _ (k q : ℕ) {t x v : List ℕ} (g : Good t) (i : id_of k ≡ x) (j : id
       let l = rows (table_of uses) t in
       let x = s.usages ++ (usage_of (k, q) ∷ []) in
       let shown : map usage_of (rows (table_of uses) t') ≡ x =
-      ap (map usage_of) d.now-rows ∙ map-append usage_of l ((k, q) ∷ []) ∙ ap (λ (m : List Usage). m ++ (usage_of (k, q) ∷ [])) w.usages in
-      let size = length_more s.usages (usage_of (k, q)) in
+      ap (map usage_of) d.now_rows ∙ map-append usage_of l ((k, q) ∷ []) ∙ ap (λ (m : List Usage). m ++ (usage_of (k, q) ∷ [])) w.usages in
+      let size = length-more s.usages (usage_of (k, q)) in
       let held : length s.usages ≡ length l = sym (ap length w.usages) ∙ length-map l usage_of in
       record {
         state = set_usages x s;
@@ -78,7 +78,7 @@ unfolding add_usage
 usage-refused u {t = t} s p w n =
     let l = rows (table_of uses) t in
     let x = s.usages ++ (u ∷ []) in
-    let size = length_more s.usages u in
+    let size = length-more s.usages u in
     let held : length s.usages ≡ length l = sym (ap length w.usages) ∙ length-map l usage_of in
     room-full (length x) 2048 p (set_usages x) s (omega arith)
 
@@ -88,7 +88,7 @@ usage-full u g n =
 
 -- ---- An id is forgotten
 
-pub forgotten : {t m t' x : List ℕ} {id : ℕ} → Good t → id_of id ≡ x → id < id-limit → Changes uses (without id (rows (table_of uses) t)) t m →
+pub forgotten : {t m t' x : List ℕ} {id : ℕ} → Good t → id_of id ≡ x → id < id_limit → Changes uses (without id (rows (table_of uses) t)) t m →
     Changes imports (without id (rows (table_of imports) m)) m t' → Turns (forget x) t t'
 unfolding forget
 forgotten {t} {m} {t'} {x} {id} g n h d f =
@@ -96,13 +96,13 @@ forgotten {t} {m} {t'} {x} {id} g n h d f =
       good = f.good;
       shows = λ s w.
           shows-imported (shows-usages w d.others
-          (ap (map usage_of) d.now-rows
+          (ap (map usage_of) d.now_rows
           ∙
-          sym (filter-rows (λ (u : Usage). not (same u.id (id_of id))) usage_of id id-limit _ (λ r k. ap not (same_id r.0 id k h))
+          sym (filter-rows (λ (u : Usage). not (same u.id (id_of id))) usage_of id id_limit _ (λ r k. ap not (same-id r.0 id k h))
           (rows (table_of uses) t) (g.below uses))
           ∙ ap (filter (λ (u : Usage). not (same u.id (id_of id)))) w.usages)) f.others
-          (ap (map imported_of) (f.now-rows ∙ ap (without id) (d.others.rows-kept imports refl))
-          ∙ sym (filter-rows (λ (u : Imported). not (same u.id (id_of id))) imported_of id id-limit _ (λ r k. ap not (same_id r.0 id k h)) (rows (table_of imports) t) (g.below imports))
+          (ap (map imported_of) (f.now_rows ∙ ap (without id) (d.others.rows_kept imports refl))
+          ∙ sym (filter-rows (λ (u : Imported). not (same u.id (id_of id))) imported_of id id_limit _ (λ r k. ap not (same-id r.0 id k h)) (rows (table_of imports) t) (g.below imports))
           ∙ ap (filter (λ (u : Imported). not (same u.id (id_of id)))) w.imported);
     })
 
@@ -112,10 +112,10 @@ pub usages-counted : {t : List ℕ} {n : ℕ} → n ≡ held uses t → Tells (�
 usages-counted {t} e = record { is = λ s w. e ∙ sym (length-map (rows (table_of uses) t) usage_of) ∙ ap length w.usages }
 
 -- the number of a property
-pub property-small : {t : List ℕ} {i n : ℕ} → Good t → i < held uses t → n ≡ (row_of (rows (table_of uses) t) i).1 → n < id-limit
-property-small {t} {i} g b e = let k = (below_row _ _ (rows (table_of uses) t) i (g.below uses) b).1 in omega arith
+pub property-small : {t : List ℕ} {i n : ℕ} → Good t → i < held uses t → n ≡ (row_of (rows (table_of uses) t) i).1 → n < id_limit
+property-small {t} {i} g b e = let k = (below-row _ _ (rows (table_of uses) t) i (g.below uses) b).1 in omega arith
 
-module _ {id i : ℕ} {t x : List ℕ} (g : Good t) (a : id_of id ≡ x) (h : id < id-limit) (b : i < held uses t) where
+module _ {id i : ℕ} {t x : List ℕ} (g : Good t) (a : id_of id ≡ x) (h : id < id_limit) (b : i < held uses t) where
   usages-onward : {y : Env} (s : State) → Shows y t s → drop i s.usages ≡ usage_of (row_of (rows (table_of uses) t) i) ∷ drop (i + 1) s.usages
   usages-onward s w =
       let l = rows (table_of uses) t in
@@ -132,7 +132,7 @@ module _ {id i : ℕ} {t x : List ℕ} (g : Good t) (a : id_of id ≡ x) (h : id
       ∙ ap (λ (y : Bool). cond y (usage_of (row_of (rows (table_of uses) t) i) ∷ usages_of (id_of id) (drop (i + 1) s.usages)) (usages_of (id_of id) (drop (i + 1) s.usages))) e
 
   key-test : (x : Bool) → eqb (row_of (rows (table_of uses) t) i).0 id ≡ x → same (id_of (row_of (rows (table_of uses) t) i).0) (id_of id) ≡ x
-  key-test x e = same_id _ id (below_row _ _ (rows (table_of uses) t) i (g.below uses) b).0 h ∙ e
+  key-test x e = same-id _ id (below-row _ _ (rows (table_of uses) t) i (g.below uses) b).0 h ∙ e
 
   pub listed-is : {q : Id} → (row_of (rows (table_of uses) t) i).0 ≡ id → id_by q ≡ id_of (row_of (rows (table_of uses) t) i).1 → Lists x i t (Is q)
   listed-is {q} e f =

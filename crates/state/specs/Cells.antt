@@ -34,26 +34,26 @@ table_of modules = record { count = 6; base = 15482; room = 256 }
 table_of externals = record { count = 17997; base = 17998; room = 512 }
 table_of table = record { count = 19022; base = 19023; room = 1024 }
 
-abbrev pub top-cell : ℕ
-top-cell = 7
+abbrev pub top_cell : ℕ
+top_cell = 7
 
 -- behind these tables stand 2,003 cells of hints; then what a call is lent and set to: two tables, the pass, the own module, the modes; then
 -- 1,280 cells of hints for the lent table and the modules
-abbrev pub pass-cell : ℕ
-pass-cell = 21071
+abbrev pub pass_cell : ℕ
+pass_cell = 21071
 
-abbrev pub own-cell : ℕ
-own-cell = 21072
+abbrev pub own_cell : ℕ
+own_cell = 21072
 
-abbrev pub require-cell : ℕ
-require-cell = 21073
+abbrev pub require_cell : ℕ
+require_cell = 21073
 
 abbrev pub cells : ℕ
 cells = 22354
 
 -- an id, a literal or a property in one number: 2^48
-abbrev pub id-limit : ℕ
-id-limit = 281474976710656
+abbrev pub id_limit : ℕ
+id_limit = 281474976710656
 
 unfoldable pub Below : ℕ → ℕ → List Row → Type 0
 Below k v [] = Unit
@@ -61,11 +61,11 @@ Below k v (r ∷ l) = (r.0 < k) × (r.1 < v) × Below k v l
 
 -- keys and values of the tables; a place has four bytes, a file two, marks are four bits
 abbrev pub InLimits : Kind → List Row → Type 0
-InLimits imports l = Below id-limit 4294967296 l
-InLimits uses l = Below id-limit id-limit l
-InLimits records l = Below id-limit 281474976710657 l
-InLimits namespaces l = Below id-limit 256 l
-InLimits lazies l = Below id-limit 4294967296 l
+InLimits imports l = Below id_limit 4294967296 l
+InLimits uses l = Below id_limit id_limit l
+InLimits records l = Below id_limit 281474976710657 l
+InLimits namespaces l = Below id_limit 256 l
+InLimits lazies l = Below id_limit 4294967296 l
 InLimits forces l = Below 65536 1 l
 InLimits modules l = Below 65536 16 l
 InLimits externals l = Below 65536 1 l
@@ -158,7 +158,7 @@ pub record Good (t : List ℕ) : Type 0 where
   pub lies : (k : Kind) → Lies (table_of k) t
   pub below : (k : Kind) → InLimits k (rows (table_of k) t)
   pub hinted : (k : Kind) → Hinted k t (rows (table_of k) t)
-  pub own_below : get_or t own-cell 0 < 65536
+  pub own_below : get_or t own_cell 0 < 65536
 
 -- how many rows a table holds
 abbrev pub held : Kind → List ℕ → ℕ
@@ -272,9 +272,9 @@ pub record Sourced (s : State) : Type 0 where
 pub record Sets (e : Setting) (t : List ℕ) : Type 0 where
   pub externals : map atom_of (rows (table_of externals) t) ≡ e.externals
   pub table : map lent_of (rows (table_of table) t) ≡ e.table
-  pub pass : get_or t pass-cell 0 ≡ pass_flag e.pass
-  pub own : get_or t own-cell 0 ≡ e.own
-  pub require : get_or t require-cell 0 ≡ flag e.config.require
+  pub pass : get_or t pass_cell 0 ≡ pass_flag e.pass
+  pub own : get_or t own_cell 0 ≡ e.own
+  pub require : get_or t require_cell 0 ≡ flag e.config.require
 
 -- of a collected record the array shows its literal, its first namespace, and, with the namespaces met, which record is the first to hold
 -- one; of a lazy one, by what stands at its places, its literal and its specifiers
@@ -282,11 +282,11 @@ pub record Shows (x : Env) (t : List ℕ) (s : State) : Type 0 where
   pub imported : map imported_of (rows (table_of imports) t) ≡ s.imported
   pub usages : map usage_of (rows (table_of uses) t) ≡ s.usages
   pub collected : map (brief_of x) (rows (table_of records) t) ≡ map brief s.collected
-  pub holders : (n : ℕ) → n < id-limit → least_of n (rows (table_of namespaces) t) ≡ index_of (holds_namespace (id_of n)) s.collected
+  pub holders : (n : ℕ) → n < id_limit → least_of n (rows (table_of namespaces) t) ≡ index_of (holds_namespace (id_of n)) s.collected
   pub met : held namespaces t ≡ namespaces_in s.collected
   pub lazy : map (lazy_of x) (rows (table_of lazies) t) ≡ s.lazy
   pub forced : map atom_of (rows (table_of forces) t) ≡ s.forced
-  pub top : get_or t top-cell 0 ≡ flag s.top
+  pub top : get_or t top_cell 0 ≡ flag s.top
   pub modules : map module_of (rows (table_of modules) t) ≡ s.modules
   pub sourced : Sourced s
   pub sets : Sets x.setting t

@@ -16,8 +16,8 @@ use Rattle.scope.specs.declared.id.ModuleId.{ModuleId}
 use Rattle.extraction_rules.specs.State.{Record, Usage, State, Pass, first, second, Setting, Act, set_collected}
 use Rattle.extraction_rules.specs.First.{collect, force_source}
 use Rattle.extraction_rules.specs.Second.{usages_of}
-use Rattle.state.specs.Cells.{Kind, import_hint, namespace_hint, use_hint, tag_of, hint_in, named_in, source_in, row_hint, module_hint, top-cell}
-use Rattle.state.specs.Cells.{Env, records, table_of, held, pass-cell, own-cell, require-cell, Good, id_by, literal_by, Valued, namespaces_in, sources_in, Shows}
+use Rattle.state.specs.Cells.{Kind, import_hint, namespace_hint, use_hint, tag_of, hint_in, named_in, source_in, row_hint, module_hint, top_cell}
+use Rattle.state.specs.Cells.{Env, records, table_of, held, pass_cell, own_cell, require_cell, Good, id_by, literal_by, Valued, namespaces_in, sources_in, Shows}
 use Rattle.state.specs.declared.Context.{Context}
 use Rattle.state.specs.declared.Context.TheVariants.{Of, Nowhere}
 use Rattle.state.specs.declared.Source.{Source}
@@ -39,27 +39,27 @@ one? k m = eqb (table_of k).count (table_of m).count
 
 -- the cells beside the tables and the hints are kept
 pub record CellsKept (t t' : List ℕ) : Type 0 where
-  pub top_kept : get_or t' top-cell 0 ≡ get_or t top-cell 0
-  pub pass_kept : get_or t' pass-cell 0 ≡ get_or t pass-cell 0
-  pub own-kept : get_or t' own-cell 0 ≡ get_or t own-cell 0
-  pub require-kept : get_or t' require-cell 0 ≡ get_or t require-cell 0
+  pub top_kept : get_or t' top_cell 0 ≡ get_or t top_cell 0
+  pub pass_kept : get_or t' pass_cell 0 ≡ get_or t pass_cell 0
+  pub own_kept : get_or t' own_cell 0 ≡ get_or t own_cell 0
+  pub require_kept : get_or t' require_cell 0 ≡ get_or t require_cell 0
 
 -- all but one table is kept
 pub record Others (k : Kind) (t t' : List ℕ) : Type 0 where
-  pub rows-kept : (m : Kind) → one? k m ≡ false → rows (table_of m) t' ≡ rows (table_of m) t
-  pub cells-kept : CellsKept t t'
+  pub rows_kept : (m : Kind) → one? k m ≡ false → rows (table_of m) t' ≡ rows (table_of m) t
+  pub cells_kept : CellsKept t t'
 
 -- one table has other rows
 pub record Changes (k : Kind) (l : List Row) (t t' : List ℕ) : Type 0 where
   pub good : Good t'
-  pub now-rows : rows (table_of k) t' ≡ l
+  pub now_rows : rows (table_of k) t' ≡ l
   pub others : Others k t t'
 
 -- hints alone changed
 pub record Aside (t t' : List ℕ) : Type 0 where
   pub good : Good t'
   pub same_rows : (k : Kind) → rows (table_of k) t' ≡ rows (table_of k) t
-  pub same-cells : CellsKept t t'
+  pub same_cells : CellsKept t t'
 
 -- only cells of hints behind the setting changed, and they leave out nothing that the old ones name
 pub record Behind (t t' : List ℕ) : Type 0 where
@@ -74,15 +74,15 @@ pub record HintsModules (n : ℕ) (t t' : List ℕ) : Type 0 where
 
 -- a hint that leaves out no table that another names
 pub record Keeps (v w : ℕ) : Type 0 where
-  pub import-kept : 0 < import_hint v → 0 < import_hint w
-  pub namespace-kept : 0 < namespace_hint v → 0 < namespace_hint w
+  pub import_kept : 0 < import_hint v → 0 < import_hint w
+  pub namespace_kept : 0 < namespace_hint v → 0 < namespace_hint w
   pub use_kept : 0 < use_hint v → 0 < use_hint w
 
 -- a cell that leaves out nothing that another names
 pub record Grows (v w : ℕ) : Type 0 where
-  pub hints-kept : (n : ℕ) → Keeps (hint_in v n) (hint_in w n)
-  pub named-kept : named_in v ≤ named_in w
-  pub source-kept : source_in v ≤ source_in w
+  pub hints_kept : (n : ℕ) → Keeps (hint_in v n) (hint_in w n)
+  pub named_kept : named_in v ≤ named_in w
+  pub source_kept : source_in v ≤ source_in w
 
 -- the tag of a cell once an id has entered
 abbrev pub tag_for : ℕ → ℕ → ℕ

@@ -4,7 +4,7 @@ ghost use Rattle.std.specs.Prelude.{◌≡◌, [], ◌∷◌, ◌++◌, ◌+◌,
 ghost use Rattle.std.proofs.Math.Option.{none};
 ghost use Rattle.tables.specs.Rows.{rows, place_by, first_in, NoneBefore, least_by, least_of, without, with_value};
 ghost use Rattle.inputs.specs.Lists.{is_some};
-ghost use Rattle.state.specs.Cells.{id-limit, imports, uses, records, namespaces, modules, table, table_of, held, cell_at, hint_at, row_hint, module_hint, named_in, source_in, name_cell, Good};
+ghost use Rattle.state.specs.Cells.{id_limit, imports, uses, records, namespaces, modules, table, table_of, held, cell_at, hint_at, row_hint, module_hint, named_in, source_in, name_cell, Good};
 ghost use Rattle.state.specs.Does.{Changes, Aside, Behind, HintsModules, Keeps, Grows, tag_for, Starts};
 
 use crate::{IMPORTS, NAMESPACES, RECORDS, USES};
@@ -44,7 +44,7 @@ pub fn hint_of(t: &[u64], id: u64) -> u64
 
 // The tag of a cell once an id has entered.
 fn tag_for(v: u64, id: u64) -> u64
-    requires { id < id-limit }
+    requires { id < id_limit }
     ensures { (result ≡ tag_for v id) × (result ≤ 2097152) }
 {
     let own = id / 4294967296 * 32 + id % 32 + 1;
@@ -67,7 +67,7 @@ fn shared_hint(t: &[u64], id: u64) -> u64
 
 // An id enters its cell, with another hint.
 fn set_hint(t: &mut [u64], id: u64, hint: u64)
-    requires { Good t.old × (id < id-limit) × (hint < 8388608) × Keeps (cell_at t.old (id % 2003) % 8388608) hint }
+    requires { Good t.old × (id < id_limit) × (hint < 8388608) × Keeps (cell_at t.old (id % 2003) % 8388608) hint }
     ensures { Aside t.old t.new × (hint_at t.new id ≡ hint) }
 {
     let h = (id % 2003) as usize;
@@ -98,7 +98,7 @@ pub fn import_row(t: &[u64], id: u64) -> Found
 
 // An id becomes an imported one, the last.
 pub fn add_import(t: &mut [u64], id: u64, context: u64)
-    requires { Good t.old × (id < id-limit) × (context < 4294967296) × (held imports t.old < 512) × (first_in id id (rows (table_of imports) t.old) ≡ none) }
+    requires { Good t.old × (id < id_limit) × (context < 4294967296) × (held imports t.old < 512) × (first_in id id (rows (table_of imports) t.old) ≡ none) }
     ensures { Changes imports (rows (table_of imports) t.old ++ ((id, context) ∷ [])) t.old t.new }
 {
     let old = shared_hint(t, id);
@@ -143,7 +143,7 @@ pub fn is_used(t: &[u64], id: u64) -> bool
 
 // A usage of an id, the last.
 pub fn add_use(t: &mut [u64], id: u64, property: u64)
-    requires { Good t.old × (id < id-limit) × (property < id-limit) × (held uses t.old < 2048) }
+    requires { Good t.old × (id < id_limit) × (property < id_limit) × (held uses t.old < 2048) }
     ensures { Changes uses (rows (table_of uses) t.old ++ ((id, property) ∷ [])) t.old t.new }
 {
     let old = shared_hint(t, id);
@@ -178,7 +178,7 @@ pub fn least_holder(t: &[u64], id: u64) -> Least
 
 // A namespace of a record, the last.
 pub fn add_held(t: &mut [u64], id: u64, i: usize)
-    requires { Good t.old × (id < id-limit) × (i < 256) × (held namespaces t.old < 3641) }
+    requires { Good t.old × (id < id_limit) × (i < 256) × (held namespaces t.old < 3641) }
     ensures { Changes namespaces (rows (table_of namespaces) t.old ++ ((id, i) ∷ [])) t.old t.new }
 {
     let old = shared_hint(t, id);
@@ -212,7 +212,7 @@ pub fn first_of(t: &[u64], literal: u64) -> usize
 
 // A record of a literal, the last.
 pub fn add_record(t: &mut [u64], literal: u64)
-    requires { Good t.old × (literal < id-limit) × (held records t.old < 256) }
+    requires { Good t.old × (literal < id_limit) × (held records t.old < 256) }
     ensures { Changes records (rows (table_of records) t.old ++ ((literal, 0) ∷ [])) t.old t.new }
 {
     hint_source(t, literal, tables::count_of(t, RECORDS));
@@ -238,7 +238,7 @@ fn hint_source(t: &mut [u64], literal: u64, i: usize)
 
 // A record gets its first namespace.
 pub fn set_first(t: &mut [u64], id: u64, i: usize)
-    requires { Good t.old × (i < held records t.old) × (id < id-limit) }
+    requires { Good t.old × (i < held records t.old) × (id < id_limit) }
     ensures { Changes records (with_value i (id + 1) (rows (table_of records) t.old)) t.old t.new }
 {
     hint_name(t, id, i);

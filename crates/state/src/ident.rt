@@ -3,7 +3,7 @@ ghost use Rattle.std.specs.Prelude.{◌≡◌, [], ◌∷◌, ◌++◌, ◌+◌,
 ghost use Rattle.tree.specs.Layout.{two, id_at, value_of};
 ghost use Rattle.tree.specs.Tree.{encode, field, none};
 ghost use Rattle.writer.specs.Wrote.{Wrote};
-ghost use Rattle.state.specs.Cells.{id-limit, id_of, id_by};
+ghost use Rattle.state.specs.Cells.{id_limit, id_of, id_by};
 
 use crate::Literal;
 use scope::id::{Atom, Id, SyntaxContext};
@@ -11,7 +11,7 @@ use tree::layout::{atom_at, context_at};
 
 // An id as a number.
 pub fn id_number(id: Id) -> u64
-    ensures { (id_of result ≡ id_by id) × (result < id-limit) }
+    ensures { (id_of result ≡ id_by id) × (result < id_limit) }
 {
     let name = id.0;
     let c = id.1;
@@ -20,7 +20,7 @@ pub fn id_number(id: Id) -> u64
 
 // The id of a number.
 pub fn numbered_id(n: u64) -> Id
-    requires { n < id-limit }
+    requires { n < id_limit }
     ensures { id_by result ≡ id_of n }
 {
     Id(
@@ -50,7 +50,7 @@ pub fn literal_at(s: &[u8], at: usize, place: u32) -> Literal
 
 // A literal as a number: its value times 2^32, plus its place.
 pub fn literal_number(literal: Literal) -> u64
-    ensures { (result / 4294967296 ≡ literal.value.0) × (result % 4294967296 ≡ literal.place) × (result < id-limit) }
+    ensures { (result / 4294967296 ≡ literal.value.0) × (result % 4294967296 ≡ literal.place) × (result < id_limit) }
 {
     let value = literal.value;
     (value.0 as u64) * 4294967296 + (literal.place as u64)
@@ -58,7 +58,7 @@ pub fn literal_number(literal: Literal) -> u64
 
 // The literal of a number.
 pub fn numbered_literal(n: u64) -> Literal
-    requires { n < id-limit }
+    requires { n < id_limit }
     ensures { (result.value.0 ≡ n / 4294967296) × (result.place ≡ n % 4294967296) }
 {
     Literal {

@@ -18,7 +18,7 @@ use Rattle.tree.specs.Standing.{tree_at, Whole, Row}
 use Rattle.tree.proofs.FixedLaws.{no-upto, upto-inj}
 use Rattle.tree.proofs.AccessLaws.{extent-upto}
 use Rattle.tree.proofs.TreeLaws.{size-encode}
-use Rattle.tree.proofs.StandingLaws.{row_more, tree-upto, whole-step, row_next, whole-tag}
+use Rattle.tree.proofs.StandingLaws.{row-more, tree-upto, whole-step, row-next, whole-tag}
 use Rattle.tree.proofs.SoundLaws.{whole-sound}
 use Rattle.extraction_rules.proofs.AlikeLaws.{Regular, RegularAll}
 use Rattle.steps.specs.Step.{ReadAt, Sound, SoundAll}
@@ -36,8 +36,8 @@ module _ {s : List ℕ} {at stop : ℕ} (r : ReadAt s at stop) where
   read-tag = whole-tag s at stop r.whole
 
   -- its fixed bytes are whole
-  pub read_short : {A : Type 0} → fixed_at s (get_or s at 0) (at + 3) stop ≡ Short → A
-  read_short e = absurd (let b = whole-step s at stop r.whole in no-upto (sym e ∙ b.1))
+  pub read-short : {A : Type 0} → fixed_at s (get_or s at 0) (at + 3) stop ≡ Short → A
+  read-short e = absurd (let b = whole-step s at stop r.whole in no-upto (sym e ∙ b.1))
 
   -- and so are its parts
   pub read-parts : {b : ℕ} → fixed_at s (get_or s at 0) (at + 3) stop ≡ Upto b → Row s b stop (rule_of (get_or s at 0))
@@ -61,11 +61,11 @@ inside-fixed s at b h k = let e = length-slice (at + 3) b s k in omega arith
 
 -- ---- A row that was read
 
-pub row_read : {s : List ℕ} {at end stop : ℕ} (q : Rule) → at ≤ end → end ≤ length s → Row s at end q → extent_at s at end ≡ Upto stop →
+pub row-read : {s : List ℕ} {at end stop : ℕ} (q : Rule) → at ≤ end → end ≤ length s → Row s at end q → extent_at s at end ≡ Upto stop →
     ReadAt s at stop × ((q' : Rule) × (step_at q (get_or s at 0) ≡ Go q') × Row s stop end q')
-row_read {s} {at} {end} {stop} q le fits w e =
+row-read {s} {at} {end} {stop} q le fits w e =
     let i = extent-upto s at end le e in
-    let f = row_next s at end q le w (λ z. omega arith) in
+    let f = row-next s at end q le w (λ z. omega arith) in
     let z : f.1 ≡ stop = upto-inj (sym f.3 ∙ e) in (
       record { end = end; inside = le; fits = fits; extent = e; whole = subst (Whole s at) z f.4 },
       (f.0, f.2, subst (λ (k : ℕ). Row s k end f.0) z f.5),
@@ -85,9 +85,9 @@ module _ {s : List ℕ} {at stop : ℕ} (w : Sound s at stop) where
 
 module _ {s : List ℕ} {at end stop : ℕ} (le : at ≤ end) (w : SoundAll s at end) (e : extent_at s at end ≡ Upto stop) where
   pub sound_all-first : Sound s at stop
-  sound_all-first = record { read = (row_read w.rule le w.fits w.row e).0; regular = (subst RegularAll (row_more s at end stop le e) w.regular).0 }
+  sound_all-first = record { read = (row-read w.rule le w.fits w.row e).0; regular = (subst RegularAll (row-more s at end stop le e) w.regular).0 }
 
   pub sound_all-rest : SoundAll s stop end
   sound_all-rest =
-      let r = (row_read w.rule le w.fits w.row e).1 in
-      record { rule = r.0; fits = w.fits; row = r.2; regular = (subst RegularAll (row_more s at end stop le e) w.regular).1 }
+      let r = (row-read w.rule le w.fits w.row e).1 in
+      record { rule = r.0; fits = w.fits; row = r.2; regular = (subst RegularAll (row-more s at end stop le e) w.regular).1 }

@@ -5,7 +5,7 @@ use mathlib.Core.Path.{◌≡◌, refl, sym, ap, subst, ◌∙◌, ap₂}
 use mathlib.Core.List.{List, [], ◌++◌, append-nil}
 use lib.ListN.{length, length-set}
 use Rattle.writer.specs.Wrote.{Wrote, Opened, closed}
-use Rattle.writer.proofs.Wrote.{wrote_none, wrote_then, wrote_as, wrote-field, length-closed}
+use Rattle.writer.proofs.Wrote.{wrote-none, wrote-then, wrote-as, wrote-field, length-closed}
 use Rattle.tree.specs.Tree.{field, Fields, encode, encodes}
 use Rattle.metadata.proofs.EncodeLaws.{framed-field}
 use Rattle.inputs.specs.Outcome.{Outcome, done, refused, onto}
@@ -22,14 +22,14 @@ use Rattle.steps.specs.Refusal.{refusal_of}
 
 -- ---- Answers
 
-pub done_refused : {A : Type 0} {k : Step} {p q : ℕ} {w : Why} → k ≡ Done p → k ≡ Refused w q → A
-done_refused {p = p} {q} {w} e f = absurd (let z : ◌≡◌ {A = ℕ} 0 1 = cc in omega arith)
+pub done-refused : {A : Type 0} {k : Step} {p q : ℕ} {w : Why} → k ≡ Done p → k ≡ Refused w q → A
+done-refused {p = p} {q} {w} e f = absurd (let z : ◌≡◌ {A = ℕ} 0 1 = cc in omega arith)
 
 pub done-same : {p q : ℕ} → Done p ≡ Done q → p ≡ q
 done-same e = cc
 
-pub refused_as : {A : Type 0} {m : Outcome A} {w v : Why} {p q : ℕ} → m ≡ refused (refusal_of w) p → Refused w p ≡ Refused v q → m ≡ refused (refusal_of v) q
-refused_as {w = w} {v} {p} {q} e f =
+pub refused-as : {A : Type 0} {m : Outcome A} {w v : Why} {p q : ℕ} → m ≡ refused (refusal_of w) p → Refused w p ≡ Refused v q → m ≡ refused (refusal_of v) q
+refused-as {w = w} {v} {p} {q} e f =
     let a : w ≡ v = cc in
     let b : p ≡ q = cc in
     e ∙ ap₂ (λ (i : Why) (j : ℕ). refused (refusal_of i) j) a b
@@ -37,8 +37,8 @@ refused_as {w = w} {v} {p} {q} e f =
 pub fine-turned : {A : Type 0} {w : Why} {q : ℕ} → Fine ≡ Turned w q → A
 fine-turned {w = w} {q} e = absurd (let z : ◌≡◌ {A = ℕ} 0 1 = cc in omega arith)
 
-pub turned_as : {A : Type 0} {m : Outcome A} {w v : Why} {p q : ℕ} → m ≡ refused (refusal_of w) p → Turned w p ≡ Turned v q → m ≡ refused (refusal_of v) q
-turned_as {w = w} {v} {p} {q} e f =
+pub turned-as : {A : Type 0} {m : Outcome A} {w v : Why} {p q : ℕ} → m ≡ refused (refusal_of w) p → Turned w p ≡ Turned v q → m ≡ refused (refusal_of v) q
+turned-as {w = w} {v} {p} {q} e f =
     let a : w ≡ v = cc in
     let b : p ≡ q = cc in
     e ∙ ap₂ (λ (i : Why) (j : ℕ). refused (refusal_of i) j) a b
@@ -53,12 +53,12 @@ module _ {A : Type 0} {bytes : A → List ℕ} {P : Env → State → Type 0} {a
         good = g;
         size = z;
         made = λ q e {x = x} s w c. subst (λ (j : ℕ). Made bytes x (act x s) out o t' out' j) (done-same e) (h x s w c);
-        turned = λ v q e s w c. done_refused refl e;
+        turned = λ v q e s w c. done-refused refl e;
       }
 
   pub steps-refused : {v : Why} {q : ℕ} → ((x : Env) (s : State) → Shows x t s → P x s → act x s ≡ refused (refusal_of v) q) → Steps bytes P act t out o t' out' (Refused v q)
   steps-refused h =
-      record { good = g; size = z; made = λ p e s w c. done_refused e refl; turned = λ u r e {x = x} s w c. refused_as (h x s w c) e }
+      record { good = g; size = z; made = λ p e s w c. done-refused e refl; turned = λ u r e {x = x} s w c. refused-as (h x s w c) e }
 
 -- by what its answer is
 pub steps-is : {A : Type 0} {bytes : A → List ℕ} {P : Env → State → Type 0} {act : Env → Act A} {t out t' out' : List ℕ} {o : ℕ} {j k : Step} →
@@ -69,7 +69,7 @@ steps-is {bytes = bytes} {P} {act} {t} {out} {t'} {out'} {o} m e = subst (Steps 
 pub steps-give : {A : Type 0} (bytes : A → List ℕ) (P : Env → State → Type 0) (act : Env → Act A) (a : A) {t out : List ℕ} {o : ℕ} → Good t → bytes a ≡ [] →
     ((x : Env) (s : State) → P x s → act x s ≡ done (a, s)) → Steps bytes P act t out o t out (Done o)
 steps-give bytes P act a g e h =
-    steps-done g refl (λ x s w c. record { value = a; state = s; is = h x s c; wrote = wrote_as wrote_none (sym e); shows = w })
+    steps-done g refl (λ x s w c. record { value = a; state = s; is = h x s c; wrote = wrote-as wrote-none (sym e); shows = w })
 
 -- another rule that does the same in every state that is shown
 pub steps-by : {A : Type 0} {bytes : A → List ℕ} {P Q : Env → State → Type 0} {act : Env → Act A} (rule : Env → Act A) {t out t' out' : List ℕ} {o : ℕ} {k : Step} →
@@ -91,11 +91,11 @@ pub steps-as : {A : Type 0} {bytes : A → List ℕ} {P Q : Env → State → Ty
 steps-as rule m h = steps-by rule m (λ x s w c. h x s c)
 
 -- a value made of the step's value, with the same bytes
-pub steps_map : {A B : Type 0} (b_a : A → List ℕ) (b_b : B → List ℕ) (h : A → B) {P : Env → State → Type 0} (R : Env → State → Type 0) {m : Env → Act A}
+pub steps-map : {A B : Type 0} (b_a : A → List ℕ) (b_b : B → List ℕ) (h : A → B) {P : Env → State → Type 0} (R : Env → State → Type 0) {m : Env → Act A}
     {t out t' out' : List ℕ} {o : ℕ} {k : Step} →
     Steps b_a P m t out o t' out' k → ((x : Env) (s : State) → R x s → P x s) → ((x : Env) (s : State) → R x s → (a : A) (s1 : State) → m x s ≡ done (a, s1) → b_b (h a) ≡ b_a a) →
     Steps b_b R (λ x s. onto (m x s) (λ r. done (h r.0, r.1))) t out o t' out' k
-steps_map {A} {B} b_a b_b h R m before bytes =
+steps-map {A} {B} b_a b_b h R m before bytes =
     record {
       good = m.good;
       size = m.size;
@@ -105,7 +105,7 @@ steps_map {A} {B} b_a b_b h R m before bytes =
             value = h d.value;
             state = d.state;
             is = ap (λ (z : Outcome (A × State)). onto z (λ r. done (h r.0, r.1))) d.is;
-            wrote = wrote_as d.wrote (sym (bytes x s c d.value d.state d.is));
+            wrote = wrote-as d.wrote (sym (bytes x s c d.value d.state d.is));
             shows = d.shows;
           };
       turned = λ v q k {x = x} s w c. ap (λ (z : Outcome (A × State)). onto z (λ r. done (h r.0, r.1))) (m.turned v q k s w (before x s c));
@@ -161,7 +161,7 @@ module _ {A B C : Type 0} (b_a : A → List ℕ) (b_b : B → List ℕ) (b_c : C
               is =
                   ap (λ (z : Outcome (A × State)). onto z (λ a. onto (n a.0 x a.1) (λ b. done (h a.0 b.0, b.1)))) d.is
                   ∙ ap (λ (z : Outcome (B × State)). onto z (λ b. done (h d.value b.0, b.1))) f.is;
-              wrote = wrote_as (wrote_then d.wrote f.wrote) (sym (bytes d.value f.value));
+              wrote = wrote-as (wrote-then d.wrote f.wrote) (sym (bytes d.value f.value));
               shows = f.shows;
             };
         turned = λ v q e {x = x} s w c.
@@ -191,11 +191,11 @@ ended-done {l} {l'} {o} {p} {r} e c =
     record {
       size = ap length c ∙ length-closed l o p;
       done = λ q f. let z : p ≡ q = done-same (sym e ∙ f) in (ap Done z, c ∙ ap (closed l o) z);
-      refused = λ w q f. done_refused e f;
+      refused = λ w q f. done-refused e f;
     }
 
 pub ended-refused : {l : List ℕ} {o q : ℕ} {w : Why} {r : Step} → r ≡ Refused w q → Ended o r l l (Refused w q)
-ended-refused e = record { size = refl; done = λ p f. done_refused f e; refused = λ v p f. sym e ∙ f }
+ended-refused e = record { size = refl; done = λ p f. done-refused f e; refused = λ v p f. sym e ∙ f }
 
 pub steps-field : {P : Env → State → Type 0} {act : Env → Act Fields} {t t' out out1 out2 out3 x : List ℕ} {o n c : ℕ} (r : Step) {k : Step} →
     Begun out o n x out1 c → Steps encodes P act t out1 c t' out2 r → Ended o r out2 out3 k → Steps encode P (with_parts n x act) t out o t' out3 k
@@ -213,25 +213,25 @@ steps-field {out = out} {out3 = out3} {x} {o} {n} (Done p) b m e =
             is = ap (λ (u : Outcome (Fields × State)). onto u (λ r. done (field n x r.0, r.1))) d.is;
             wrote =
                 subst (λ (i : ℕ). Wrote out o (encode (field n x d.value)) out3 i) z
-                (wrote_as (wrote-field b.opened (wrote_then b.fixed d.wrote) k.1) (framed-field n x d.value));
+                (wrote-as (wrote-field b.opened (wrote-then b.fixed d.wrote) k.1) (framed-field n x d.value));
             shows = d.shows;
           };
-      turned = λ v q f s w c. done_refused k.0 f;
+      turned = λ v q f s w c. done-refused k.0 f;
     }
 steps-field {x = x} {n = n} (Refused v p) b m e =
     record {
       good = m.good;
       size = e.size ∙ m.size ∙ b.fixed.size ∙ opened-size b.opened;
-      made = λ q f s w c. done_refused f (e.refused v p refl);
+      made = λ q f s w c. done-refused f (e.refused v p refl);
       turned = λ u q f s w c.
-          refused_as (ap (λ (i : Outcome (Fields × State)). onto i (λ r. done (field n x r.0, r.1))) (m.turned v p refl s w c)) (sym (e.refused v p refl) ∙ f);
+          refused-as (ap (λ (i : Outcome (Fields × State)). onto i (λ r. done (field n x r.0, r.1))) (m.turned v p refl s w c)) (sym (e.refused v p refl) ∙ f);
     }
 
 -- ---- Steps that write nothing
 
 pub steps-did : {P : Env → State → Type 0} {act : Env → Act (Unit {0})} {t t' out : List ℕ} {o : ℕ} → Good t' → ((x : Env) (s : State) → Shows x t s → P x s → Did x (act x s) t') →
     Steps (λ _. []) P act t out o t' out (Done o)
-steps-did g h = steps-done g refl (λ x s w c. let d = h x s w c in record { value = tt; state = d.state; is = d.is; wrote = wrote_none; shows = d.shows })
+steps-did g h = steps-done g refl (λ x s w c. let d = h x s w c in record { value = tt; state = d.state; is = d.is; wrote = wrote-none; shows = d.shows })
 
 pub effects-fine : {P : Env → State → Type 0} {act : Env → Act (Unit {0})} {t t' out : List ℕ} {o : ℕ} {k : Effect} → Effects P act t t' k → k ≡ Fine →
     Steps (λ _. []) P act t out o t' out (Done o)
@@ -245,12 +245,12 @@ effects-turned {q = q} {v} m e = steps-refused m.good refl (λ x s w c. m.turned
 abbrev pub then_of : {A : Type 0} → (Env → Act A) → (Env → Act (Unit {0})) → Env → Act A
 then_of m n = pair_of (λ a b. a) m (λ _. n)
 
-pub steps_then : {A : Type 0} (bytes : A → List ℕ) (a₀ : A) {P Q : Env → State → Type 0} (R : Env → State → Type 0) {m : Env → Act A} {n : Env → Act (Unit {0})}
+pub steps-then : {A : Type 0} (bytes : A → List ℕ) (a₀ : A) {P Q : Env → State → Type 0} (R : Env → State → Type 0) {m : Env → Act A} {n : Env → Act (Unit {0})}
     {t out t1 out1 t2 : List ℕ} {o p : ℕ} {k : Step} →
     Steps bytes P m t out o t1 out1 (Done p) → Steps (λ _. []) Q n t1 out1 p t2 out1 k →
     ((x : Env) (s : State) → R x s → P x s) → ((x : Env) (s : State) → R x s → (a : A) (s1 : State) → m x s ≡ done (a, s1) → Q x s1) →
     Steps bytes R (then_of m n) t out o t2 out1 k
-steps_then bytes a₀ R {n = n} first second before between =
+steps-then bytes a₀ R {n = n} first second before between =
     steps-pair bytes (λ _. []) bytes (λ a b. a) (λ a b. sym (append-nil (bytes a))) R (λ _. n) first (λ _. second) a₀ before between
 
 pub steps-then-turned : {A : Type 0} (bytes : A → List ℕ) {P : Env → State → Type 0} (R : Env → State → Type 0) {m : Env → Act A} (n : Env → Act (Unit {0}))

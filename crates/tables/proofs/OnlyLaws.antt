@@ -10,8 +10,8 @@ use Rattle.tables.specs.Rows.{rows_from, RowPut, rows, Lies, without, without_ro
 use Rattle.tables.specs.Only.{Outside, Only, Apart}
 use Rattle.tables.proofs.RowLaws.{from-agree, rows-length, Dropping, Closing}
 
-pub only_then : {b : Table} {t m k : List ℕ} → Only b t m → Only b m k → Only b t k
-only_then p q = record { size = q.size ∙ p.size; same = λ i o. q.same i o ∙ p.same i o }
+pub only-then : {b : Table} {t m k : List ℕ} → Only b t m → Only b m k → Only b t k
+only-then p q = record { size = q.size ∙ p.size; same = λ i o. q.same i o ∙ p.same i o }
 
 -- a table apart from the one that changed holds the same rows
 pub apart-rows : {b c : Table} {t t' : List ℕ} → Apart b c → Only b t t' → Lies c t → rows c t' ≡ rows c t
@@ -43,11 +43,11 @@ store-row b t i v p q = set-only b t i v (λ o. o.row p q)
 
 -- ---- One row more
 
-pub row_pushed : (b : Table) (t : List ℕ) (n key value : ℕ) → Lies b t → n ≡ length (rows b t) → n < b.room → (two : List ℕ) →
+pub row-pushed : (b : Table) (t : List ℕ) (n key value : ℕ) → Lies b t → n ≡ length (rows b t) → n < b.room → (two : List ℕ) →
     RowPut b.base n key value t two →
     (rows b (set two b.count (n + 1)) ≡ rows b t ++ ((key, value) ∷ [])) × Only b t (set two b.count (n + 1))
 unfolding rows
-row_pushed b t n key value l e h two w =
+row-pushed b t n key value l e h two w =
     let t' = set two b.count (n + 1) in
     let ends = l.ends in
     let cell = l.cell in
@@ -59,25 +59,25 @@ row_pushed b t n key value l e h two w =
     let size : n ≡ get_or t b.count 0 = omega arith in (
       ap (λ (k : ℕ). rows_from k b.base t') count ∙ same ∙ w.put
           ∙ ap (λ (k : ℕ). rows_from k b.base t ++ ((key, value) ∷ [])) size,
-      only_then (record { size = w.size; same = λ j o. w.same j (λ p q. o.row (omega arith) (omega arith)) }) (store-count b two (n + 1)),
+      only-then (record { size = w.size; same = λ j o. w.same j (λ p q. o.row (omega arith) (omega arith)) }) (store-count b two (n + 1)),
     )
 
 -- ---- Another value in a row
 
-value_set : (k at i : ℕ) (t : List ℕ) (v : ℕ) → i < k → at + 2 * k ≤ length t → rows_from k at (set t (at + 2 * i + 1) v) ≡ with_value i v (rows_from k at t)
+value-set : (k at i : ℕ) (t : List ℕ) (v : ℕ) → i < k → at + 2 * k ≤ length t → rows_from k at (set t (at + 2 * i + 1) v) ≡ with_value i v (rows_from k at t)
 unfolding rows_from with_value
-value_set zero at i t v h l = absurd (omega arith)
-value_set (suc k) at zero t v h l =
+value-set zero at i t v h l = absurd (omega arith)
+value-set (suc k) at zero t v h l =
     let e : at + 2 * 0 + 1 ≡ at + 1 = omega arith in
     let a = get_or-set_other t (at + 1) at v 0 (λ z. omega arith) in
     let b = get_or-set_same t (at + 1) v 0 (omega arith) in
     let r = from-agree k (at + 2) t (set t (at + 1) v) (λ j p q. get_or-set_other t (at + 1) j v 0 (λ z. omega arith)) in
     rw e (cc)
-value_set (suc k) at (suc i) t v h l =
+value-set (suc k) at (suc i) t v h l =
     let e : at + 2 + 2 * i + 1 ≡ at + 2 * suc i + 1 = omega arith in
     let a = get_or-set_other t (at + 2 * suc i + 1) at v 0 (λ z. omega arith) in
     let b = get_or-set_other t (at + 2 * suc i + 1) (at + 1) v 0 (λ z. omega arith) in
-    let r = value_set k (at + 2) i t v (omega arith) (omega arith) in
+    let r = value-set k (at + 2) i t v (omega arith) (omega arith) in
     cc
 
 valued-rows : (b : Table) (t : List ℕ) (i v : ℕ) → Lies b t → i < get_or t b.count 0 → rows b (set t (b.base + 2 * i + 1) v) ≡ with_value i v (rows b t)
@@ -87,7 +87,7 @@ valued-rows b t i v l h =
     let cell = l.cell in
     let held = l.held in
     let c = get_or-set_other t (b.base + 2 * i + 1) b.count v 0 (λ z. omega arith) in
-    ap (λ (k : ℕ). rows_from k b.base (set t (b.base + 2 * i + 1) v)) c ∙ value_set (get_or t b.count 0) b.base i t v h (omega arith)
+    ap (λ (k : ℕ). rows_from k b.base (set t (b.base + 2 * i + 1) v)) c ∙ value-set (get_or t b.count 0) b.base i t v h (omega arith)
 
 pub row-valued : (b : Table) (t : List ℕ) (i v : ℕ) → Lies b t → i < length (rows b t) →
     (rows b (set t (b.base + 2 * i + 1) v) ≡ with_value i v (rows b t)) × Only b t (set t (b.base + 2 * i + 1) v)
@@ -109,15 +109,15 @@ dropped-rows b key n kept t₀ t l e d =
     let n' : n ≡ get_or t₀ b.count 0 = omega arith in
     let count = get_or-set_same t b.count kept 0 (omega arith) in
     let same = from-agree kept b.base t (set t b.count kept) (λ i p q. get_or-set_other t b.count i kept 0 (λ z. omega arith)) in
-    ap (λ (k : ℕ). rows_from k b.base (set t b.count kept)) count ∙ same ∙ d.kept-rows ∙ ap (λ (k : ℕ). without key (rows_from k b.base t₀)) n'
+    ap (λ (k : ℕ). rows_from k b.base (set t b.count kept)) count ∙ same ∙ d.kept_rows ∙ ap (λ (k : ℕ). without key (rows_from k b.base t₀)) n'
 
-pub rows_dropped : (b : Table) (key n kept : ℕ) (t₀ t : List ℕ) → Lies b t₀ → n ≡ length (rows b t₀) → Dropping key b.base n t₀ n kept t →
+pub rows-dropped : (b : Table) (key n kept : ℕ) (t₀ t : List ℕ) → Lies b t₀ → n ≡ length (rows b t₀) → Dropping key b.base n t₀ n kept t →
     (rows b (set t b.count kept) ≡ without key (rows b t₀)) × Only b t₀ (set t b.count kept)
-rows_dropped b key n kept t₀ t l e d =
+rows-dropped b key n kept t₀ t l e d =
     let c = rows-length b t₀ in
     let held = l.held in (
       dropped-rows b key n kept t₀ t l e d,
-      only_then (record { size = d.size; same = λ i o. d.same i (λ p q. o.row p (omega arith)) }) (store-count b t kept),
+      only-then (record { size = d.size; same = λ i o. d.same i (λ p q. o.row p (omega arith)) }) (store-count b t kept),
     )
 
 closed-rows : (b : Table) (i n k : ℕ) (t₀ t : List ℕ) → Lies b t₀ → n ≡ length (rows b t₀) → n ≤ k + 1 → Closing i b.base n t₀ k t →
@@ -141,5 +141,5 @@ row-dropped b i n k t₀ t l e h d =
     let held = l.held in
     let upto = d.upto in (
       closed-rows b i n k t₀ t l e h d,
-      only_then (record { size = d.size; same = λ j o. d.same j (λ p q. o.row p (omega arith)) }) (store-count b t k),
+      only-then (record { size = d.size; same = λ j o. d.same j (λ p q. o.row p (omega arith)) }) (store-count b t k),
     )

@@ -32,20 +32,20 @@ from-agree (suc k) at t t' h =
     let r = from-agree k (at + 2) t t' (λ i p q. h i (omega arith) (omega arith)) in
     cc
 
-pub from_more : (k at : ℕ) (t : List ℕ) → rows_from (suc k) at t ≡ rows_from k at t ++ ((get_or t (at + 2 * k) 0, get_or t (at + 2 * k + 1) 0) ∷ [])
+pub from-more : (k at : ℕ) (t : List ℕ) → rows_from (suc k) at t ≡ rows_from k at t ++ ((get_or t (at + 2 * k) 0, get_or t (at + 2 * k + 1) 0) ∷ [])
 unfolding rows_from
-from_more zero at t = let e : at + 2 * 0 ≡ at = omega arith in rw e
-from_more (suc k) at t =
-    let r = from_more k (at + 2) t in
+from-more zero at t = let e : at + 2 * 0 ≡ at = omega arith in rw e
+from-more (suc k) at t =
+    let r = from-more k (at + 2) t in
     let e : at + 2 + 2 * k ≡ at + 2 * suc k = omega arith in
     cc
 
-pub from_next : (k at : ℕ) (t : List ℕ) → rows_from (k + 1) at t ≡ rows_from k at t ++ ((get_or t (at + 2 * k) 0, get_or t (at + 2 * k + 1) 0) ∷ [])
-from_next k at t = ap (λ (n : ℕ). rows_from n at t) (add-one k) ∙ from_more k at t
+pub from-next : (k at : ℕ) (t : List ℕ) → rows_from (k + 1) at t ≡ rows_from k at t ++ ((get_or t (at + 2 * k) 0, get_or t (at + 2 * k + 1) 0) ∷ [])
+from-next k at t = ap (λ (n : ℕ). rows_from n at t) (add-one k) ∙ from-more k at t
 
 -- the stores of a row's two cells
-pub row_put : (base i x y : ℕ) (t : List ℕ) → base + 2 * i + 1 < length t → RowPut base i x y t (set (set t (base + 2 * i) x) (base + 2 * i + 1) y)
-row_put base i x y t h =
+pub row-put : (base i x y : ℕ) (t : List ℕ) → base + 2 * i + 1 < length t → RowPut base i x y t (set (set t (base + 2 * i) x) (base + 2 * i + 1) y)
+row-put base i x y t h =
     let one = set t (base + 2 * i) x in
     let t' = set one (base + 2 * i + 1) y in
     let s1 = length-set t (base + 2 * i) x in
@@ -57,20 +57,20 @@ row_put base i x y t h =
     let a : get_or t' (base + 2 * i) 0 ≡ x =
     get_or-set_other one (base + 2 * i + 1) (base + 2 * i) y 0 (λ z. omega arith) ∙ get_or-set_same t (base + 2 * i) x 0 (omega arith) in
     let b : get_or t' (base + 2 * i + 1) 0 ≡ y = get_or-set_same one (base + 2 * i + 1) y 0 (omega arith) in
-    record { put = from_next i base t' ∙ cc (old, a, b); same = other; size = s2 ∙ s1 }
+    record { put = from-next i base t' ∙ cc (old, a, b); same = other; size = s2 ∙ s1 }
 
-pub from_row : (k at i : ℕ) (t : List ℕ) → i < k → get_or (rows_from k at t) i (0, 0) ≡ (get_or t (at + 2 * i) 0, get_or t (at + 2 * i + 1) 0)
+pub from-row : (k at i : ℕ) (t : List ℕ) → i < k → get_or (rows_from k at t) i (0, 0) ≡ (get_or t (at + 2 * i) 0, get_or t (at + 2 * i + 1) 0)
 unfolding rows_from
-from_row zero at i t h = absurd (omega arith)
-from_row (suc k) at zero t h = let e : at + 2 * 0 ≡ at = omega arith in rw e
-from_row (suc k) at (suc i) t h =
-    let r = from_row k (at + 2) i t (omega arith) in
+from-row zero at i t h = absurd (omega arith)
+from-row (suc k) at zero t h = let e : at + 2 * 0 ≡ at = omega arith in rw e
+from-row (suc k) at (suc i) t h =
+    let r = from-row k (at + 2) i t (omega arith) in
     let e : at + 2 + 2 * i ≡ at + 2 * suc i = omega arith in
     cc
 
-pub rows_row : (b : Table) (i : ℕ) (t : List ℕ) → i < length (rows b t) → get_or (rows b t) i (0, 0) ≡ (get_or t (b.base + 2 * i) 0, get_or t (b.base + 2 * i + 1) 0)
+pub rows-row : (b : Table) (i : ℕ) (t : List ℕ) → i < length (rows b t) → get_or (rows b t) i (0, 0) ≡ (get_or t (b.base + 2 * i) 0, get_or t (b.base + 2 * i + 1) 0)
 unfolding rows
-rows_row b i t h = let l = from-length (get_or t b.count 0) b.base t in from_row (get_or t b.count 0) b.base i t (omega arith)
+rows-row b i t h = let l = from-length (get_or t b.count 0) b.base t in from-row (get_or t b.count 0) b.base i t (omega arith)
 
 pub get_d_map : {A B : Type 0} (h : A → B) (l : List A) (i : ℕ) (d : A) → get_or (map h l) i (h d) ≡ h (get_or l i d)
 get_d_map h [] i d = refl
@@ -83,13 +83,13 @@ abbrev pub shifted : ℕ → Option ℕ → Option ℕ
 shifted i none = none
 shifted i (some n) = some (i + n)
 
-shifted_none : (o : Option ℕ) → shifted 0 o ≡ o
-shifted_none none = refl
-shifted_none (some n) = ap some (omega arith)
+shifted-none : (o : Option ℕ) → shifted 0 o ≡ o
+shifted-none none = refl
+shifted-none (some n) = ap some (omega arith)
 
-shifted_next : (i : ℕ) (o : Option ℕ) → shifted i (next o) ≡ shifted (i + 1) o
-shifted_next i none = refl
-shifted_next i (some n) = ap some (omega arith)
+shifted-next : (i : ℕ) (o : Option ℕ) → shifted i (next o) ≡ shifted (i + 1) o
+shifted-next i none = refl
+shifted-next i (some n) = ap some (omega arith)
 
 -- what is found from row i on
 abbrev pub found_from : ℕ → ℕ → ℕ → ℕ → ℕ → List ℕ → Option ℕ
@@ -101,7 +101,7 @@ found-start lo hi b n t e =
     let l = from-length (get_or t b.count 0) b.base t in
     let c : get_or t b.count 0 ≡ n - 0 = omega arith in
     let z : b.base ≡ b.base + 2 * 0 = omega arith in
-    sym (shifted_none (first_in lo hi (rows_from (get_or t b.count 0) b.base t)))
+    sym (shifted-none (first_in lo hi (rows_from (get_or t b.count 0) b.base t)))
     ∙ ap (λ (x : ℕ). shifted 0 (first_in lo hi (rows_from x b.base t))) c ∙ ap (λ (x : ℕ). shifted 0 (first_in lo hi (rows_from (n - 0) x t))) z
 
 pub rows-onward : (n i base : ℕ) (t : List ℕ) → i < n →
@@ -115,7 +115,7 @@ rows-onward n i base t h =
 module _ (lo hi n i base : ℕ) (t : List ℕ) (h : i < n) where
   passed-by : between lo hi (get_or t (base + 2 * i) 0) ≡ false → found_from lo hi n i base t ≡ found_from lo hi n (i + 1) base t
   unfolding first_in
-  passed-by e = rw (rows-onward n i base t h, e) (shifted_next i (first_in lo hi (rows_from (n - (i + 1)) (base + 2 * (i + 1)) t)))
+  passed-by e = rw (rows-onward n i base t h, e) (shifted-next i (first_in lo hi (rows_from (n - (i + 1)) (base + 2 * (i + 1)) t)))
 
   pub found-low : get_or t (base + 2 * i) 0 < lo → found_from lo hi n i base t ≡ found_from lo hi n (i + 1) base t
   found-low k = passed-by (rw (lt-leb lo (get_or t (base + 2 * i) 0) k))
@@ -123,9 +123,9 @@ module _ (lo hi n i base : ℕ) (t : List ℕ) (h : i < n) where
   pub found-high : lo ≤ get_or t (base + 2 * i) 0 → hi < get_or t (base + 2 * i) 0 → found_from lo hi n i base t ≡ found_from lo hi n (i + 1) base t
   found-high j k = passed-by (rw (le-leb lo (get_or t (base + 2 * i) 0) j, lt-leb (get_or t (base + 2 * i) 0) hi k))
 
-  pub found_here : lo ≤ get_or t (base + 2 * i) 0 → get_or t (base + 2 * i) 0 ≤ hi → found_from lo hi n i base t ≡ some i
+  pub found-here : lo ≤ get_or t (base + 2 * i) 0 → get_or t (base + 2 * i) 0 ≤ hi → found_from lo hi n i base t ≡ some i
   unfolding first_in
-  found_here j k = rw (rows-onward n i base t h, le-leb lo (get_or t (base + 2 * i) 0) j, le-leb (get_or t (base + 2 * i) 0) hi k) (ap some (omega arith))
+  found-here j k = rw (rows-onward n i base t h, le-leb lo (get_or t (base + 2 * i) 0) j, le-leb (get_or t (base + 2 * i) 0) hi k) (ap some (omega arith))
 
 pub found-end : (lo hi n i base : ℕ) (t : List ℕ) → n ≤ i → found_from lo hi n i base t ≡ none
 unfolding first_in rows_from
@@ -147,7 +147,7 @@ found-past lo hi n (suc j) base t h = found-past lo hi n j base t (λ i p q. h i
 pub found-begin : (lo hi from : ℕ) (b : Table) (n : ℕ) (t : List ℕ) → n ≡ length (rows b t) → NoneBefore from lo hi (rows b t) →
     found_from lo hi n 0 b.base t ≡ found_from lo hi n from b.base t
 found-begin lo hi from b n t e h =
-    found-past lo hi n from b.base t (λ i p q. ap (λ (r : Row). between lo hi r.0) (sym (rows_row b i t (omega arith))) ∙ h.passed i p (omega arith))
+    found-past lo hi n from b.base t (λ i p q. ap (λ (r : Row). between lo hi r.0) (sym (rows-row b i t (omega arith))) ∙ h.passed i p (omega arith))
 
 pub none-before-first : (lo hi : ℕ) (l : List Row) → NoneBefore 0 lo hi l
 none-before-first lo hi l = record { passed = λ i p q. absurd (omega arith) }
@@ -166,12 +166,12 @@ found-value lo hi b c t p q =
     ap (λ (n : ℕ). first_in lo hi (rows_from (get_or t n 0) c.base t)) p ∙ ap (λ (n : ℕ). first_in lo hi (rows_from (get_or t b.count 0) n t)) q
     ∙ first-value lo hi (get_or t b.count 0) b.base t
 
-value_row : (b c : Table) (i : ℕ) (t : List ℕ) → c.count ≡ b.count → c.base ≡ b.base + 1 → i < length (rows c t) →
+value-row : (b c : Table) (i : ℕ) (t : List ℕ) → c.count ≡ b.count → c.base ≡ b.base + 1 → i < length (rows c t) →
     (get_or (rows c t) i (0, 0)).0 ≡ (get_or (map flip (rows b t)) i (0, 0)).0
-value_row b c i t p q h =
+value-row b c i t p q h =
     let m : length (rows c t) ≡ length (rows b t) = rows-length c t ∙ ap (λ (n : ℕ). get_or t n 0) p ∙ sym (rows-length b t) in
     let e : c.base + 2 * i ≡ b.base + 2 * i + 1 = omega arith in
-    ap (λ (r : Row). r.0) (rows_row c i t h) ∙ ap (λ (k : ℕ). get_or t k 0) e ∙ sym (ap (λ (r : Row). r.1) (rows_row b i t (omega arith)))
+    ap (λ (r : Row). r.0) (rows-row c i t h) ∙ ap (λ (k : ℕ). get_or t k 0) e ∙ sym (ap (λ (r : Row). r.1) (rows-row b i t (omega arith)))
     ∙ sym (ap (λ (r : Row). r.0) (get_d_map flip (rows b t) i (0, 0)))
 
 pub none-value : (lo hi from : ℕ) (b c : Table) (t : List ℕ) → c.count ≡ b.count → c.base ≡ b.base + 1 → NoneBefore from lo hi (map flip (rows b t)) →
@@ -181,14 +181,14 @@ none-value lo hi from b c t p q h =
       passed = λ i j k.
           let m : length (rows c t) ≡ length (rows b t) = rows-length c t ∙ ap (λ (n : ℕ). get_or t n 0) p ∙ sym (rows-length b t) in
           let n = length-map (rows b t) flip in
-          ap (between lo hi) (value_row b c i t p q k) ∙ h.passed i j (omega arith);
+          ap (between lo hi) (value-row b c i t p q k) ∙ h.passed i j (omega arith);
     }
 
 -- ---- The least value
 
-pub least_start : (key n base : ℕ) (t : List ℕ) → least_of key (rows_from (n - n) (base + 2 * n) t) ≡ none
+pub least-start : (key n base : ℕ) (t : List ℕ) → least_of key (rows_from (n - n) (base + 2 * n) t) ≡ none
 unfolding least_of rows_from
-least_start key n base t = let e : n - n ≡ 0 = omega arith in rw e
+least-start key n base t = let e : n - n ≡ 0 = omega arith in rw e
 
 module _ (key n i base : ℕ) (t : List ℕ) (h : i < n) where
   pub least-here : get_or t (base + 2 * i) 0 ≡ key →
@@ -196,10 +196,10 @@ module _ (key n i base : ℕ) (t : List ℕ) (h : i < n) where
   unfolding least_of
   least-here e = rw (rows-onward n i base t h, eq-eqb (get_or t (base + 2 * i) 0) key e)
 
-  pub least_other : (get_or t (base + 2 * i) 0 ≡ key → ⊥) →
+  pub least-other : (get_or t (base + 2 * i) 0 ≡ key → ⊥) →
       least_of key (rows_from (n - i) (base + 2 * i) t) ≡ least_of key (rows_from (n - (i + 1)) (base + 2 * (i + 1)) t)
   unfolding least_of
-  least_other e = rw (rows-onward n i base t h, ne_eqb (get_or t (base + 2 * i) 0) key e)
+  least-other e = rw (rows-onward n i base t h, ne_eqb (get_or t (base + 2 * i) 0) key e)
 
 -- from the row before one back to it
 pub back : (key n i base : ℕ) (t : List ℕ) → 0 < i →
@@ -228,7 +228,7 @@ without-append k (q ∷ l) r = by (eqb q.0 k) (without-append k l r)
 
 -- i rows are read and kept of them are written back, in place
 pub record Dropping (key base n : ℕ) (t₀ : List ℕ) (i kept : ℕ) (t : List ℕ) : Type 0 where
-  pub kept-rows : rows_from kept base t ≡ without key (rows_from i base t₀)
+  pub kept_rows : rows_from kept base t ≡ without key (rows_from i base t₀)
   pub less : kept ≤ i
   pub upto : i ≤ n
   pub same : (j : ℕ) → (base ≤ j → j < base + 2 * i → ⊥) → get_or t j 0 ≡ get_or t₀ j 0
@@ -236,7 +236,7 @@ pub record Dropping (key base n : ℕ) (t₀ : List ℕ) (i kept : ℕ) (t : Lis
 
 pub drop-starts : (key base n : ℕ) (t : List ℕ) → Dropping key base n t 0 0 t
 unfolding rows_from without
-drop-starts key base n t = record { kept-rows = refl; less = omega arith; upto = omega arith; same = λ j h. refl; size = refl }
+drop-starts key base n t = record { kept_rows = refl; less = omega arith; upto = omega arith; same = λ j h. refl; size = refl }
 
 module _ (key base n : ℕ) (t₀ : List ℕ) (i kept : ℕ) (t : List ℕ) (d : Dropping key base n t₀ i kept t) (h : i < n) where
   first : get_or t (base + 2 * i) 0 ≡ get_or t₀ (base + 2 * i) 0
@@ -251,9 +251,9 @@ module _ (key base n : ℕ) (t₀ : List ℕ) (i kept : ℕ) (t : List ℕ) (d :
       let k : get_or t₀ (base + 2 * i) 0 ≡ key = sym first ∙ e in
       let less = d.less in
       record {
-        kept-rows = d.kept-rows
+        kept_rows = d.kept_rows
             ∙
-            sym (ap (without key) (from_next i base t₀) ∙ without-append key (rows_from i base t₀) _
+            sym (ap (without key) (from-next i base t₀) ∙ without-append key (rows_from i base t₀) _
             ∙ rw (eq-eqb (get_or t₀ (base + 2 * i) 0) key k) (append-nil (without key (rows_from i base t₀))));
         less = omega arith;
         upto = omega arith;
@@ -261,19 +261,19 @@ module _ (key base n : ℕ) (t₀ : List ℕ) (i kept : ℕ) (t : List ℕ) (d :
         size = d.size;
       }
 
-  pub drop_keeps : (x y : ℕ) (t' : List ℕ) → x ≡ get_or t (base + 2 * i) 0 → y ≡ get_or t (base + 2 * i + 1) 0 → (x ≡ key → ⊥) →
+  pub drop-keeps : (x y : ℕ) (t' : List ℕ) → x ≡ get_or t (base + 2 * i) 0 → y ≡ get_or t (base + 2 * i + 1) 0 → (x ≡ key → ⊥) →
       RowPut base kept x y t t' → Dropping key base n t₀ (i + 1) (kept + 1) t'
   unfolding without
-  drop_keeps x y t' p q e w =
+  drop-keeps x y t' p q e w =
       let less = d.less in
       let a : x ≡ get_or t₀ (base + 2 * i) 0 = p ∙ first in
       let b : y ≡ get_or t₀ (base + 2 * i + 1) 0 = q ∙ second in
       let ne : eqb (get_or t₀ (base + 2 * i) 0) key ≡ false = ne_eqb (get_or t₀ (base + 2 * i) 0) key (λ z. e (a ∙ z)) in
-      let kept_row : rows_from kept base t ++ ((x, y) ∷ []) ≡ without key (rows_from i base t₀) ++ ((get_or t₀ (base + 2 * i) 0, get_or t₀ (base + 2 * i + 1) 0) ∷ []) =
-      cc (d.kept-rows, a, b) in
+      let kept-row : rows_from kept base t ++ ((x, y) ∷ []) ≡ without key (rows_from i base t₀) ++ ((get_or t₀ (base + 2 * i) 0, get_or t₀ (base + 2 * i + 1) 0) ∷ []) =
+      cc (d.kept_rows, a, b) in
       record {
-        kept-rows = w.put ∙ kept_row
-            ∙ sym (ap (without key) (from_next i base t₀) ∙ without-append key (rows_from i base t₀) _ ∙ rw ne);
+        kept_rows = w.put ∙ kept-row
+            ∙ sym (ap (without key) (from-next i base t₀) ∙ without-append key (rows_from i base t₀) _ ∙ rw ne);
         less = omega arith;
         upto = omega arith;
         same = λ j f. w.same j (λ k l. f (omega arith) (omega arith)) ∙ d.same j (λ k l. f k (omega arith));
@@ -308,7 +308,7 @@ closing-starts i base n t h =
           let e = from-length i base t in
           let l = rows_from i base t in
           let r : Row = (get_or t (base + 2 * i) 0, get_or t (base + 2 * i + 1) 0) in
-          sym (ap (without_row i) (from_next i base t) ∙ ap (λ (j : ℕ). without_row j (l ++ (r ∷ []))) (sym e) ∙ out-last l r);
+          sym (ap (without_row i) (from-next i base t) ∙ ap (λ (j : ℕ). without_row j (l ++ (r ∷ []))) (sym e) ∙ out-last l r);
       from = omega arith;
       upto = omega arith;
       same = λ j f. refl;
@@ -326,7 +326,7 @@ closes-one i base n t₀ k t d h x y t' p q w =
     let len = from-length (k + 1) base t₀ in
     let last : rows_from k base t ++ ((x, y) ∷ []) ≡ without_row i l ++ (r ∷ []) = cc (d.closed, a, b) in
     record {
-      closed = w.put ∙ last ∙ sym (ap (without_row i) (from_next (k + 1) base t₀) ∙ out-append i l r (omega arith));
+      closed = w.put ∙ last ∙ sym (ap (without_row i) (from-next (k + 1) base t₀) ∙ out-append i l r (omega arith));
       from = omega arith;
       upto = omega arith;
       same = λ j f. w.same j (λ m o. f (omega arith) (omega arith)) ∙ d.same j (λ m o. f m (omega arith));

@@ -22,11 +22,11 @@ use Rattle.extraction_rules.specs.First.{note_specifiers, specifiers_in, attribu
 use Rattle.extraction_rules.specs.Second.{usages_of, specifiers_from, take_apart, on_sole, import_second}
 use Rattle.extraction_rules.specs.Walk.{parts_for}
 use Rattle.extraction_rules.proofs.OutcomeLaws.{After, after-bind, after-if}
-use Rattle.extraction_rules.proofs.ValueLaws.{after_any}
-use Rattle.extraction_rules.proofs.ListLaws.{All, all_filter, same_not, not_same}
+use Rattle.extraction_rules.proofs.ValueLaws.{after-any}
+use Rattle.extraction_rules.proofs.ListLaws.{All, all-filter, same-not, not-same}
 use Rattle.extraction_rules.proofs.ExactLaws.{width-20}
 use Rattle.extraction_rules.proofs.SpaceLaws.{Property}
-use Rattle.extraction_rules.proofs.KeepLaws.{specifiers-front, not_attributes, no-context, no-specifiers, Each, each_weaken}
+use Rattle.extraction_rules.proofs.KeepLaws.{specifiers-front, not_attributes, no-context, no-specifiers, Each, each-weaken}
 use Rattle.placement.specs.Stands.{How, imported, otherwise, ids_in}
 use Rattle.placement.proofs.WaysLaws.{met, ways, ways_all}
 use Rattle.theorems.proofs.OutFieldLaws.{export-foreign}
@@ -45,7 +45,7 @@ abbrev pub Spec : Field → Type 0
 Spec f = has 0x2F f ≡ false
 
 pub specs-of : (fs gs : Fields) → Each Spec fs → specifiers_in gs ≡ none → specifiers_in (append fs gs) ≡ fs
-specs-of fs gs h k = specifiers-front fs gs (each_weaken Spec (λ f. not_attributes f ≡ true) fs (λ f q. ap not q) h) k
+specs-of fs gs h k = specifiers-front fs gs (each-weaken Spec (λ f. not_attributes f ≡ true) fs (λ f q. ap not q) h) k
 
 module _ (i : List ℕ) (own : ℕ) (context : context_of i ≡ four (local own)) where
   -- the id stands nowhere in it
@@ -53,7 +53,7 @@ module _ (i : List ℕ) (own : ℕ) (context : context_of i ≡ four (local own)
   Absent f = ways f i false ≡ []
 
   foreign-id : (y : List ℕ) (n : ℕ) → context_of y ≡ four (export n) → same y i ≡ false
-  foreign-id y n q = same_not y i (λ e. not_same (four (export n)) (four (local own)) (export-foreign n own) (sym q ∙ ap context_of e ∙ context))
+  foreign-id y n q = same-not y i (λ e. not-same (four (export n)) (four (local own)) (export-foreign n own) (sym q ∙ ap context_of e ∙ context))
 
   -- a 20 with a property as its id
   pub property-absent : (y : List ℕ) → Property y → Absent (field 0x20 (y ++ 0 ∷ []) none)
@@ -63,18 +63,18 @@ module _ (i : List ℕ) (own : ℕ) (context : context_of i ≡ four (local own)
   property-absent y (a ∷ (b ∷ (c ∷ p)), n, l, q) = absurd (omega arith)
   property-absent y (a ∷ (b ∷ []), n, l, q) = rw (q, foreign-id (a ∷ (b ∷ four (export n))) n refl)
 
-  named_new : (x o : List ℕ) (n : ℕ) → 6 < length x → length o ≡ 2 → same (id_at x 0) i ≡ false → Absent (field 0x20 (id_at x 0 ++ 1 ∷ id_from o (export n)) none)
+  named-new : (x o : List ℕ) (n : ℕ) → 6 < length x → length o ≡ 2 → same (id_at x 0) i ≡ false → Absent (field 0x20 (id_at x 0 ++ 1 ∷ id_from o (export n)) none)
   unfolding ways ids_in met parts_for
-  named_new x [] n l k d = absurd (omega arith)
-  named_new x (u ∷ []) n l k d = absurd (omega arith)
-  named_new x (u ∷ (v ∷ (w ∷ o))) n l k d = absurd (omega arith)
-  named_new [] (u ∷ (v ∷ [])) n l k d = absurd (omega arith)
-  named_new (a ∷ []) (u ∷ (v ∷ [])) n l k d = absurd (omega arith)
-  named_new (a ∷ (b ∷ [])) (u ∷ (v ∷ [])) n l k d = absurd (omega arith)
-  named_new (a ∷ (b ∷ (c ∷ []))) (u ∷ (v ∷ [])) n l k d = absurd (omega arith)
-  named_new (a ∷ (b ∷ (c ∷ (e ∷ [])))) (u ∷ (v ∷ [])) n l k d = absurd (omega arith)
-  named_new (a ∷ (b ∷ (c ∷ (e ∷ (f ∷ []))))) (u ∷ (v ∷ [])) n l k d = absurd (omega arith)
-  named_new (a ∷ (b ∷ (c ∷ (e ∷ (f ∷ (g ∷ x)))))) (u ∷ (v ∷ [])) n l k d = rw (d, foreign-id (u ∷ (v ∷ four (export n))) n refl)
+  named-new x [] n l k d = absurd (omega arith)
+  named-new x (u ∷ []) n l k d = absurd (omega arith)
+  named-new x (u ∷ (v ∷ (w ∷ o))) n l k d = absurd (omega arith)
+  named-new [] (u ∷ (v ∷ [])) n l k d = absurd (omega arith)
+  named-new (a ∷ []) (u ∷ (v ∷ [])) n l k d = absurd (omega arith)
+  named-new (a ∷ (b ∷ [])) (u ∷ (v ∷ [])) n l k d = absurd (omega arith)
+  named-new (a ∷ (b ∷ (c ∷ []))) (u ∷ (v ∷ [])) n l k d = absurd (omega arith)
+  named-new (a ∷ (b ∷ (c ∷ (e ∷ [])))) (u ∷ (v ∷ [])) n l k d = absurd (omega arith)
+  named-new (a ∷ (b ∷ (c ∷ (e ∷ (f ∷ []))))) (u ∷ (v ∷ [])) n l k d = absurd (omega arith)
+  named-new (a ∷ (b ∷ (c ∷ (e ∷ (f ∷ (g ∷ x)))))) (u ∷ (v ∷ [])) n l k d = rw (d, foreign-id (u ∷ (v ∷ four (export n))) n refl)
 
   met-first : (h : How × List ℕ) (l : List (How × List ℕ)) (m : List How) → met (h ∷ l) i ++ m ≡ [] → same h.1 i ≡ false
   unfolding met
@@ -104,17 +104,17 @@ module _ (i : List ℕ) (own : ℕ) (context : context_of i ≡ four (local own)
       named : t ≡ 0x20 → CleanSpec (field 0x20 (id_at x 0 ++ 1 ∷ id_from (outside_name x) (export n)) none)
       named q =
           let e = width-20 x (w q) in
-          (named_new x (outside_name x) n e.0 (outside-two x e.0 e.1) (local-absent x cs (subst (λ (k : ℕ). Absent (field k x cs)) q h.0)), refl)
+          (named-new x (outside_name x) n e.0 (outside-two x e.0 e.1) (local-absent x cs (subst (λ (k : ℕ). Absent (field k x cs)) q h.0)), refl)
 
       go : (b : Bool) → eqb t 0x20 ≡ b →
           After (cond b (note_named n x p) (λ s. onto (note_id (record { id = x; context = noted_context n (field t x cs) }) p s) (λ r. done (field t x cs, r.1))) s) (λ g t. CleanSpec g)
       go true q =
           after-if (eqb (get_or x 6 0) 2) (refuse 6 p) _ s (λ g t. CleanSpec g) (λ _. tt)
           (λ _. after-bind (note_id (record { id = id_at x 0; context = four (export n) }) p s) _ (λ u t. Unit {0}) (λ g t. CleanSpec g)
-          (after_any (note_id (record { id = id_at x 0; context = four (export n) }) p s)) λ u t' _. named (eqb-true t 0x20 q))
+          (after-any (note_id (record { id = id_at x 0; context = four (export n) }) p s)) λ u t' _. named (eqb-true t 0x20 q))
       go false q =
           after-bind (note_id (record { id = x; context = noted_context n (field t x cs) }) p s) _ (λ u t. Unit {0}) (λ g t. CleanSpec g)
-          (after_any (note_id (record { id = x; context = noted_context n (field t x cs) }) p s)) λ u t _. h
+          (after-any (note_id (record { id = x; context = noted_context n (field t x cs) }) p s)) λ u t _. h
 
   notes-clean : (n : ℕ) (fs : Fields) (p : ℕ) (s : State) → Each CleanSpec fs → Each Whole fs → After (note_all n fs p s) (λ gs t. Each CleanSpec gs)
   unfolding note_all
@@ -128,7 +128,7 @@ module _ (i : List ℕ) (own : ℕ) (context : context_of i ≡ four (local own)
   specifiers-clean (some n) fs p s h w = notes-clean n fs p s h w
 
   clean-specs : (fs : Fields) → Each CleanSpec fs → Each Spec fs
-  clean-specs fs h = each_weaken CleanSpec Spec fs (λ f k. k.1) h
+  clean-specs fs h = each-weaken CleanSpec Spec fs (λ f k. k.1) h
 
   -- an import of the literal y in whose specifiers the id does not stand
   abbrev pub Clean : List ℕ → Field → Type 0
@@ -139,9 +139,9 @@ module _ (i : List ℕ) (own : ℕ) (context : context_of i ≡ four (local own)
   unfolding import_first
   first-clean e y ds p s h w =
       after-if (external e y) (give (field 0x10 y ds)) _ s (λ g t. Clean y g) (λ _. (refl, refl, h))
-      (λ _. after-bind (module_for e (value_of y) p s) _ (λ m t. Unit {0}) (λ g t. Clean y g) (after_any (module_for e (value_of y) p s)) λ m t _.
+      (λ _. after-bind (module_for e (value_of y) p s) _ (λ m t. Unit {0}) (λ g t. Clean y g) (after-any (module_for e (value_of y) p s)) λ m t _.
       after-bind (note_specifiers m (specifiers_in ds) (inside p y) t) _ (λ gs u. Each CleanSpec gs) (λ g t. Clean y g) (specifiers-clean m (specifiers_in ds) (inside p y) t h w) λ gs u v.
-      after-bind (collect (record { literal = y; specifiers = gs }) p u) _ (λ _ x. Unit {0}) (λ g t. Clean y g) (after_any (collect (record { literal = y; specifiers = gs }) p u)) λ _ x _.
+      after-bind (collect (record { literal = y; specifiers = gs }) p u) _ (λ _ x. Unit {0}) (λ g t. Clean y g) (after-any (collect (record { literal = y; specifiers = gs }) p u)) λ _ x _.
       (refl, refl, rw (specs-of gs (with_context m ds) (clean-specs gs v) (no-context m ds)) v))
 
   -- ---- The second pass
@@ -165,7 +165,7 @@ module _ (i : List ℕ) (own : ℕ) (context : context_of i ≡ four (local own)
   sole-clean (some f) y ds s h k =
       after-if (has 0x22 f) _ (give (field 0x10 y ds)) s (λ g t. Clean y g)
       (λ _. apart-clean (filter (λ (u : Usage). same u.id (fixed_of f)) s.usages) y ds s
-      (all_filter (λ (u : Usage). Property u.property) (λ (u : Usage). Property u.property) (λ (u : Usage). same u.id (fixed_of f))
+      (all-filter (λ (u : Usage). Property u.property) (λ (u : Usage). Property u.property) (λ (u : Usage). same u.id (fixed_of f))
       s.usages (λ u _ k. k) h) k) (λ _. (refl, refl, k))
 
   pub second-clean : (e : Setting) (y : List ℕ) (ds : Fields) (s : State) → All (λ u. Property u.property) s.usages →

@@ -5,13 +5,13 @@ use mathlib.Core.Logic.{inl, inr}
 use mathlib.Core.Bool.{Bool, true, false, true≢false}
 use mathlib.Core.List.{List, [], ◌∷◌, ◌++◌}
 use mathlib.Core.Option.{some}
-use Rattle.scope.specs.Id.{require-atom, local, export}
+use Rattle.scope.specs.Id.{require_atom, local, export}
 use Rattle.scope.specs.Modules.{Modules, number_of}
 use Rattle.tree.specs.Layout.{same, two, four, name_of, context_of, value_of}
 use Rattle.tree.specs.declared.grammar.Rule.{Rule}
 use Rattle.tree.specs.Grammar.{rule_of}
 use Rattle.tree.specs.Tree.{Field, field, Fields, none, more, parts_of}
-use Rattle.tree.proofs.Table.{both_true}
+use Rattle.tree.proofs.Table.{both-true}
 use Rattle.metadata.specs.Metadata.{append}
 use Rattle.inputs.specs.Outcome.{Outcome, done}
 use Rattle.inputs.specs.Lists.{among, filter}
@@ -23,7 +23,7 @@ use Rattle.extraction_rules.specs.Second.{usages_of}
 use Rattle.extraction_rules.specs.Walk.{walk_module, walk_again}
 use Rattle.extraction_rules.specs.Records.{record_fields, records_of}
 use Rattle.extraction_rules.specs.Call.{Lent, Lengths, Extracted, setting}
-use Rattle.extraction_rules.proofs.OutcomeLaws.{After, after_both, after-done}
+use Rattle.extraction_rules.proofs.OutcomeLaws.{After, after-both, after-done}
 use Rattle.extraction_rules.proofs.ListLaws.{all-weaken}
 use Rattle.extraction_rules.proofs.SpaceLaws.{Property, Spaces, spaces-say}
 use Rattle.extraction_rules.proofs.SanityLaws.{Numbered, numbered-steps, numbered-end}
@@ -31,7 +31,7 @@ use Rattle.extraction_rules.proofs.ShapeLaws.{Shaped, ShapedAll, shaped-parts, s
 use Rattle.extraction_rules.proofs.ReadableLaws.{Items, run-within}
 use Rattle.extraction_rules.proofs.WalkLaws.{walk_again-keeps, imports-any-all}
 use Rattle.extraction_rules.proofs.ExtractedLaws.{Run, run-both}
-use Rattle.extraction_rules.proofs.KeepLaws.{Each, each_weaken, keep_meets}
+use Rattle.extraction_rules.proofs.KeepLaws.{Each, each-weaken, keep-meets}
 use Rattle.extraction_rules.proofs.StayLaws.{import-stays}
 use Rattle.resolving_rules.specs.Resolve.{sources_in, forced_in, number_all, resolved_specifiers, resolved_all}
 use Rattle.resolving_rules.proofs.ResolveLaws.{number_all-keeps, namespace-made}
@@ -54,7 +54,7 @@ use Rattle.theorems.proofs.SourcesLaws.{sources-of, forced-of}
 use Rattle.theorems.proofs.RecordLaws.{ended_record, Ended, record-found, properties-resolved}
 use Rattle.theorems.proofs.OutFieldLaws.{Fine, fine-less}
 
-module _ (i lit : List ℕ) (own file : ℕ) (context : context_of i ≡ four (local own)) (named : same (name_of i) (two require-atom) ≡ false)
+module _ (i lit : List ℕ) (own file : ℕ) (context : context_of i ≡ four (local own)) (named : same (name_of i) (two require_atom) ≡ false)
     (Space : List ℕ → Type 0) (locals : (j : List ℕ) → Space j → context_of j ≡ four (local own)) where
   -- what is known of the items around the import at the place k
   pub record Surrounded (k : ℕ) (items : Fields) : Type 0 where
@@ -69,8 +69,8 @@ module _ (i lit : List ℕ) (own file : ℕ) (context : context_of i ≡ four (l
   kept-around : (k : ℕ) (items : Fields) → Surrounded k items → Around i lit own file (place_kept k items) (keep stays items)
   kept-around k items h = amid-keep (OwnImport i lit own file) (Beside i lit own file) k items (λ f o. import-stays f o.tag) h.around
 
-  kept_fine : (k : ℕ) (items : Fields) → Surrounded k items → Fine (all_plain (stands items i)) (ways_all (keep stays items) i false)
-  kept_fine k items h =
+  kept-fine : (k : ℕ) (items : Fields) → Surrounded k items → Fine (all_plain (stands items i)) (ways_all (keep stays items) i false)
+  kept-fine k items h =
       subst (Fine (all_plain (stands items i))) (sym (keep-ways items i (amid-each (OwnImport i lit own file) (Beside i lit own file) Item k items (λ f o. inl o.tag) beside-item
       h.around))) h.fine
     where
@@ -78,10 +78,10 @@ module _ (i lit : List ℕ) (own file : ℕ) (context : context_of i ≡ four (l
       beside-item f (inl o) = inl o.tag
       beside-item f (inr r) = inr r
 
-  taken_fine : (k : ℕ) (items : Fields) → Surrounded k items → Fine (takes_apart (stands items i)) (ways_all (keep stays items) i false)
-  taken_fine k items h =
+  taken-fine : (k : ℕ) (items : Fields) → Surrounded k items → Fine (takes_apart (stands items i)) (ways_all (keep stays items) i false)
+  taken-fine k items h =
       fine-less (all_plain (stands items i)) (takes_apart (stands items i)) (ways_all (keep stays items) i false)
-      (λ q. (both_true (is_used (filter is_use (stands items i))) (all_plain (stands items i)) q).1) (kept_fine k items h)
+      (λ q. (both-true (is_used (filter is_use (stands items i))) (all_plain (stands items i)) q).1) (kept-fine k items h)
 
   module _ (l : Lent) (rows : List Row) (res : file_of (value_of lit) rows ≡ some file) (inner : external (setting first own l rows) lit ≡ false)
       (within : external (setting second own l rows) lit ≡ false) where
@@ -96,10 +96,10 @@ module _ (i lit : List ℕ) (own file : ℕ) (context : context_of i ≡ four (l
         After (walk_module one items (start ms)) (λ works s. Worked i lit own file context (place_kept k items) (keep stays items) works × (((n : ℕ) × Held i lit own file n
         (stands items i) s) × Spaces Space own locals s))
     first-all k items ms h =
-        after_both (walk_module one items (start ms)) (λ works s. Worked i lit own file context (place_kept k items) (keep stays items) works)
+        after-both (walk_module one items (start ms)) (λ works s. Worked i lit own file context (place_kept k items) (keep stays items) works)
         (λ works s. ((n : ℕ) × Held i lit own file n (stands items i) s) × Spaces Space own locals s)
         (first-worked i lit own file context one refl refl res inner named k items (start ms) h.clean)
-        (after_both (walk_module one items (start ms)) (λ works s. (n : ℕ) × Held i lit own file n (stands items i) s) (λ works s. Spaces Space own locals s)
+        (after-both (walk_module one items (start ms)) (λ works s. (n : ℕ) × Held i lit own file n (stands items i) s) (λ works s. Spaces Space own locals s)
         (first-pass i lit own file one refl refl res inner named context k items ms h.around h.front)
         (first-spaces i lit own file context Space locals one refl refl res inner named items ms h.ready))
 
@@ -110,8 +110,8 @@ module _ (i lit : List ℕ) (own file : ℕ) (context : context_of i ≡ four (l
         (λ outs t. Outs i lit own file n (stands items i) context named (place_kept k items) (keep stays items) outs
         × Ended (takes_apart (stands items i)) i lit (four (export n)) (properties (stands items i)) t)
     second-all k items works s n h w hs sp =
-        second-pass i lit own file n (stands items i) context named again refl within (place_kept k items) (keep stays items) works s (kept-around k items h) (keep_meets stays items) w
-        (kept_fine k items h) (
+        second-pass i lit own file n (stands items i) context named again refl within (place_kept k items) (keep stays items) works s (kept-around k items h) (keep-meets stays items) w
+        (kept-fine k items h) (
           hs,
           spaces-say Space own locals s sp,
           all-weaken (λ u. Space u.id × Property u.property) (λ u. Property u.property) s.usages
@@ -147,9 +147,9 @@ module _ (i lit : List ℕ) (own file : ℕ) (context : context_of i ≡ four (l
         TakenApart i (four (export n)) lit k (properties (stands items i)) items outs gs
     ends-taken k items outs gs t ms n apart h o en absent tidy e =
         record {
-          gone = gone-end i lit own file n (stands items i) context named apart absent (place_kept k items) (keep stays items) outs o (taken_fine k items h) tidy;
+          gone = gone-end i lit own file n (stands items i) context named apart absent (place_kept k items) (keep stays items) outs o (taken-fine k items h) tidy;
           used = subst (λ (b : Bool). Every (Good b (four (export n))) (uses_of items outs i)) apart (uses-end i lit own file n (stands items i) context named
-              (place_kept k items) items outs (kept-around k items h) o (taken_fine k items h));
+              (place_kept k items) items outs (kept-around k items h) o (taken-fine k items h));
           declares =
               subst (λ (b : Bool). Declares outs k lit (own_specifiers i lit own file n (stands items i) context named b)) apart
               (subst (λ (m : ℕ). Declares outs m lit (own_specifiers i lit own file n (stands items i) context named (takes_apart (stands items i)))) h.place
@@ -172,7 +172,7 @@ module _ (i lit : List ℕ) (own file : ℕ) (context : context_of i ≡ four (l
               (declares-own i lit own file n (stands items i) context named (place_kept k items) (keep stays items) outs o));
           records = record-kept ms (four (export n)) (properties (stands items i)) t gs (subst (λ (b : Bool). Ended b i lit (four (export n)) (properties (stands items i)) t) kept en) e;
           used = subst (λ (b : Bool). Every (Good b (four (export n))) (uses_of items outs i)) kept (uses-end i lit own file n (stands items i) context named
-              (place_kept k items) items outs (kept-around k items h) o (taken_fine k items h));
+              (place_kept k items) items outs (kept-around k items h) o (taken-fine k items h));
         }
 
     -- ---- An accepted extraction and what resolving makes of its records
@@ -181,7 +181,7 @@ module _ (i lit : List ℕ) (own file : ℕ) (context : context_of i ≡ four (l
     tidy-at n us g h q k = tidy-parts (parts_of g) i (shaped-parts g 0x10 h q) k
 
     tidy-all : (n : ℕ) (us : List How) (gs : Fields) (q : Rule) → ShapedAll gs q → Each (Tidy i lit own file n us context named) gs
-    tidy-all n us gs q h = each_weaken Shaped (Tidy i lit own file n us context named) gs (tidy-at n us) (shaped-each gs q h)
+    tidy-all n us gs q h = each-weaken Shaped (Tidy i lit own file n us context named) gs (tidy-at n us) (shaped-each gs q h)
 
     -- taken apart where the first argument says so, and kept otherwise
     abbrev pub EndsBy : Bool → ℕ → List How → Fields → Fields → Fields → Modules → Type 0
@@ -190,18 +190,18 @@ module _ (i lit : List ℕ) (own file : ℕ) (context : context_of i ≡ four (l
 
     -- the usages of an import that is taken apart
     held-usages : (us : List How) (n : ℕ) (s : State) → takes_apart us ≡ true → Held i lit own file n us s → usages_of i s.usages ≡ usages_for i (four (export n)) (properties us)
-    held-usages us n s t h = go (all_plain us) (both_true (is_used (filter is_use us)) (all_plain us) t).1 h.stood
+    held-usages us n s t h = go (all_plain us) (both-true (is_used (filter is_use us)) (all_plain us) t).1 h.stood
       where
         go : (b : Bool) → b ≡ true → Stood i (value_of lit) (four (export n)) b (properties us) s → usages_of i s.usages ≡ usages_for i (four (export n)) (properties us)
         go true q k = k.1
         go false q k = absurd (true≢false (sym q))
 
-    end_of : (b : Bool) (k : ℕ) (items outs gs : Fields) (s t : State) (ms : Modules) (n : ℕ) → takes_apart (stands items i) ≡ b →
+    end-of : (b : Bool) (k : ℕ) (items outs gs : Fields) (s t : State) (ms : Modules) (n : ℕ) → takes_apart (stands items i) ≡ b →
         Surrounded k items → Held i lit own file n (stands items i) s → Spaces Space own locals s →
         Outs i lit own file n (stands items i) context named (place_kept k items) (keep stays items) outs →
         Ended (takes_apart (stands items i)) i lit (four (export n)) (properties (stands items i)) t → Items outs → number_of file ms ≡ some n →
         resolved_all rows t.forced ms (append (record_fields 0x80 t.collected) (record_fields 0x81 t.lazy)) 3 ≡ done gs → EndsBy b k (stands items i) items outs gs ms
-    end_of true k items outs gs s t ms n q h held sp o en shape number e = (
+    end-of true k items outs gs s t ms n q h held sp o en shape number e = (
       n,
       number,
       ends-taken k items outs gs t ms n q h o en
@@ -210,15 +210,15 @@ module _ (i lit : List ℕ) (own file : ℕ) (context : context_of i ≡ four (l
           (held-usages (stands items i) n s q held))
           (tidy-all n (stands items i) outs (rule_of 0x01) shape.shaped) e,
     )
-    end_of false k items outs gs s t ms n q h held sp o en shape number e = ends-kept k items outs gs t ms n q h o en e
+    end-of false k items outs gs s t ms n q h held sp o en shape number e = ends-kept k items outs gs t ms n q h o en e
 
     -- the resolved list of the end's records
-    pub run_ends : (k : ℕ) (items : Fields) {room : Lengths} (ms new : Modules) (r : Extracted) (gs : Fields) → Items items → Surrounded k items →
+    pub run-ends : (k : ℕ) (items : Fields) {room : Lengths} (ms new : Modules) (r : Extracted) (gs : Fields) → Items items → Surrounded k items →
         (u : Run l room rows own items ms r) →
         number_all rows (sources_in (parts_of (records_of u.end))) u.end.modules 3 ≡ done new →
         resolved_all rows u.end.forced new (append (record_fields 0x80 u.end.collected) (record_fields 0x81 u.end.lazy)) 3 ≡ done gs →
         EndsBy (takes_apart (stands items i)) k (stands items i) items u.outs gs new
-    run_ends k items ms new r gs shape h u numbered resolved =
+    run-ends k items ms new r gs shape h u numbered resolved =
         let us = stands items i in
         let x =
         after-done (walk_module one items (start ms))
@@ -233,7 +233,7 @@ module _ (i lit : List ℕ) (own file : ℕ) (context : context_of i ≡ four (l
         let number = after-done (walk_again again u.works u.middle) (λ outs t. Numbered file x.1.0.0 t) (u.outs, u.end) u.twice
         (walk_again-keeps again (λ _. Unit {0}) (Numbered file x.1.0.0) (numbered-steps again (λ _. Unit {0}) file x.1.0.0)
         (numbered-end file x.1.0.0) u.works u.middle (imports-any-all u.works (λ _. Unit {0}) (λ _. tt)) x.1.0.1.given) in
-        end_of (takes_apart us) k items u.outs gs u.middle u.end new x.1.0.0 refl h x.1.0.1 x.1.1 y.0 y.1 w
+        end-of (takes_apart us) k items u.outs gs u.middle u.end new x.1.0.0 refl h x.1.0.1 x.1.1 y.0 y.1 w
         (number_all-keeps rows file x.1.0.0 (sources_in (parts_of (records_of u.end))) u.end.modules new 3 numbered number) resolved
 
     -- An accepted extraction, and an accepted resolving of its records as they were written: taken apart or kept
@@ -244,6 +244,6 @@ module _ (i lit : List ℕ) (own file : ℕ) (context : context_of i ≡ four (l
     core k items ms new r gs shape h u a b =
         let q = sym u.given in
         subst (λ (z : Extracted). EndsBy (takes_apart (stands items i)) k (stands items i) items (parts_of z.out) gs new) u.given
-        (run_ends k items ms new r gs shape h u (subst (λ (z : Extracted). number_all rows (sources_in (parts_of z.records)) z.modules 3 ≡ done new) q a)
+        (run-ends k items ms new r gs shape h u (subst (λ (z : Extracted). number_all rows (sources_in (parts_of z.records)) z.modules 3 ≡ done new) q a)
         (sym (ap₂ {C = Outcome Fields} (λ f c. resolved_all rows f new c 3) (forced-of u.end) (sources-of u.end))
         ∙ subst (λ (z : Extracted). resolved_all rows (forced_in (parts_of z.records)) new (sources_in (parts_of z.records)) 3 ≡ done gs) q b))

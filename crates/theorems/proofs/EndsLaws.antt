@@ -6,7 +6,7 @@ use mathlib.Core.Bool.{Bool, true, false, cond, true≢false}
 use mathlib.Core.List.{List, [], ◌∷◌}
 use mathlib.Core.Option.{some}
 use native.Mathlib.Omega.{arith}
-use Rattle.scope.specs.Id.{require-atom, local, export}
+use Rattle.scope.specs.Id.{require_atom, local, export}
 use Rattle.tree.specs.Layout.{same, two, four, name_of, context_of}
 use Rattle.tree.specs.Tree.{Field, Fields, none, more, tag_of, fixed_of, parts_of}
 use Rattle.inputs.specs.Lists.{filter}
@@ -21,7 +21,7 @@ use Rattle.theorems.specs.Demand.{Every, Declares, uses_of, property_fields}
 use Rattle.theorems.proofs.FirstPassLaws.{Beside, Around, other-import}
 use Rattle.theorems.proofs.SettledLaws.{takes_apart}
 use Rattle.theorems.proofs.GoneLaws.{gone}
-use Rattle.theorems.proofs.UsesLaws.{every_append, every-filter, Good, Uses, uses}
+use Rattle.theorems.proofs.UsesLaws.{every-append, every-filter, Good, Uses, uses}
 use Rattle.theorems.proofs.CleanLaws.{Clean, CleanSpec}
 use Rattle.theorems.proofs.PairedLaws.{PairedAll}
 use Rattle.theorems.proofs.OutsLaws.{own_specifiers, OwnOut, OutItem, Outs}
@@ -38,7 +38,7 @@ neutral-every P (s ∷ l) h = go (is_use s.how) refl h (neutral-every P l)
     go true q h k = absurd (let z : ◌≡◌ {A = ℕ} 0 1 = cc in omega arith)
     go false q h k = ((λ u. absurd (true≢false (sym u ∙ q))), k h)
 
-module _ (i lit : List ℕ) (own file n : ℕ) (us : List How) (context : context_of i ≡ four (local own)) (named : same (name_of i) (two require-atom) ≡ false) where
+module _ (i lit : List ℕ) (own file n : ℕ) (us : List How) (context : context_of i ≡ four (local own)) (named : same (name_of i) (two require_atom) ≡ false) where
   abbrev c : List ℕ
   c = four (export n)
 
@@ -60,7 +60,7 @@ module _ (i lit : List ℕ) (own file n : ℕ) (us : List How) (context : contex
   both-uses : (f g : Field) (fs hs gs : Fields) → gs ≡ more g hs → Uses taken i c own named (standings f g i false) → Uses taken i c own named (standings_all fs hs i false) →
       Uses taken i c own named (standings_all (more f fs) gs i false)
   unfolding standings
-  both-uses f g fs hs gs e h k = rw e (every_append (λ s. is_use s.how ≡ true → Good taken c s) (standings f g i false) (standings_all fs hs i false) h k)
+  both-uses f g fs hs gs e h k = rw e (every-append (λ s. is_use s.how ≡ true → Good taken c s) (standings f g i false) (standings_all fs hs i false) h k)
 
   item-uses : (f g : Field) → Beside i lit own file f → OutItem i lit own file n us context named f g → Fine taken (ways f i false) → Uses taken i c own named (standings f g i false)
   item-uses f g b (inl h) fine = import-uses f g h.0 (other-import i lit own file f b h.0).quiet

@@ -6,7 +6,7 @@ use mathlib.Core.Logic.{◌⊎◌, inl, inr}
 use mathlib.Core.Bool.{true, false}
 use mathlib.Core.List.{List, [], ◌++◌, append-nil}
 use mathlib.Core.Option.{some}
-use Rattle.scope.specs.Id.{require-atom, local}
+use Rattle.scope.specs.Id.{require_atom, local}
 use Rattle.scope.specs.Modules.{Modules}
 use Rattle.tree.specs.Layout.{same, two, four, name_of, context_of, value_of}
 use Rattle.tree.specs.Tree.{Field, field, Fields, none, more, tag_of, fixed_of, parts_of, size}
@@ -18,7 +18,7 @@ use Rattle.extraction_rules.specs.Second.{usages_of}
 use Rattle.extraction_rules.specs.Walk.{walk, walk_all, walk_module}
 use Rattle.extraction_rules.proofs.OutcomeLaws.{After, after-bind, after-weaken}
 use Rattle.extraction_rules.proofs.AlikeLaws.{Regular}
-use Rattle.extraction_rules.proofs.ValueLaws.{walk_first}
+use Rattle.extraction_rules.proofs.ValueLaws.{walk-first}
 use Rattle.extraction_rules.proofs.KeepLaws.{Each}
 use Rattle.placement.specs.Stands.{stands, How}
 use Rattle.placement.specs.Placed.{all}
@@ -54,17 +54,17 @@ module _ (i lit : List ℕ) (own file : ℕ) where
   abbrev pub Around : ℕ → Fields → Type 0
   Around k fs = Amid OwnImport Beside k fs
 
-  pub no-import : {A : Type 0} (f : Field) → Regular f → tag_of f ≡ 0x10 → A
-  no-import (field t x cs) w q = absurd (w.0.no-import q)
+  pub no_import : {A : Type 0} (f : Field) → Regular f → tag_of f ≡ 0x10 → A
+  no_import (field t x cs) w q = absurd (w.0.no_import q)
 
   pub other-import : (f : Field) → Beside f → tag_of f ≡ 0x10 → OtherImport f
   other-import f (inl h) q = h
-  other-import f (inr h) q = no-import f h q
+  other-import f (inr h) q = no_import f h q
 
   module _ (e : Setting) (one : e.pass ≡ first) (mine : e.own ≡ own) (res : file_of (value_of lit) e.table ≡ some file) (inner : external e lit ≡ false)
-      (named : same (name_of i) (two require-atom) ≡ false) (context : context_of i ≡ four (local own)) where
+      (named : same (name_of i) (two require_atom) ≡ false) (context : context_of i ≡ four (local own)) where
     pub other-unfelt : (f : Field) (p : ℕ) (s : State) → OtherImport f → After (walk f e false p s) (λ g t. Unfelt i lit own file s t)
-    other-unfelt f p s h = rw (walk_first e one f p s h.tag) (import-other i lit own file e (fixed_of f) (parts_of f) p s h.source h.locals h.spaces)
+    other-unfelt f p s h = rw (walk-first e one f p s h.tag) (import-other i lit own file e (fixed_of f) (parts_of f) p s h.source h.locals h.spaces)
 
     other-neutral : (f : Field) → OtherImport f → Neutral (ways f i false)
     other-neutral f h = rw (import-ways f i h.tag) (quiet_all-neutral (parts_of f) i false h.quiet)
@@ -98,7 +98,7 @@ module _ (i lit : List ℕ) (own file : ℕ) where
 
     own-known : (f : Field) (p : ℕ) (s : State) → OwnImport f → Before i lit own file s → After (walk f e false p s) (λ g t. Known (ways f i false) t)
     own-known f p s w h =
-        rw (walk_first e one f p s w.tag, w.literal)
+        rw (walk-first e one f p s w.tag, w.literal)
         (after-weaken (import_first e lit (parts_of f) p s) (λ g t. ((n : ℕ) × Held i lit own file n [] t) × Redeclared i lit own file context (parts_of f) g) (λ g t. Known (ways f i false) t)
         (λ g t k. (k.0.0, held-neutral i lit own file k.0.0 [] (ways f i false) t (rw (import-ways f i w.tag) (quiet_all-neutral (parts_of f) i false w.quiet)) k.0.1))
         (import-own i lit own file context e (parts_of f) p s res inner w.sole h))
@@ -125,4 +125,4 @@ module _ (i lit : List ℕ) (own file : ℕ) where
     first-pass k items ms w r =
         rw (stands-ways items i)
         (after-bind (walk_all items e false 3 (set_top true (start ms))) _ (λ gs t. Known (ways_all items i false) t) (λ gs t. Known (ways_all items i false) t)
-        (around-held k items 3 (set_top true (start ms)) w r (record { no_record = refl; not-held = refl; not_found = refl; no-usages = refl; not-forced = refl })) λ gs t h. h)
+        (around-held k items 3 (set_top true (start ms)) w r (record { no_record = refl; not_held = refl; not_found = refl; no_usages = refl; not_forced = refl })) λ gs t h. h)

@@ -8,23 +8,23 @@ use native.Mathlib.Omega.{arith}
 use lib.Dec.{eqb}
 use lib.ListN.{length, get_or}
 use borrow.Author.Tests.{eqb-true}
-use Rattle.scope.specs.Id.{require-atom, local}
+use Rattle.scope.specs.Id.{require_atom, local}
 use Rattle.tree.specs.Layout.{same, two, four, id_at, name_of, context_of}
 use Rattle.tree.specs.Tree.{Field, field, Fields, none, more, tag_of, fixed_of, parts_of}
-use Rattle.tree.proofs.LayoutLaws.{same_refl}
+use Rattle.tree.proofs.LayoutLaws.{same-refl}
 use Rattle.inputs.specs.Lists.{filter}
 use Rattle.inputs.specs.Fields.{has}
 use Rattle.extraction_rules.specs.Walk.{Parts, unwalked, member, super, assignment, children, parts_for}
-use Rattle.extraction_rules.proofs.ListLaws.{same_not, not_same}
+use Rattle.extraction_rules.proofs.ListLaws.{same-not, not-same}
 use Rattle.extraction_rules.proofs.TagLaws.{find-any, parts-member}
 use Rattle.extraction_rules.proofs.AlikeLaws.{Two, Regular, RegularAll, SameBytes, equal, behind, callee, same-other, same-trans, Alike, AlikeAll, alike-more, alike-none, alike-tag}
 use Rattle.placement.specs.Stands.{How, bare, original, otherwise, first_id, original_ids, ids_in, by_member, object_ids, is_use, is_plain, is_misplaced}
 use Rattle.placement.specs.Placed.{all}
 use Rattle.placement.proofs.WaysLaws.{met, ways, ways_all, ways_member, ways_assignment, ways_target, ways_parts, ways_object, ids-alike, met-append}
 use Rattle.placement.proofs.HowLaws.{id_table}
-use Rattle.theorems.proofs.OutFieldLaws.{Foreign, Turned, Unturned, Out, OutAll, out-more, out_none, out-lacking, out-tag, Fine, fine-append}
+use Rattle.theorems.proofs.OutFieldLaws.{Foreign, Turned, Unturned, Out, OutAll, out-more, out-none, out-lacking, out-tag, Fine, fine-append}
 
-module _ (taken : Bool) (i c : List ℕ) (own : ℕ) (named : same (name_of i) (two require-atom) ≡ false) where
+module _ (taken : Bool) (i c : List ℕ) (own : ℕ) (named : same (name_of i) (two require_atom) ≡ false) where
   abbrev O : Field → Field → Type 0
   O f g = Out taken i c own f g
 
@@ -40,7 +40,7 @@ module _ (taken : Bool) (i c : List ℕ) (own : ℕ) (named : same (name_of i) (
       go : SameBytes t x (fixed_of g) → fixed_of g ≡ i
       go (equal r) = r ∙ e
       go (behind k r) = absurd (let v : ◌≡◌ {A = ℕ} 0x60 0x23 = sym q ∙ k in omega arith)
-      go (callee k r n v) = absurd (not_same (name_of i) (two require-atom) named (ap name_of (sym e) ∙ r))
+      go (callee k r n v) = absurd (not-same (name_of i) (two require_atom) named (ap name_of (sym e) ∙ r))
 
   alike-name : (f g : Field) → Alike f g → tag_of f ≡ 0x70 → fixed_of g ≡ fixed_of f
   alike-name (field t x cs) g h q =
@@ -81,7 +81,7 @@ module _ (taken : Bool) (i c : List ℕ) (own : ℕ) (named : same (name_of i) (
         foreign = u.foreign;
         whole = u.whole;
         mine = λ e. let m = u.mine (ap fixed_of (sym fo) ∙ alike-own f h.0 h.3 tf e) in
-            (m.0, m.1 ∙ ap (λ (y : List ℕ). y ++ c) bp, ap (λ (y : List ℕ). same y (two require-atom)) (sym bp) ∙ m.2, ap length (sym bp) ∙ m.3);
+            (m.0, m.1 ∙ ap (λ (y : List ℕ). y ++ c) bp, ap (λ (y : List ℕ). same y (two require_atom)) (sym bp) ∙ m.2, ap length (sym bp) ∙ m.3);
       }
 
   mutual
@@ -107,7 +107,7 @@ module _ (taken : Bool) (i c : List ℕ) (own : ℕ) (named : same (name_of i) (
 
   module _ (context : context_of i ≡ four (local own)) (apart : taken ≡ true) where
     foreign-other : (y : List ℕ) → Foreign own y → same y i ≡ false
-    foreign-other y h = same_not y i (λ q. not_same (context_of y) (four (local own)) h (ap context_of q ∙ context))
+    foreign-other y h = same-not y i (λ q. not-same (context_of y) (four (local own)) h (ap context_of q ∙ context))
 
     lone : (h : How) (j : List ℕ) → is_plain h ≡ false → (is_use h ≡ true) ⊎ (is_misplaced h ≡ true) → Fine taken (met ((h, j) ∷ []) i) → met ((h, j) ∷ []) i ≡ []
     unfolding met all filter
@@ -173,9 +173,9 @@ module _ (taken : Bool) (i c : List ℕ) (own : ℕ) (named : same (name_of i) (
     object-id (field t x os) w (inl h) q d = go h.1
       where
         go : SameBytes t x (fixed_of w) → same (fixed_of w) i ≡ false
-        go (equal r) = same_not (fixed_of w) i (λ e. d (sym h.0 ∙ q) (sym r ∙ e))
+        go (equal r) = same-not (fixed_of w) i (λ e. d (sym h.0 ∙ q) (sym r ∙ e))
         go (behind k r) = absurd (let v : ◌≡◌ {A = ℕ} 0x23 0x60 = sym k ∙ sym h.0 ∙ q in omega arith)
-        go (callee k r n v) = same_not (fixed_of w) i (λ e. not_same (name_of i) (two require-atom) named (ap name_of (sym e ∙ v)))
+        go (callee k r n v) = same-not (fixed_of w) i (λ e. not-same (name_of i) (two require_atom) named (ap name_of (sym e ∙ v)))
 
     objects-gone : (ex : Bool) (w : Field) (vs : Fields) → (tag_of w ≡ 0x60 → same (fixed_of w) i ≡ false) → met (object_ids ex (more w vs)) i ≡ []
     unfolding object_ids met
@@ -190,12 +190,12 @@ module _ (taken : Bool) (i c : List ℕ) (own : ℕ) (named : same (name_of i) (
         Fine taken (met (object_ids true (more o (more q none))) i) → tag_of o ≡ 0x60 → fixed_of o ≡ i → ⊥
     unfolding object_ids met all filter
     not-object o q (inl k) u fine to e = true≢false (sym apart ∙ u o q refl refl to k e)
-    not-object o q (inr (inl k)) u fine to e = true≢false (sym (fine.0 apart) ∙ rw (to, k, e, same_refl i))
-    not-object o q (inr (inr k)) u fine to e = true≢false (sym (fine.2 apart) ∙ rw (to, k, e, same_refl i))
+    not-object o q (inr (inl k)) u fine to e = true≢false (sym (fine.0 apart) ∙ rw (to, k, e, same-refl i))
+    not-object o q (inr (inr k)) u fine to e = true≢false (sym (fine.2 apart) ∙ rw (to, k, e, same-refl i))
 
     not-target : (o : Field) (rest : Fields) → Fine taken (met (object_ids false (more o rest)) i) → tag_of o ≡ 0x60 → fixed_of o ≡ i → ⊥
     unfolding object_ids met all
-    not-target o rest fine to e = true≢false (sym (fine.2 apart) ∙ rw (to, e, same_refl i))
+    not-target o rest fine to e = true≢false (sym (fine.2 apart) ∙ rw (to, e, same-refl i))
 
     turned-gone : (t : ℕ) (cs : Fields) (g : Field) (object : Bool) → Turned taken i c own t cs g → ways g i object ≡ []
     unfolding ways ids_in met parts_for
@@ -246,7 +246,7 @@ module _ (taken : Bool) (i c : List ℕ) (own : ℕ) (named : same (name_of i) (
     target-objects : (cs ds : Fields) → OA cs ds → Fine taken (met (object_ids false cs) i) → met (object_ids false ds) i ≡ []
     unfolding object_ids met
     target-objects none none h f = refl
-    target-objects none (more g gs) h f = out_none taken i c own g gs h
+    target-objects none (more g gs) h f = out-none taken i c own g gs h
     target-objects (more o os) none h f = out-lacking taken i c own o os h
     target-objects (more o os) (more w ws) h f = objects-gone false w ws (λ k. object-id o w (out-more taken i c own o os w ws h).0 k (λ to m. not-target o os f to m))
 
@@ -266,12 +266,12 @@ module _ (taken : Bool) (i c : List ℕ) (own : ℕ) (named : same (name_of i) (
           let f = fine-append taken (met (ids_in t x object) i) (ways_parts (parts_for t) cs i object) fine in
           rw h.0
           (nil-append (met (ids_in t y object) i) (ways_parts (parts_for t) ds i object) (own-gone t x y object h.1 w.0.no_local f.0)
-          (parts-gone (parts_for t) t cs ds object refl w.0.member-two h.2 h.3 f.1 (λ b f. gone_all cs ds b w.1 f h.3)
+          (parts-gone (parts_for t) t cs ds object refl w.0.member_two h.2 h.3 f.1 (λ b f. gone_all cs ds b w.1 f h.3)
           (λ f. gone_member cs ds w.1 f h.3) (λ f. gone_assignment cs ds object w.1 f h.3)))
 
       pub gone_all : (fs gs : Fields) (object : Bool) → RegularAll fs → Fine taken (ways_all fs i object) → OA fs gs → ways_all gs i object ≡ []
       gone_all none none object w fine h = refl
-      gone_all none (more g gs) object w fine h = out_none taken i c own g gs h
+      gone_all none (more g gs) object w fine h = out-none taken i c own g gs h
       gone_all (more f fs) none object w fine h = out-lacking taken i c own f fs h
       gone_all (more f fs) (more g gs) object w fine h =
           let a = out-more taken i c own f fs g gs h in
@@ -280,7 +280,7 @@ module _ (taken : Bool) (i c : List ℕ) (own : ℕ) (named : same (name_of i) (
 
       gone_member : (fs gs : Fields) → RegularAll fs → Fine taken (ways_member fs i) → OA fs gs → ways_member gs i ≡ []
       gone_member none none w fine h = refl
-      gone_member none (more g gs) w fine h = out_none taken i c own g gs h
+      gone_member none (more g gs) w fine h = out-none taken i c own g gs h
       gone_member (more f fs) none w fine h = out-lacking taken i c own f fs h
       gone_member (more f fs) (more g gs) w fine h =
           let a = out-more taken i c own f fs g gs h in
@@ -289,7 +289,7 @@ module _ (taken : Bool) (i c : List ℕ) (own : ℕ) (named : same (name_of i) (
 
       gone_assignment : (fs gs : Fields) (object : Bool) → RegularAll fs → Fine taken (ways_assignment fs i object) → OA fs gs → ways_assignment gs i object ≡ []
       gone_assignment none none object w fine h = refl
-      gone_assignment none (more g gs) object w fine h = out_none taken i c own g gs h
+      gone_assignment none (more g gs) object w fine h = out-none taken i c own g gs h
       gone_assignment (more f fs) none object w fine h = out-lacking taken i c own f fs h
       gone_assignment (more f fs) (more g gs) object w fine h =
           let a = out-more taken i c own f fs g gs h in

@@ -9,13 +9,13 @@ use native.Mathlib.Omega.{arith}
 use lib.Dec.{eqb}
 use lib.ListN.{length, get_or}
 use borrow.Author.Tests.{eqb-true, ne_eqb, eqb-false}
-use Rattle.scope.specs.Id.{require-atom, export}
+use Rattle.scope.specs.Id.{require_atom, export}
 use Rattle.scope.specs.Modules.{Modules, number_of, request, set_mark}
 use Rattle.scope.specs.declared.Mark.TheVariants.{Cjs}
 use Rattle.scope.proofs.Laws.{request-keeps-numbers, mark-keeps-numbers}
 use Rattle.tree.specs.Layout.{same, two, four, id_at, name_of, value_of}
 use Rattle.tree.specs.Tree.{Field, field, Fields, none, more, tag_of, fixed_of, size}
-use Rattle.tree.proofs.LayoutLaws.{same_refl, same-equal}
+use Rattle.tree.proofs.LayoutLaws.{same-refl, same-equal}
 use Rattle.tree.specs.Grammar.{within}
 use Rattle.metadata.proofs.EncodeLaws.{append-none}
 use Rattle.inputs.specs.Outcome.{Outcome, done, onto}
@@ -29,14 +29,14 @@ use Rattle.extraction_rules.specs.Second.{usages_of}
 use Rattle.extraction_rules.specs.Walk.{Rule, import, export as exporting, declare, express, nothing as nil, after_expression, rule_for, after, Parts}
 use Rattle.extraction_rules.specs.Walk.{unwalked, member, super, assignment, children, parts_for, enter, walk, walk_all, walk_member, walk_assignment}
 use Rattle.extraction_rules.specs.Walk.{walk_target}
-use Rattle.extraction_rules.proofs.OutcomeLaws.{After, after-bind, after-weaken, after_both, after-if}
-use Rattle.extraction_rules.proofs.ListLaws.{not_same}
+use Rattle.extraction_rules.proofs.OutcomeLaws.{After, after-bind, after-weaken, after-both, after-if}
+use Rattle.extraction_rules.proofs.ListLaws.{not-same}
 use Rattle.extraction_rules.proofs.WalkLaws.{walk_parts}
 use Rattle.extraction_rules.proofs.TagLaws.{rule-import, other-rule, rule-export, other-parts, parts-member, parts-assignment, parts-unwalked}
 use Rattle.extraction_rules.proofs.TableLaws.{record_of, record-empty}
 use Rattle.extraction_rules.proofs.StepLaws.{RequireSteps, enter-keeps, module_for-keeps, declarator-keeps, require-keeps, add_usage-keeps}
 use Rattle.extraction_rules.proofs.AlikeLaws.{Two, RegularAt, Regular, RegularAll, AlikeAll, alike-two, walk_all-alike, walk_member-alike, walk_assignment-alike, parts-alike}
-use Rattle.extraction_rules.proofs.StayLaws.{no_member}
+use Rattle.extraction_rules.proofs.StayLaws.{no-member}
 use Rattle.extraction_rules.proofs.SeekLaws.{seek, holds_in, suits_in, seek-collect, force-own, force-other, force-tables, forgotten-imported}
 use Rattle.extraction_rules.proofs.SeekLaws.{other-imported, forgotten-usages, other-usages, usages-last, usages-other}
 use Rattle.placement.specs.Stands.{How, plain, computed, bare, original, otherwise, ids_in, by_member, object_ids, is_use, is_plain, properties}
@@ -131,9 +131,9 @@ module _ (i lit : List ℕ) (own file n : ℕ) where
   held-neutral us l s k h =
       held-like us (us ++ l) s (sym (plain-append us l ∙ rw k.0 (and-true (all_plain us)))) (λ _. sym (properties-append us l ∙ rw k.1 (append-nil (properties us)))) h
 
-  held_back : (us l : List How) (s : State) → Neutral l → H (us ++ l) s → H us s
+  held-back : (us l : List How) (s : State) → Neutral l → H (us ++ l) s → H us s
   unfolding all
-  held_back us l s k h =
+  held-back us l s k h =
       held-like (us ++ l) us s (plain-append us l ∙ rw k.0 (and-true (all_plain us))) (λ _. properties-append us l ∙ rw k.1 (append-nil (properties us))) h
 
   -- w before l instead of behind it
@@ -167,9 +167,9 @@ module _ (i lit : List ℕ) (own file n : ℕ) where
   pub held-requires : (e : Setting) (us : List How) → RequireSteps e (H us)
   held-requires e us =
       record {
-        on-request = λ s f m ms q h. held-unfelt us s (set_modules ms s) (unfelt-modules s ms (λ n w. request-keeps-numbers f s.modules q file n w)) h;
-        on-cjs = λ s m h. held-unfelt us s (set_modules (set_mark Cjs m s.modules) s) (unfelt-modules s (set_mark Cjs m s.modules) (λ n w. mark-keeps-numbers Cjs m s.modules file ∙ w)) h;
-        on-lazy =
+        on_request = λ s f m ms q h. held-unfelt us s (set_modules ms s) (unfelt-modules s ms (λ n w. request-keeps-numbers f s.modules q file n w)) h;
+        on_cjs = λ s m h. held-unfelt us s (set_modules (set_mark Cjs m s.modules) s) (unfelt-modules s (set_mark Cjs m s.modules) (λ n w. mark-keeps-numbers Cjs m s.modules file ∙ w)) h;
+        on_lazy =
             λ s r b h. held-unfelt us s (set_lazy (s.lazy ++ (r ∷ [])) s)
             (record
             { entry = refl; holders = λ j q. q; holder = refl; suited = refl; number = λ n q. q; context = refl; usages = refl; forced = refl }) h;
@@ -194,7 +194,7 @@ module _ (i lit : List ℕ) (own file n : ℕ) where
       }
 
   pub held-force-other : (us : List How) (s : State) (j : List ℕ) → same j i ≡ false → H us s → H us (force_id j s)
-  held-force-other us s j q h = held-unfelt us s (force_id j s) (unfelt-force s j q (λ w. not_same j i q (h.alone j w))) h
+  held-force-other us s j q h = held-unfelt us s (force_id j s) (unfelt-force s j q (λ w. not-same j i q (h.alone j w))) h
 
   -- a way that is used but not plain
   with-other : (us l : List How) (w : How) → is_use w ≡ true → is_plain w ≡ false → all_plain (us ++ (w ∷ l)) ≡ false
@@ -250,7 +250,7 @@ module _ (i lit : List ℕ) (own file n : ℕ) where
         stood =
             rw (plain-last us p, q, properties-append us (plain p ∷ [])) (
               k.0,
-              usages-last i (record { id = i; property = p ++ four (export n) }) s.usages (same_refl i)
+              usages-last i (record { id = i; property = p ++ four (export n) }) s.usages (same-refl i)
                   ∙ ap (λ (l : List Usage). l ++ (record { id = i; property = p ++ four (export n) } ∷ [])) k.1
                   ∙ sym (usages_for-last i (four (export n)) (properties us) p),
               k.2,
@@ -378,7 +378,7 @@ module _ (i lit : List ℕ) (own file n : ℕ) where
             (λ g t'. H (us ++ met (ids_in t x b) i) t')
         quietly b v =
             then-require (us ++ met (ids_in t x b) i) (field t x ds) p (usage (on_ident (field t x ds)) e p s)
-            (rw (no_member t x ds (eqb-false t 0x63 d))
+            (rw (no-member t x ds (eqb-false t 0x63 d))
             (held-neutral us (met (ids_in t x b) i) s (unused-neutral (ids_in t x b) i (ids-unused t x b k v)) h))
 
         go : (c b : Bool) → eqb t 0x60 ≡ c →
@@ -407,17 +407,17 @@ module _ (i lit : List ℕ) (own file n : ℕ) where
         (λ _. rw k.0 (held-forced us (id_at x 1) original s refl refl h))
     export-held us x object p s (inr k) h = rw k tt
 
-    module _ (one : e.pass ≡ first) (named : same (name_of i) (two require-atom) ≡ false) where
+    module _ (one : e.pass ≡ first) (named : same (name_of i) (two require_atom) ≡ false) where
       first-held : (k : Pass) → k ≡ first → (us : List How) (t : ℕ) (x : List ℕ) (ds : Fields) (object : Bool) (p : ℕ) (s : State) →
           eqb t 0x63 ≡ false → eqb t 0x23 ≡ false → (t ≡ 0x60 → id_at x 0 ≡ x) → H us s →
           After (after_expression k e (field t x ds) object p s) (λ g t'. H (us ++ met (ids_in t x object) i) t')
       first-held first q us t x ds object p s d k w h = expression-held us t x ds object p s d k w h
       first-held second q us t x ds object p s d k w h = absurd (let z : ◌≡◌ {A = ℕ} 0 1 = cc in omega arith)
 
-      first_member : (k : Pass) → k ≡ first → (us : List How) (x : List ℕ) (ds : Fields) (object : Bool) (p : ℕ) (s : State) → Two ds → H us s →
+      first-member : (k : Pass) → k ≡ first → (us : List How) (x : List ℕ) (ds : Fields) (object : Bool) (p : ℕ) (s : State) → Two ds → H us s →
           After (after_expression k e (field 0x63 x ds) object p s) (λ g t. H (us ++ met (object_ids true ds) i) t)
-      first_member first q us x ds object p s w h = member-held us x ds object p s w h
-      first_member second q us x ds object p s w h = absurd (let z : ◌≡◌ {A = ℕ} 0 1 = cc in omega arith)
+      first-member first q us x ds object p s w h = member-held us x ds object p s w h
+      first-member second q us x ds object p s w h = absurd (let z : ◌≡◌ {A = ℕ} 0 1 = cc in omega arith)
 
       neutral-held : (us : List How) (t : ℕ) (x : List ℕ) (object : Bool) (s : State) → eqb t 0x23 ≡ false → eqb t 0x60 ≡ false → H us s → H (us ++ met (ids_in t x object) i) s
       neutral-held us t x object s k d h = held-neutral us (met (ids_in t x object) i) s (unused-neutral (ids_in t x object) i (ids-unused t x object k (λ v. absurd (true≢false (sym v ∙ d))))) h
@@ -426,8 +426,8 @@ module _ (i lit : List ℕ) (own file n : ℕ) where
           (t ≡ 0x63 → ⊥) → RegularAt t x cs → H us s →
           After (after r e t x ds object p s) (λ g t'. H (us ++ met (ids_in t x object) i) t')
       unfolding after rule_for within
-      rule-held import us t x cs ds object p s q d w h = absurd (w.no-import (rule-import t q))
-      rule-held exporting us t x cs ds object p s q d w h = go t (rule-export t q) (w.export-kind (rule-export t q))
+      rule-held import us t x cs ds object p s q d w h = absurd (w.no_import (rule-import t q))
+      rule-held exporting us t x cs ds object p s q d w h = go t (rule-export t q) (w.export_kind (rule-export t q))
         where
           go : (t : ℕ) → t ≡ 0x23 → ((get_or x 0 0 ≡ 1) × (7 ≤ length x)) ⊎ (get_or x 0 0 ≡ 2) → After (export_specifier e x p s) (λ g t'. H (us ++ met (ids_in t x object) i) t')
           go t v k = rw v (export-held us x object p s k h)
@@ -435,7 +435,7 @@ module _ (i lit : List ℕ) (own file n : ℕ) where
           after-bind (declarator e ds p s) _ (λ gs t'. H us t') (λ g t'. H (us ++ met (ids_in t x object) i) t') (declarator-keeps e (H us) (held-requires e us) ds p s h) λ gs s h.
           neutral-held us t x object s (ne_eqb t 0x23 (other-rule t 0x23 declare exporting q refl (λ z. omega arith))) (ne_eqb t 0x60 (other-rule t 0x60 declare express q refl (λ z. omega arith))) h
       rule-held express us t x cs ds object p s q d w h =
-          first-held e.pass one us t x ds object p s (ne_eqb t 0x63 d) (ne_eqb t 0x23 (other-rule t 0x23 express exporting q refl (λ z. omega arith))) w.ident-whole h
+          first-held e.pass one us t x ds object p s (ne_eqb t 0x63 d) (ne_eqb t 0x23 (other-rule t 0x23 express exporting q refl (λ z. omega arith))) w.ident_whole h
       rule-held nil us t x cs ds object p s q d w h =
           neutral-held us t x object s (ne_eqb t 0x23 (other-rule t 0x23 nil exporting q refl (λ z. omega arith))) (ne_eqb t 0x60 (other-rule t 0x60 nil express q refl (λ z. omega arith))) h
 
@@ -453,14 +453,14 @@ module _ (i lit : List ℕ) (own file n : ℕ) where
       abbrev PartsHeld : (ℕ → State → Outcome (Fields × State)) → List How → Type 0
       PartsHeld m l = (us : List How) (p : ℕ) (s : State) → H us s → After (m p s) (λ ds t. H (us ++ l) t)
 
-      parts_held : (v : Parts) (us : List How) (cs : Fields) (object : Bool) (p : ℕ) (s : State) →
+      parts-held : (v : Parts) (us : List How) (cs : Fields) (object : Bool) (p : ℕ) (s : State) →
           ((b : Bool) → PartsHeld (walk_all cs e b) (ways_all cs i b)) → PartsHeld (walk_member cs e) (ways_member cs i) →
           (v ≡ assignment → PartsHeld (walk_assignment cs e object) (ways_assignment cs i object)) → H us s → After (walk_parts v cs e object p s) (λ ds t. H (us ++ inner v cs object) t)
-      parts_held unwalked us cs object p s all mem asg h = held-nil us s h
-      parts_held member us cs object p s all mem asg h = mem us p s h
-      parts_held super us cs object p s all mem asg h = all false us p s h
-      parts_held assignment us cs object p s all mem asg h = asg refl us p s h
-      parts_held children us cs object p s all mem asg h = all object us p s h
+      parts-held unwalked us cs object p s all mem asg h = held-nil us s h
+      parts-held member us cs object p s all mem asg h = mem us p s h
+      parts-held super us cs object p s all mem asg h = all false us p s h
+      parts-held assignment us cs object p s all mem asg h = asg refl us p s h
+      parts-held children us cs object p s all mem asg h = all object us p s h
 
       -- the rule behind the parts: w is what it adds
       behind-parts : (us w l : List How) (m : Outcome (Field × State)) → (properties w ≡ []) ⊎ (l ≡ []) → After m (λ g t. H ((us ++ l) ++ w) t) → After m (λ g t. H (us ++ (w ++ l)) t)
@@ -469,7 +469,7 @@ module _ (i lit : List ℕ) (own file n : ℕ) where
       -- a 63 with a plain property has no other ways
       name-ways : (q : Field) → tag_of q ≡ 0x70 → Regular q → ways q i false ≡ []
       unfolding ways ids_in parts_for met
-      name-ways (field t y ds) k w = rw (k, w.0.name-bare k)
+      name-ways (field t y ds) k w = rw (k, w.0.name_bare k)
 
       pair-aside : (o q : Field) → (tag_of q ≡ 0x70) ⊎ ((tag_of q ≡ 0x71) ⊎ (tag_of q ≡ 0x72)) → Regular q →
           (properties (met (object_ids true (more o (more q none))) i) ≡ []) ⊎ (ways_member (more o (more q none)) i ≡ [])
@@ -501,7 +501,7 @@ module _ (i lit : List ℕ) (own file n : ℕ) where
       member-whole us t x cs ds object p s q k w h y =
           rw q
           (behind-parts us (met (object_ids true cs) i) (ways_member cs i) (after_expression e.pass e (field 0x63 x ds) object p s) (member-aside cs k w)
-          (rw (← (object-alike i named true cs ds h)) (first_member e.pass one (us ++ ways_member cs i) x ds object p s (alike-two cs ds h k) y)))
+          (rw (← (object-alike i named true cs ds h)) (first-member e.pass one (us ++ ways_member cs i) x ds object p s (alike-two cs ds h k) y)))
 
       -- 23
       export-whole : (us : List How) (t : ℕ) (x : List ℕ) (cs ds : Fields) (object : Bool) (p : ℕ) (s : State) → (t ≡ 0x63 → ⊥) → cs ≡ none →
@@ -519,9 +519,9 @@ module _ (i lit : List ℕ) (own file n : ℕ) where
       field-held unwalked us t x cs ds object p s q w k h y = by (parts-unwalked t q)
         where
           by : (t ≡ 0x10) ⊎ (t ≡ 0x23) → After (after (rule_for t) e t x ds object p s) (λ g t'. H (us ++ (met (ids_in t x object) i ++ ways_all cs i object)) t')
-          by (inl v) = absurd (w.no-import v)
-          by (inr v) = export-whole us t x cs ds object p s (other-parts t 0x63 unwalked member q refl (λ z. omega arith)) (w.export-bare v) w y
-      field-held member us t x cs ds object p s q w k h y = member-whole us t x cs ds object p s (parts-member t q) (w.member-two (parts-member t q)) k h y
+          by (inl v) = absurd (w.no_import v)
+          by (inr v) = export-whole us t x cs ds object p s (other-parts t 0x63 unwalked member q refl (λ z. omega arith)) (w.export_bare v) w y
+      field-held member us t x cs ds object p s q w k h y = member-whole us t x cs ds object p s (parts-member t q) (w.member_two (parts-member t q)) k h y
       field-held super us t x cs ds object p s q w k h y =
           behind-parts us (met (ids_in t x object) i) (ways_all cs i false) (after (rule_for t) e t x ds object p s) (inl (ids-properties t x object i))
           (rule-held (rule_for t) (us ++ ways_all cs i false) t x cs ds object p s refl (other-parts t 0x63 super member q refl (λ z. omega arith)) w y)
@@ -542,7 +542,7 @@ module _ (i lit : List ℕ) (own file n : ℕ) where
           go : (b : Bool) → eqb t 0x60 ≡ b → After (walk (field t x cs) e true p s) (λ g t'. H (us ++ ways_object b (field t x cs) i) t')
           go true q =
               after-weaken (walk (field t x cs) e true p s) (λ g t'. H (us ++ ways (field t x cs) i true) t') (λ g t'. H (us ++ []) t')
-              (λ g t' v. held-nil us t' (held_back us (ways (field t x cs) i true) t' (ident-neutral i t x cs (eqb-true t 0x60 q) (w.0.ident-bare (eqb-true t 0x60 q))) v)) (k us h)
+              (λ g t' v. held-nil us t' (held-back us (ways (field t x cs) i true) t' (ident-neutral i t x cs (eqb-true t 0x60 q) (w.0.ident_bare (eqb-true t 0x60 q))) v)) (k us h)
           go false q = k us h
 
       -- a target's own ids stand in no use
@@ -559,8 +559,8 @@ module _ (i lit : List ℕ) (own file n : ℕ) where
             after-bind (walk_parts (parts_for t) cs e object (inside p x) (enter t s)) _
             (λ ds t'. H (us ++ inner (parts_for t) cs object) t' × AlikeAll cs ds)
             (λ g t'. H (us ++ (met (ids_in t x object) i ++ ways_parts (parts_for t) cs i object)) t')
-            (after_both (walk_parts (parts_for t) cs e object (inside p x) (enter t s)) (λ ds t'. H (us ++ inner (parts_for t) cs object) t') (λ ds t'. AlikeAll cs ds)
-            (parts_held (parts_for t) us cs object (inside p x) (enter t s) (λ b us p s h. walk_all-held cs us b p s w.1 h)
+            (after-both (walk_parts (parts_for t) cs e object (inside p x) (enter t s)) (λ ds t'. H (us ++ inner (parts_for t) cs object) t') (λ ds t'. AlikeAll cs ds)
+            (parts-held (parts_for t) us cs object (inside p x) (enter t s) (λ b us p s h. walk_all-held cs us b p s w.1 h)
             (λ us p s h. walk_member-held cs us p s w.1 h)
             (λ q us p s h. walk_assignment-held cs us object p s w.1 (w.0.target (parts-assignment t q)) h)
             (enter-keeps (H us) (held-top us) t s h))

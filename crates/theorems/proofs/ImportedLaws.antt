@@ -11,7 +11,7 @@ use Rattle.scope.specs.Modules.{Modules, number_of, request}
 use Rattle.scope.proofs.Laws.{request-keeps-numbers, request-numbers}
 use Rattle.tree.specs.Layout.{same, four, id_at, name_of, context_of, value_of}
 use Rattle.tree.specs.Tree.{Field, field, Fields, none, more, fixed_of, size}
-use Rattle.tree.proofs.LayoutLaws.{same_refl, same-equal}
+use Rattle.tree.proofs.LayoutLaws.{same-refl, same-equal}
 use Rattle.metadata.specs.Metadata.{append}
 use Rattle.inputs.specs.Outcome.{done, onto}
 use Rattle.inputs.specs.Lists.{filter, is_some, among}
@@ -24,7 +24,7 @@ use Rattle.extraction_rules.specs.Second.{usages_of}
 use Rattle.extraction_rules.proofs.OutcomeLaws.{After, after-bind, after-if}
 use Rattle.extraction_rules.proofs.TableLaws.{record_of, record-other, record-absent, record-last, seek-back, suits-append, holds-left}
 use Rattle.extraction_rules.proofs.KeepLaws.{Each}
-use Rattle.extraction_rules.proofs.SeekLaws.{seek, holds_in, suits_in, seek-collect, seek-last, seek-own, collect-new, noted-own, noted_other, find-append}
+use Rattle.extraction_rules.proofs.SeekLaws.{seek, holds_in, suits_in, seek-collect, seek-last, seek-own, collect-new, noted-own, noted-other, find-append}
 use Rattle.placement.specs.Stands.{properties}
 use Rattle.placement.specs.Placed.{all}
 use Rattle.theorems.proofs.HeldLaws.{own_record, Held, Unfelt, unfelt-modules}
@@ -107,7 +107,7 @@ module _ (i lit : List ℕ) (own file : ℕ) where
   unfolding note_id
   note-other m p s d =
       after-if (leb (length (note_in m s.imported)) 512) (change (set_imported (note_in m s.imported))) (refuse 8 p) s (λ u t. U s t)
-      (λ _. record { entry = refl; holders = λ j q. q; holder = refl; suited = refl; number = λ n q. q; context = noted_other i m s.imported d; usages = refl; forced = refl }) (λ _. tt)
+      (λ _. record { entry = refl; holders = λ j q. q; holder = refl; suited = refl; number = λ n q. q; context = noted-other i m s.imported d; usages = refl; forced = refl }) (λ _. tt)
 
   specifier-other : (n : ℕ) (f : Field) (p : ℕ) (s : State) → OtherLocal f → OtherSpace f → After (note_specifier n f p s) (λ g t. U s t × OtherSpace g)
   unfolding note_specifier note_named
@@ -160,20 +160,20 @@ module _ (i lit : List ℕ) (own file : ℕ) where
 
   pub record Before (s : State) : Type 0 where
     pub no_record : record_of a s.collected ≡ nothing
-    pub not-held : seek (holds_in i) s.collected ≡ nothing
+    pub not_held : seek (holds_in i) s.collected ≡ nothing
     pub not_found : seek (suits_in own i) s.collected ≡ nothing
-    pub no-usages : usages_of i s.usages ≡ []
-    pub not-forced : among a s.forced ≡ false
+    pub no_usages : usages_of i s.usages ≡ []
+    pub not_forced : among a s.forced ≡ false
 
   pub before-unfelt : (s t : State) → U s t → Before s → Before t
   before-unfelt s t u h =
       record {
         no_record = u.entry ∙ h.no_record;
-        not-held = u.holder ∙ h.not-held;
+        not_held = u.holder ∙ h.not_held;
         not_found = u.suited ∙ h.not_found;
-        no-usages = u.usages
-            ∙ h.no-usages;
-        not-forced = u.forced ∙ h.not-forced;
+        no_usages = u.usages
+            ∙ h.no_usages;
+        not_forced = u.forced ∙ h.not_forced;
       }
 
   -- ---- The namespace's own import: its record becomes the last
@@ -181,11 +181,11 @@ module _ (i lit : List ℕ) (own file : ℕ) where
   module _ (context : context_of i ≡ four (local own)) where
     own-suits : suits_in own i (more (field 0x22 i none) none) ≡ true
     unfolding find_field
-    own-suits = rw (same_refl (name_of i), context, same_refl (four (local own)))
+    own-suits = rw (same-refl (name_of i), context, same-refl (four (local own)))
 
     own-holds : holds_in i (more (field 0x22 i none) none) ≡ true
     unfolding find_field
-    own-holds = rw (same_refl i)
+    own-holds = rw (same-refl i)
 
     own-only : (j : List ℕ) → holds_in j (more (field 0x22 i none) none) ≡ true → j ≡ i
     unfolding find_field
@@ -202,12 +202,12 @@ module _ (i lit : List ℕ) (own file : ℕ) where
         let new = record-absent a s.collected h.no_record in
         let last = collect-new (own_record i lit) s.collected new in
         record {
-          entry = ap (record_of a) last ∙ record-last a (own_record i lit) s.collected h.no_record (same_refl a);
-          holds = ap (seek (holds_in i)) last ∙ seek-last (holds_in i) (own_record i lit) s.collected h.not-held ∙ rw own-holds;
+          entry = ap (record_of a) last ∙ record-last a (own_record i lit) s.collected h.no_record (same-refl a);
+          holds = ap (seek (holds_in i)) last ∙ seek-last (holds_in i) (own_record i lit) s.collected h.not_held ∙ rw own-holds;
           alone = λ j q. own-only j (seek-own (holds_in j) (own_record i lit) s.collected new (sym (ap (seek (holds_in j)) last) ∙ q));
           finds = ap (seek (suits_in own i)) last ∙ seek-last (suits_in own i) (own_record i lit) s.collected h.not_found ∙ rw own-suits;
           given = g;
-          stood = (m, h.no-usages, h.not-forced);
+          stood = (m, h.no_usages, h.not_forced);
         }
 
     -- noted: its id with the export context of the source's module
@@ -224,7 +224,7 @@ module _ (i lit : List ℕ) (own file : ℕ) where
         (after-if (leb (length (note_in m s.imported)) 512) (change (set_imported (note_in m s.imported))) (refuse 8 p) s (λ u t. Noticed n t)
         (λ _. (
           record
-              { no_record = h.no_record; not-held = h.not-held; not_found = h.not_found; no-usages = h.no-usages; not-forced = h.not-forced },
+              { no_record = h.no_record; not_held = h.not_held; not_found = h.not_found; no_usages = h.no_usages; not_forced = h.not_forced },
           g,
           noted-own m s.imported,
         )) (λ _. tt)) λ u t w. (refl, w))
@@ -259,7 +259,7 @@ module _ (i lit : List ℕ) (own file : ℕ) where
         ask nothing w = tt
         ask (some r) w =
             let u : State = set_modules r.1 s in
-            let k : Before u = record { no_record = h.no_record; not-held = h.not-held; not_found = h.not_found; no-usages = h.no-usages; not-forced = h.not-forced } in
+            let k : Before u = record { no_record = h.no_record; not_held = h.not_held; not_found = h.not_found; no_usages = h.no_usages; not_forced = h.not_forced } in
             after-bind (note_all r.0 (more (field 0x22 i none) none) (inside p lit) u) _
             (λ gs t. (gs ≡ more (field 0x22 i none) none) × Noticed r.0 t) (λ g t. ((n : ℕ) × Held i lit own file n [] t) × Redeclared ds g)
             (note-own r.0 (inside p lit) u k (request-numbers file s.modules w)) λ gs s v.

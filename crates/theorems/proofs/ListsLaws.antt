@@ -11,7 +11,7 @@ use lib.ListN.{length}
 use borrow.Author.Tests.{ltb-true}
 use Rattle.scope.specs.declared.Mark.{Mark}
 use Rattle.scope.specs.declared.Mark.TheVariants.{Loaded, Stored, Cjs, Wrapping}
-use Rattle.scope.specs.Modules.{Modules, Left, request, generated_by, gen, go_on, files_in, request_all, is_marked, set_mark, given, not-given, marking}
+use Rattle.scope.specs.Modules.{Modules, Left, request, generated_by, gen, go_on, files_in, request_all, is_marked, set_mark, given, not_given, marking}
 use Rattle.scope.proofs.Laws.{request-keeps-marks, mark-keeps-kinds}
 use Rattle.tree.specs.Tree.{Fields, none, more, size}
 use Rattle.inputs.specs.Outcome.{Outcome, done, refused}
@@ -48,7 +48,7 @@ request_all-marked n (f ∷ fs) ms = go (request f ms) refl (λ new. request_all
 
 -- what setting a mark leaves, where b says whether the number was given
 abbrev marking_by : Bool → Mark → ℕ → Modules → Left
-marking_by b k m ms = cond b (record { modules = set_mark k m ms; refusal = nothing }) (record { modules = ms; refusal = some not-given })
+marking_by b k m ms = cond b (record { modules = set_mark k m ms; refusal = nothing }) (record { modules = ms; refusal = some not_given })
 
 -- a mark of another kind
 other-marked : (k : Mark) (n m : ℕ) (ms : Modules) (b : Bool) → (Wrapping ≡ k → ⊥) →

@@ -7,10 +7,10 @@ use mathlib.Core.Bool.{Bool, true, false, ◌&&◌, ◌||◌, true≢false, and-
 use mathlib.Core.List.{List, [], ◌∷◌, ◌++◌}
 use mathlib.Core.Option.{Option, none as nothing, some}
 use native.Mathlib.Omega.{arith}
-use Rattle.scope.specs.Id.{require-atom, local, export}
+use Rattle.scope.specs.Id.{require_atom, local, export}
 use Rattle.tree.specs.Layout.{same, two, four, name_of, context_of, value_of}
 use Rattle.tree.specs.Tree.{Field, field, Fields, none, more, tag_of, fixed_of, parts_of, size}
-use Rattle.tree.proofs.Table.{both_true}
+use Rattle.tree.proofs.Table.{both-true}
 use Rattle.metadata.specs.Metadata.{append}
 use Rattle.inputs.specs.Outcome.{done, onto}
 use Rattle.inputs.specs.Lists.{filter, among}
@@ -19,7 +19,7 @@ use Rattle.extraction_rules.specs.State.{State, Usage, second, Setting, give, se
 use Rattle.extraction_rules.specs.First.{external, force_id, imported_as, specifiers_in, attributes_in, with_context, stays}
 use Rattle.extraction_rules.specs.Second.{usages_of, take_apart, on_sole, import_second, finish}
 use Rattle.extraction_rules.specs.Walk.{walk, walk_all, walk_module, walk_again}
-use Rattle.extraction_rules.proofs.OutcomeLaws.{After, after-bind, after_both, after-weaken, after-if}
+use Rattle.extraction_rules.proofs.OutcomeLaws.{After, after-bind, after-both, after-weaken, after-if}
 use Rattle.extraction_rules.proofs.ListLaws.{All}
 use Rattle.extraction_rules.proofs.FirstLaws.{source-cases}
 use Rattle.extraction_rules.proofs.AlikeLaws.{Regular, regular-alike}
@@ -28,7 +28,7 @@ use Rattle.extraction_rules.proofs.SeekLaws.{seek, holds_in, force-own, force-ta
 use Rattle.extraction_rules.proofs.SpaceLaws.{Property}
 use Rattle.extraction_rules.proofs.ValueLaws.{walk-second}
 use Rattle.extraction_rules.proofs.StayLaws.{import-stays}
-use Rattle.extraction_rules.proofs.KeepLaws.{Each, no-context, no-specifiers, keep_all}
+use Rattle.extraction_rules.proofs.KeepLaws.{Each, no-context, no-specifiers, keep-all}
 use Rattle.placement.specs.Stands.{How, original, is_use, properties}
 use Rattle.placement.specs.Placed.{all}
 use Rattle.placement.proofs.WaysLaws.{ways, ways_all, ways-alike}
@@ -68,15 +68,15 @@ second-same e y ds s =
     (λ _. (refl, refl)) (λ _. sole-same (sole (specifiers_in ds)) y ds s)
 
 module _ (taken : Bool) (i c : List ℕ) (own : ℕ) where
-  stays_out : (f g : Field) → Out taken i c own f g → stays f ≡ true → stays g ≡ true
+  stays-out : (f g : Field) → Out taken i c own f g → stays f ≡ true → stays g ≡ true
   unfolding stays
-  stays_out (field t x cs) (field k y ds) (inr h) q = rw (h.bare, h.out)
-  stays_out (field t x none) (field k y none) (inl h) q = rw h.0 q
-  stays_out (field t x none) (field k y (more g gs)) (inl h) q = absurd (let e = h.3 in let z : ◌≡◌ {A = ℕ} 0 1 = cc in omega arith)
-  stays_out (field t x (more f fs)) (field k y none) (inl h) q = absurd (let e = h.3.2 in let z : ◌≡◌ {A = ℕ} 0 1 = cc in omega arith)
-  stays_out (field t x (more f fs)) (field k y (more g gs)) (inl h) q = rw h.0 q
+  stays-out (field t x cs) (field k y ds) (inr h) q = rw (h.bare, h.out)
+  stays-out (field t x none) (field k y none) (inl h) q = rw h.0 q
+  stays-out (field t x none) (field k y (more g gs)) (inl h) q = absurd (let e = h.3 in let z : ◌≡◌ {A = ℕ} 0 1 = cc in omega arith)
+  stays-out (field t x (more f fs)) (field k y none) (inl h) q = absurd (let e = h.3.2 in let z : ◌≡◌ {A = ℕ} 0 1 = cc in omega arith)
+  stays-out (field t x (more f fs)) (field k y (more g gs)) (inl h) q = rw h.0 q
 
-module _ (i lit : List ℕ) (own file n : ℕ) (us : List How) (context : context_of i ≡ four (local own)) (named : same (name_of i) (two require-atom) ≡ false) where
+module _ (i lit : List ℕ) (own file n : ℕ) (us : List How) (context : context_of i ≡ four (local own)) (named : same (name_of i) (two require_atom) ≡ false) where
   abbrev c : List ℕ
   c = four (export n)
 
@@ -101,7 +101,7 @@ module _ (i lit : List ℕ) (own file n : ℕ) (us : List How) (context : contex
   Late s = Settled taken i lit c ps s
 
   pub taken-plain : taken ≡ true → plain ≡ true
-  taken-plain t = (both_true (is_used (filter is_use us)) (all_plain us) t).1
+  taken-plain t = (both-true (is_used (filter is_use us)) (all_plain us) t).1
 
   -- the id itself is forced: only where the import is kept
   settled-force : (s : State) (b : Bool) → b ≡ taken → (b ≡ true → ⊥) → Late s → Late (force_id i s)
@@ -118,8 +118,8 @@ module _ (i lit : List ℕ) (own file n : ℕ) (us : List How) (context : contex
   late-carried : Carried plain taken i lit c own file ps Late
   late-carried =
       record {
-        on-unfelt = λ s t u h. settled-unfelt i lit own file taken c ps s t u h;
-        on-force = λ s d h. settled-force s taken refl (λ q. d (taken-plain q)) h;
+        on_unfelt = λ s t u h. settled-unfelt i lit own file taken c ps s t u h;
+        on_force = λ s d h. settled-force s taken refl (λ q. d (taken-plain q)) h;
         alone = λ s j h k. h.alone j k;
         apart = λ s h q. let k : Sits true i (value_of lit) c ps s = subst (λ (b : Bool). Sits b i (value_of lit) c ps s) q h.sits in (k.0, k.1);
         kept = λ s h q. (subst (λ (b : Bool). Sits b i (value_of lit) c ps s) q h.sits).0;
@@ -156,15 +156,15 @@ module _ (i lit : List ℕ) (own file n : ℕ) (us : List How) (context : contex
   early-carried : Carried plain taken i lit c own file ps Early
   early-carried =
       record {
-        on-unfelt = λ s t u h. held-unfelt i lit own file n us s t u h;
-        on-force = early-force;
+        on_unfelt = λ s t u h. held-unfelt i lit own file n us s t u h;
+        on_force = early-force;
         alone = λ s j h k. h.alone j k;
         apart = early-apart;
         kept = early-kept;
       }
 
   taken-used : taken ≡ true → ps ≡ [] → ⊥
-  taken-used t q = true≢false (sym (both_true (is_used (filter is_use us)) (all_plain us) t).0 ∙ used-properties us (both_true (is_used (filter is_use us)) (all_plain us) t).1 q)
+  taken-used t q = true≢false (sym (both-true (is_used (filter is_use us)) (all_plain us) t).0 ∙ used-properties us (both-true (is_used (filter is_use us)) (all_plain us) t).1 q)
 
   -- the specifiers of the declaration
   abbrev pub own_specifiers : Bool → Fields
@@ -186,7 +186,7 @@ module _ (i lit : List ℕ) (own file n : ℕ) (us : List How) (context : contex
   -- what stays in *work* stays in *out*
   item-stays : (f g : Field) → OutItem f g → stays f ≡ true → stays g ≡ true
   item-stays f g (inl h) q = import-stays g h.1.0
-  item-stays f g (inr h) q = stays_out taken i c own f g h.1 q
+  item-stays f g (inr h) q = stays-out taken i c own f g h.1 q
 
   behind-stay : (fs gs : Fields) → PairedAll OutItem fs gs → Each (λ f. stays f ≡ true) fs → Each (λ f. stays f ≡ true) gs
   behind-stay none gs h k = rw h tt
@@ -205,15 +205,15 @@ module _ (i lit : List ℕ) (own file n : ℕ) (us : List How) (context : contex
         rw (walk-second e two-pass g p s k.0, k.1)
         (after-weaken (import_second e y (parts_of g) s) (λ h t. Clean i own context y h × (Unfelt i lit own file s t × Same s t))
         (λ h t. Clean i own context y h × Unfelt i lit own file s t × Same s t) (λ h t w. (w.0, w.1.0, w.1.1))
-        (after_both (import_second e y (parts_of g) s) (λ h t. Clean i own context y h) (λ h t. Unfelt i lit own file s t × Same s t) (second-clean i own context e y (parts_of g) s h k.2)
-        (after_both (import_second e y (parts_of g) s) (λ h t. Unfelt i lit own file s t) (λ h t. Same s t) (second-other i lit own file e y (parts_of g) s d) (second-same e y (parts_of g) s))))
+        (after-both (import_second e y (parts_of g) s) (λ h t. Clean i own context y h) (λ h t. Unfelt i lit own file s t × Same s t) (second-clean i own context e y (parts_of g) s h k.2)
+        (after-both (import_second e y (parts_of g) s) (λ h t. Unfelt i lit own file s t) (λ h t. Same s t) (second-other i lit own file e y (parts_of g) s d) (second-same e y (parts_of g) s))))
 
     -- an item beside the import, before it or behind it
     item-again : (J : State → Type 0) → Carried plain taken i lit c own file ps J → (f g : Field) (p : ℕ) (s : State) → Beside i lit own file f → WorkedItem i lit own file context f g →
         Fine plain (ways f i false) → Holding J s → After (walk g e false p s) (λ h t. Holding J t × OutItem f h)
     item-again J carried f g p s b (inl w) fine at =
         after-weaken (walk g e false p s) (λ h t. Clean i own context (fixed_of f) h × Unfelt i lit own file s t × Same s t) (λ h t. Holding J t × OutItem f h)
-        (λ h t k. ((carried.on-unfelt s t k.1 at.0, (λ j. rw (k.2.0, k.2.1) (at.1 j)), rw k.2.0 at.2), inl (w.0, k.0)))
+        (λ h t k. ((carried.on_unfelt s t k.1 at.0, (λ j. rw (k.2.0, k.2.1) (at.1 j)), rw k.2.0 at.2), inl (w.0, k.0)))
         (other-again (fixed_of f) g p s (other-import i lit own file f b w.0).source w.1 at.2)
     item-again J carried f g p s b (inr w) fine at =
         after-weaken (walk g e false p s) (λ h t. Holding J t × Out taken i c own g h) (λ h t. Holding J t × OutItem f h)
@@ -257,7 +257,7 @@ module _ (i lit : List ℕ) (own file n : ℕ) (us : List How) (context : contex
         rw (r.1, walk-second e two-pass (field 0x10 lit es) p s refl)
         (after-weaken (import_second e lit es s) (λ h t. (Settled taken i lit c ps t × Declared i lit own file taken c ps es h) × Same s t) (λ h t. OwnOut h × Holding Late t)
         (λ g t k. (declared-out taken refl es g w k.0.1, (k.0.0, (λ j. rw (k.1.0, k.1.1) (h.1 j)), rw k.1.0 h.2)))
-        (after_both (import_second e lit es s) (λ h t. Settled taken i lit c ps t × Declared i lit own file taken c ps es h) (λ h t. Same s t)
+        (after-both (import_second e lit es s) (λ h t. Settled taken i lit c ps t × Declared i lit own file taken c ps es h) (λ h t. Same s t)
         (second-own i lit own file n us e es s inner (rw w refl) h.0) (second-same e lit es s)))
 
     around-again : (k : ℕ) (fs gs : Fields) (p : ℕ) (s : State) → Around i lit own file k fs → Worked i lit own file context k fs gs → Fine plain (ways_all fs i false) → Holding Early s →
@@ -288,5 +288,5 @@ module _ (i lit : List ℕ) (own file n : ℕ) (us : List How) (context : contex
         (after-bind (walk_all works e false 3 (set_top true s)) _ (λ gs t. Holding Late t × Outs k items gs)
         (λ outs t. Holding Late t × Outs k items outs)
         (around-again k items works 3 (set_top true s) b w fine (early-top s h)) λ gs t r.
-        (r.0, subst (Outs k items) (sym (keep_all stays gs (outs-stay k items gs r.1 st))) r.1)) λ outs t r.
+        (r.0, subst (Outs k items) (sym (keep-all stays gs (outs-stay k items gs r.1 st))) r.1)) λ outs t r.
         after-bind (finish e t) _ (λ _ u. Ended taken i lit c ps u) (λ outs t. Outs k items outs × Ended taken i lit c ps t) (finish-ended taken i lit c ps e t r.0.0) λ _ u v. (r.1, v)

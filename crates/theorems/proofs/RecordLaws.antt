@@ -10,7 +10,7 @@ use lib.ListN.{get_or, drop}
 use Rattle.scope.specs.Modules.{Modules}
 use Rattle.tree.specs.Layout.{same, value_of}
 use Rattle.tree.specs.Tree.{Field, field, Fields, none, more, fixed_of, parts_of, size}
-use Rattle.tree.proofs.LayoutLaws.{same_refl}
+use Rattle.tree.proofs.LayoutLaws.{same-refl}
 use Rattle.metadata.specs.Metadata.{append}
 use Rattle.inputs.specs.Outcome.{done}
 use Rattle.inputs.specs.Lists.{find, mapped, among}
@@ -20,12 +20,12 @@ use Rattle.extraction_rules.specs.State.{Record, State, Setting}
 use Rattle.extraction_rules.specs.Second.{lose_namespaces, finish}
 use Rattle.extraction_rules.specs.Records.{record_fields}
 use Rattle.extraction_rules.proofs.OutcomeLaws.{After, after-weaken}
-use Rattle.extraction_rules.proofs.ListLaws.{same_not, not_same}
+use Rattle.extraction_rules.proofs.ListLaws.{same-not, not-same}
 use Rattle.extraction_rules.proofs.FirstLaws.{lose-literal}
 use Rattle.extraction_rules.proofs.TableLaws.{record_of, record-map}
 use Rattle.extraction_rules.proofs.ExtractedLaws.{Finished, finish-leaves}
 use Rattle.resolving_rules.specs.Resolve.{resolved_specifiers, heading, resolved_all}
-use Rattle.resolving_rules.proofs.ResolveLaws.{Made, all_made, leaves, nameds-made}
+use Rattle.resolving_rules.proofs.ResolveLaws.{Made, all-made, leaves, nameds-made}
 use Rattle.theorems.specs.Demand.{record_for, property_fields}
 use Rattle.theorems.proofs.SettledLaws.{settled_record, Sits, Settled}
 
@@ -39,15 +39,15 @@ ended_record false i lit c ps = record { literal = lit; specifiers = more (field
 abbrev pub Ended : Bool → List ℕ → List ℕ → List ℕ → List (List ℕ) → State → Type 0
 Ended taken i lit c ps s = (record_of (value_of lit) s.collected ≡ some (ended_record taken i lit c ps)) × (among (value_of lit) s.forced ≡ not taken)
 
-named-kept : (c : List ℕ) (ps : List (List ℕ)) → keep (λ f. not (has 0x22 f)) (property_fields 0x20 c ps) ≡ property_fields 0x20 c ps
+named_kept : (c : List ℕ) (ps : List (List ℕ)) → keep (λ f. not (has 0x22 f)) (property_fields 0x20 c ps) ≡ property_fields 0x20 c ps
 unfolding keep
-named-kept c [] = refl
-named-kept c (p ∷ ps) = ap (more (field 0x20 (p ++ c ++ 0 ∷ []) none)) (named-kept c ps)
+named_kept c [] = refl
+named_kept c (p ∷ ps) = ap (more (field 0x20 (p ++ c ++ 0 ∷ []) none)) (named_kept c ps)
 
 loses : (taken : Bool) (i lit c : List ℕ) (ps : List (List ℕ)) (s : State) → Sits taken i (value_of lit) c ps s →
     (lose_namespaces s.forced (settled_record taken i lit c ps) ≡ ended_record taken i lit c ps) × (among (value_of lit) s.forced ≡ not taken)
 unfolding lose_namespaces keep append
-loses true i lit c ps s h = (rw h.2 (ap (λ (fs : Fields). record { literal = lit; specifiers = fs }) (named-kept c ps)), h.2)
+loses true i lit c ps s h = (rw h.2 (ap (λ (fs : Fields). record { literal = lit; specifiers = fs }) (named_kept c ps)), h.2)
 loses false i lit c ps s h = (rw h.1, h.1)
 
 -- R1
@@ -80,7 +80,7 @@ unfolding find record_fields append record_for
 record-found rows forced ms x r [] rest p gs h q e = absurd (let z : ◌≡◌ {A = ℕ} 0 1 = cc in omega arith)
 record-found rows forced ms x r (y ∷ l) rest p gs h q e =
     let f : Field = field 0x80 y.literal y.specifiers in
-    let a = all_made rows forced ms f (append (record_fields 0x80 l) rest) p gs e in
+    let a = all-made rows forced ms f (append (record_fields 0x80 l) rest) p gs e in
     let d = record-done (file_of (value_of y.literal) rows) forced ms y p a.0 a.3 in
     subst (λ (g : Fields). (k : ℕ) × (fs : Fields) × (record_for x g ≡ some fs) × (resolved_specifiers (among (value_of x) forced) r.specifiers k ≡ done fs)) (sym a.2)
     (go a.0 a.1 d (same (value_of y.literal) (value_of x)) refl h (λ h. record-found rows forced ms x r l rest (p + size f) a.1 h q a.4))
@@ -95,14 +95,14 @@ record-found rows forced ms x r (y ∷ l) rest p gs h q e =
         let yx : y.literal ≡ x = ap (λ (r : Record). r.literal) yr ∙ q in (
           inside p y.literal,
           parts_of g,
-          rw (d.0, d.1, yx, same_refl x),
+          rw (d.0, d.1, yx, same-refl x),
           subst
               (λ (z : Record). resolved_specifiers (among (value_of x) forced) z.specifiers (inside p y.literal) ≡ done (parts_of g)) yr
               (ap (λ (v : List ℕ). resolved_specifiers (among (value_of v) forced) y.specifiers (inside p y.literal)) (sym yx) ∙ d.2),
         )
     go g gs d false v h ih =
         let k = ih h in
-        (k.0, k.1, rw (d.0, d.1, same_not y.literal x (λ e. not_same (value_of y.literal) (value_of x) v (ap value_of e))) k.2, k.3)
+        (k.0, k.1, rw (d.0, d.1, same-not y.literal x (λ e. not-same (value_of y.literal) (value_of x) v (ap value_of e))) k.2, k.3)
 
 -- the specifiers of an import that is taken apart, resolved
 properties-leaves : (t : ℕ) (c : List ℕ) (ps : List (List ℕ)) → property_fields t c ps ≡ leaves t (map (λ p. p ++ c ++ 0 ∷ []) ps)

@@ -13,7 +13,7 @@ use borrow.Author.Tests.{lt-ltb, ne_eqb, eqb-false}
 use Rattle.scope.specs.declared.Mark.{Mark}
 use Rattle.scope.specs.declared.Mark.TheVariants.{Loaded, Stored, Cjs, Wrapping}
 use Rattle.scope.specs.Modules.{Module, Modules, next, place_of, number_of, unmarked, request, generated_by, gen, Left, go_on, files_in, request_all}
-use Rattle.scope.specs.Modules.{with_mark, set_mark, given, not-given, marking}
+use Rattle.scope.specs.Modules.{with_mark, set_mark, given, not_given, marking}
 use Rattle.scope.proofs.Laws.{none-some, request-cases, request-count, mark-keeps-numbers, mark-keeps-count}
 use Rattle.tree.specs.Layout.{value_of}
 use Rattle.tree.specs.Tree.{Fields, none, more, size}
@@ -145,19 +145,19 @@ lends-steps e =
           record {
             requires =
                 record {
-                  on-request = λ s f n ms q h. request-lendable f s.modules q h;
-                  on-cjs = λ s n h. mark-lendable Cjs n s.modules h;
-                  on-lazy = λ s r b h. h;
+                  on_request = λ s f n ms q h. request-lendable f s.modules q h;
+                  on_cjs = λ s n h. mark-lendable Cjs n s.modules h;
+                  on_lazy = λ s r b h. h;
                 };
-            on-force = λ s i h. force-cases i s Lends h (λ r w. h);
-            on-top = λ s b h. h;
+            on_force = λ s i h. force-cases i s Lends h (λ r w. h);
+            on_top = λ s b h. h;
           };
-      one = λ _. record { on-note = λ s m h. h; on-usage = λ s u c w h. h; on-collect = λ s r b h. h };
-      two = λ _. record { on-extend = λ s x us q h. h; on-source = λ s x b q h. source-cases (value_of x) s Lends (λ _. h) h };
+      one = λ _. record { on_note = λ s m h. h; on_usage = λ s u c w h. h; on_collect = λ s r b h. h };
+      two = λ _. record { on_extend = λ s x us q h. h; on_source = λ s x b q h. source-cases (value_of x) s Lends (λ _. h) h };
     }
 
 lends-end : EndSteps Lends
-lends-end = record { on-wrap = λ s n h. mark-lendable Wrapping n s.modules h; on-lose = λ s h. h }
+lends-end = record { on_wrap = λ s n h. mark-lendable Wrapping n s.modules h; on_lose = λ s h. h }
 
 run-lendable : (l : Lent) (rows : List Row) (own : ℕ) (items : Fields) (s : State) → Lends s →
     After (walk_module (setting first own l rows) items s) (λ works s'. Lends s' × After (walk_again (setting second own l rows) works s') (λ outs s''. Lends s''))
@@ -225,7 +225,7 @@ call-lendable (requests f) ms h = gen-lendable f.0 ms (request f.0 ms) refl h
 call-lendable (requests_all files) ms h = request_all-lendable (files_in files) ms h
 call-lendable (sets k m) ms h = go (given m ms)
   where
-    go : (b : Bool) → Lendable (cond {A = Left} b (record { modules = set_mark k m.0 ms; refusal = nothing }) (record { modules = ms; refusal = some not-given })).modules
+    go : (b : Bool) → Lendable (cond {A = Left} b (record { modules = set_mark k m.0 ms; refusal = nothing }) (record { modules = ms; refusal = some not_given })).modules
     go true = mark-lendable k m.0 ms h
     go false = h
 call-lendable (reads k m) ms h = h
@@ -279,5 +279,5 @@ request-rest ps (m ∷ ms) d h =
 pub requested-anew : (ms : Modules) → Lendable ms → request_all (files_of ms) [] ≡ record { modules = without_marks ms; refusal = nothing }
 requested-anew ms h = let b = h.few in request-rest [] ms h.distinct (omega arith)
 
-pub same_numbers : SameNumbers
-same_numbers calls = requested-anew (after_all calls []) (list-lendable calls [] lendable-fresh)
+pub same-numbers : SameNumbers
+same-numbers calls = requested-anew (after_all calls []) (list-lendable calls [] lendable-fresh)

@@ -22,12 +22,12 @@ use Rattle.extraction_rules.specs.Second.{specifiers_from, extend, lose_namespac
 use Rattle.extraction_rules.specs.Walk.{walk, walk_all, walk_module, walk_again}
 use Rattle.extraction_rules.specs.Records.{record_fields}
 use Rattle.extraction_rules.proofs.OutcomeLaws.{After, after-bind, after-if}
-use Rattle.extraction_rules.proofs.ValueLaws.{after_any, walk_first}
+use Rattle.extraction_rules.proofs.ValueLaws.{after-any, walk-first}
 use Rattle.extraction_rules.proofs.FirstLaws.{source-cases, force-cases, sources_of, collect-stays, collect-among, extend-literal, lose-literal, map-sources}
 use Rattle.extraction_rules.proofs.StepLaws.{EndSteps}
 use Rattle.extraction_rules.proofs.WalkLaws.{Steps, walk_all-keeps, walk_again-keeps, imports-any-all}
 use Rattle.resolving_rules.specs.Resolve.{resolved_all}
-use Rattle.resolving_rules.proofs.ResolveLaws.{all_made}
+use Rattle.resolving_rules.proofs.ResolveLaws.{all-made}
 use Rattle.placement.specs.Placed.{item_at}
 
 module _ (a : List ℕ) where
@@ -44,28 +44,28 @@ module _ (a : List ℕ) where
       record {
         common =
             record {
-              requires = record { on-request = λ s g m ms q h. h; on-cjs = λ s m h. h; on-lazy = λ s r b h. h };
-              on-force = λ s i h. force-cases i s Collected h (λ r w. h);
-              on-top = λ s b h. h;
+              requires = record { on_request = λ s g m ms q h. h; on_cjs = λ s m h. h; on_lazy = λ s r b h. h };
+              on_force = λ s i h. force-cases i s Collected h (λ r w. h);
+              on_top = λ s b h. h;
             };
-        one = λ _. record { on-note = λ s m h. h; on-usage = λ s u c w h. h; on-collect = λ s r b h. collect-stays a r s.collected h };
+        one = λ _. record { on_note = λ s m h. h; on_usage = λ s u c w h. h; on_collect = λ s r b h. collect-stays a r s.collected h };
         two =
             λ _. record {
-              on-extend = λ s x us q h. rw (map-sources (extend x (specifiers_from us)) s.collected (extend-literal x (specifiers_from us))) h;
-              on-source = λ s x b q h. source-cases (value_of x) s Collected (λ _. h) h;
+              on_extend = λ s x us q h. rw (map-sources (extend x (specifiers_from us)) s.collected (extend-literal x (specifiers_from us))) h;
+              on_source = λ s x b q h. source-cases (value_of x) s Collected (λ _. h) h;
             };
       }
 
   collected-end : EndSteps Collected
-  collected-end = record { on-wrap = λ s m h. h; on-lose = λ s h. rw (map-sources (lose_namespaces s.forced) s.collected (lose-literal s.forced)) h }
+  collected-end = record { on_wrap = λ s m h. h; on_lose = λ s h. rw (map-sources (lose_namespaces s.forced) s.collected (lose-literal s.forced)) h }
 
   -- the record of an import is collected
   import-collects : (e : Setting) (y : List ℕ) (ds : Fields) (p : ℕ) (s : State) → external e y ≡ false → value_of y ≡ a → After (import_first e y ds p s) (λ g t. Collected t)
   unfolding import_first collect
   import-collects e y ds p s d q =
       rw d
-      (after-bind (module_for e (value_of y) p s) _ (λ m t. Unit {0}) (λ g t. Collected t) (after_any (module_for e (value_of y) p s)) λ m t _.
-      after-bind (note_specifiers m (specifiers_in ds) (inside p y) t) _ (λ gs u. Unit {0}) (λ g t. Collected t) (after_any (note_specifiers m (specifiers_in ds) (inside p y) t)) λ gs u _.
+      (after-bind (module_for e (value_of y) p s) _ (λ m t. Unit {0}) (λ g t. Collected t) (after-any (module_for e (value_of y) p s)) λ m t _.
+      after-bind (note_specifiers m (specifiers_in ds) (inside p y) t) _ (λ gs u. Unit {0}) (λ g t. Collected t) (after-any (note_specifiers m (specifiers_in ds) (inside p y) t)) λ gs u _.
       let r : Record = record { literal = y; specifiers = gs } in
       after-bind (collect r p u) _ (λ _ x. Collected x) (λ g t. Collected t)
       (after-if (leb (length (collect_in r u.collected)) 256) (change (set_collected (collect_in r u.collected))) (refuse 8 p) u (λ _ x. Collected x)
@@ -73,7 +73,7 @@ module _ (a : List ℕ) where
 
   module _ (e : Setting) (one : e.pass ≡ first) where
     walk-collects : (x : List ℕ) (cs : Fields) (p : ℕ) (s : State) → external e x ≡ false → value_of x ≡ a → After (walk (field 0x10 x cs) e false p s) (λ g t. Collected t)
-    walk-collects x cs p s d q = rw (walk_first e one (field 0x10 x cs) p s refl) (import-collects e x cs p s d q)
+    walk-collects x cs p s d q = rw (walk-first e one (field 0x10 x cs) p s refl) (import-collects e x cs p s d q)
 
     items-collect : (k : ℕ) (fs : Fields) (x : List ℕ) (cs : Fields) (p : ℕ) (s : State) → item_at k fs ≡ some (field 0x10 x cs) →
         external e x ≡ false → value_of x ≡ a → After (walk_all fs e false p s) (λ gs t. Collected t)
@@ -86,7 +86,7 @@ module _ (a : List ℕ) where
         after-bind (walk_all fs e false (p + size f) s) _ (λ gs t. Collected t) (λ gs t. Collected t)
         (walk_all-keeps e Any Collected (collected-steps e) fs false (p + size f) s (imports-any-all fs Any (λ _. tt)) h) λ gs s h. h
     items-collect (suc k) (more f fs) x cs p s w d q =
-        after-bind (walk f e false p s) _ (λ g t. Unit {0}) (λ gs t. Collected t) (after_any (walk f e false p s)) λ g s _.
+        after-bind (walk f e false p s) _ (λ g t. Unit {0}) (λ gs t. Collected t) (after-any (walk f e false p s)) λ g s _.
         after-bind (walk_all fs e false (p + size f) s) _ (λ gs t. Collected t) (λ gs t. Collected t) (items-collect k fs x cs (p + size f) s w d q) λ gs s h. h
 
     pub first-collects : (k : ℕ) (items : Fields) (x : List ℕ) (cs : Fields) (s : State) → item_at k items ≡ some (field 0x10 x cs) →
@@ -106,7 +106,7 @@ module _ (a : List ℕ) where
   collected-resolves rows forced ms [] rest p gs h e = absurd (true≢false (sym h))
   collected-resolves rows forced ms (r ∷ l) rest p gs h e =
       let f : Field = field 0x80 r.literal r.specifiers in
-      let x = all_made rows forced ms f (append (record_fields 0x80 l) rest) p gs e in
+      let x = all-made rows forced ms f (append (record_fields 0x80 l) rest) p gs e in
       go (same a (value_of r.literal)) refl h (ap is_some x.3.resolves) (λ k. collected-resolves rows forced ms l rest (p + size f) x.1 k x.4)
     where
       go : (b : Bool) → same a (value_of r.literal) ≡ b → b || among a (sources_of l) ≡ true → is_some (file_of (value_of r.literal) rows) ≡ true →

@@ -117,10 +117,10 @@ module _ (i lit : List ℕ) (own file : ℕ) where
             among-last a b s.forced ∙ ap (λ (c : Bool). among a s.forced || c) (same-swap a b ∙ d) ∙ or-false (among a s.forced);
       })
 
-  apart_other : (us : List Usage) (y : List ℕ) (ds : Fields) (s : State) → same (value_of y) a ≡ false → After (take_apart us y ds s) (λ g t. U s t)
+  apart-other : (us : List Usage) (y : List ℕ) (ds : Fields) (s : State) → same (value_of y) a ≡ false → After (take_apart us y ds s) (λ g t. U s t)
   unfolding take_apart
-  apart_other [] y ds s d = unfelt-source (value_of y) s d
-  apart_other (u ∷ us) y ds s d = unfelt-extend y (u ∷ us) s d
+  apart-other [] y ds s d = unfelt-source (value_of y) s d
+  apart-other (u ∷ us) y ds s d = unfelt-extend y (u ∷ us) s d
 
   unfelt-same : (s : State) → U s s
   unfelt-same s = record { entry = refl; holders = λ j q. q; holder = refl; suited = refl; number = λ n q. q; context = refl; usages = refl; forced = refl }
@@ -128,7 +128,7 @@ module _ (i lit : List ℕ) (own file : ℕ) where
   sole-other : (o : Option Field) (y : List ℕ) (ds : Fields) (s : State) → same (value_of y) a ≡ false → After (on_sole o y ds s) (λ g t. U s t)
   unfolding on_sole
   sole-other nothing y ds s d = unfelt-same s
-  sole-other (some f) y ds s d = after-if (has 0x22 f) _ (give (field 0x10 y ds)) s (λ g t. U s t) (λ _. apart_other (usages_of (fixed_of f) s.usages) y ds s d) (λ _. unfelt-same s)
+  sole-other (some f) y ds s d = after-if (has 0x22 f) _ (give (field 0x10 y ds)) s (λ g t. U s t) (λ _. apart-other (usages_of (fixed_of f) s.usages) y ds s d) (λ _. unfelt-same s)
 
   -- S2
   pub second-other : (e : Setting) (y : List ℕ) (ds : Fields) (s : State) → same (value_of y) a ≡ false → After (import_second e y ds s) (λ g t. U s t)

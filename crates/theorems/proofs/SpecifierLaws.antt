@@ -13,9 +13,9 @@ use Rattle.tree.specs.Tree.{Field, field, Fields, none, more, tag_of, fixed_of}
 use Rattle.tree.specs.Grammar.{holds_at}
 use Rattle.tree.specs.Within.{Exact}
 use Rattle.tree.proofs.LayoutLaws.{same-equal}
-use Rattle.extraction_rules.proofs.ListLaws.{same_not, not_same}
+use Rattle.extraction_rules.proofs.ListLaws.{same-not, not-same}
 use Rattle.extraction_rules.proofs.ShapeLaws.{Shaped, ShapedAll, shaped-none, specifier-rule, Specifiers}
-use Rattle.extraction_rules.proofs.SpaceLaws.{same_id}
+use Rattle.extraction_rules.proofs.SpaceLaws.{same-id}
 use Rattle.extraction_rules.proofs.KeepLaws.{Each}
 use Rattle.placement.proofs.WaysLaws.{ways}
 use Rattle.placement.proofs.HowLaws.{fits}
@@ -28,7 +28,7 @@ module _ (i lit : List ℕ) (own file : ℕ) (context : context_of i ≡ four (l
   SpecFacts s = OtherLocal i lit own file s × (OtherSpace i lit own file s × (CleanSpec i own context s × Whole i own context s))
 
   other-space : (x : List ℕ) → same x i ≡ false → context_of x ≡ four (local own) → same (name_of x) (name_of i) ≡ false
-  other-space x d c = same_not (name_of x) (name_of i) (λ q. not_same x i d (same_id x i q (c ∙ sym context)))
+  other-space x d c = same-not (name_of x) (name_of i) (λ q. not-same x i d (same-id x i q (c ∙ sym context)))
 
   pub spec-facts : (s : Field) → holds_at Specifier (tag_of s) ≡ true → Shaped s → same (id_at (fixed_of s) 0) i ≡ false →
       same (context_of (id_at (fixed_of s) 0)) (four (local own)) ≡ true → fits (ways s i false) ≡ true → SpecFacts s

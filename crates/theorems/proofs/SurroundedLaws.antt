@@ -7,24 +7,24 @@ use mathlib.Core.List.{List}
 use mathlib.Core.Option.{some}
 use native.Mathlib.Omega.{arith}
 use borrow.Author.Tests.{eqb-true, not-true}
-use Rattle.scope.specs.Id.{require-atom, local}
-use Rattle.tree.proofs.Table.{both_true}
+use Rattle.scope.specs.Id.{require_atom, local}
+use Rattle.tree.proofs.Table.{both-true}
 use Rattle.tree.specs.Layout.{same, two, four, name_of, context_of, value_of, id_at}
 use Rattle.tree.specs.Tree.{Field, field, Fields, none, more, tag_of, parts_of}
 use Rattle.tree.specs.Grammar.{rule_of}
-use Rattle.tree.proofs.LayoutLaws.{same_refl}
+use Rattle.tree.proofs.LayoutLaws.{same-refl}
 use Rattle.inputs.specs.Lists.{among}
 use Rattle.inputs.specs.Fields.{has}
 use Rattle.extraction_rules.specs.First.{specifiers_in}
 use Rattle.extraction_rules.proofs.ShapeLaws.{ShapedAll, Shaped, import-parts, shaped-parts, shaped-each}
 use Rattle.extraction_rules.proofs.SpaceLaws.{OfImport}
-use Rattle.extraction_rules.proofs.KeepLaws.{Each, each_weaken, each_both}
+use Rattle.extraction_rules.proofs.KeepLaws.{Each, each-weaken, each-both}
 use Rattle.placement.specs.Stands.{How, stands, properties}
 use Rattle.placement.specs.Placed.{all, imports_in, shares_none, fit_namespace, item_at, local_ids, own_locals}
 use Rattle.placement.proofs.WaysLaws.{ways_all, stands-ways, ways}
-use Rattle.placement.proofs.HowLaws.{all_plain, fits, fits_each}
+use Rattle.placement.proofs.HowLaws.{all_plain, fits, fits-each}
 use Rattle.placement.proofs.QuietLaws.{import-ways, import-quiet}
-use Rattle.placement.proofs.LocalsLaws.{each_keep, locals-other, locals-all}
+use Rattle.placement.proofs.LocalsLaws.{each-keep, locals-other, locals-all}
 use Rattle.placement.proofs.PlacedLaws.{EachImport, EachBut, Apart, shares-apart, but-with, item-regular, tail-shaped, imports-all}
 use Rattle.theorems.proofs.FirstPassLaws.{OtherImport, OwnImport, Beside, Around}
 use Rattle.theorems.proofs.WorkedLaws.{CleanImport, CleanItem, CleanAround, ReadyItem, Ready}
@@ -79,15 +79,15 @@ module _ (i lit : List ℕ) (own file : ℕ) (context : context_of i ≡ four (l
 
 -- ---- What the second pass needs of the namespace's ways
 
-pub fine-placed : (items : Fields) (i : List ℕ) → fit_namespace (stands items i) i ≡ true → (same (name_of i) (two require-atom) ≡ false)
+pub fine-placed : (items : Fields) (i : List ℕ) → fit_namespace (stands items i) i ≡ true → (same (name_of i) (two require_atom) ≡ false)
     × Fine (all_plain (stands items i)) (ways_all items i false)
 unfolding fit_namespace
 fine-placed items i h =
     let hs = stands items i in
-    let a = both_true (fits hs && not (same (name_of i) (two require-atom))) (not (among (two require-atom) (properties hs))) h in
-    let b = both_true (fits hs) (not (same (name_of i) (two require-atom))) a.0 in (
-      not-true (same (name_of i) (two require-atom)) b.1,
-      subst (Fine (all_plain hs)) (stands-ways items i) ((λ t. t), not-true (among (two require-atom) (properties hs)) a.1, λ _. b.0),
+    let a = both-true (fits hs && not (same (name_of i) (two require_atom))) (not (among (two require_atom) (properties hs))) h in
+    let b = both-true (fits hs) (not (same (name_of i) (two require_atom))) a.0 in (
+      not-true (same (name_of i) (two require_atom)) b.1,
+      subst (Fine (all_plain hs)) (stands-ways items i) ((λ t. t), not-true (among (two require_atom) (properties hs)) a.1, λ _. b.0),
     )
 
 -- ---- Around the import of a well placed tree
@@ -102,26 +102,26 @@ module _ (i lit : List ℕ) (own file : ℕ) (context : context_of i ≡ four (l
   import-others f t a k =
       let s = shaped-parts f 0x10 k.0 t in
       let p = import-parts (parts_of f) s in
-      let ws = fits_each (parts_of f) i (subst (λ (l : List How). fits l ≡ true) (import-ways f i t) k.1.1) in
+      let ws = fits-each (parts_of f) i (subst (λ (l : List How). fits l ≡ true) (import-ways f i t) k.1.1) in
       let w =
       specs-facts i lit own file context (specifiers_in (parts_of f)) p.0 (locals-other i (specifiers_in (parts_of f)) a.1)
       (locals-all (λ i. same (context_of i) (four (local own))) (specifiers_in (parts_of f)) (k.1.0 t))
-      (each_keep (λ s. fits (ways s i false) ≡ true) (λ f. not (has 0x2F f)) (parts_of f) ws) in
+      (each-keep (λ s. fits (ways s i false) ≡ true) (λ f. not (has 0x2F f)) (parts_of f) ws) in
       let F = SpecFacts i lit own file context in (
         record {
           tag = t;
           source = a.0;
-          locals = each_weaken F (OtherLocal i lit own file) (specifiers_in (parts_of f)) (λ s k. k.0) w;
-          spaces = each_weaken F (OtherSpace i lit own file) (specifiers_in (parts_of f)) (λ s k. k.1.0) w;
+          locals = each-weaken F (OtherLocal i lit own file) (specifiers_in (parts_of f)) (λ s k. k.0) w;
+          spaces = each-weaken F (OtherSpace i lit own file) (specifiers_in (parts_of f)) (λ s k. k.1.0) w;
           quiet = import-quiet (parts_of f) s;
         },
-        (each_weaken F (CleanSpec i own context) (specifiers_in (parts_of f)) (λ s k. k.1.1.0) w, each_weaken F (Whole i own context) (specifiers_in (parts_of f)) (λ s k. k.1.1.1) w),
+        (each-weaken F (CleanSpec i own context) (specifiers_in (parts_of f)) (λ s k. k.1.1.0) w, each-weaken F (Whole i own context) (specifiers_in (parts_of f)) (λ s k. k.1.1.1) w),
       )
 
   -- the namespace's own id is among its locals
   own-local : (cs : Fields) → specifiers_in cs ≡ more (field 0x22 i none) none → id_at i 0 ≡ i → among i (local_ids (specifiers_in cs)) ≡ true
   unfolding local_ids among
-  own-local cs q w = rw (q, w, same_refl i)
+  own-local cs q w = rw (q, w, same-refl i)
 
   pub around-well : (k : ℕ) (items cs : Fields) → ShapedAll items (rule_of 0x01) → shares_none (imports_in items) ≡ true →
       all (own_locals own) (imports_in items) ≡ true → fits (ways_all items i false) ≡ true → id_at i 0 ≡ i →
@@ -131,5 +131,5 @@ module _ (i lit : List ℕ) (own file : ℕ) (context : context_of i ≡ four (l
       around-placed i lit own file context k items cs shape e (record { tag = refl; literal = refl; sole = q; quiet = import-quiet cs s })
       (but-with (Apart i (value_of lit)) Known (Others i lit own file context) k items (λ f t a b. import-others f t a b)
       (shares-apart i k items (field 0x10 lit cs) share e refl (own-local cs q w))
-      (each_both Shaped (λ f. (tag_of f ≡ 0x10 → own_locals own f ≡ true) × (fits (ways f i false) ≡ true)) items (shaped-each items (rule_of 0x01) shape)
-      (each_both (λ f. tag_of f ≡ 0x10 → own_locals own f ≡ true) (λ f. fits (ways f i false) ≡ true) items (imports-all (own_locals own) items locals) (fits_each items i fit))))
+      (each-both Shaped (λ f. (tag_of f ≡ 0x10 → own_locals own f ≡ true) × (fits (ways f i false) ≡ true)) items (shaped-each items (rule_of 0x01) shape)
+      (each-both (λ f. tag_of f ≡ 0x10 → own_locals own f ≡ true) (λ f. fits (ways f i false) ≡ true) items (imports-all (own_locals own) items locals) (fits-each items i fit))))

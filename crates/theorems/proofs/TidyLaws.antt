@@ -7,7 +7,7 @@ use Rattle.scope.specs.Id.{local}
 use Rattle.tree.specs.Layout.{same, four, context_of}
 use Rattle.extraction_rules.specs.State.{Usage, State}
 use Rattle.extraction_rules.specs.Second.{usages_of}
-use Rattle.extraction_rules.proofs.ListLaws.{All, all_filter}
+use Rattle.extraction_rules.proofs.ListLaws.{All, all-filter}
 use Rattle.extraction_rules.proofs.SpaceLaws.{Property}
 use Rattle.extraction_rules.proofs.KeepLaws.{Each}
 use Rattle.placement.proofs.WaysLaws.{ways}
@@ -29,5 +29,5 @@ unfolding usages_of
 properties-absent i own context c ps s h q =
     usages-absent i own context c ps
     (subst (All (λ (u : Usage). Property u.property)) q
-    (all_filter (λ (u : Usage). Property u.property) (λ (u : Usage). Property u.property) (λ (u : Usage). same u.id i) s.usages
+    (all-filter (λ (u : Usage). Property u.property) (λ (u : Usage). Property u.property) (λ (u : Usage). same u.id i) s.usages
     (λ u _ k. k) h))

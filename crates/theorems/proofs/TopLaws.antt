@@ -4,7 +4,7 @@ use mathlib.Core.Path.{◌≡◌, refl, sym, subst}
 use mathlib.Core.Bool.{Bool, true, false, true≢false}
 use mathlib.Core.List.{List}
 use mathlib.Core.Option.{Option, none as nothing, some}
-use Rattle.scope.specs.Id.{require-atom, local}
+use Rattle.scope.specs.Id.{require_atom, local}
 use Rattle.scope.specs.Modules.{Modules, request}
 use Rattle.tree.specs.declared.grammar.Set.TheVariants.{Module, Records}
 use Rattle.tree.specs.Layout.{same, two, four, name_of, context_of, value_of}
@@ -28,7 +28,7 @@ use Rattle.resolving_rules.specs.Call.{Resolved, records_read, resolved}
 use Rattle.resolving_rules.proofs.ResolvedLaws.{Listed, call-listed}
 use Rattle.placement.specs.Stands.{How, stands}
 use Rattle.placement.specs.Placed.{own_locals, sole_namespace, well_placed, item_at}
-use Rattle.placement.proofs.PlacedLaws.{front-imports, fits-placed, each_at, imports-all, well-of, mine-of}
+use Rattle.placement.proofs.PlacedLaws.{front-imports, fits-placed, each-at, imports-all, well-of, mine-of}
 use Rattle.placement.proofs.DroppedLaws.{place-front}
 use Rattle.placement.proofs.DefaultLaws.{SpaceIn, space-local, imports-of}
 use Rattle.theorems.specs.Demand.{Declares, takes, Ends, handed_on}
@@ -42,7 +42,7 @@ use Rattle.theorems.proofs.CoreLaws.{EndsBy, core}
 
 -- taken apart or kept, in the words of the statement
 ends-from : (b : Bool) (i x : List ℕ) (k file : ℕ) (hs : List How) (items : Fields) (l : Lent) (r : Extracted) (q : Resolved) (own : ℕ)
-    (context : context_of i ≡ four (local own)) (named : same (name_of i) (two require-atom) ≡ false)
+    (context : context_of i ≡ four (local own)) (named : same (name_of i) (two require_atom) ≡ false)
     (Space : List ℕ → Type 0) (locals : (j : List ℕ) → Space j → context_of j ≡ four (local own))
     (res : file_of (value_of x) (rows_in l.table) ≡ some file) (inner : external (setting first own l (rows_in l.table)) x ≡ false)
     (within : external (setting second own l (rows_in l.table)) x ≡ false) →
@@ -68,7 +68,7 @@ resolving-ends l room ms r n q items own accepted resolving reading requesting p
     let f = fine-placed items i m.fit in
     let items-shaped = shaped-each items (rule_of 0x01) shape.shaped in
     let a = around-well i x own.0 file m.context k items declares.0 shape.shaped w.share w.locals (fits-placed items i m.fit) m.whole declares.1 declares.2
-    (shaped-parts (field 0x10 x declares.0) 0x10 (each_at Shaped k items (field 0x10 x declares.0) items-shaped declares.1) refl) in
+    (shaped-parts (field 0x10 x declares.0) 0x10 (each-at Shaped k items (field 0x10 x declares.0) items-shaped declares.1) refl) in
     let front = front-imports k items x declares.0 w.precede declares.1 in
     let rows = rows_in l.table in
     let Space = SpaceIn own.0 items in

@@ -18,7 +18,7 @@ use Rattle.inputs.specs.Lists.{mapped, among}
 use Rattle.inputs.specs.Fields.{inside}
 use Rattle.inputs.specs.Table.{Row, rows_in, atoms_in, bad_table, table_of, file_of}
 use Rattle.inputs.specs.Buffer.{fits, buffer_of}
-use Rattle.inputs.proofs.AcceptedLaws.{done_inj, onto-done}
+use Rattle.inputs.proofs.AcceptedLaws.{done-inj, onto-done}
 use Rattle.extraction_rules.specs.Call.{Lent, Lengths, Extracted, items_read, extracted}
 use Rattle.resolving_rules.specs.Resolve.{sources_in, source_of, forced_in, requested, number_one, number_all, resolved_specifiers, heading, resolved_record, resolved_all}
 use Rattle.resolving_rules.specs.Call.{Lent as LentRecords, records_read, Numbered, numbered, Resolved, listed, resolved, modules_after, Left, resolving}
@@ -168,6 +168,6 @@ pub kept-or-apart-unmarked : (l : Lent) (room : Lengths) (ms : Modules) (r : Ext
 kept-or-apart-unmarked l room ms r n q items own e v bs reading requesting placed k x i d inside =
     let b = takes (rows_in l.table) x (stands items i) in
     let w = onto-done (resolved (handed_on l r) n r.modules) _ q (sym (resolved-unmarked (handed_on l r) n r.modules) ∙ v) in
-    subst (λ (u : Resolved). Ends b i x k (stands items i) items l r u) (done_inj w.2)
+    subst (λ (u : Resolved). Ends b i x k (stands items i) items l r u) (done-inj w.2)
     (ends-unmarked b i x k (stands items i) items l r w.0
     (kept-whole-or-apart l room ms r n w.0 items own e w.1 bs reading requesting placed k x i d inside))

@@ -9,14 +9,14 @@ use native.Mathlib.Omega.{arith}
 use lib.Dec.{eqb}
 use lib.ListN.{take, get_or}
 use borrow.Author.Tests.{eqb-true, ne_eqb}
-use Rattle.scope.specs.Id.{require-atom}
+use Rattle.scope.specs.Id.{require_atom}
 use Rattle.tree.specs.Layout.{same, two, id_at, name_of}
 use Rattle.tree.specs.Tree.{Field, field, Fields, none, more, tag_of, fixed_of, parts_of}
 use Rattle.tree.proofs.LayoutLaws.{same-equal}
 use Rattle.inputs.specs.Lists.{filter}
 use Rattle.inputs.specs.Fields.{has}
 use Rattle.extraction_rules.specs.Walk.{Parts, unwalked, member, super, assignment, children, parts_for}
-use Rattle.extraction_rules.proofs.ListLaws.{not_same, All}
+use Rattle.extraction_rules.proofs.ListLaws.{not-same, All}
 use Rattle.extraction_rules.proofs.TagLaws.{parts-member, parts-assignment}
 use Rattle.extraction_rules.proofs.AlikeLaws.{Two, RegularAt, Regular, RegularAll, SameBytes, equal, behind, callee, same-other}
 use Rattle.placement.specs.Stands.{How, plain, computed, bare, original, ids_in, by_member, object_ids, Standing, matching, standings}
@@ -29,9 +29,9 @@ use Rattle.theorems.proofs.OutFieldLaws.{Turned, Out, OutAll, out-more, out-lack
 
 -- ---- Every use
 
-pub every_append : (P : Standing → Type 0) (l m : List Standing) → Every P l → Every P m → Every P (l ++ m)
-every_append P [] m h k = k
-every_append P (s ∷ l) m h k = (h.0, every_append P l m h.1 k)
+pub every-append : (P : Standing → Type 0) (l m : List Standing) → Every P l → Every P m → Every P (l ++ m)
+every-append P [] m h k = k
+every-append P (s ∷ l) m h k = (h.0, every-append P l m h.1 k)
 
 pub every-filter : (P : Standing → Type 0) (l : List Standing) → Every (λ s. is_use s.how ≡ true → P s) l → Every P (filter (λ s. is_use s.how) l)
 unfolding filter
@@ -55,7 +55,7 @@ good-taken : (b : Bool) (c : List ℕ) (s : Standing) → b ≡ true → Rewritt
 good-taken true c s d h = h
 good-taken false c s d h = absurd (true≢false (sym d))
 
-module _ (taken : Bool) (i c : List ℕ) (own : ℕ) (named : same (name_of i) (two require-atom) ≡ false) where
+module _ (taken : Bool) (i c : List ℕ) (own : ℕ) (named : same (name_of i) (two require_atom) ≡ false) where
   abbrev O : Field → Field → Type 0
   O f g = Out taken i c own f g
 
@@ -66,7 +66,7 @@ module _ (taken : Bool) (i c : List ℕ) (own : ℕ) (named : same (name_of i) (
   Uses l = Every (λ s. is_use s.how ≡ true → Good taken c s) l
 
   uses-append : (l m : List Standing) → Uses l → Uses m → Uses (l ++ m)
-  uses-append l m h k = every_append (λ s. is_use s.how ≡ true → Good taken c s) l m h k
+  uses-append l m h k = every-append (λ s. is_use s.how ≡ true → Good taken c s) l m h k
 
   abbrev UseOf : Field → Field → How × List ℕ → Type 0
   UseOf f g w = same w.1 i ≡ true → is_use w.0 ≡ true → Good taken c (record { how = w.0; here = f; there = g })
@@ -95,20 +95,20 @@ module _ (taken : Bool) (i c : List ℕ) (own : ℕ) (named : same (name_of i) (
   abbrev Stays : ℕ → List ℕ → Fields → Field → Type 0
   Stays t x cs g = (tag_of g ≡ t) × SameBytes t x (fixed_of g) × OA cs (parts_of g)
 
-  parts_none : (cs ds : Fields) → OA cs ds → cs ≡ none → ds ≡ none
-  parts_none none ds h q = h
-  parts_none (more f fs) ds h q = absurd (let z : ◌≡◌ {A = ℕ} 0 1 = cc in omega arith)
+  parts-none : (cs ds : Fields) → OA cs ds → cs ≡ none → ds ≡ none
+  parts-none none ds h q = h
+  parts-none (more f fs) ds h q = absurd (let z : ◌≡◌ {A = ℕ} 0 1 = cc in omega arith)
 
   own-bytes : (t : ℕ) (x y : List ℕ) → SameBytes t x y → t ≡ 0x60 → x ≡ i → y ≡ x
   own-bytes t x y (equal q) k e = q
   own-bytes t x y (behind j q) k e = absurd (let v : ◌≡◌ {A = ℕ} 0x23 0x60 = sym j ∙ k in omega arith)
-  own-bytes t x y (callee j q n r) k e = absurd (not_same (name_of i) (two require-atom) named (ap name_of (sym e) ∙ q))
+  own-bytes t x y (callee j q n r) k e = absurd (not-same (name_of i) (two require_atom) named (ap name_of (sym e) ∙ q))
 
   ident-same : (t : ℕ) (x : List ℕ) (cs : Fields) (g : Field) → Stays t x cs g → t ≡ 0x60 → cs ≡ none → x ≡ i → g ≡ field t x cs
   ident-same t x cs (field k y ds) h q e m =
       let p : k ≡ t = h.0 in
       let b : y ≡ x = own-bytes t x y h.1 q m in
-      let d : ds ≡ cs = parts_none cs ds h.2 e ∙ sym e in
+      let d : ds ≡ cs = parts-none cs ds h.2 e ∙ sym e in
       cc
 
   original-bytes : (t : ℕ) (x y : List ℕ) → SameBytes t x y → t ≡ 0x23 → take 7 y ≡ take 7 x
@@ -130,7 +130,7 @@ module _ (taken : Bool) (i c : List ℕ) (own : ℕ) (named : same (name_of i) (
       subst (λ (l : List (How × List ℕ)). All (UseOf (field t x cs) g) l) (sym (ident-ids t x q)) (
         (λ e u. good-kept taken c (record { how = bare; here = field t x cs; there = g })
             (kept bare (id_at x 0) refl refl e (subst (λ (l : List (How × List ℕ)). Fine taken (met l i)) (ident-ids t x q) fine))
-            (ident-same t x cs g h q (w.ident-bare q) (sym (w.ident-whole q) ∙ same-equal (id_at x 0) i e))),
+            (ident-same t x cs g h q (w.ident_bare q) (sym (w.ident_whole q) ∙ same-equal (id_at x 0) i e))),
         tt,
       )
 
@@ -167,7 +167,7 @@ module _ (taken : Bool) (i c : List ℕ) (own : ℕ) (named : same (name_of i) (
   -- what becomes of the object i and of a member
   object-same : (o w : Field) → O o w → tag_of o ≡ 0x60 → fixed_of o ≡ i → Regular o → w ≡ o
   object-same (field t x os) w (inr h) q e s = absurd (let v : ◌≡◌ {A = ℕ} 0x60 0x63 = sym q ∙ h.tag in omega arith)
-  object-same (field t x os) w (inl h) q e s = ident-same t x os w (h.0, h.1, h.3) q (s.0.ident-bare q) e
+  object-same (field t x os) w (inl h) q e s = ident-same t x os w (h.0, h.1, h.3) q (s.0.ident_bare q) e
 
   member-same : (q v : Field) → O q v → (tag_of q ≡ 0x63 → ⊥) → (tag_of q ≡ 0x23 → ⊥) → (tag_of q ≡ 0x60 → ⊥) → (tag_of v ≡ tag_of q)
       × (fixed_of v ≡ fixed_of q) × OA (parts_of q) (parts_of v)
@@ -181,11 +181,11 @@ module _ (taken : Bool) (i c : List ℕ) (own : ℕ) (named : same (name_of i) (
       (λ z. let v : ◌≡◌ {A = ℕ} 0x70 0x23 = sym q ∙ z in omega arith) (λ z. let v : ◌≡◌ {A = ℕ} 0x70 0x60 = sym q ∙ z in omega arith) in
       let p : k ≡ t = m.0 in
       let b : y ≡ x = m.1 in
-      let d : vs ≡ qs = parts_none qs vs m.2 (s.0.name-bare q) ∙ sym (s.0.name-bare q) in
+      let d : vs ≡ qs = parts-none qs vs m.2 (s.0.name_bare q) ∙ sym (s.0.name_bare q) in
       cc
 
-  field_of : (g : Field) → g ≡ field (tag_of g) (fixed_of g) (parts_of g)
-  field_of (field t x cs) = refl
+  field-of : (g : Field) → g ≡ field (tag_of g) (fixed_of g) (parts_of g)
+  field-of (field t x cs) = refl
 
   -- a 63 that stays, with what became of its parts
   member-field : (x : List ℕ) (o q g : Field) → Stays 0x63 x (more o (more q none)) g → (w v : Field) × (g ≡ field 0x63 x (more w (more v none))) × O o w × O q v
@@ -208,7 +208,7 @@ module _ (taken : Bool) (i c : List ℕ) (own : ℕ) (named : same (name_of i) (
       let m = h.mine (ap fixed_of eo ∙ e) in
       let b : fixed_of g ≡ fixed_of q ++ c = m.1 ∙ ap (λ (y : Field). fixed_of y ++ c) eq in
       good-taken taken c (record { how = plain (fixed_of q); here = field 0x63 x (more o (more q none)); there = g }) m.0
-      (field_of g ∙ rw (h.out, b, h.bare))
+      (field-of g ∙ rw (h.out, b, h.bare))
 
   computed-uses : (x : List ℕ) (o q g : Field) → tag_of q ≡ 0x71 → Regular o → Fine taken (met ((computed, fixed_of o) ∷ []) i) →
       O (field 0x63 x (more o (more q none))) g → tag_of o ≡ 0x60 → same (fixed_of o) i ≡ true →
@@ -271,7 +271,7 @@ module _ (taken : Bool) (i c : List ℕ) (own : ℕ) (named : same (name_of i) (
       let eq : field k y qs ≡ h.member = cc h.parts in
       let to : tag_of o ≡ 0x60 = ap tag_of eo ∙ h.ident in
       let tk : k ≡ 0x70 = ap tag_of eq ∙ h.name in
-      rw (to, tk, s.1.0.0.name-bare tk)
+      rw (to, tk, s.1.0.0.name_bare tk)
 
   -- a target's own ids stand in no use
   target-uses : (t : ℕ) (x : List ℕ) (cs : Fields) (g : Field) → (t ≡ 0x60 → ⊥) → (t ≡ 0x23 → ⊥) → Uses (matching (ids_in t x false ++ object_ids false cs) i (field t x cs) g)
@@ -304,7 +304,7 @@ module _ (taken : Bool) (i c : List ℕ) (own : ℕ) (named : same (name_of i) (
   parts-uses children t x cs g object q w s fine h oa all mem asg = all object fine
   parts-uses member t x cs g object q w s fine h oa all mem asg =
       let f = fine-append taken (met (object_ids true cs) i) (ways_member cs i) fine in
-      uses-append (matching (object_ids true cs) i (field t x cs) g) (standings_member cs (parts_of g) i) (go t (parts-member t q) (w.member-two (parts-member t q)) h f.0) (mem f.1)
+      uses-append (matching (object_ids true cs) i (field t x cs) g) (standings_member cs (parts_of g) i) (go t (parts-member t q) (w.member_two (parts-member t q)) h f.0) (mem f.1)
     where
       go : (t : ℕ) → t ≡ 0x63 → Two cs → O (field t x cs) g → Fine taken (met (object_ids true cs) i) → Uses (matching (object_ids true cs) i (field t x cs) g)
       go t k y h f = rw k (object-uses x cs g y s f (subst (λ (m : ℕ). O (field m x cs) g) k h))
@@ -334,7 +334,7 @@ module _ (taken : Bool) (i c : List ℕ) (own : ℕ) (named : same (name_of i) (
     uses (field t x cs) g object w fine (inr h) =
         let f = fine-append taken (met (ids_in t x object) i) (ways_parts (parts_for t) cs i object) fine in
         uses-append (matching (ids_in t x object) i (field t x cs) g) (standings_parts (parts_for t) t x cs g i object)
-        (member-ids t x cs g object h.tag) (turned-uses t x cs g object h.tag (w.0.member-two h.tag) w.1 f.1 h)
+        (member-ids t x cs g object h.tag) (turned-uses t x cs g object h.tag (w.0.member_two h.tag) w.1 f.1 h)
     uses (field t x cs) g object w fine (inl h) =
         let f = fine-append taken (met (ids_in t x object) i) (ways_parts (parts_for t) cs i object) fine in
         uses-append (matching (ids_in t x object) i (field t x cs) g) (standings_parts (parts_for t) t x cs g i object) (own-uses t x cs g object w.0 f.0 (h.0, h.1, h.3))

@@ -6,7 +6,7 @@ use mathlib.Core.Bool.{true, false}
 use mathlib.Core.List.{List}
 use mathlib.Core.Option.{Option, none as nothing, some}
 use native.Mathlib.Omega.{arith}
-use Rattle.scope.specs.Id.{require-atom, local, export}
+use Rattle.scope.specs.Id.{require_atom, local, export}
 use Rattle.scope.specs.Modules.{Modules}
 use Rattle.tree.specs.Layout.{same, two, four, name_of, context_of, value_of}
 use Rattle.tree.specs.Tree.{Field, field, Fields, none, more, tag_of, fixed_of, parts_of, size}
@@ -19,7 +19,7 @@ use Rattle.extraction_rules.specs.State.{State, first, Setting, start, set_top}
 use Rattle.extraction_rules.specs.First.{external, module_for, imported_as, collect, note_id, note_all, note_specifier, note_specifiers, specifiers_in, with_context, import_first, stays}
 use Rattle.extraction_rules.specs.Walk.{walk, walk_all, walk_module}
 use Rattle.extraction_rules.proofs.OutcomeLaws.{After, after-bind, after-weaken}
-use Rattle.extraction_rules.proofs.ValueLaws.{after_any, walk_first}
+use Rattle.extraction_rules.proofs.ValueLaws.{after-any, walk-first}
 use Rattle.extraction_rules.proofs.AlikeLaws.{Regular, Alike, walk-alike}
 use Rattle.extraction_rules.proofs.SpaceLaws.{OfImport, Spaces, space-steps, import-space}
 use Rattle.extraction_rules.proofs.ItemsLaws.{item-keeps}
@@ -71,9 +71,9 @@ module _ (i lit : List ℕ) (own file : ℕ) (context : context_of i ≡ four (l
   own-stays f g h = (import-stays f h.0, import-stays g (ap tag_of h.1.1))
 
   module _ (e : Setting) (one : e.pass ≡ first) (mine : e.own ≡ own) (res : file_of (value_of lit) e.table ≡ some file)
-      (inner : external e lit ≡ false) (named : same (name_of i) (two require-atom) ≡ false) where
+      (inner : external e lit ≡ false) (named : same (name_of i) (two require_atom) ≡ false) where
     clean-walk : (f : Field) (p : ℕ) (s : State) → tag_of f ≡ 0x10 → CleanImport f → After (walk f e false p s) (λ g t. Clean i own context (fixed_of f) g)
-    clean-walk f p s q h = rw (walk_first e one f p s q) (first-clean i own context e (fixed_of f) (parts_of f) p s h.0 h.1)
+    clean-walk f p s q h = rw (walk-first e one f p s q) (first-clean i own context e (fixed_of f) (parts_of f) p s h.0 h.1)
 
     item-worked : (f : Field) (p : ℕ) (s : State) → CleanItem f → After (walk f e false p s) (λ g t. WorkedItem f g)
     item-worked f p s (inl h) =
@@ -96,22 +96,22 @@ module _ (i lit : List ℕ) (own file : ℕ) (context : context_of i ≡ four (l
         after-bind (onto (note_id (record { id = i; context = four (export n) }) p s) (λ r. done (field 0x22 i none, r.1))) _
         (λ g t. g ≡ field 0x22 i none) (λ gs t. gs ≡ more (field 0x22 i none) none)
         (after-bind (note_id (record { id = i; context = four (export n) }) p s) _ (λ u t. Unit {0}) (λ g t. g ≡ field 0x22 i none)
-        (after_any (note_id (record { id = i; context = four (export n) }) p s)) λ u t _. refl) λ g t q.
+        (after-any (note_id (record { id = i; context = four (export n) }) p s)) λ u t _. refl) λ g t q.
         ap (λ (k : Field). more k none) q
 
     own-import : (ds : Fields) (p : ℕ) (s : State) → specifiers_in ds ≡ more (field 0x22 i none) none → After (import_first e lit ds p s) (λ g t. Redeclared i lit own file context ds g)
     unfolding import_first
     own-import ds p s q =
         rw (inner, q)
-        (after-bind (module_for e (value_of lit) p s) _ (λ m t. Unit {0}) (λ g t. Redeclared i lit own file context ds g) (after_any (module_for e (value_of lit) p s)) λ m t _.
+        (after-bind (module_for e (value_of lit) p s) _ (λ m t. Unit {0}) (λ g t. Redeclared i lit own file context ds g) (after-any (module_for e (value_of lit) p s)) λ m t _.
         after-bind (note_specifiers m (more (field 0x22 i none) none) (inside p lit) t) _ (λ gs u. gs ≡ more (field 0x22 i none) none)
         (λ g t. Redeclared i lit own file context ds g) (note-own m (inside p lit) t) λ gs u v.
         after-bind (collect (record { literal = lit; specifiers = gs }) p u) _ (λ _ x. Unit {0}) (λ g t. Redeclared i lit own file context ds g)
-        (after_any (collect (record { literal = lit; specifiers = gs }) p u)) λ _ x _.
+        (after-any (collect (record { literal = lit; specifiers = gs }) p u)) λ _ x _.
         (m, ap (λ (f : Fields). field 0x10 lit (append f (with_context m ds))) v))
 
     own-walk : (f : Field) (p : ℕ) (s : State) → OwnImport i lit own file f → After (walk f e false p s) (λ g t. Redeclared i lit own file context (parts_of f) g)
-    own-walk f p s w = rw (walk_first e one f p s w.tag, w.literal) (own-import (parts_of f) p s w.sole)
+    own-walk f p s w = rw (walk-first e one f p s w.tag, w.literal) (own-import (parts_of f) p s w.sole)
 
     around-worked : (k : ℕ) (fs : Fields) (p : ℕ) (s : State) → CleanAround k fs → After (walk_all fs e false p s) (λ gs t. Worked k fs gs)
     unfolding walk
@@ -143,9 +143,9 @@ module _ (i lit : List ℕ) (own file : ℕ) (context : context_of i ≡ four (l
     Ready fs = Each ReadyItem fs
 
     module _ (e : Setting) (one : e.pass ≡ first) (mine : e.own ≡ own) (res : file_of (value_of lit) e.table ≡ some file)
-        (inner : external e lit ≡ false) (named : same (name_of i) (two require-atom) ≡ false) where
+        (inner : external e lit ≡ false) (named : same (name_of i) (two require_atom) ≡ false) where
       item-spaces : (f : Field) (p : ℕ) (s : State) → ReadyItem f → Spaces Space own locals s → After (walk f e false p s) (λ g t. Spaces Space own locals t)
-      item-spaces f p s (inl r) h = rw (walk_first e one f p s r.0) (import-space Space own locals e (fixed_of f) (parts_of f) p s r.1 h)
+      item-spaces f p s (inl r) h = rw (walk-first e one f p s r.0) (import-space Space own locals e (fixed_of f) (parts_of f) p s r.1 h)
       item-spaces f p s (inr r) h = item-keeps e (Spaces Space own locals) (space-steps Space own locals e mine) one f false p s r h
 
       ready-spaces : (fs : Fields) (p : ℕ) (s : State) → Ready fs → Spaces Space own locals s → After (walk_all fs e false p s) (λ gs t. Spaces Space own locals t)

@@ -28,20 +28,20 @@ pub data Answer : Type 0 where
   extracted : Left → Answer
   resolved : LeftList → Answer
   decoded : Reading Metadata → Answer
-  read_module : Reading Fields → Answer
+  read-module : Reading Fields → Answer
 
 -- what the rules answer, and what the card says
 unfoldable pub given : Question → Answer
 given (extract c) = extracted (extraction c.lent rooms [])
 given (resolve c) = resolved (resolving c.lent 250 c.modules)
 given (decoding s r) = decoded (decode_call s)
-given (reading-module s r) = read_module (read Module s)
+given (reading-module s r) = read-module (read Module s)
 
 unfoldable pub said : Question → Answer
 said (extract c) = extracted c.left
 said (resolve c) = resolved c.left
 said (decoding s r) = decoded r
-said (reading-module s r) = read_module r
+said (reading-module s r) = read-module r
 
 -- a 2F with the text as export context
 abbrev context : List ℕ → List ℕ

@@ -5,7 +5,7 @@ use Rattle.std.proofs.Common.{sym, ap, ◌∙◌, true≢false}
 use mathlib.Core.List.{List, [], ◌∷◌, ◌++◌, cons≢nil}
 use Rattle.std.proofs.Math.Option.{some, get_or}
 use Rattle.modes.specs.Bits.{modes_of}
-use Rattle.scope.specs.Id.{default-atom, export}
+use Rattle.scope.specs.Id.{default_atom, export}
 use Rattle.scope.specs.Modules.{Module, Modules, unmarked, number_of}
 use Rattle.tree.specs.Layout.{two, four, same, value_of}
 use Rattle.tree.specs.Tree.{Field, field, Fields, none, fixed_of, parts_of, encode}
@@ -20,8 +20,8 @@ use Rattle.resolving_rules.specs.Call.{Resolved, resolved}
 use Rattle.resolving_rules.specs.Computes.{computing as computing-resolved}
 use Rattle.placement.specs.Stands.{head_of, stands}
 use Rattle.placement.specs.Placed.{well_placed}
-use Rattle.placement.specs.Example.{placing, ax, at, n, literal-n, ay, spaced-n, behind, late, shared-source, shared-local, other-context, in-company}
-use Rattle.placement.specs.Example.{as-target, below-object, as-shorthand, a-private, with-private, namespace-require, property-require}
+use Rattle.placement.specs.Example.{placing, ax, at, n, literal_n, ay, spaced_n, behind, late, shared_source, shared_local, other_context, in_company}
+use Rattle.placement.specs.Example.{as-target, below_object, as_shorthand, a_private, with_private, namespace_require, property_require}
 use Rattle.theorems.specs.Demand.{uses_of, record_for, takes, TakenApart, Kept, Ends, ResolvesTo, handed_on}
 
 -- every definition of both calls and of their ends: a worked case says `unfolding ending`
@@ -36,24 +36,24 @@ abbrev exports : List ℕ → List ℕ → Field
 exports l i = field 0x11 l (listed (leaf 0x23 i ∷ []))
 
 -- an import of './m', and one of './n', with the metadata that the first pass appends: './m' is module 1, './n' is module 2
-abbrev from-m : List Field → Field
-from-m l = imports (l ++ metadata ∷ [])
+abbrev from_m : List Field → Field
+from_m l = imports (l ++ metadata ∷ [])
 
-abbrev from-n : List Field → Field
-from-n l = field 0x10 literal-n (listed (l ++ fields 0x2F (attribute context_key (55 ∷ []) ∷ []) ∷ []))
+abbrev from_n : List Field → Field
+from_n l = field 0x10 literal_n (listed (l ++ fields 0x2F (attribute context_key (55 ∷ []) ∷ []) ∷ []))
 
 -- their 90s; a 91 without alias, and a 92 marked "all"
-abbrev record-m : List Field → Field
-record-m l = field 0x90 (3 ∷ two 1 ++ two 10 ++ four 4 ++ four 5 ++ literal 1) (listed l)
+abbrev record_m : List Field → Field
+record_m l = field 0x90 (3 ∷ two 1 ++ two 10 ++ four 4 ++ four 5 ++ literal 1) (listed l)
 
-abbrev record-n : ℕ → List Field → Field
-record-n t l = field 0x90 (t ∷ two 2 ++ two 11 ++ four 6 ++ four 7 ++ literal-n) (listed l)
+abbrev record_n : ℕ → List Field → Field
+record_n t l = field 0x90 (t ∷ two 2 ++ two 11 ++ four 6 ++ four 7 ++ literal_n) (listed l)
 
 abbrev as-name : List ℕ → Field
 as-name i = leaf 0x91 (i ++ 0 ∷ [])
 
-abbrev as-all : List ℕ → Field
-as-all i = leaf 0x92 (i ++ 1 ∷ [])
+abbrev as_all : List ℕ → Field
+as_all i = leaf 0x92 (i ++ 1 ∷ [])
 
 -- ---- Both calls on a module
 
@@ -106,20 +106,20 @@ unfolding ending
 repeated = (refl, refl, record { gone = refl; used = (refl, (refl, (refl, tt))); declares = (_, refl, refl); records = refl })
 
 -- ; { a.x }, where the empty statement is dropped
-in_block : Apart (two x ∷ []) (behind (leaf 0x40 [] ∷ fields 0x45 (statement ax ∷ []) ∷ []))
+in-block : Apart (two x ∷ []) (behind (leaf 0x40 [] ∷ fields 0x45 (statement ax ∷ []) ∷ []))
 unfolding ending
-in_block = (refl, refl, record { gone = refl; used = (refl, tt); declares = (_, refl, refl); records = refl })
+in-block = (refl, refl, record { gone = refl; used = (refl, tt); declares = (_, refl, refl); records = refl })
 
 -- a.x.y
-abbrev member-of-use : Fields
-member-of-use = behind (statement (member ax y) ∷ [])
+abbrev member_of_use : Fields
+member_of_use = behind (statement (member ax y) ∷ [])
 
-chained : Apart (two x ∷ []) member-of-use
+chained : Apart (two x ∷ []) member_of_use
 unfolding ending
 chained = (refl, refl, record { gone = refl; used = (refl, tt); declares = (_, refl, refl); records = refl })
 
 -- the use becomes x, and its member y stays
-chained-out : Accepted (λ r t. parts_of r.out ≡ listed (from-m (named (exp x) ∷ []) ∷ statement (member (ident (exp x)) y) ∷ [])) (after member-of-use)
+chained-out : Accepted (λ r t. parts_of r.out ≡ listed (from_m (named (exp x) ∷ []) ∷ statement (member (ident (exp x)) y) ∷ [])) (after member_of_use)
 unfolding ending
 chained-out = refl
 
@@ -139,7 +139,7 @@ unfolding ending
 by-expression = (refl, refl, record { declares = (_, refl, refl); records = refl; used = (refl, (refl, (refl, tt))) })
 
 -- import * as b from './n'; a[b.y]: what stands inside the brackets changes
-inside-brackets : Whole (behind (spaced-n (own b) ∷ statement (at (member (ident (own b)) y)) ∷ []))
+inside-brackets : Whole (behind (spaced_n (own b) ∷ statement (at (member (ident (own b)) y)) ∷ []))
 unfolding ending
 inside-brackets = (refl, refl, record { declares = (_, refl, refl); records = refl; used = (refl, tt) })
 
@@ -154,7 +154,7 @@ unfolding ending
 exported = (refl, refl, record { declares = (_, refl, refl); records = refl; used = (refl, (refl, tt)) })
 
 -- export { a } from './n'; a.x
-exported-from : Whole (behind (exports (1 ∷ literal-n) (1 ∷ own a ++ 0 ∷ []) ∷ statement ax ∷ []))
+exported-from : Whole (behind (exports (1 ∷ literal_n) (1 ∷ own a ++ 0 ∷ []) ∷ statement ax ∷ []))
 unfolding ending
 exported-from = (refl, refl, record { declares = (_, refl, refl); records = refl; used = (refl, (refl, tt)) })
 
@@ -181,23 +181,23 @@ elsewhere i p h e = unlike (λ g. same (fixed_of g) i) (e ∙ ap (λ j. ident (p
 
 -- imports precede other items: a.x; import * as a from './m'
 -- The use is not listed, and the name stays.
-late-fails : Wrong true 1 (own a) late (statement ax ∷ from-m (namespace (own a) ∷ []) ∷ []) (record-m (as-all (own a) ∷ []) ∷ [])
+late-fails : Wrong true 1 (own a) late (statement ax ∷ from_m (namespace (own a) ∷ []) ∷ []) (record_m (as_all (own a) ∷ []) ∷ [])
 unfolding ending
 late-fails = record { told = refl; left = (refl, refl); fails = λ e. cons≢nil e.2.gone }
 
 -- share no source: import * as a from './m'; import * as b from './m'; a.x
 -- The unused b forces the source, and the record lists more than x.
-shared-source-fails : Wrong true 0 (own a) shared-source
-    (from-m (named (exp x) ∷ []) ∷ from-m (namespace (own b) ∷ []) ∷ statement (ident (exp x)) ∷ [])
-    (record-m (as-all (own a) ∷ as-all (own b) ∷ as-name (exp x) ∷ []) ∷ [])
+shared-source-fails : Wrong true 0 (own a) shared_source
+    (from_m (named (exp x) ∷ []) ∷ from_m (namespace (own b) ∷ []) ∷ statement (ident (exp x)) ∷ [])
+    (record_m (as_all (own a) ∷ as_all (own b) ∷ as-name (exp x) ∷ []) ∷ [])
 unfolding ending
 shared-source-fails = record { told = refl; left = (refl, refl); fails = λ e. unlike (λ o. has 0x92 (head_of (get_or o none))) e.2.records refl refl }
 
 -- share no local id: import * as a from './m'; import * as a from './n'; a.x
 -- The use becomes x in the other source's export context, 7.
-shared-local-fails : Wrong true 0 (own a) shared-local
-    (from-m (named (exp x) ∷ []) ∷ from-n (named (exp x) ∷ []) ∷ statement (ident (two x ++ four 7)) ∷ [])
-    (record-m (as-name (exp x) ∷ []) ∷ record-n 3 (as-name (exp x) ∷ []) ∷ [])
+shared-local-fails : Wrong true 0 (own a) shared_local
+    (from_m (named (exp x) ∷ []) ∷ from_n (named (exp x) ∷ []) ∷ statement (ident (two x ++ four 7)) ∷ [])
+    (record_m (as-name (exp x) ∷ []) ∷ record_n 3 (as-name (exp x) ∷ []) ∷ [])
 unfolding ending
 shared-local-fails = record {
   told = refl;
@@ -209,74 +209,74 @@ shared-local-fails = record {
 
 -- locals have own local context: import * as x from './m'; x.x, where x has the export context of './m'
 -- The property is the id that should be gone.
-other-context-fails : Wrong true 0 (exp x) other-context (from-m (named (exp x) ∷ []) ∷ statement (ident (exp x)) ∷ []) (record-m (as-name (exp x) ∷ []) ∷ [])
+other-context-fails : Wrong true 0 (exp x) other_context (from_m (named (exp x) ∷ []) ∷ statement (ident (exp x)) ∷ []) (record_m (as-name (exp x) ∷ []) ∷ [])
 unfolding ending
 other-context-fails = record { told = refl; left = (refl, refl); fails = λ e. cons≢nil e.2.gone }
 
 -- a 22 is sole: import d, * as a from './m'; a.x
 -- The declaration keeps a and does not list x, nor does the record.
-in-company-fails : Wrong true 0 (own a) in-company
-    (from-m (default (own d) ∷ namespace (own a) ∷ []) ∷ statement (ident (exp x)) ∷ [])
-    (record-m (leaf 0x91 (own d ++ 1 ∷ two default-atom ++ four 0) ∷ []) ∷ [])
+in-company-fails : Wrong true 0 (own a) in_company
+    (from_m (default (own d) ∷ namespace (own a) ∷ []) ∷ statement (ident (exp x)) ∷ [])
+    (record_m (leaf 0x91 (own d ++ 1 ∷ two default_atom ++ four 0) ∷ []) ∷ [])
 unfolding ending
 in-company-fails = record { told = refl; left = (refl, refl); fails = λ e. cons≢nil e.2.gone }
 
 -- namespace ids stand elsewhere only as ..: a.x; a.y = b
 -- A target is neither rewritten nor does it force: the name stays.
 as-target-fails : Wrong true 0 (own a) as-target
-    (from-m (named (exp x) ∷ []) ∷ statement (ident (exp x)) ∷ statement (fields 0x66 (ay ∷ ident (own b) ∷ [])) ∷ [])
-    (record-m (as-name (exp x) ∷ []) ∷ [])
+    (from_m (named (exp x) ∷ []) ∷ statement (ident (exp x)) ∷ statement (fields 0x66 (ay ∷ ident (own b) ∷ [])) ∷ [])
+    (record_m (as-name (exp x) ∷ []) ∷ [])
 unfolding ending
 as-target-fails = record { told = refl; left = (refl, refl); fails = λ e. cons≢nil e.2.gone }
 
 -- with *object* set: a.x; f(a).y
-below-object-fails : Wrong true 0 (own a) below-object
-    (from-m (named (exp x) ∷ []) ∷ statement (ident (exp x)) ∷ statement (member (call (ident (own f)) (ident (own a))) y) ∷ [])
-    (record-m (as-name (exp x) ∷ []) ∷ [])
+below-object-fails : Wrong true 0 (own a) below_object
+    (from_m (named (exp x) ∷ []) ∷ statement (ident (exp x)) ∷ statement (member (call (ident (own f)) (ident (own a))) y) ∷ [])
+    (record_m (as-name (exp x) ∷ []) ∷ [])
 unfolding ending
 below-object-fails = record { told = refl; left = (refl, refl); fails = λ e. cons≢nil e.2.gone }
 
 -- as shorthand: a.x; ({ a })
-as-shorthand-fails : Wrong true 0 (own a) as-shorthand
-    (from-m (named (exp x) ∷ []) ∷ statement (ident (exp x)) ∷ statement (fields 0x69 (leaf 0x77 (own a) ∷ [])) ∷ [])
-    (record-m (as-name (exp x) ∷ []) ∷ [])
+as-shorthand-fails : Wrong true 0 (own a) as_shorthand
+    (from_m (named (exp x) ∷ []) ∷ statement (ident (exp x)) ∷ statement (fields 0x69 (leaf 0x77 (own a) ∷ [])) ∷ [])
+    (record_m (as-name (exp x) ∷ []) ∷ [])
 unfolding ending
 as-shorthand-fails = record { told = refl; left = (refl, refl); fails = λ e. cons≢nil e.2.gone }
 
 -- with a private name: a.#x
 -- The call is refused, so that no end is reached. Behind a use that forces a, as in a; a.#x, nothing goes wrong: it is kept.
-abbrev forced-private : Fields
-forced-private = behind (statement (ident (own a)) ∷ a-private ∷ [])
+abbrev forced_private : Fields
+forced_private = behind (statement (ident (own a)) ∷ a_private ∷ [])
 
-with-private-refused : after with-private ≡ refused 7 36
+with-private-refused : after with_private ≡ refused 7 36
 unfolding ending
 with-private-refused = refl
 
-with-private-kept : Accepted (λ r t. Kept (own a) (literal 1) 0 forced-private (parts_of r.out) (parts_of t.list)) (after forced-private)
+with-private-kept : Accepted (λ r t. Kept (own a) (literal 1) 0 forced_private (parts_of r.out) (parts_of t.list)) (after forced_private)
 unfolding ending
 with-private-kept = record { declares = (_, refl, refl); records = refl; used = (refl, tt) }
 
 -- no namespace is named require: import * as require from './m'; require('./m')
 -- The import is kept, but the callee gets the export context.
-namespace-require-fails : Wrong false 0 (own 0) namespace-require
-    (from-m (namespace (own 0) ∷ []) ∷ statement (requiring (exp 0)) ∷ [])
-    (record-m (as-all (own 0) ∷ []) ∷ [])
+namespace-require-fails : Wrong false 0 (own 0) namespace_require
+    (from_m (namespace (own 0) ∷ []) ∷ statement (requiring (exp 0)) ∷ [])
+    (record_m (as_all (own 0) ∷ []) ∷ [])
 unfolding ending
 namespace-require-fails = record { told = refl; left = (refl, refl); fails = λ e. unlike (λ g. same (fixed_of g) (exp 0)) e.used.0 refl refl }
 
 -- nor a property of one: const q = a.require('./n')
 -- The use becomes a call of require, whose callee gets the export context of './n'.
-abbrev required-n : Module
-required-n = record { file = 11; loaded = false; stored = false; cjs = true; wrapping = false }
+abbrev required_n : Module
+required_n = record { file = 11; loaded = false; stored = false; cjs = true; wrapping = false }
 
-property-require-fails : Wrong true 0 (own a) property-require
-    (from-m (named (exp 0) ∷ []) ∷ const (own q) (call (ident (two 0 ++ four 7)) (leaf 0x61 literal-n)) ∷ [])
-    (record-m (as-name (exp 0) ∷ []) ∷ record-n 1 (as-name (own q) ∷ []) ∷ [])
+property-require-fails : Wrong true 0 (own a) property_require
+    (from_m (named (exp 0) ∷ []) ∷ const (own q) (call (ident (two 0 ++ four 7)) (leaf 0x61 literal_n)) ∷ [])
+    (record_m (as-name (exp 0) ∷ []) ∷ record_n 1 (as-name (own q) ∷ []) ∷ [])
 unfolding ending
 property-require-fails = record {
   told = refl;
   left = (refl, refl);
   fails = λ e.
-      let h : e.0 ≡ 1 = one-module (rows_in table) (unmarked 9 ∷ unmarked 10 ∷ required-n ∷ []) (literal 1) e.1 refl refl in
+      let h : e.0 ≡ 1 = one-module (rows_in table) (unmarked 9 ∷ unmarked 10 ∷ required_n ∷ []) (literal 1) e.1 refl refl in
       elsewhere (two 0 ++ four 7) (two 0) h e.2.used.0 refl refl;
 }

@@ -19,10 +19,10 @@ use Rattle.tree.specs.Layout.{skip_at, literal_end}
 use Rattle.tree.specs.Grammar.{pieces_of}
 use Rattle.tree.specs.Access.{value_at, choice_of, on_choice, kind_at, key_at, piece_at, then_piece, fixed_at, length_at, extent_at}
 
-pub cond_ind : {A : Type 0} (P : A → Type 0) (b : Bool) (x y : A) → (b ≡ true → P x) → (b ≡ false → P y) →
+pub cond-ind : {A : Type 0} (P : A → Type 0) (b : Bool) (x y : A) → (b ≡ true → P x) → (b ≡ false → P y) →
     P (cond b x y)
-cond_ind P true x y f g = f refl
-cond_ind P false x y f g = g refl
+cond-ind P true x y f g = f refl
+cond-ind P false x y f g = g refl
 
 abbrev pub ReachIn : ℕ → ℕ → Reach → Type 0
 ReachIn at stop Short = Unit
@@ -31,7 +31,7 @@ ReachIn at stop (Upto b) = (at ≤ b) × (b ≤ stop)
 pub skip-in : (at n stop : ℕ) → at ≤ stop → ReachIn at stop (skip_at at n stop)
 unfolding skip_at
 skip-in at n stop h =
-    cond_ind (ReachIn at stop) (leb n (stop - at)) (Upto (at + n)) Short
+    cond-ind (ReachIn at stop) (leb n (stop - at)) (Upto (at + n)) Short
     (λ e. let q = leb-true n (stop - at) e in (omega arith, omega arith)) (λ e. tt)
 
 wider : (at at' stop : ℕ) (r : Reach) → at ≤ at' → ReachIn at' stop r → ReachIn at stop r
@@ -56,22 +56,22 @@ kind-in : (s : List ℕ) (p : Piece) (at stop : ℕ) → at ≤ stop → ReachIn
 unfolding kind_at
 kind-in s p at stop h =
     let c = choice_of p (get_or s at 0) in
-    cond_ind (ReachIn at stop) (ltb at stop) (on_choice c (at + 1) stop) Short
+    cond-ind (ReachIn at stop) (ltb at stop) (on_choice c (at + 1) stop) Short
     (λ e. let q = ltb-true at stop e in wider at (at + 1) stop (on_choice c (at + 1) stop) (omega arith) (choice-in c (at + 1) stop (omega arith))) (λ e. tt)
 
-key_in : (s : List ℕ) (at stop : ℕ) → at ≤ stop → ReachIn at stop (key_at s at stop)
+key-in : (s : List ℕ) (at stop : ℕ) → at ≤ stop → ReachIn at stop (key_at s at stop)
 unfolding key_at
-key_in s at stop h =
+key-in s at stop h =
     let P = ReachIn at stop in
-    cond_ind P (ltb (stop - at) 3) Short _ (λ _. tt)
-    (λ _. cond_ind P (ltb 1 (get_or s at 0)) Short _ (λ _. tt)
-    (λ _. cond_ind P (ltb 1 (get_or s (at + 1) 0)) Short _ (λ _. tt)
-    (λ _. cond_ind P (leb (get_or s (at + 2) 0) (stop - (at + 3))) (Upto stop) Short (λ _. (h, omega arith)) (λ _. tt))))
+    cond-ind P (ltb (stop - at) 3) Short _ (λ _. tt)
+    (λ _. cond-ind P (ltb 1 (get_or s at 0)) Short _ (λ _. tt)
+    (λ _. cond-ind P (ltb 1 (get_or s (at + 1) 0)) Short _ (λ _. tt)
+    (λ _. cond-ind P (leb (get_or s (at + 2) 0) (stop - (at + 3))) (Upto stop) Short (λ _. (h, omega arith)) (λ _. tt))))
 
 pub piece-in : (s : List ℕ) (p : Piece) (at stop : ℕ) → at ≤ stop → ReachIn at stop (piece_at s p at stop)
 unfolding piece_at
 piece-in s (Plain v) at stop h = value_in v at stop h
-piece-in s KeyValue at stop h = key_in s at stop h
+piece-in s KeyValue at stop h = key-in s at stop h
 piece-in s Source at stop h = kind-in s Source at stop h
 piece-in s Original at stop h = kind-in s Original at stop h
 piece-in s Outside at stop h = kind-in s Outside at stop h
@@ -83,20 +83,20 @@ unfolding then_piece
 then-in s Short p at stop h = tt
 then-in s (Upto b) p at stop h = wider at b stop (piece_at s p b stop) h.0 (piece-in s p b stop h.1)
 
-pub fixed_in : (s : List ℕ) (tag at stop : ℕ) → at ≤ stop → ReachIn at stop (fixed_at s tag at stop)
+pub fixed-in : (s : List ℕ) (tag at stop : ℕ) → at ≤ stop → ReachIn at stop (fixed_at s tag at stop)
 unfolding fixed_at
-fixed_in s tag at stop h =
+fixed-in s tag at stop h =
     then-in s (piece_at s (pieces_of tag).first at stop) (pieces_of tag).second at stop (piece-in s (pieces_of tag).first at stop h)
 
 pub extent-in : (s : List ℕ) (at end : ℕ) → at ≤ end → ReachIn (at + 3) end (extent_at s at end)
 unfolding extent_at
 extent-in s at end h =
-    cond_ind (ReachIn (at + 3) end) (leb 3 (end - at)) (skip_at (at + 3) (length_at s at) end) Short
+    cond-ind (ReachIn (at + 3) end) (leb 3 (end - at)) (skip_at (at + 3) (length_at s at) end) Short
     (λ e. let q = leb-true 3 (end - at) e in skip-in (at + 3) (length_at s at) end (omega arith)) (λ e. tt)
 
 pub upto-in : (s : List ℕ) (tag at stop : ℕ) {b : ℕ} → at ≤ stop → fixed_at s tag at stop ≡ Upto b →
     ReachIn at stop (Upto b)
-upto-in s tag at stop le e = subst (ReachIn at stop) e (fixed_in s tag at stop le)
+upto-in s tag at stop le e = subst (ReachIn at stop) e (fixed-in s tag at stop le)
 
 pub extent-upto : (s : List ℕ) (at end : ℕ) {stop : ℕ} → at ≤ end → extent_at s at end ≡ Upto stop →
     ReachIn (at + 3) end (Upto stop)

@@ -23,8 +23,8 @@ use Rattle.tree.specs.Read.{fine, mapped, both, on_extent, on_step, head_at, on_
 use Rattle.tree.specs.Within.{Exact, Formed, FormedAll, Within}
 use Rattle.tree.proofs.SliceLaws.{slice-split, get_d-slice}
 use Rattle.tree.proofs.GrammarLaws.{open-rule, formed-none, one-step}
-use Rattle.tree.proofs.TreeLaws.{size-encode, content-size, depth-parts, depth-positive, depth-first, depth-rest, depth-one, encodes_one}
-use Rattle.tree.proofs.FixedLaws.{fixed_same}
+use Rattle.tree.proofs.TreeLaws.{size-encode, content-size, depth-parts, depth-positive, depth-first, depth-rest, depth-one, encodes-one}
+use Rattle.tree.proofs.FixedLaws.{fixed-same}
 use Rattle.tree.proofs.ReadLaws.{children-step}
 
 -- ---- the tag, the length and the content of a field that stands in bytes
@@ -60,9 +60,9 @@ extent-here s at end h =
     let b : length_at s at ≤ end - (at + 3) = omega arith in
     rw (le-leb 3 (end - at) a, le-leb (length_at s at) (end - (at + 3)) b)
 
-head_done : (s : List ℕ) (at end d : ℕ) (q : Rule) → at ≡ end → done_at q ≡ true → head_at s at end d q ≡ Done
+head-done : (s : List ℕ) (at end d : ℕ) (q : Rule) → at ≡ end → done_at q ≡ true → head_at s at end d q ≡ Done
 unfolding head_at
-head_done s at end d q e h = rw (eq-eqb at end e, h)
+head-done s at end d q e h = rw (eq-eqb at end e, h)
 
 head-child : (s : List ℕ) (at end d : ℕ) (q q' : Rule) (stop : ℕ) → (at ≡ end → ⊥) → step_at q (get_or s at 0) ≡ Go q' →
     extent_at s at end ≡ Upto stop → d < 64 →
@@ -72,11 +72,11 @@ head-child s at end d q q' stop n e x h = rw (ne_eqb at end n, e, x, lt-ltb d 64
 
 -- ---- a row and a field, where their parts are read back
 
-row_done : (s : List ℕ) (at end d : ℕ) (q : Rule) (p : ℕ) → at ≡ end → done_at q ≡ true →
+row-done : (s : List ℕ) (at end d : ℕ) (q : Rule) (p : ℕ) → at ≡ end → done_at q ≡ true →
     children_at s at end d q p ≡ fine none
 unfolding on_head
-row_done s at end d q p e h =
-    children-step s at end d q p (omega arith) ∙ ap (λ (x : Head). on_head x children_at s at end d p) (head_done s at end d q e h)
+row-done s at end d q p e h =
+    children-step s at end d q p (omega arith) ∙ ap (λ (x : Head). on_head x children_at s at end d p) (head-done s at end d q e h)
 
 row-child : (s : List ℕ) (at end d : ℕ) (q q' : Rule) (p stop : ℕ) (f : Field) (fs : Fields) → at ≤ end →
     head_at s at end d q ≡ Child q' stop →
@@ -105,10 +105,10 @@ fixed-here s at stop t x cs k h ex w e =
     let z : length x ≡ 0 + length x = omega arith in
     let long : stop - at ≡ length (x ++ encodes cs) = sym (length-slice at stop s k) ∙ ap length e in
     let two = length-append x (encodes cs) in
-    fixed_same t x s 0 at (length x) (length x) stop (omega arith)
+    fixed-same t x s 0 at (length x) (length x) stop (omega arith)
     (λ j l. let y : 0 + j ≡ j = omega arith in
     ap (λ (n : ℕ). get_or x n 0) y ∙ sym (ap (λ (u : List ℕ). get_or u j 0) m.1) ∙ get_d-slice at (at + length x) s j (omega arith)) m.0
-    (λ o. let none_left = ap (λ (u : Fields). length (encodes u)) (formed-none cs (rw (open-rule t o) at w)) in omega arith) (ex ∙ ap Upto z)
+    (λ o. let none-left = ap (λ (u : Fields). length (encodes u)) (formed-none cs (rw (open-rule t o) at w)) in omega arith) (ex ∙ ap Upto z)
 
 field-here : (s : List ℕ) (at stop d t : ℕ) (x : List ℕ) (cs : Fields) → at ≤ stop → stop ≤ length s →
     Formed (field t x cs) → slice at stop s ≡ encode (field t x cs) →
@@ -123,13 +123,13 @@ field-here s at stop d t x cs h k w e ih =
     field-parts s at stop d (at + 3 + length x) t x cs f.tag (fixed-here s (at + 3) stop t x cs k le w.1 w.2 f.inner) m.1
     (ih (at + 3 + length x) m.0 m.2)
 
-row_here : (s : List ℕ) (at end d : ℕ) (q : Rule) (p : ℕ) (f : Field) (fs : Fields) → at ≤ end → end ≤ length s →
+row-here : (s : List ℕ) (at end d : ℕ) (q : Rule) (p : ℕ) (f : Field) (fs : Fields) → at ≤ end → end ≤ length s →
     FormedAll (more f fs) q → d < 64 → slice at end s ≡ encodes (more f fs) →
     ((stop : ℕ) → at ≤ stop → stop ≤ end → slice at stop s ≡ encode f → content_at s at stop (d + 1) ≡ fine f) →
     ((stop : ℕ) (q' : Rule) → stop ≤ end → FormedAll fs q' → slice stop end s ≡ encodes fs → children_at s stop end d q' p ≡ fine fs) →
     children_at s at end d q p ≡ fine (more f fs)
 unfolding encode
-row_here s at end d q p (field t x cs) fs h k w dd e ihf ihr =
+row-here s at end d q p (field t x cs) fs h k w dd e ihf ihr =
     let f = field t x cs in
     let m = slice-split at end s (encode f) (encodes fs) h k e in
     let stop = at + length (encode f) in
@@ -138,15 +138,15 @@ row_here s at end d q p (field t x cs) fs h k w dd e ihf ihr =
     let ends = g.ends in
     let long = g.long in
     let inside = m.0 in
-    let where_to : at + 3 + length_at s at ≡ stop = omega arith in
+    let where-to : at + 3 + length_at s at ≡ stop = omega arith in
     let ne : at ≡ end → ⊥ = λ z. omega arith in
     row-child s at end d q w.0 p stop f fs h
-    (head-child s at end d q w.0 stop ne (ap (step_at q) g.tag ∙ w.1) (extent-here s at end (omega arith) ∙ ap Upto where_to) dd)
+    (head-child s at end d q w.0 stop ne (ap (step_at q) g.tag ∙ w.1) (extent-here s at end (omega arith) ∙ ap Upto where-to) dd)
     (ihf stop le m.0 m.1) (ihr stop w.0 m.0 w.3 m.2)
 
-none_here : (s : List ℕ) (at end : ℕ) → at ≤ end → end ≤ length s → slice at end s ≡ encodes none → at ≡ end
+none-here : (s : List ℕ) (at end : ℕ) → at ≤ end → end ≤ length s → slice at end s ≡ encodes none → at ≡ end
 unfolding encode
-none_here s at end h k e = let n : end - at ≡ 0 = sym (length-slice at end s k) ∙ ap length e in omega arith
+none-here s at end h k e = let n : end - at ≡ 0 = sym (length-slice at end s k) ∙ ap length e in omega arith
 
 mutual
   pub field-complete : (f : Field) (s : List ℕ) (at stop d : ℕ) → at ≤ stop → stop ≤ length s → Formed f →
@@ -158,9 +158,9 @@ mutual
   pub row-complete : (fs : Fields) (s : List ℕ) (at end d : ℕ) (q : Rule) (p : ℕ) → at ≤ end → end ≤ length s →
       FormedAll fs q → d + depths fs ≤ 64 → slice at end s ≡ encodes fs →
       children_at s at end d q p ≡ fine fs
-  row-complete none s at end d q p h k w dd e = row_done s at end d q p (none_here s at end h k e) w
+  row-complete none s at end d q p h k w dd e = row-done s at end d q p (none-here s at end h k e) w
   row-complete (more f fs) s at end d q p h k w dd e =
-      row_here s at end d q p f fs h k w (let z = depth-first f fs in let y = depth-positive f in omega arith) e
+      row-here s at end d q p f fs h k w (let z = depth-first f fs in let y = depth-positive f in omega arith) e
       (λ stop a b u. field-complete f s at stop (d + 1) a (omega arith) w.2 (let z = depth-first f fs in omega arith) u)
       (λ stop q' a v u. row-complete fs s stop end d q' p a k v (let z = depth-rest f fs in omega arith) u)
 
@@ -177,4 +177,4 @@ read-complete root f w =
     let none-zero : length s ≡ 0 → ⊥ = encode-some f in
     rw (ne_eqb (length s) 0 none-zero)
     (row-complete (more f none) s 0 (length s) 0 (top root) 0 (omega arith) (omega arith)
-    (parts0, one-step root Nothing Nothing Nothing (tag_of f) w.0, w.1, refl) (omega arith) (take-length s ∙ sym (encodes_one f)))
+    (parts0, one-step root Nothing Nothing Nothing (tag_of f) w.0, w.1, refl) (omega arith) (take-length s ∙ sym (encodes-one f)))

@@ -50,15 +50,15 @@ skip-same n at at' w stop stop' h e =
     let eq : at' + n ≡ at' + w = omega arith in
     rw (le-leb n (stop' - at') le) (ap Upto eq)
 
-value_same : (v : Value) (at at' w stop stop' : ℕ) → at' + w ≤ stop' → value_at v at stop ≡ Upto (at + w) →
+value-same : (v : Value) (at at' w stop stop' : ℕ) → at' + w ≤ stop' → value_at v at stop ≡ Upto (at + w) →
     value_at v at' stop' ≡ Upto (at' + w)
 unfolding value_at literal_end
-value_same Empty at at' w stop stop' h e = skip-same 0 at at' w stop stop' h e
-value_same Byte at at' w stop stop' h e = skip-same 1 at at' w stop stop' h e
-value_same Atom at at' w stop stop' h e = skip-same 2 at at' w stop stop' h e
-value_same Id at at' w stop stop' h e = skip-same 6 at at' w stop stop' h e
-value_same Literal at at' w stop stop' h e = skip-same 6 at at' w stop stop' h e
-value_same Number at at' w stop stop' h e = skip-same 8 at at' w stop stop' h e
+value-same Empty at at' w stop stop' h e = skip-same 0 at at' w stop stop' h e
+value-same Byte at at' w stop stop' h e = skip-same 1 at at' w stop stop' h e
+value-same Atom at at' w stop stop' h e = skip-same 2 at at' w stop stop' h e
+value-same Id at at' w stop stop' h e = skip-same 6 at at' w stop stop' h e
+value-same Literal at at' w stop stop' h e = skip-same 6 at at' w stop stop' h e
+value-same Number at at' w stop stop' h e = skip-same 8 at at' w stop stop' h e
 
 choice-same : (c : Choice) (at at' w stop stop' : ℕ) → at + 1 ≤ stop → at' + w ≤ stop' →
     on_choice c (at + 1) stop ≡ Upto (at + w) →
@@ -69,10 +69,10 @@ choice-same (Take v) at at' w stop stop' l h e =
     let i : ReachIn (at + 1) stop (Upto (at + w)) = subst (ReachIn (at + 1) stop) e (value_in v (at + 1) stop l) in
     let a : at + w ≡ at + 1 + (w - 1) = omega arith in
     let b : at' + 1 + (w - 1) ≡ at' + w = omega arith in
-    (omega arith, value_same v (at + 1) (at' + 1) (w - 1) stop stop' (omega arith) (e ∙ ap Upto a) ∙ ap Upto b)
+    (omega arith, value-same v (at + 1) (at' + 1) (w - 1) stop stop' (omega arith) (e ∙ ap Upto a) ∙ ap Upto b)
 
-first_byte : (s s' : List ℕ) (at at' w : ℕ) → Same s at s' at' w → 0 < w → get_or s at 0 ≡ get_or s' at' 0
-first_byte s s' at at' w g h =
+first-byte : (s s' : List ℕ) (at at' w : ℕ) → Same s at s' at' w → 0 < w → get_or s at 0 ≡ get_or s' at' 0
+first-byte s s' at at' w g h =
     let a : at ≡ at + 0 = omega arith in
     let b : at' + 0 ≡ at' = omega arith in
     ap (λ (n : ℕ). get_or s n 0) a ∙ g 0 h ∙ ap (λ (n : ℕ). get_or s' n 0) b
@@ -87,7 +87,7 @@ kind-same p s s' at at' w stop stop' g h e =
     let lt = ltb-true at stop q.0 in
     let r = choice-same c at at' w stop stop' (omega arith) h q.1 in
     let lt' : at' < stop' = omega arith in
-    rw (lt-ltb at' stop' lt') (ap (λ (b : ℕ). on_choice (choice_of p b) (at' + 1) stop') (sym (first_byte s s' at at' w g r.0)) ∙ r.1)
+    rw (lt-ltb at' stop' lt') (ap (λ (b : ℕ). on_choice (choice_of p b) (at' + 1) stop') (sym (first-byte s s' at at' w g r.0)) ∙ r.1)
 
 -- what a key and its value tell
 record KeyIs (s : List ℕ) (at stop : ℕ) : Type 0 where
@@ -122,7 +122,7 @@ key-same s s' at at' w stop stop' g h e =
     let k = q.1 in
     let n = q.0 in
     let r = k.room in
-    let b₀ = first_byte s s' at at' w g (omega arith) in
+    let b₀ = first-byte s s' at at' w g (omega arith) in
     let b₁ = g 1 (omega arith) in
     let b₂ = g 2 (omega arith) in
     let f = k.first in
@@ -143,7 +143,7 @@ pub piece-same : (p : Piece) (s s' : List ℕ) (at at' w stop stop' : ℕ) → S
     (open_piece p ≡ true → at' + w ≡ stop') →
     piece_at s p at stop ≡ Upto (at + w) → piece_at s' p at' stop' ≡ Upto (at' + w)
 unfolding piece_at
-piece-same (Plain v) s s' at at' w stop stop' g h o e = value_same v at at' w stop stop' h e
+piece-same (Plain v) s s' at at' w stop stop' g h o e = value-same v at at' w stop stop' h e
 piece-same KeyValue s s' at at' w stop stop' g h o e = key-same s s' at at' w stop stop' g (o refl) e
 piece-same Source s s' at at' w stop stop' g h o e = kind-same Source s s' at at' w stop stop' g h e
 piece-same Original s s' at at' w stop stop' g h o e = kind-same Original s s' at at' w stop stop' g h e
@@ -165,31 +165,31 @@ open-ends Spread s at stop b e o = false-true o
 abbrev pub opens : Pieces → Bool
 opens ps = open_piece ps.first || open_piece ps.second
 
-pub or_left : (a b : Bool) → a ≡ true → a || b ≡ true
-or_left true b e = refl
-or_left false b e = false-true e
+pub or-left : (a b : Bool) → a ≡ true → a || b ≡ true
+or-left true b e = refl
+or-left false b e = false-true e
 
-pub or_right : (a b : Bool) → b ≡ true → a || b ≡ true
-or_right true b e = refl
-or_right false b e = e
+pub or-right : (a b : Bool) → b ≡ true → a || b ≡ true
+or-right true b e = refl
+or-right false b e = e
 
-then_same : (r : Reach) (p q : Piece) (s s' : List ℕ) (at at' w stop stop' : ℕ) → at ≤ stop → Same s at s' at' w →
+then-same : (r : Reach) (p q : Piece) (s s' : List ℕ) (at at' w stop stop' : ℕ) → at ≤ stop → Same s at s' at' w →
     at' + w ≤ stop' →
     (open_piece p || open_piece q ≡ true → at' + w ≡ stop') → piece_at s p at stop ≡ r →
     then_piece r s q stop ≡ Upto (at + w) →
     then_piece (piece_at s' p at' stop') s' q stop' ≡ Upto (at' + w)
 unfolding then_piece
-then_same Short p q s s' at at' w stop stop' le g h o x e = absurd (no-upto e)
-then_same (Upto b) p q s s' at at' w stop stop' le g h o x e =
+then-same Short p q s s' at at' w stop stop' le g h o x e = absurd (no-upto e)
+then-same (Upto b) p q s s' at at' w stop stop' le g h o x e =
     let i : ReachIn at stop (Upto b) = subst (ReachIn at stop) x (piece-in s p at stop le) in
     let j : ReachIn b stop (Upto (at + w)) = subst (ReachIn b stop) e (piece-in s q b stop i.1) in
     let e₁ : b ≡ at + (b - at) = omega arith in
     let e₂ : at + w ≡ b + (w - (b - at)) = omega arith in
     let e₃ : at' + (b - at) + (w - (b - at)) ≡ at' + w = omega arith in
     let ends₁ : open_piece p ≡ true → at' + (b - at) ≡ stop' =
-    λ m. let y = open-ends p s at stop b x m in let z = o (or_left (open_piece p) (open_piece q) m) in omega arith
+    λ m. let y = open-ends p s at stop b x m in let z = o (or-left (open_piece p) (open_piece q) m) in omega arith
     in
-    let ends₂ : open_piece q ≡ true → at' + (b - at) + (w - (b - at)) ≡ stop' = λ m. e₃ ∙ o (or_right (open_piece p) (open_piece q) m) in
+    let ends₂ : open_piece q ≡ true → at' + (b - at) + (w - (b - at)) ≡ stop' = λ m. e₃ ∙ o (or-right (open_piece p) (open_piece q) m) in
     let first = piece-same p s s' at at' (b - at) stop stop' (λ k l. g k (omega arith)) (omega arith) ends₁ (x ∙ ap Upto e₁) in
     let rest =
     piece-same q s s' b (at' + (b - at)) (w - (b - at)) stop stop'
@@ -198,9 +198,9 @@ then_same (Upto b) p q s s' at at' w stop stop' le g h o x e =
     in
     rw first (rest ∙ ap Upto e₃)
 
-pub fixed_same : (t : ℕ) (s s' : List ℕ) (at at' w stop stop' : ℕ) → at ≤ stop → Same s at s' at' w → at' + w ≤ stop' →
+pub fixed-same : (t : ℕ) (s s' : List ℕ) (at at' w stop stop' : ℕ) → at ≤ stop → Same s at s' at' w → at' + w ≤ stop' →
     (opens (pieces_of t) ≡ true → at' + w ≡ stop') →
     fixed_at s t at stop ≡ Upto (at + w) → fixed_at s' t at' stop' ≡ Upto (at' + w)
 unfolding fixed_at
-fixed_same t s s' at at' w stop stop' le g h o e =
-    then_same (piece_at s (pieces_of t).first at stop) (pieces_of t).first (pieces_of t).second s s' at at' w stop stop' le g h o refl e
+fixed-same t s s' at at' w stop stop' le g h o e =
+    then-same (piece_at s (pieces_of t).first at stop) (pieces_of t).first (pieces_of t).second s s' at at' w stop stop' le g h o refl e

@@ -55,14 +55,14 @@ pub go-inj : {a b : Rule} → Go a ≡ Go b → a ≡ b
 go-inj e = cc
 
 -- a rule without parts takes no tag
-pub no_step : (t : ℕ) {q : Rule} → step_at parts0 t ≡ Go q → ⊥
+pub no-step : (t : ℕ) {q : Rule} → step_at parts0 t ≡ Go q → ⊥
 unfolding step_at step_by slot_at
-no_step t {q} e = let z : ◌≡◌ {A = ℕ} 0 1 = cc in omega arith
+no-step t {q} e = let z : ◌≡◌ {A = ℕ} 0 1 = cc in omega arith
 
 -- where no part is left, there is none
 pub formed-none : (cs : Fields) → FormedAll cs parts0 → cs ≡ none
 formed-none none w = refl
-formed-none (more f fs) w = absurd (no_step (tag_of f) w.1)
+formed-none (more f fs) w = absurd (no-step (tag_of f) w.1)
 
 module _ (x : Set) (a b c : Slot) (t : ℕ) where
   one-by : (y : Bool) → holds_at x t ≡ y → step_at (parts4 (One x) a b c) t ≡ cond y (Go (parts3 a b c)) No
@@ -76,11 +76,11 @@ module _ (x : Set) (a b c : Slot) (t : ℕ) where
   maybe-by true e = rw e
   maybe-by false e = rw e
 
-  many_by : (y : Bool) → holds_at x t ≡ y →
+  many-by : (y : Bool) → holds_at x t ≡ y →
       step_at (parts4 (Many x) a b c) t ≡ cond y (Go (parts4 (Many x) a b c)) (step_at (parts3 a b c) t)
   unfolding step_at step_by slot_at
-  many_by true e = rw e
-  many_by false e = rw e
+  many-by true e = rw e
+  many-by false e = rw e
 
 -- what a slot in front that may stay empty says to a tag
 pub maybe-slot : (x : Set) (a b c : Slot) (t : ℕ) →
@@ -89,7 +89,7 @@ maybe-slot x a b c t = maybe-by x a b c t (holds_at x t) refl
 
 pub many-slot : (x : Set) (a b c : Slot) (t : ℕ) →
     step_at (parts4 (Many x) a b c) t ≡ cond (holds_at x t) (Go (parts4 (Many x) a b c)) (step_at (parts3 a b c) t)
-many-slot x a b c t = many_by x a b c t (holds_at x t) refl
+many-slot x a b c t = many-by x a b c t (holds_at x t) refl
 
 -- the set of modules has one tag
 pub module-tag : (t : ℕ) → holds_at Module t ≡ true → t ≡ 0x01

@@ -9,7 +9,7 @@ use lib.ListN.{length, get_or}
 use lib.Seq.{slice, slice_empty, slice-cons}
 use borrow.Author.Tests.{eq-eqb, ne_eqb, eqb-true, eqb-false}
 use Rattle.tree.specs.Layout.{Bytes, same, two, four, two_at, four_at, atom_at, context_at}
-use Rattle.tree.proofs.Table.{both_true}
+use Rattle.tree.proofs.Table.{both-true}
 use Rattle.tree.proofs.SliceLaws.{slice-join}
 
 step : (s t : List ℕ) (a b e f : ℕ) → a < e → e ≤ length s → b < f → f ≤ length t →
@@ -22,10 +22,10 @@ step s t a b e f ha hs hb ht =
     (slice-cons b f t 0 hb ht ∙ ap (λ (n : ℕ). get_or t b 0 ∷ slice n f t) eb)
 
 -- two runs from a and b, of which i bytes are passed, agree in the next
-pub same_more : (s t : List ℕ) (a b i e f : ℕ) → a + i < e → e ≤ length s → b + i < f → f ≤ length t →
+pub same-more : (s t : List ℕ) (a b i e f : ℕ) → a + i < e → e ≤ length s → b + i < f → f ≤ length t →
     get_or s (a + i) 0 ≡ get_or t (b + i) 0 →
     same (slice (a + i) e s) (slice (b + i) f t) ≡ same (slice (a + (i + 1)) e s) (slice (b + (i + 1)) f t)
-same_more s t a b i e f ha hs hb ht h =
+same-more s t a b i e f ha hs hb ht h =
     let ea : a + i + 1 ≡ a + (i + 1) = omega arith in
     let eb : b + i + 1 ≡ b + (i + 1) = omega arith in
     step s t (a + i) (b + i) e f ha hs hb ht ∙ ap (λ (x : Bool). x && same (slice (a + i + 1) e s) (slice (b + i + 1) f t)) (eq-eqb _ _ h)
@@ -37,22 +37,22 @@ pub same-other : (s t : List ℕ) (a b i e f : ℕ) → a + i < e → e ≤ leng
 same-other s t a b i e f ha hs hb ht h =
     step s t (a + i) (b + i) e f ha hs hb ht ∙ ap (λ (x : Bool). x && same (slice (a + i + 1) e s) (slice (b + i + 1) f t)) (ne_eqb _ _ h)
 
-pub same_end : (s t : List ℕ) (a b e f : ℕ) → a ≡ e → b ≡ f → same (slice a e s) (slice b f t) ≡ true
+pub same-end : (s t : List ℕ) (a b e f : ℕ) → a ≡ e → b ≡ f → same (slice a e s) (slice b f t) ≡ true
 unfolding same
-same_end s t a b e f ha hb = ap₂ same (ap (λ (n : ℕ). slice n e s) ha ∙ slice_empty e s) (ap (λ (n : ℕ). slice n f t) hb ∙ slice_empty f t)
+same-end s t a b e f ha hb = ap₂ same (ap (λ (n : ℕ). slice n e s) ha ∙ slice_empty e s) (ap (λ (n : ℕ). slice n f t) hb ∙ slice_empty f t)
 
 -- runs that are the same are equal, and equal runs are the same
-pub same_refl : (l : List ℕ) → same l l ≡ true
+pub same-refl : (l : List ℕ) → same l l ≡ true
 unfolding same
-same_refl [] = refl
-same_refl (x ∷ l) = rw (eq-eqb x x refl) (same_refl l)
+same-refl [] = refl
+same-refl (x ∷ l) = rw (eq-eqb x x refl) (same-refl l)
 
 pub same-equal : (l m : List ℕ) → same l m ≡ true → l ≡ m
 unfolding same
 same-equal [] [] e = refl
 same-equal [] (y ∷ m) e = absurd (let z : ◌≡◌ {A = ℕ} 0 1 = cc in omega arith)
 same-equal (x ∷ l) [] e = absurd (let z : ◌≡◌ {A = ℕ} 0 1 = cc in omega arith)
-same-equal (x ∷ l) (y ∷ m) e = let h = both_true (eqb x y) (same l m) e in ap₂ ◌∷◌ (eqb-true x y h.0) (same-equal l m h.1)
+same-equal (x ∷ l) (y ∷ m) e = let h = both-true (eqb x y) (same l m) e in ap₂ ◌∷◌ (eqb-true x y h.0) (same-equal l m h.1)
 
 -- ---- numbers and the bytes that hold them
 
@@ -97,16 +97,16 @@ module _ (code : ℕ → List ℕ) (m n : ℕ) (one : code m ≡ code n → m �
   agree false false s e = refl
   agree true false s e = absurd (eqb-false m n e (one (same-equal (code m) (code n) s)))
   agree false true s e =
-      let h : true ≡ false = sym (same_refl (code m)) ∙ ap (λ (k : ℕ). same (code m) (code k)) (eqb-true m n e) ∙ s in
+      let h : true ≡ false = sym (same-refl (code m)) ∙ ap (λ (k : ℕ). same (code m) (code k)) (eqb-true m n e) ∙ s in
       absurd (let z : ◌≡◌ {A = ℕ} 0 1 = cc in omega arith)
 
-  pub same_code : same (code m) (code n) ≡ eqb m n
-  same_code = agree (same (code m) (code n)) (eqb m n) refl refl
+  pub same-code : same (code m) (code n) ≡ eqb m n
+  same-code = agree (same (code m) (code n)) (eqb m n) refl refl
 
 -- atoms, and contexts
 pub same-two : (m n : ℕ) → m < 65536 → n < 65536 → same (two m) (two n) ≡ eqb m n
 same-two m n a b =
-    same_code two m n (λ e. let hi : m / 256 % 256 ≡ n / 256 % 256 = cc in let lo : m % 256 ≡ n % 256 = cc in omega arith)
+    same-code two m n (λ e. let hi : m / 256 % 256 ≡ n / 256 % 256 = cc in let lo : m % 256 ≡ n % 256 = cc in omega arith)
 
 four-whole : (n : ℕ) → n < 4294967296 → n ≡ n / 16777216 % 256 * 16777216 + n / 65536 % 256 * 65536 + n / 256 % 256 * 256 + n % 256
 four-whole n h =
@@ -117,7 +117,7 @@ four-whole n h =
 
 pub same-four : (m n : ℕ) → m < 4294967296 → n < 4294967296 → same (four m) (four n) ≡ eqb m n
 same-four m n a b =
-    same_code four m n
+    same-code four m n
     (λ e. four-whole m a
     ∙ ap₂ (λ (x y : ℕ). x * 16777216 + y * 65536 + m / 256 % 256 * 256 + m % 256) (cc) (cc)
     ∙ ap₂ (λ (x y : ℕ). n / 16777216 % 256 * 16777216 + n / 65536 % 256 * 65536 + x * 256 + y) (cc) (cc) ∙ sym (four-whole n b))

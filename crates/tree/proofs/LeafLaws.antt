@@ -31,11 +31,11 @@ module _ (s : List ℕ) (at stop d n : ℕ) {b : ℕ} (fixed : fixed_at s (get_o
   pub parts-read : verdict (content_at s at stop d) ≡ verdict (children_at s b stop d (unpack_rule n) at)
   parts-read = content-upto s at stop d b fixed ∙ ap (λ (q : Rule). verdict (children_at s b stop d q at)) (sym rule)
 
-  none_read : n ≡ 0 → verdict (content_at s at stop d) ≡ verdict (children_at s b stop d parts0 at)
-  none_read z = parts-read ∙ ap (λ (q : Rule). verdict (children_at s b stop d q at)) (ap unpack_rule z ∙ rule-none)
+  none-read : n ≡ 0 → verdict (content_at s at stop d) ≡ verdict (children_at s b stop d parts0 at)
+  none-read z = parts-read ∙ ap (λ (q : Rule). verdict (children_at s b stop d q at)) (ap unpack_rule z ∙ rule-none)
 
   pub leaf-good : n ≡ 0 → b ≡ stop → verdict (content_at s at stop d) ≡ Good
-  leaf-good z e = none_read z ∙ none-good s b stop d at e
+  leaf-good z e = none-read z ∙ none-good s b stop d at e
 
   pub leaf-bad : n ≡ 0 → b ≤ stop → (b ≡ stop → ⊥) → verdict (content_at s at stop d) ≡ Refused Misplaced b
-  leaf-bad z l e = none_read z ∙ none-bad s b stop d at l e
+  leaf-bad z l e = none-read z ∙ none-bad s b stop d at l e

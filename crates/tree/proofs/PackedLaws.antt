@@ -43,9 +43,9 @@ all-sets : all_below sets_agree 256 ≡ true
 unfolding sets_agree bit_agrees agree sets_at entry_at holds_at unpack_set within
 all-sets = refl
 
-pub set_is : (t i : ℕ) → t < 256 → i < 32 → holds_at (unpack_set i) t ≡ eqb (sets_at t / 2 ^ i % 2) 1
+pub set-is : (t i : ℕ) → t < 256 → i < 32 → holds_at (unpack_set i) t ≡ eqb (sets_at t / 2 ^ i % 2) 1
 unfolding sets_agree bit_agrees
-set_is t i h l =
+set-is t i h l =
     agree-true (eqb (sets_at t / 2 ^ i % 2) 1) (holds_at (unpack_set i) t) (below (bit_agrees t (sets_at t)) 32 (below sets_agree 256 all-sets t h) i l)
 
 -- rules are no numbers: the 256 tags are gone through sixteen at a time, each by computing
@@ -104,9 +104,9 @@ rest-by n h =
     (sym (ap unpack_slot z ∙ slot-none))
 
 -- 32 and a set's number is the rule of one field of that set
-pub root_is : (x : Set) (n : ℕ) → 32 ≤ n → n < 64 → x ≡ find (n - 32) set_numbers Module → unpack_rule n ≡ top x
+pub root-is : (x : Set) (n : ℕ) → 32 ≤ n → n < 64 → x ≡ find (n - 32) set_numbers Module → unpack_rule n ≡ top x
 unfolding unpack_rule unpack_slot unpack_set
-root_is x n l h e =
+root-is x n l h e =
     let a : n % 256 ≡ n = omega arith in
     let b : n % 32 ≡ n - 32 = omega arith in
     let z : n / 256 ≡ 0 = omega arith in
@@ -120,9 +120,9 @@ pub rule-none : unpack_rule 0 ≡ parts0
 unfolding unpack_rule unpack_slot
 rule-none = refl
 
-pub step_end : (t : ℕ) → step_at (unpack_rule 0) t ≡ Refused
+pub step-end : (t : ℕ) → step_at (unpack_rule 0) t ≡ Refused
 unfolding step_at step_by slot_at unpack_rule unpack_slot
-step_end t = refl
+step-end t = refl
 
 -- what the slot of a byte says, by the tests that the code makes
 fit-nothing : (n t : ℕ) → n ≡ 0 → slot_at (unpack_slot n) t ≡ Over
@@ -160,7 +160,7 @@ module _ (t n sets : ℕ) (byte : t < 256) (small : n < 2 ^ 32) (these : sets �
 
   holds-by-bit : holds_at (unpack_set (n % 256 % 32)) t ≡ eqb (sets / 2 ^ (n % 256 % 32) % 2) 1
   holds-by-bit =
-      set_is t (n % 256 % 32) byte (omega arith) ∙ ap (λ (m : ℕ). eqb (m / 2 ^ (n % 256 % 32) % 2) 1) (sym these)
+      set-is t (n % 256 % 32) byte (omega arith) ∙ ap (λ (m : ℕ). eqb (m / 2 ^ (n % 256 % 32) % 2) 1) (sym these)
 
   holds-true : sets / 2 ^ (n % 256 % 32) % 2 ≡ 1 → holds_at (unpack_set (n % 256 % 32)) t ≡ true
   holds-true b = holds-by-bit ∙ eq-eqb (sets / 2 ^ (n % 256 % 32) % 2) 1 b
@@ -189,18 +189,18 @@ and-true : (b : Bool) → b && true ≡ b
 and-true true = refl
 and-true false = refl
 
-done_next : (q : Rule) → done_at q ≡ full_at q.first && done_at (rest_of q)
-done_next q =
+done-next : (q : Rule) → done_at q ≡ full_at q.first && done_at (rest_of q)
+done-next q =
     ap (λ (b : Bool). full_at q.first && (full_at q.second && (full_at q.third && b))) (sym (and-true (full_at q.fourth)))
 
-pub done_end : done_at (unpack_rule 0) ≡ true
+pub done-end : done_at (unpack_rule 0) ≡ true
 unfolding unpack_rule unpack_slot
-done_end = refl
+done-end = refl
 
 done-by : (n : ℕ) (b : Bool) → n < 2 ^ 32 → full_at (unpack_slot (n % 256)) ≡ b → done_at (unpack_rule n) ≡ b && done_at (unpack_rule (n / 256))
 unfolding unpack_rule
 done-by n b h e =
-    done_next (unpack_rule n) ∙ ap (λ (x : Bool). x && done_at (rest_of (unpack_rule n))) e ∙ ap (λ (q : Rule). b && done_at q) (rest-by n h)
+    done-next (unpack_rule n) ∙ ap (λ (x : Bool). x && done_at (rest_of (unpack_rule n))) e ∙ ap (λ (q : Rule). b && done_at q) (rest-by n h)
 
 pub done-nothing : (n : ℕ) → n < 2 ^ 32 → n % 256 ≡ 0 → done_at (unpack_rule n) ≡ done_at (unpack_rule (n / 256))
 unfolding unpack_slot

@@ -46,8 +46,8 @@ back Outside = refl
 back Spread = refl
 back KeyValue = refl
 
-same_number : (p q : Piece) → piece_number p ≡ piece_number q → p ≡ q
-same_number p q e = sym (back p) ∙ ap piece_by e ∙ back q
+same-number : (p q : Piece) → piece_number p ≡ piece_number q → p ≡ q
+same-number p q e = sym (back p) ∙ ap piece_by e ∙ back q
 
 -- of the first pieces, and of the second
 module _ (runs : List Run) (part : Pieces → Piece) where
@@ -58,18 +58,18 @@ module _ (runs : List Run) (part : Pieces → Piece) where
       Answers runs n (piece_number p) → p ≡ part (pieces_of t)
   part-is up all t n p h e w =
       let m = answer-is runs n (piece_number p) up w ∙ ap (lookup runs) e in
-      same_number p (part (pieces_of t)) (m ∙ eqb-true _ _ (below agrees 256 all t h))
+      same-number p (part (pieces_of t)) (m ∙ eqb-true _ _ (below agrees 256 all t h))
 
-all_first : all_below (agrees first_pieces (λ (ps : Pieces). ps.first)) 256 ≡ true
+all-first : all_below (agrees first_pieces (λ (ps : Pieces). ps.first)) 256 ≡ true
 unfolding pieces_of
-all_first = refl
+all-first = refl
 
 all-second : all_below (agrees second_pieces (λ (ps : Pieces). ps.second)) 256 ≡ true
 unfolding pieces_of
 all-second = refl
 
-pub pieces_are : (t n : ℕ) (p q : Piece) → t < 256 → n ≡ packed_pieces_at t → Answers first_pieces n (piece_number p) →
+pub pieces-are : (t n : ℕ) (p q : Piece) → t < 256 → n ≡ packed_pieces_at t → Answers first_pieces n (piece_number p) →
     Answers second_pieces n (piece_number q) → pieces p q ≡ pieces_of t
-pieces_are t n p q h e v w =
-    ap (λ (x : Piece). pieces x q) (part-is first_pieces (λ (ps : Pieces). ps.first) refl all_first t n p h e v)
+pieces-are t n p q h e v w =
+    ap (λ (x : Piece). pieces x q) (part-is first_pieces (λ (ps : Pieces). ps.first) refl all-first t n p h e v)
     ∙ ap (λ (y : Piece). pieces (pieces_of t).first y) (part-is second_pieces (λ (ps : Pieces). ps.second) refl all-second t n q h e w)

@@ -25,7 +25,7 @@ use Rattle.tree.specs.Tree.{field, Fields, more}
 use Rattle.tree.specs.Grammar.{rule_of, step_at, done_at}
 use Rattle.tree.specs.Access.{fixed_at, length_at, extent_at}
 use Rattle.tree.specs.Read.{Reading, fine, refused, mapped, both, verdict, Kids, on_extent, on_step, head_at, on_fixed, content_by, on_head, children, children_at, content_at, top, read}
-use Rattle.tree.proofs.AccessLaws.{cond_ind, ReachIn, fixed_in, extent-in}
+use Rattle.tree.proofs.AccessLaws.{cond-ind, ReachIn, fixed-in, extent-in}
 
 -- a child stands inside, and its depth is at most 64
 abbrev pub HeadIn : ℕ → ℕ → ℕ → Head → Type 0
@@ -38,22 +38,22 @@ extent-head : (r : Reach) (q : Rule) (at end d : ℕ) → ReachIn (at + 3) end r
 unfolding on_extent
 extent-head Short q at end d h = tt
 extent-head (Upto stop) q at end d h =
-    cond_ind (HeadIn at end d) (ltb d 64) (Child q stop) (Bad Deep) (λ e. (h.0, h.1, ltb-true d 64 e)) (λ e. tt)
+    cond-ind (HeadIn at end d) (ltb d 64) (Child q stop) (Bad Deep) (λ e. (h.0, h.1, ltb-true d 64 e)) (λ e. tt)
 
 step-head : (x : Step) (s : List ℕ) (at end d : ℕ) → at ≤ end → HeadIn at end d (on_step x s at end d)
 unfolding on_step
 step-head No s at end d h = tt
 step-head (Go q) s at end d h = extent-head (extent_at s at end) q at end d (extent-in s at end h)
 
-pub head_in : (s : List ℕ) (at end d : ℕ) (q : Rule) → at ≤ end → HeadIn at end d (head_at s at end d q)
+pub head-in : (s : List ℕ) (at end d : ℕ) (q : Rule) → at ≤ end → HeadIn at end d (head_at s at end d q)
 unfolding head_at
-head_in s at end d q h =
-    cond_ind (HeadIn at end d) (eqb at end) (cond (done_at q) Done Missing) (on_step (step_at q (get_or s at 0)) s at end d)
-    (λ e. cond_ind (HeadIn at end d) (done_at q) Done Missing (λ _. tt) (λ _. tt)) (λ e. step-head (step_at q (get_or s at 0)) s at end d h)
+head-in s at end d q h =
+    cond-ind (HeadIn at end d) (eqb at end) (cond (done_at q) Done Missing) (on_step (step_at q (get_or s at 0)) s at end d)
+    (λ e. cond-ind (HeadIn at end d) (done_at q) Done Missing (λ _. tt) (λ _. tt)) (λ e. step-head (step_at q (get_or s at 0)) s at end d h)
 
 pub child-in : (s : List ℕ) (at end d : ℕ) (q : Rule) {q' : Rule} {stop : ℕ} → at ≤ end →
     head_at s at end d q ≡ Child q' stop → HeadIn at end d (Child q' stop)
-child-in s at end d q le e = subst (HeadIn at end d) e (head_in s at end d q le)
+child-in s at end d q le e = subst (HeadIn at end d) e (head-in s at end d q le)
 
 -- two readings of children agree on parts that start after `at` and end inside `end`
 abbrev Agree : Kids → Kids → List ℕ → ℕ → ℕ → Type 0
@@ -71,7 +71,7 @@ content-agree : (k k' : Kids) (s : List ℕ) (at stop end d : ℕ) → at + 3 �
     content_by k s at stop d ≡ content_by k' s at stop d
 unfolding content_by
 content-agree k k' s at stop end d h le g =
-    fixed-agree (fixed_at s (get_or s at 0) (at + 3) stop) k k' s at stop end d (fixed_in s (get_or s at 0) (at + 3) stop h) le g
+    fixed-agree (fixed_at s (get_or s at 0) (at + 3) stop) k k' s at stop end d (fixed-in s (get_or s at 0) (at + 3) stop h) le g
 
 head-agree : (h : Head) (k k' : Kids) (s : List ℕ) (at end d p : ℕ) → HeadIn at end d h → Agree k k' s at end →
     on_head h k s at end d p ≡ on_head h k' s at end d p
@@ -88,14 +88,14 @@ unfolding children
 enough zero m s at end d q p le hn hm = absurd (omega arith)
 enough (suc n) zero s at end d q p le hn hm = absurd (omega arith)
 enough (suc n) (suc m) s at end d q p le hn hm =
-    head-agree (head_at s at end d q) (children n) (children m) s at end d p (head_in s at end d q le)
+    head-agree (head_at s at end d q) (children n) (children m) s at end d p (head-in s at end d q le)
     (λ a e d' q' p' l₁ l₂ l₃. enough n m s a e d' q' p' l₂ (omega arith) (omega arith))
 
 pub children-step : (s : List ℕ) (at end d : ℕ) (q : Rule) (p : ℕ) → at ≤ end →
     children_at s at end d q p ≡ on_head (head_at s at end d q) children_at s at end d p
 unfolding children_at children
 children-step s at end d q p le =
-    head-agree (head_at s at end d q) (children (end - at)) children_at s at end d p (head_in s at end d q le)
+    head-agree (head_at s at end d q) (children (end - at)) children_at s at end d p (head-in s at end d q le)
     (λ a e d' q' p' l₁ l₂ l₃. enough (end - at) (suc (e - a)) s a e d' q' p' l₂ (omega arith) (omega arith))
 
 abbrev pub after : Verdict → Verdict → Verdict
@@ -180,8 +180,8 @@ Stops s at (Upto stop) = stop ≡ at + 3 + length_at s at
 extent-says : (s : List ℕ) (at end : ℕ) → Stops s at (extent_at s at end)
 unfolding extent_at skip_at
 extent-says s at end =
-    cond_ind (Stops s at) (leb 3 (end - at)) (skip_at (at + 3) (length_at s at) end) Short
-    (λ e. cond_ind (Stops s at) (leb (length_at s at) (end - (at + 3))) (Upto (at + 3 + length_at s at)) Short (λ _. refl) (λ _. tt)) (λ e. tt)
+    cond-ind (Stops s at) (leb 3 (end - at)) (skip_at (at + 3) (length_at s at) end) Short
+    (λ e. cond-ind (Stops s at) (leb (length_at s at) (end - (at + 3))) (Upto (at + 3 + length_at s at)) Short (λ _. refl) (λ _. tt)) (λ e. tt)
 
 pub extent-length : (s : List ℕ) (at end : ℕ) {stop : ℕ} → extent_at s at end ≡ Upto stop → stop ≡ at + 3 + length_at s at
 extent-length s at end e = subst (Stops s at) e (extent-says s at end)
@@ -190,7 +190,7 @@ on-extent-says : (r : Reach) (s : List ℕ) (at end d : ℕ) (q q' : Rule) → s
     extent_at s at end ≡ r → Says s at end q (on_extent r q' d)
 unfolding on_extent
 on-extent-says Short s at end d q q' e h x = tt
-on-extent-says (Upto stop) s at end d q q' e h x = cond_ind (Says s at end q) (ltb d 64) (Child q' stop) (Bad Deep) (λ _. (e, h, x)) (λ _. tt)
+on-extent-says (Upto stop) s at end d q q' e h x = cond-ind (Says s at end q) (ltb d 64) (Child q' stop) (Bad Deep) (λ _. (e, h, x)) (λ _. tt)
 
 on-step-says : (x : Step) (s : List ℕ) (at end d : ℕ) (q : Rule) → step_at q (get_or s at 0) ≡ x →
     Says s at end q (on_step x s at end d)
@@ -201,8 +201,8 @@ on-step-says (Go q') s at end d q e = on-extent-says (extent_at s at end) s at e
 pub head-says : (s : List ℕ) (at end d : ℕ) (q : Rule) → Says s at end q (head_at s at end d q)
 unfolding head_at
 head-says s at end d q =
-    cond_ind (Says s at end q) (eqb at end) (cond (done_at q) Done Missing) (on_step (step_at q (get_or s at 0)) s at end d)
-    (λ e. cond_ind (Says s at end q) (done_at q) Done Missing (λ f. (eqb-true at end e, f)) (λ _. tt))
+    cond-ind (Says s at end q) (eqb at end) (cond (done_at q) Done Missing) (on_step (step_at q (get_or s at 0)) s at end d)
+    (λ e. cond-ind (Says s at end q) (done_at q) Done Missing (λ f. (eqb-true at end e, f)) (λ _. tt))
     (λ e. on-step-says (step_at q (get_or s at 0)) s at end d q refl)
 
 read_by : (b : Bool) (r : Reading Fields) (fs : Fields) → cond b (refused Cut 0) r ≡ fine fs → r ≡ fine fs

@@ -8,7 +8,7 @@ use native.Mathlib.Omega.{arith}
 use lib.Dec.{leb, eqb}
 use borrow.Author.Tests.{le-leb, lt-leb, leb-true, leb-false, eqb-true}
 use Rattle.tree.specs.Runs.{Run, lookup, cond_type, NoneOf, Absent, InRun, Answers, nibble_in, nibble_at}
-use Rattle.tree.proofs.Table.{both_true}
+use Rattle.tree.proofs.Table.{both-true}
 
 -- the runs rise from k on
 abbrev pub rising : ℕ → List Run → Bool
@@ -24,8 +24,8 @@ record Rises (k : ℕ) (e : Run) (l : List Run) : Type 0 where
 
 rises : (k : ℕ) (e : Run) (l : List Run) → rising k (e ∷ l) ≡ true → Rises k e l
 rises k e l h =
-    let a = both_true (leb k e.0) (leb e.0 e.1 && rising (suc e.1) l) h in
-    let b = both_true (leb e.0 e.1) (rising (suc e.1) l) a.1 in
+    let a = both-true (leb k e.0) (leb e.0 e.1 && rising (suc e.1) l) h in
+    let b = both-true (leb e.0 e.1) (rising (suc e.1) l) a.1 in
     record { from = leb-true k e.0 a.0; upto = leb-true e.0 e.1 b.0; rest = b.1 }
 
 behind-by : (k t : ℕ) (e : Run) (A : Type 0) (b : Bool) → k ≤ e.0 → e.0 ≤ e.1 → (A → suc e.1 ≤ t) →
@@ -58,10 +58,10 @@ found k (e ∷ l) t r h w =
 
 -- ---- A key of none
 
-none_of : (t : ℕ) (X : Type 0) (k n : ℕ) → NoneOf t X k n → X × (k ≤ t → t ≤ k + n → ⊥)
-none_of t X k zero h = (h.0, λ a b. h.1 (omega arith))
-none_of t X k (suc n) h =
-    let i = none_of t (X × (t ≡ k → ⊥)) (suc k) n h in
+none-of : (t : ℕ) (X : Type 0) (k n : ℕ) → NoneOf t X k n → X × (k ≤ t → t ≤ k + n → ⊥)
+none-of t X k zero h = (h.0, λ a b. h.1 (omega arith))
+none-of t X k (suc n) h =
+    let i = none-of t (X × (t ≡ k → ⊥)) (suc k) n h in
     let off = i.0.1 in
     (i.0.0, λ a b. i.1 (omega arith) (omega arith))
 
@@ -75,19 +75,19 @@ missing k [] t X h w = (w, refl)
 missing k (e ∷ l) t X h w =
     let s = rises k e l h in
     let i = missing (suc e.1) l t (NoneOf t X e.0 (e.1 - e.0)) s.rest w in
-    let o = none_of t X e.0 (e.1 - e.0) i.0 in
+    let o = none-of t X e.0 (e.1 - e.0) i.0 in
     let upto = s.upto in
     (o.0, outside e t (lookup l t) (leb e.0 t) (leb t e.1) refl refl (λ a b. o.1 a (omega arith)) ∙ i.1)
 
 -- ---- An answer
 
-answers_by : (l : List Run) (t r : ℕ) (b : Bool) → eqb r 0 ≡ b → rising 0 l ≡ true → cond_type b (Absent t Unit l) (InRun l t r) → r ≡ lookup l t
-answers_by l t r true q h w = eqb-true r 0 q ∙ sym (missing 0 l t Unit h w).1
-answers_by l t r false q h w = sym (found 0 l t r h w)
+answers-by : (l : List Run) (t r : ℕ) (b : Bool) → eqb r 0 ≡ b → rising 0 l ≡ true → cond_type b (Absent t Unit l) (InRun l t r) → r ≡ lookup l t
+answers-by l t r true q h w = eqb-true r 0 q ∙ sym (missing 0 l t Unit h w).1
+answers-by l t r false q h w = sym (found 0 l t r h w)
 
 -- of a table with rising runs, for which `refl` is `rising`
 pub answer-is : (l : List Run) (t r : ℕ) → rising 0 l ≡ true → Answers l t r → r ≡ lookup l t
-answer-is l t r h w = answers_by l t r (eqb r 0) refl h w
+answer-is l t r h w = answers-by l t r (eqb r 0) refl h w
 
 -- so a number of a row's sixteen is the table's
 pub nibble-is : (rows : List Run) (t row n : ℕ) → rising 0 rows ≡ true → Answers rows (t / 16) row → n ≡ nibble_in row t → n ≡ nibble_at rows t

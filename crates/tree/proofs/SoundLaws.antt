@@ -25,17 +25,17 @@ use Rattle.tree.specs.Within.{Exact, Formed, FormedAll, Within}
 use Rattle.tree.proofs.SliceLaws.{slice-join, get_d-slice}
 use Rattle.tree.proofs.GrammarLaws.{formed-none, formed-one}
 use Rattle.tree.proofs.TreeLaws.{size-encode, content-size, depth-parts, depth-none, depth-most, depth-one}
-use Rattle.tree.proofs.FixedLaws.{fixed_same}
-use Rattle.tree.proofs.AccessLaws.{ReachIn, fixed_in, extent-upto}
-use Rattle.tree.proofs.ReadLaws.{HeadIn, head_in, no-refused, fine-inj, mapped-fine, both-fine, Says, head-says, extent-length, read-children}
+use Rattle.tree.proofs.FixedLaws.{fixed-same}
+use Rattle.tree.proofs.AccessLaws.{ReachIn, fixed-in, extent-upto}
+use Rattle.tree.proofs.ReadLaws.{HeadIn, head-in, no-refused, fine-inj, mapped-fine, both-fine, Says, head-says, extent-length, read-children}
 use Rattle.tree.proofs.StandingLaws.{row-standing, whole-standing}
 
 -- a frame whose content is the bytes behind a head of that length
-frame_here : (s : List ℕ) (at stop : ℕ) (c : List ℕ) → Bytes s → at + 3 ≤ stop → stop ≤ length s →
+frame-here : (s : List ℕ) (at stop : ℕ) (c : List ℕ) → Bytes s → at + 3 ≤ stop → stop ≤ length s →
     stop ≡ at + 3 + length_at s at → c ≡ slice (at + 3) stop s →
     framed (get_or s at 0) c ≡ slice at stop s
 unfolding framed length_at
-frame_here s at stop c bs h le e ec =
+frame-here s at stop c bs h le e ec =
     let b₁ = bs (at + 1) in
     let b₂ = bs (at + 2) in
     let e₂ : suc (at + 1) ≡ at + 2 = omega arith in
@@ -58,7 +58,7 @@ found-exact s t at stop b le len i e =
     let n : length x ≡ b - at = length-slice at b s len in
     let e₁ : b ≡ at + length x = omega arith in
     let e₂ : 0 + length x ≡ length x = omega arith in
-    fixed_same t s x at 0 (length x) stop (length x) le
+    fixed-same t s x at 0 (length x) stop (length x) le
     (λ k l. let z : k ≡ 0 + k = omega arith in sym (get_d-slice at b s k (omega arith)) ∙ ap (λ (j : ℕ). get_or x j 0) z)
     (omega arith) (λ _. e₂) (e ∙ ap Upto e₁) ∙ ap Upto e₂
 
@@ -88,7 +88,7 @@ field-sound s at stop d b cs bs h le st i x w =
     let t = get_or s at 0 in
     let c = slice (at + 3) b s in
     let enc : encode (field t c cs) ≡ slice at stop s =
-    frame_here s at stop (c ++ encodes cs) bs h le st (ap (λ (l : List ℕ). c ++ l) w.0 ∙ slice-join (at + 3) b stop s i.0 i.1 le)
+    frame-here s at stop (c ++ encodes cs) bs h le st (ap (λ (l : List ℕ). c ++ l) w.0 ∙ slice-join (at + 3) b stop s i.0 i.1 le)
     in
     let n : size (field t c cs) ≡ stop - at = size-encode (field t c cs) ∙ ap length enc ∙ length-slice at stop s le in
     let m = content-size t c cs in
@@ -132,7 +132,7 @@ head-sound (Child q' stop) k s at end d q p fs bs ih le len i y e =
     let m = both-fine more (content_by k s at stop (d + 1)) (k s stop end d q' p) fs e in
     let f =
     fixed-sound (fixed_at s (get_or s at 0) (at + 3) stop) k s at stop (d + 1) m.0 bs ih i.0 (omega arith) y.1
-    (fixed_in s (get_or s at 0) (at + 3) stop i.0) refl m.2
+    (fixed-in s (get_or s at 0) (at + 3) stop i.0) refl m.2
     in
     subst (SoundRow s at end d q) m.4
     (more-sound s at stop end d q q' m.0 m.1 (omega arith) i.1 len y.0 i.2 f (ih stop end d q' p m.1 i.1 len m.3))
@@ -141,7 +141,7 @@ children-sound : (n : ℕ) (s : List ℕ) → Bytes s → Sound (children n) s
 unfolding children
 children-sound zero s bs at end d q p fs le len e = absurd (no-refused e)
 children-sound (suc n) s bs at end d q p fs le len e =
-    head-sound (head_at s at end d q) (children n) s at end d q p fs bs (children-sound n s bs) le len (head_in s at end d q le)
+    head-sound (head_at s at end d q) (children n) s at end d q p fs bs (children-sound n s bs) le len (head-in s at end d q le)
     (head-says s at end d q) e
 
 children-at-sound : (s : List ℕ) → Bytes s → Sound children_at s
@@ -166,7 +166,7 @@ whole-sound s at end stop bs le len x w =
     let r =
     fixed-sound (fixed_at s (get_or s at 0) (at + 3) stop) children_at s at stop w.0 w.1 bs (children-at-sound s bs) i.0 (omega arith)
     (extent-length s at end x)
-    (fixed_in s (get_or s at 0) (at + 3) stop i.0) refl w.2
+    (fixed-in s (get_or s at 0) (at + 3) stop i.0) refl w.2
     in
     subst (λ (f : Field). (encode f ≡ slice at stop s) × Formed f) (sym (whole-standing s at stop w.0 w.1 i.0 w.2)) (r.0, r.1)
 

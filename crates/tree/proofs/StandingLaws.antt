@@ -21,9 +21,9 @@ use Rattle.tree.specs.Grammar.{parts0, holds_at, rule_of, step_at, done_at}
 use Rattle.tree.specs.Access.{fixed_at, extent_at}
 use Rattle.tree.specs.Read.{fine, Kids, head_at, on_fixed, content_by, on_head, children, children_at, content_at, read, top}
 use Rattle.tree.specs.Standing.{Rows, tree_on, tree_by, row_on, row, row_at, tree_at, Whole, Row}
-use Rattle.tree.proofs.AccessLaws.{ReachIn, fixed_in, extent-in, extent-upto}
-use Rattle.tree.proofs.GrammarLaws.{no_step, step-one}
-use Rattle.tree.proofs.ReadLaws.{HeadIn, head_in, children-step, no-refused, fine-inj, mapped-fine, both-fine, Says, head-says, read-children}
+use Rattle.tree.proofs.AccessLaws.{ReachIn, fixed-in, extent-in, extent-upto}
+use Rattle.tree.proofs.GrammarLaws.{no-step, step-one}
+use Rattle.tree.proofs.ReadLaws.{HeadIn, head-in, children-step, no-refused, fine-inj, mapped-fine, both-fine, Says, head-says, read-children}
 
 abbrev Agree : Rows → Rows → List ℕ → ℕ → ℕ → Type 0
 Agree k k' s at end = (a e : ℕ) → at < a → a ≤ e → e ≤ end → k s a e ≡ k' s a e
@@ -40,7 +40,7 @@ unfolding row_on tree_by
 row-agree Short k k' s at end i g = refl
 row-agree (Upto stop) k k' s at end i g =
     ap₂ more
-    (tree-agree (fixed_at s (get_or s at 0) (at + 3) stop) k k' s at stop end (fixed_in s (get_or s at 0) (at + 3) stop i.0) i.1 g)
+    (tree-agree (fixed_at s (get_or s at 0) (at + 3) stop) k k' s at stop end (fixed-in s (get_or s at 0) (at + 3) stop i.0) i.1 g)
     (g stop end (omega arith) i.1 (omega arith))
 
 enough : (n m : ℕ) (s : List ℕ) (at end : ℕ) → at ≤ end → end - at < n → end - at < m → row n s at end ≡ row m s at end
@@ -50,21 +50,21 @@ enough (suc n) zero s at end le hn hm = absurd (omega arith)
 enough (suc n) (suc m) s at end le hn hm =
     row-agree (extent_at s at end) (row n) (row m) s at end (extent-in s at end le) (λ a e l₁ l₂ l₃. enough n m s a e l₂ (omega arith) (omega arith))
 
-row_step : (s : List ℕ) (at end : ℕ) → at ≤ end → row_at s at end ≡ row_on (extent_at s at end) row_at s at end
+row-step : (s : List ℕ) (at end : ℕ) → at ≤ end → row_at s at end ≡ row_on (extent_at s at end) row_at s at end
 unfolding row_at row
-row_step s at end le =
+row-step s at end le =
     row-agree (extent_at s at end) (row (end - at)) row_at s at end (extent-in s at end le)
     (λ a e l₁ l₂ l₃. enough (end - at) (suc (e - a)) s a e l₂ (omega arith) (omega arith))
 
 -- from a place to its first field and the fields after it
-pub row_more : (s : List ℕ) (at end stop : ℕ) → at ≤ end → extent_at s at end ≡ Upto stop →
+pub row-more : (s : List ℕ) (at end stop : ℕ) → at ≤ end → extent_at s at end ≡ Upto stop →
     row_at s at end ≡ more (tree_at s at stop) (row_at s stop end)
 unfolding tree_at row_on
-row_more s at end stop le e = row_step s at end le ∙ ap (λ (r : Reach). row_on r row_at s at end) e
+row-more s at end stop le e = row-step s at end le ∙ ap (λ (r : Reach). row_on r row_at s at end) e
 
 pub row-none : (s : List ℕ) (at end : ℕ) → at ≤ end → extent_at s at end ≡ Short → row_at s at end ≡ none
 unfolding row_on
-row-none s at end le e = row_step s at end le ∙ ap (λ (r : Reach). row_on r row_at s at end) e
+row-none s at end le e = row-step s at end le ∙ ap (λ (r : Reach). row_on r row_at s at end) e
 
 -- from a field to its children
 pub tree-upto : (s : List ℕ) (at stop b : ℕ) → fixed_at s (get_or s at 0) (at + 3) stop ≡ Upto b →
@@ -93,29 +93,29 @@ content-standing : (k : Kids) (s : List ℕ) (at stop d : ℕ) (f : Field) → S
     content_by k s at stop d ≡ fine f → tree_at s at stop ≡ f
 unfolding content_by
 content-standing k s at stop d f ih h e =
-    fixed-standing (fixed_at s (get_or s at 0) (at + 3) stop) k s at stop d f ih refl (fixed_in s (get_or s at 0) (at + 3) stop h) e
+    fixed-standing (fixed_at s (get_or s at 0) (at + 3) stop) k s at stop d f ih refl (fixed-in s (get_or s at 0) (at + 3) stop h) e
 
-nothing_left : (s : List ℕ) (at end : ℕ) → at ≡ end → extent_at s at end ≡ Short
+nothing-left : (s : List ℕ) (at end : ℕ) → at ≡ end → extent_at s at end ≡ Short
 unfolding extent_at
-nothing_left s at end e = rw (lt-leb 3 (end - at) (omega arith))
+nothing-left s at end e = rw (lt-leb 3 (end - at) (omega arith))
 
 head-standing : (h : Head) (k : Kids) (s : List ℕ) (at end d : ℕ) (q : Rule) (p : ℕ) (fs : Fields) → Standing k s →
     at ≤ end → HeadIn at end d h → Says s at end q h →
     on_head h k s at end d p ≡ fine fs → row_at s at end ≡ fs
 unfolding on_head
-head-standing Done k s at end d q p fs ih le i y e = row-none s at end le (nothing_left s at end y.0) ∙ fine-inj e
+head-standing Done k s at end d q p fs ih le i y e = row-none s at end le (nothing-left s at end y.0) ∙ fine-inj e
 head-standing Missing k s at end d q p fs ih le i y e = absurd (no-refused e)
 head-standing (Bad w) k s at end d q p fs ih le i y e = absurd (no-refused e)
 head-standing (Child q' stop) k s at end d q p fs ih le i y e =
     let m = both-fine more (content_by k s at stop (d + 1)) (k s stop end d q' p) fs e in
-    row_more s at end stop le y.2
+    row-more s at end stop le y.2
     ∙ ap₂ more (content-standing k s at stop (d + 1) m.0 ih i.0 m.2) (ih stop end d q' p m.1 i.1 m.3) ∙ m.4
 
 children-standing : (n : ℕ) (s : List ℕ) → Standing (children n) s
 unfolding children
 children-standing zero s at end d q p fs le e = absurd (no-refused e)
 children-standing (suc n) s at end d q p fs le e =
-    head-standing (head_at s at end d q) (children n) s at end d q p fs (children-standing n s) le (head_in s at end d q le) (head-says s at end d q) e
+    head-standing (head_at s at end d q) (children n) s at end d q p fs (children-standing n s) le (head-in s at end d q le) (head-says s at end d q) e
 
 pub row-standing : (s : List ℕ) (at end d : ℕ) (q : Rule) (p : ℕ) (fs : Fields) → at ≤ end →
     children_at s at end d q p ≡ fine fs → row_at s at end ≡ fs
@@ -171,11 +171,11 @@ row-cases s at end q le w =
     (sym (children-step s at end w.0 q w.1 le) ∙ w.3)
 
 -- by the place, or by the rule
-pub row_next : (s : List ℕ) (at end : ℕ) (q : Rule) → at ≤ end → Row s at end q → (at ≡ end → ⊥) → First s at end q
-row_next s at end q le w n = ⊎_elim (λ e. absurd (n e.0)) (λ f. f) (row-cases s at end q le w)
+pub row-next : (s : List ℕ) (at end : ℕ) (q : Rule) → at ≤ end → Row s at end q → (at ≡ end → ⊥) → First s at end q
+row-next s at end q le w n = ⊎_elim (λ e. absurd (n e.0)) (λ f. f) (row-cases s at end q le w)
 
-pub row_first : (s : List ℕ) (at end : ℕ) (q : Rule) → at ≤ end → Row s at end q → done_at q ≡ false → First s at end q
-row_first s at end q le w n =
+pub row-first : (s : List ℕ) (at end : ℕ) (q : Rule) → at ≤ end → Row s at end q → done_at q ≡ false → First s at end q
+row-first s at end q le w n =
     ⊎_elim (λ e. absurd (let d = e.1 in let z : ◌≡◌ {A = ℕ} 0 1 = cc in omega arith)) (λ f. f) (row-cases s at end q le w)
 
 -- a row whose place has no field has ended, and lacks nothing
@@ -195,16 +195,16 @@ pub record Rooted (root : Set) (s : List ℕ) (fs : Fields) : Type 0 where
   pub whole : Whole s 0 (length s)
   pub tree : fs ≡ more (tree_at s 0 (length s)) none
 
-none_left : (s : List ℕ) (at end : ℕ) → at ≤ end → Row s at end parts0 → at ≡ end
-none_left s at end le w = ⊎_elim (λ e. e.0) (λ f. absurd (no_step (get_or s at 0) f.2)) (row-cases s at end parts0 le w)
+none-left : (s : List ℕ) (at end : ℕ) → at ≤ end → Row s at end parts0 → at ≡ end
+none-left s at end le w = ⊎_elim (λ e. e.0) (λ f. absurd (no-step (get_or s at 0) f.2)) (row-cases s at end parts0 le w)
 
 pub read-field : (root : Set) (s : List ℕ) (fs : Fields) → read root s ≡ fine fs → Rooted root s fs
 read-field root s fs e =
-    let f = row_first s 0 (length s) (top root) (omega arith) (read-row root s fs e) refl in
+    let f = row-first s 0 (length s) (top root) (omega arith) (read-row root s fs e) refl in
     let stop = f.1 in
     let one = step-one root Nothing Nothing Nothing (get_or s 0 0) f.0 f.2 in
     let i = extent-upto s 0 (length s) (omega arith) f.3 in
-    let all : stop ≡ length s = none_left s stop (length s) i.1 (subst (Row s stop (length s)) one.1 f.5) in
+    let all : stop ≡ length s = none-left s stop (length s) i.1 (subst (Row s stop (length s)) one.1 f.5) in
     let x : extent_at s 0 (length s) ≡ Upto (length s) = f.3 ∙ ap Upto all in
     record {
       room = omega arith;
@@ -212,6 +212,6 @@ read-field root s fs e =
       extent = x;
       whole = subst (Whole s 0) all f.4;
       tree =
-          sym (read-standing root s fs e) ∙ row_more s 0 (length s) (length s) (omega arith) x
-          ∙ ap (more (tree_at s 0 (length s))) (row-none s (length s) (length s) (omega arith) (nothing_left s (length s) (length s) refl));
+          sym (read-standing root s fs e) ∙ row-more s 0 (length s) (length s) (omega arith) x
+          ∙ ap (more (tree_at s 0 (length s))) (row-none s (length s) (length s) (omega arith) (nothing-left s (length s) (length s) refl));
     }

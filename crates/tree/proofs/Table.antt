@@ -25,9 +25,9 @@ abbrev pub passes : {A : Type 0} → (ℕ → A → Bool) → List (ℕ × A) �
 passes g [] = true
 passes g (e ∷ l) = g e.0 e.1 && passes g l
 
-pub both_true : (a b : Bool) → a && b ≡ true → (a ≡ true) × (b ≡ true)
-both_true true b e = (refl, e)
-both_true false b e = absurd (let z : ◌≡◌ {A = ℕ} 0 1 = cc in omega arith)
+pub both-true : (a b : Bool) → a && b ≡ true → (a ≡ true) × (b ≡ true)
+both-true true b e = (refl, e)
+both-true false b e = absurd (let z : ◌≡◌ {A = ℕ} 0 1 = cc in omega arith)
 
 found : {A : Type 0} (g : ℕ → A → Bool) (t k : ℕ) (x y : A) (b : Bool) → eqb t k ≡ b → g k x ≡ true → g t y ≡ true →
     g t (cond b x y) ≡ true
@@ -38,7 +38,7 @@ pub find-passes : {A : Type 0} (g : ℕ → A → Bool) (t : ℕ) (l : List (ℕ
     g t d ≡ true → g t (find t l d) ≡ true
 find-passes g t [] d h k = k
 find-passes g t (e ∷ l) d h k =
-    let p = both_true (g e.0 e.1) (passes g l) h in
+    let p = both-true (g e.0 e.1) (passes g l) h in
     found g t e.0 e.1 (find t l d) (eqb t e.0) refl p.0 (find-passes g t l d p.1 k)
 
 -- every number below n has P
@@ -59,9 +59,9 @@ abbrev pub all_below : (ℕ → Bool) → ℕ → Bool
 all_below f zero = true
 all_below f (suc n) = f n && all_below f n
 
-all_true : (f : ℕ → Bool) (n : ℕ) → all_below f n ≡ true → AllBelow (λ (k : ℕ). f k ≡ true) n
-all_true f zero h = tt
-all_true f (suc n) h = let b = both_true (f n) (all_below f n) h in (b.0, all_true f n b.1)
+all-true : (f : ℕ → Bool) (n : ℕ) → all_below f n ≡ true → AllBelow (λ (k : ℕ). f k ≡ true) n
+all-true f zero h = tt
+all-true f (suc n) h = let b = both-true (f n) (all_below f n) h in (b.0, all-true f n b.1)
 
 pub below : (f : ℕ → Bool) (n : ℕ) → all_below f n ≡ true → (k : ℕ) → k < n → f k ≡ true
-below f n h = each (λ (k : ℕ). f k ≡ true) n (all_true f n h)
+below f n h = each (λ (k : ℕ). f k ≡ true) n (all-true f n h)

@@ -29,9 +29,9 @@ all-widths : all_below width_agrees 256 ≡ true
 unfolding width_agrees width_at pieces_of
 all-widths = refl
 
-pub width_is : (t : ℕ) → t < 256 → packed_width_at t ≡ width_at t
+pub width-is : (t : ℕ) → t < 256 → packed_width_at t ≡ width_at t
 unfolding width_agrees
-width_is t h = eqb-true (packed_width_at t) (width_at t) (below width_agrees 256 all-widths t h)
+width-is t h = eqb-true (packed_width_at t) (width_at t) (below width_agrees 256 all-widths t h)
 
 module _ (s : List ℕ) (at stop : ℕ) (inside : at ≤ stop) where
   -- a bytes and b more are a + b
@@ -102,6 +102,6 @@ module _ (s : List ℕ) (at stop : ℕ) where
   unfolding fixed_at pieces_of piece_at kind_at on_choice then_piece
   spread-bad h b = rw (lt-ltb at stop h, spread-wrong (get_or s at 0) b)
 
-  pub spread_cut : stop ≤ at → fixed_at s 0x75 at stop ≡ Short
+  pub spread-cut : stop ≤ at → fixed_at s 0x75 at stop ≡ Short
   unfolding fixed_at pieces_of piece_at kind_at then_piece
-  spread_cut h = rw (le-ltb at stop h)
+  spread-cut h = rw (le-ltb at stop h)

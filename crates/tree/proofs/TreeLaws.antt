@@ -41,13 +41,13 @@ pub encodes-none : encodes none ≡ []
 unfolding encode
 encodes-none = refl
 
-pub encodes_more : (f : Field) (fs : Fields) → encodes (more f fs) ≡ encode f ++ encodes fs
+pub encodes-more : (f : Field) (fs : Fields) → encodes (more f fs) ≡ encode f ++ encodes fs
 unfolding encode
-encodes_more f fs = refl
+encodes-more f fs = refl
 
-pub encodes_one : (f : Field) → encodes (more f none) ≡ encode f
+pub encodes-one : (f : Field) → encodes (more f none) ≡ encode f
 unfolding encode
-encodes_one f = append-nil (encode f)
+encodes-one f = append-nil (encode f)
 
 pub row-size : (f : Field) (fs : Fields) → sizes (more f fs) ≡ size f + sizes fs
 unfolding size

@@ -22,7 +22,7 @@ use Rattle.tree.specs.Width.{value_width}
 use Rattle.tree.specs.Standing.{tree_at, row_at, Row}
 use Rattle.tree.specs.Within.{Exact}
 use Rattle.tree.proofs.FixedLaws.{no-upto, upto-inj}
-use Rattle.tree.proofs.AccessLaws.{cond_ind}
+use Rattle.tree.proofs.AccessLaws.{cond-ind}
 use Rattle.tree.proofs.StandingLaws.{tree-upto, whole-step, read-field}
 use Rattle.tree.proofs.GrammarLaws.{module-tag}
 use Rattle.tree.specs.declared.grammar.Set.TheVariants.{Module}
@@ -35,7 +35,7 @@ Plainly k v = find k fixed_parts (only (Plain Empty)) ≡ only (Plain v)
 pub skip-ends : (at n stop b : ℕ) → skip_at at n stop ≡ Upto b → b ≡ at + n
 unfolding skip_at
 skip-ends at n stop b =
-    cond_ind (λ (r : Reach). r ≡ Upto b → b ≡ at + n) (leb n (stop - at)) (Upto (at + n)) Short (λ _ e. sym (upto-inj e))
+    cond-ind (λ (r : Reach). r ≡ Upto b → b ≡ at + n) (leb n (stop - at)) (Upto (at + n)) Short (λ _ e. sym (upto-inj e))
     (λ _ e. absurd (no-upto e))
 
 skip-upto : (at n stop : ℕ) → at + n ≤ stop → skip_at at n stop ≡ Upto (at + n)
@@ -62,21 +62,21 @@ then-upto at n stop s h =
     let z : at + n + 0 ≡ at + n = omega arith in
     ap (λ (r : Reach). then_piece r s (Plain Empty) stop) (skip-upto at n stop h) ∙ skip-upto (at + n) 0 stop (omega arith) ∙ ap Upto z
 
-fixed_plain : (k : ℕ) (v : Value) → Plainly k v → {t : ℕ} → t ≡ k → (s : List ℕ) (at stop : ℕ) →
+fixed-plain : (k : ℕ) (v : Value) → Plainly k v → {t : ℕ} → t ≡ k → (s : List ℕ) (at stop : ℕ) →
     fixed_at s t at stop ≡ then_piece (skip_at at (value_width v) stop) s (Plain Empty) stop
 unfolding fixed_at piece_at pieces_of
-fixed_plain k v p q s at stop =
+fixed-plain k v p q s at stop =
     ap (λ (x : Pieces). then_piece (piece_at s x.first at stop) s x.second stop) (ap pieces_of q ∙ p)
     ∙ ap (λ (r : Reach). then_piece r s (Plain Empty) stop) (value-skips v at stop)
 
 -- ---- Where they end
 
 pub plain-ends : (k : ℕ) (v : Value) → Plainly k v → (s : List ℕ) (t at stop b : ℕ) → t ≡ k → fixed_at s t at stop ≡ Upto b → b ≡ at + value_width v
-plain-ends k v p s t at stop b q e = then-ends at (value_width v) stop b s (skip_at at (value_width v) stop) refl (sym (fixed_plain k v p q s at stop) ∙ e)
+plain-ends k v p s t at stop b q e = then-ends at (value_width v) stop b s (skip_at at (value_width v) stop) refl (sym (fixed-plain k v p q s at stop) ∙ e)
 
 pub plain-upto : (k : ℕ) (v : Value) → Plainly k v → (s : List ℕ) (t at stop : ℕ) → t ≡ k → at + value_width v ≤ stop →
     fixed_at s t at stop ≡ Upto (at + value_width v)
-plain-upto k v p s t at stop q h = fixed_plain k v p q s at stop ∙ then-upto at (value_width v) stop s h
+plain-upto k v p s t at stop q h = fixed-plain k v p q s at stop ∙ then-upto at (value_width v) stop s h
 
 -- ---- How many they are
 
@@ -107,8 +107,8 @@ pub record ModuleAt (s : List ℕ) (fs : Fields) : Type 0 where
   pub tree : fs ≡ more (field 0x01 [] (row_at s 3 (length s))) none
   pub row : Row s 3 (length s) (rule_of 0x01)
 
-pub read_module : (s : List ℕ) (fs : Fields) → read Module s ≡ fine fs → ModuleAt s fs
-read_module s fs e =
+pub read-module : (s : List ℕ) (fs : Fields) → read Module s ≡ fine fs → ModuleAt s fs
+read-module s fs e =
     let r = read-field Module s fs e in
     let w = whole-step s 0 (length s) r.whole in
     let t : get_or s 0 0 ≡ 0x01 = module-tag (get_or s 0 0) r.tag in

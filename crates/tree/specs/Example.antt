@@ -67,9 +67,9 @@ misplaced : read Module (0x01 ∷ 0 ∷ 6 ∷ 0x44 ∷ 0 ∷ 3 ∷ 0x40 ∷ 0 �
 unfolding reading
 misplaced = refl
 
-left_over : read Module (0x01 ∷ 0 ∷ 0 ∷ 0x40 ∷ []) ≡ refused Misplaced 3
+left-over : read Module (0x01 ∷ 0 ∷ 0 ∷ 0x40 ∷ []) ≡ refused Misplaced 3
 unfolding reading
-left_over = refl
+left-over = refl
 
 other-root : read Attributes (0x01 ∷ 0 ∷ 0 ∷ []) ≡ refused Misplaced 0
 unfolding reading

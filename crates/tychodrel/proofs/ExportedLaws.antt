@@ -7,7 +7,7 @@ use mathlib.Core.Option.{Option, some}
 use lib.ListN.{length}
 use Rattle.report.specs.declared.Report.{Report}
 use Rattle.report.specs.Counts.{no_counts}
-use Rattle.scope.specs.Modules.{Modules, too-many-files, Left as Requesting, files_in, request_all}
+use Rattle.scope.specs.Modules.{Modules, too_many_files, Left as Requesting, files_in, request_all}
 use Rattle.scope.specs.ScopeValue.{modules_of, requested, file_refusal}
 use Rattle.scope.specs.declared.Requested.{Requested}
 use Rattle.scope.specs.declared.FileAnswer.{FileAnswer}
@@ -48,13 +48,13 @@ module _ {A : Type 0} (q : Requested) (files : List ℕ) (go : Modules → A) (s
   files-given : q.answer ≡ Given → with_files files go stop ≡ go (modules_of q.scope)
   files-given h = files-answered Given h
 
-  files-refused : q.answer ≡ TooManyFiles → with_files files go stop ≡ stop too-many-files (modules_of q.scope)
+  files-refused : q.answer ≡ TooManyFiles → with_files files go stop ≡ stop too_many_files (modules_of q.scope)
   files-refused h = files-answered TooManyFiles h
 
 -- what is told of a refusal, of modules and of counts, by what these are
-tells_as : {x y : Option (ℕ × ℕ)} {ms new : Modules} {c d : Report} {a : ℕ} {s b : List ℕ} → Numbered x → a ≡ packed_in x → s ≡ scope_bytes ms → b ≡ report_bytes c →
+tells-as : {x y : Option (ℕ × ℕ)} {ms new : Modules} {c d : Report} {a : ℕ} {s b : List ℕ} → Numbered x → a ≡ packed_in x → s ≡ scope_bytes ms → b ≡ report_bytes c →
     x ≡ y → ms ≡ new → c ≡ d → Tells y new d a s b
-tells_as n a s b x m c =
+tells-as n a s b x m c =
     record { answer = a ∙ ap packed_in x; numbered = subst Numbered x n; scope = s ∙ ap scope_bytes m; report = b ∙ ap report_bytes c }
 
 -- ---- No refusal has the number 0
@@ -99,7 +99,7 @@ pub leaves-extracted : {e : Extracted} (r : Extraction) {a : ℕ} {s b w o k : L
     b ≡ report_bytes r.report → a ≡ packed_in (extract_refusal r.answer) → Leaves e a s b w o k
 leaves-extracted r h s b a =
     record {
-      tells = tells_as (extract-numbered r.answer) a s b (ap (λ (l : Extracted). l.refusal) h) (ap (λ (l : Extracted). l.modules) h) (ap (λ (l : Extracted). l.report) h);
+      tells = tells-as (extract-numbered r.answer) a s b (ap (λ (l : Extracted). l.refusal) h) (ap (λ (l : Extracted). l.modules) h) (ap (λ (l : Extracted). l.report) h);
       work = ap (λ (l : Extracted). l.work) h;
       out = ap (λ (l : Extracted). l.out) h;
       records = ap (λ (l : Extracted). l.records) h;
@@ -115,7 +115,7 @@ extract-given q files l room {a} {s} {b} {w} {o} {k} h g x =
 -- the files are refused
 pub extract-refused : (q : Requested) (files : List ℕ) (l : Extracting) (w o k : List ℕ) {a : ℕ} {s b w' o' k' : List ℕ} →
     requested q ≡ request_all (files_in files) [] → q.answer ≡ TooManyFiles →
-    Tells (some too-many-files) (modules_of q.scope) no_counts a s b → w' ≡ zeroed w → o' ≡ zeroed o → k' ≡ zeroed k → Leaves (extract_call files l (room_in w o k)) a s b w' o' k'
+    Tells (some too_many_files) (modules_of q.scope) no_counts a s b → w' ≡ zeroed w → o' ≡ zeroed o → k' ≡ zeroed k → Leaves (extract_call files l (room_in w o k)) a s b w' o' k'
 unfolding zeroed
 extract-refused q files l w o k {a} {s} {b} {w'} {o'} {k'} h g t x y z =
     subst (λ (e : Extracted). Leaves e a s b w' o' k') (sym (files-refused q files (extraction l (room_in w o k)) (extract_none (room_in w o k)) h g))
@@ -127,7 +127,7 @@ pub leaves-resolved : {e : Listed} (r : Resolution) {a : ℕ} {s b k : List ℕ}
     b ≡ report_bytes r.report → a ≡ packed_in (resolve_refusal r.answer) → LeavesList e a s b k
 leaves-resolved r h s b a =
     record {
-      tells = tells_as (resolve-numbered r.answer) a s b (ap (λ (l : Listed). l.refusal) h) (ap (λ (l : Listed). l.modules) h) (ap (λ (l : Listed). l.report) h);
+      tells = tells-as (resolve-numbered r.answer) a s b (ap (λ (l : Listed). l.refusal) h) (ap (λ (l : Listed). l.modules) h) (ap (λ (l : Listed). l.report) h);
       list = ap (λ (l : Listed). l.list) h;
     }
 
@@ -139,7 +139,7 @@ resolve-given q files l room {a} {s} {b} {k} h g x =
 
 pub resolve-refused : (q : Requested) (files : List ℕ) (l : Resolving) (k : List ℕ) {a : ℕ} {s b k' : List ℕ} →
     requested q ≡ request_all (files_in files) [] → q.answer ≡ TooManyFiles →
-    Tells (some too-many-files) (modules_of q.scope) no_counts a s b → k' ≡ zeroed k → LeavesList (resolve_call files l (length k)) a s b k'
+    Tells (some too_many_files) (modules_of q.scope) no_counts a s b → k' ≡ zeroed k → LeavesList (resolve_call files l (length k)) a s b k'
 unfolding zeroed
 resolve-refused q files l k {a} {s} {b} {k'} h g t x =
     subst (λ (e : Listed). LeavesList e a s b k') (sym (files-refused q files (resolving l (length k)) (resolve_none (length k)) h g))

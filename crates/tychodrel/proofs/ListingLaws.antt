@@ -12,7 +12,7 @@ use Rattle.scope.specs.Modules.{Modules}
 use Rattle.scope.specs.ScopeValue.{modules_in, module_by}
 use Rattle.writer.specs.Bytes.{two_bytes}
 use Rattle.writer.specs.Wrote.{Wrote}
-use Rattle.writer.proofs.Wrote.{wrote_none, wrote_then, wrote_as}
+use Rattle.writer.proofs.Wrote.{wrote-none, wrote-then, wrote-as}
 use Rattle.tychodrel.specs.Answer.{bit, marks_of, modules_bytes, listed, scope_bytes}
 
 -- ---- A number's bits
@@ -23,19 +23,19 @@ bit-zero k e = ap bit (ne_eqb (k % 2) 1 (omega arith)) ∙ sym e
 bit-one : (k : ℕ) → k % 2 ≡ 1 → bit (eqb (k % 2) 1) ≡ k % 2
 bit-one k e = ap bit (eq-eqb (k % 2) 1 e) ∙ sym e
 
-zero_one : (k : ℕ) → k < 2 → (k ≡ 0) ⊎ (k ≡ 1)
-zero_one zero h = inl refl
-zero_one (suc k) h = inr (omega arith)
+zero-one : (k : ℕ) → k < 2 → (k ≡ 0) ⊎ (k ≡ 1)
+zero-one zero h = inl refl
+zero-one (suc k) h = inr (omega arith)
 
-bit_is : (k : ℕ) → bit (eqb (k % 2) 1) ≡ k % 2
-bit_is k = ⊎_elim (bit-zero k) (bit-one k) (zero_one (k % 2) (omega arith))
+bit-is : (k : ℕ) → bit (eqb (k % 2) 1) ≡ k % 2
+bit-is k = ⊎_elim (bit-zero k) (bit-one k) (zero-one (k % 2) (omega arith))
 
 marks-are : (f m : ℕ) → marks_of (module_by f m) ≡ m % 16
 marks-are f m =
-    let a = bit_is m in
-    let b = bit_is (m / 2) in
-    let c = bit_is (m / 4) in
-    let d = bit_is (m / 8) in
+    let a = bit-is m in
+    let b = bit-is (m / 2) in
+    let c = bit-is (m / 4) in
+    let d = bit-is (m / 8) in
     let e : m / 2 ≡ 2 * (m / 4) + m / 2 % 2 = omega arith in
     let g : m / 4 ≡ 2 * (m / 8) + m / 4 % 2 = omega arith in
     let h : m / 8 ≡ 2 * (m / 16) + m / 8 % 2 = omega arith in
@@ -63,18 +63,18 @@ pub module-written : (t : List ℕ) (n i : ℕ) {a b : ℕ} {l m k z : List ℕ}
     Wrote l o (two_bytes a) m p → Wrote m p (b ∷ []) k q → Wrote k q (modules_bytes (modules_in (n - (i + 1)) (2 * (i + 1)) t)) z r →
     Wrote l o (modules_bytes (modules_in (n - i) (2 * i) t)) z r
 module-written t n i {a} {b} h e f x y w =
-    wrote_as (wrote_then (wrote_then x y) w)
+    wrote-as (wrote-then (wrote-then x y) w)
     (ap (λ (v : ℕ). (two_bytes v ++ (b ∷ [])) ++ modules_bytes (modules_in (n - (i + 1)) (2 * (i + 1)) t)) e
     ∙ ap (λ (v : ℕ). (two_bytes (get_or t (2 * i) 0 % 65536) ++ (v ∷ [])) ++ modules_bytes (modules_in (n - (i + 1)) (2 * (i + 1)) t)) f
     ∙ cells-more t n i h)
 
-pub all_left : (t : List ℕ) (n : ℕ) {l m : List ℕ} {o p : ℕ} → Wrote l o (modules_bytes (modules_in (n - 0) 0 t)) m p → Wrote l o (modules_bytes (modules_in n 0 t)) m p
-all_left t n w =
+pub all-left : (t : List ℕ) (n : ℕ) {l m : List ℕ} {o p : ℕ} → Wrote l o (modules_bytes (modules_in (n - 0) 0 t)) m p → Wrote l o (modules_bytes (modules_in n 0 t)) m p
+all-left t n w =
     let e : n - 0 ≡ n = omega arith in
-    wrote_as w (ap (λ (k : ℕ). modules_bytes (modules_in k 0 t)) e)
+    wrote-as w (ap (λ (k : ℕ). modules_bytes (modules_in k 0 t)) e)
 
-pub none_left : (t : List ℕ) (n i : ℕ) {l : List ℕ} {o : ℕ} → n ≤ i → Wrote l o (modules_bytes (modules_in (n - i) (2 * i) t)) l o
-none_left t n i h = wrote_as wrote_none (cells-end t n i h)
+pub none-left : (t : List ℕ) (n i : ℕ) {l : List ℕ} {o : ℕ} → n ≤ i → Wrote l o (modules_bytes (modules_in (n - i) (2 * i) t)) l o
+none-left t n i h = wrote-as wrote-none (cells-end t n i h)
 
 -- ---- The 770 bytes
 
@@ -114,7 +114,7 @@ pub scope-written : {b c : List ℕ} {n o p : ℕ} (ms ns : Modules) → n ≡ l
 unfolding listed scope_bytes
 scope-written {b} {c} {n} {o} {p} ms ns e h f x y =
     let w : Wrote (replicate 770 0) 0 (listed ms) c p =
-    wrote_as (wrote_then x y) (ap (λ (k : ℕ). two_bytes k ++ modules_bytes ns) e ∙ ap (λ (k : Modules). two_bytes (length ms) ++ modules_bytes k) f)
+    wrote-as (wrote-then x y) (ap (λ (k : ℕ). two_bytes k ++ modules_bytes ns) e ∙ ap (λ (k : Modules). two_bytes (length ms) ++ modules_bytes k) f)
     in
     let g = listed-size ms in
     w.bytes (omega arith) ∙ zeros-behind (listed ms) (omega arith)

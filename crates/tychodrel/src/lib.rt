@@ -13,7 +13,7 @@ ghost use Rattle.metadata.specs.MetadataValue.{metadata_of};
 ghost use Rattle.metadata.specs.Calls.{decode_call, encode_answer, encode_out};
 ghost use Rattle.modes.specs.Bits.{modes_of};
 ghost use Rattle.report.specs.Counts.{no_counts};
-ghost use Rattle.scope.specs.Modules.{too-many-files, files_in, request_all};
+ghost use Rattle.scope.specs.Modules.{too_many_files, files_in, request_all};
 ghost use Rattle.scope.specs.ScopeValue.{modules_of, requested};
 ghost use Rattle.extraction_rules.specs.Call.{extraction};
 ghost use Rattle.extraction.specs.Answer.{lent_as, room_in};
@@ -131,7 +131,7 @@ fn request_files(files: &[u8]) -> Requested
 
 // A 257th file among those that are lent.
 fn refuse_files(entry: Scope, scope: &mut [u8; 770], report: &mut [u8; 32]) -> u64
-    ensures { Tells (some too-many-files) (modules_of entry) no_counts result scope.new report.new }
+    ensures { Tells (some too_many_files) (modules_of entry) no_counts result scope.new report.new }
 {
     *scope = scope_bytes(entry);
     *report = report_bytes(no_counts());

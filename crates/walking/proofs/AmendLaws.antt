@@ -7,7 +7,7 @@ use mathlib.Core.Option.{some}
 use lib.ListN.{length}
 use Rattle.scope.specs.declared.id.ModuleId.{ModuleId}
 use Rattle.writer.specs.Wrote.{Wrote}
-use Rattle.writer.proofs.Wrote.{wrote_then, wrote_as}
+use Rattle.writer.proofs.Wrote.{wrote-then, wrote-as}
 use Rattle.tree.specs.Tree.{Field, Fields, none, encode}
 use Rattle.inputs.specs.Outcome.{Outcome, done, onto}
 use Rattle.extraction_rules.specs.State.{Record, State, Act, set_collected}
@@ -27,7 +27,7 @@ use Rattle.steps.specs.declared.Why.TheVariants.{TooManyFiles, TableFull}
 use Rattle.steps.specs.declared.Step.{Step}
 use Rattle.steps.specs.declared.Step.TheVariants.{Done, Refused}
 use Rattle.steps.specs.Step.{Steps}
-use Rattle.steps.proofs.StepsLaws.{done_refused, steps-by, then_of, steps-did, steps-refused, refused_as}
+use Rattle.steps.proofs.StepsLaws.{done-refused, steps-by, then_of, steps-did, steps-refused, refused-as}
 use Rattle.walking.specs.Walking.{recorded, Called, Amends}
 
 -- ---- Records
@@ -105,7 +105,7 @@ module _ (l : Literal) (at : ℕ) (rule : Env → Field → Act Field) (act : En
                 value = change f;
                 state = d.state;
                 is = then-as x f (change f) s a.state a.is ∙ ap (λ (z : Outcome (Unit {0} × State)). onto z (λ b. done (change f, b.1))) d.is;
-                wrote = wrote_as (wrote_then (writes i f bs called wrote) d.wrote) (append-nil (encode (change f) ++ bs));
+                wrote = wrote-as (wrote-then (writes i f bs called wrote) d.wrote) (append-nil (encode (change f) ++ bs));
                 shows = d.shows;
               };
           turned = λ v q c {x = x} s w h f.
@@ -131,9 +131,9 @@ module _ (l : Literal) (at : ℕ) (rule : Env → Field → Act Field) (act : En
         record {
           good = m.good;
           size = refl;
-          made = λ q k s w h i f bs called wrote. done_refused k refl;
+          made = λ q k s w h i f bs called wrote. done-refused k refl;
           turned = λ v q k {x = x} s w h f.
-              refused_as
+              refused-as
               (is x f s ∙ ap (λ (z : Outcome (Field × State)). onto z (λ a. onto (act x a.1) (λ b. done (a.0, b.1)))) (m.full c f at s w (valued x h))) k;
         }
 

@@ -12,13 +12,13 @@ use Rattle.tree.specs.Tree.{Field, field, Fields, encode}
 use Rattle.tree.specs.Standing.{tree_at, row_at}
 use Rattle.tree.proofs.SoundLaws.{row-sound}
 use Rattle.tree.proofs.WidthLaws.{tree-bare, bare-upto}
-use Rattle.writer.proofs.Wrote.{wrote_as, slice-none}
+use Rattle.writer.proofs.Wrote.{wrote-as, slice-none}
 use Rattle.inputs.specs.Outcome.{Outcome, done, refused, onto}
 use Rattle.inputs.specs.Fields.{inside}
 use Rattle.extraction_rules.specs.State.{State, Pass, first, second, Setting, Act}
 use Rattle.extraction_rules.specs.First.{required, require}
 use Rattle.extraction_rules.specs.Walk.{after_expression, walk, walk_all}
-use Rattle.extraction_rules.proofs.OutcomeLaws.{After, after-done, after_both, after-weaken}
+use Rattle.extraction_rules.proofs.OutcomeLaws.{After, after-done, after-both, after-weaken}
 use Rattle.extraction_rules.proofs.ShapeLaws.{ShapedAll, formed-shaped-all}
 use Rattle.state.specs.Cells.{Env, literal_by, Valued, Shows}
 use Rattle.state.specs.declared.Literal.{Literal}
@@ -32,7 +32,7 @@ use Rattle.steps.specs.declared.Step.{Step}
 use Rattle.steps.specs.declared.Step.TheVariants.{Done, Refused}
 use Rattle.steps.specs.Step.{Reads, Sound, SoundAll, with_parts}
 use Rattle.steps.proofs.SoundLaws.{sound-parts}
-use Rattle.steps.proofs.StepsLaws.{done_refused, steps-by}
+use Rattle.steps.proofs.StepsLaws.{done-refused, steps-by}
 use Rattle.walking.specs.declared.Way.TheVariants.{Children}
 use Rattle.walking.specs.Walking.{FieldSteps, row_by, node_by, InPass, Called, Amends}
 use Rattle.walking.proofs.TagLaws.{around, walk-65, first-65, second-65}
@@ -48,8 +48,8 @@ module _ {f : Setting → State → Option (List ℕ)} {s t : List ℕ} {r : Sou
   pub source-other : r ≡ Other → (x : Env) (u : State) → Shows x t u → Reads x s → f x.setting u ≡ nothing
   source-other e x u w k = subst (SourceIs x (f x.setting u)) e (m.is u w k)
 
-  pub source_is : {n : Literal} → r ≡ Is n → (x : Env) (u : State) → Shows x t u → Reads x s → (f x.setting u ≡ some (literal_by x n)) × Valued x n
-  source_is e x u w k = subst (SourceIs x (f x.setting u)) e (m.is u w k)
+  pub source-is : {n : Literal} → r ≡ Is n → (x : Env) (u : State) → Shows x t u → Reads x s → (f x.setting u ≡ some (literal_by x n)) × Valued x n
+  source-is e x u w k = subst (SourceIs x (f x.setting u)) e (m.is u w k)
 
 module _ (object : Bool) (s : List ℕ) (bytes : Bytes s) (at stop : ℕ) (h : at + 3 ≤ stop) (q : get_or s at 0 ≡ 0x65) where
   abbrev Row65 : Fields
@@ -84,8 +84,8 @@ module _ (object : Bool) (s : List ℕ) (bytes : Bytes s) (at stop : ℕ) (h : a
   abbrev requiring : Setting → Field × State → Outcome (Field × State)
   requiring e a = require (required e a.0) e a.0 at a.1
 
-  walk_call : (y : Env) → y.setting.pass ≡ first → (u : State) → walk (tree_at s at stop) y.setting object at u ≡ onto (call_parts y u) (requiring y.setting)
-  walk_call y one u =
+  walk-call : (y : Env) → y.setting.pass ≡ first → (u : State) → walk (tree_at s at stop) y.setting object at u ≡ onto (call_parts y u) (requiring y.setting)
+  walk-call y one u =
       ap (λ (f : Field). walk f y.setting object at u) (tree-bare 0x65 refl s at stop h q) ∙ walk-65 y.setting [] Row65 object at u
       ∙ go (walk_all Row65 y.setting object (inside at []) u) ∙ sym (ap (λ (m : Outcome (Field × State)). onto m (requiring y.setting)) (parts-65 y u))
     where
@@ -105,7 +105,7 @@ module _ (object : Bool) (s : List ℕ) (bytes : Bytes s) (at stop : ℕ) (h : a
       let r = sound-parts w (bare-upto 0x65 refl s (get_or s at 0) (at + 3) stop q h) in
       subst (λ (m : Outcome (Field × State)). After m (λ g v. Told y.setting u g)) (sym (parts-65 y u))
       (go y.setting (walk_all Row65 y.setting object (inside at []) u)
-      (after_both (walk_all Row65 y.setting object (inside at []) u) _ _ (parts-required y.setting [] Row65 object (inside at []) u r.regular)
+      (after-both (walk_all Row65 y.setting object (inside at []) u) _ _ (parts-required y.setting [] Row65 object (inside at []) u r.regular)
       (walked-called y.setting Row65 r.rule object (inside at []) u f r.regular (sound-shaped bytes h r))))
     where
       go : (e : Setting) (m : Outcome (Fields × State)) →
@@ -127,7 +127,7 @@ module _ (object : Bool) (s : List ℕ) (bytes : Bytes s) (at stop : ℕ) (h : a
     call-plain n z m =
         steps-by _ m (λ y u w k. (
           k,
-          walk_call y (one y u w) u
+          walk-call y (one y u w) u
               ∙ unrequired y.setting (call_parts y u)
               (after-weaken (call_parts y u) _ (λ f v. required y.setting f ≡ nothing) (λ f v i. i.0 ∙ source-other n z y u w k.1) (facts y u (four-shown w) k.0)),
         ))
@@ -139,9 +139,9 @@ module _ (object : Bool) (s : List ℕ) (bytes : Bytes s) (at stop : ℕ) (h : a
         record {
           good = m.good;
           size = m.size;
-          made = λ p z u w k. done_refused z refl;
+          made = λ p z u w k. done-refused z refl;
           turned = λ j n z {x = y} u w k.
-              walk_call y (one y u w) u ∙ ap (λ (i : Outcome (Field × State)). onto i (requiring y.setting)) (m.turned j n z u w k);
+              walk-call y (one y u w) u ∙ ap (λ (i : Outcome (Field × State)). onto i (requiring y.setting)) (m.turned j n z u w k);
         }
 
     -- they are walked, and the call is amended
@@ -156,26 +156,26 @@ module _ (object : Bool) (s : List ℕ) (bytes : Bytes s) (at stop : ℕ) (h : a
           made = λ i z {x = y} u w k.
               let d = m.made p refl u w k in
               let f = after-done (call_parts y u) _ (d.value, d.state) d.is (facts y u (four-shown w) k.0) in
-              let v = source_is told e y u w k.1 in
+              let v = source-is told e y u w k.1 in
               let l : required y.setting d.value ≡ some (literal_by y n) = f.0 ∙ v.0 in
               let g = a.made i z d.state d.shows (k.1.nothing_bound, v.1) out d.value [] (f.1 (literal_by y n) l)
-              (wrote_as d.wrote (sym (append-nil (encode d.value)))) in
+              (wrote-as d.wrote (sym (append-nil (encode d.value)))) in
               record {
                 value = g.value;
                 state = g.state;
                 is = joined y (one y u w) u d.value d.state d.is l ∙ g.is;
-                wrote = wrote_as g.wrote (append-nil (encode g.value));
+                wrote = wrote-as g.wrote (append-nil (encode g.value));
                 shows = g.shows;
               };
           turned = λ j i z {x = y} u w k.
               let d = m.made p refl u w k in
               let f = after-done (call_parts y u) _ (d.value, d.state) d.is (facts y u (four-shown w) k.0) in
-              let v = source_is told e y u w k.1 in
+              let v = source-is told e y u w k.1 in
               joined y (one y u w) u d.value d.state d.is (f.0 ∙ v.0) ∙ a.turned j i z d.state d.shows (k.1.nothing_bound, v.1) d.value;
         }
       where
         joined : (y : Env) → y.setting.pass ≡ first → (u : State) (f : Field) (v : State) → call_parts y u ≡ done (f, v) → required y.setting f ≡ some (literal_by y n) →
             walk (tree_at s at stop) y.setting object at u ≡ require (some (literal_by y n)) y.setting f at v
         joined y b u f v i l =
-            walk_call y b u ∙ ap (λ (m : Outcome (Field × State)). onto m (requiring y.setting)) i
+            walk-call y b u ∙ ap (λ (m : Outcome (Field × State)). onto m (requiring y.setting)) i
             ∙ ap (λ (o : Option (List ℕ)). require o y.setting f at v) l

@@ -21,7 +21,7 @@ use Rattle.extraction_rules.specs.First.{imported_as, required}
 use Rattle.extraction_rules.specs.Second.{usages_of}
 use Rattle.extraction_rules.specs.Walk.{walk, walk_all}
 use Rattle.extraction_rules.proofs.OutcomeLaws.{After, after-bind}
-use Rattle.extraction_rules.proofs.ValueLaws.{after_any, required-call}
+use Rattle.extraction_rules.proofs.ValueLaws.{after-any, required-call}
 use Rattle.extraction_rules.proofs.AlikeLaws.{RegularAll}
 use Rattle.extraction_rules.proofs.ShapeLaws.{Shaped, ShapedAll, name-width}
 use Rattle.state.specs.Cells.{Env, imports, table_of, imported_of, Shows}
@@ -35,10 +35,10 @@ use Rattle.scope.proofs.Laws.{none-some}
 abbrev pub FourBytes : State → Type 0
 FourBytes u = (i c : List ℕ) → imported_as i u.imported ≡ some c → length c ≡ 4
 
-rows_four : (l : List Row) (i c : List ℕ) → imported_as i (map imported_of l) ≡ some c → length c ≡ 4
+rows-four : (l : List Row) (i c : List ℕ) → imported_as i (map imported_of l) ≡ some c → length c ≡ 4
 unfolding imported_as find
-rows_four [] i c h = none-some h
-rows_four (r ∷ l) i c h = go (same (imported_of r).id i) (rows_four l i c) h
+rows-four [] i c h = none-some h
+rows-four (r ∷ l) i c h = go (same (imported_of r).id i) (rows-four l i c) h
   where
     go : (b : Bool) → (mapped (λ (m : Imported). m.context) (find (λ (m : Imported). same m.id i) (map imported_of l)) ≡ some c → length c ≡ 4) →
         mapped (λ (m : Imported). m.context) (cond b (some (imported_of r)) (find (λ (m : Imported). same m.id i) (map imported_of l))) ≡ some c → length c ≡ 4
@@ -47,7 +47,7 @@ rows_four (r ∷ l) i c h = go (same (imported_of r).id i) (rows_four l i c) h
 
 -- imported contexts have four bytes in every state that is shown
 pub four-shown : {x : Env} {t : List ℕ} {u : State} → Shows x t u → FourBytes u
-four-shown {t = t} {u} w i c h = rows_four (rows (table_of imports) t) i c (ap (imported_as i) w.imported ∙ h)
+four-shown {t = t} {u} w i c h = rows-four (rows (table_of imports) t) i c (ap (imported_as i) w.imported ∙ h)
 
 -- ---- Ids
 
@@ -103,5 +103,5 @@ unfolding walk required
 walked-called e none r object p u f w g = λ l h. none-some h
 walked-called e (more c gs) r object p u f w g =
     after-bind (walk c e object p u) _ _ _ (walk-ident e c object p u w.0) λ c' u' b.
-    after-bind (walk_all gs e object (p + size c) u') _ (λ _ _. Unit {0}) _ (after_any (walk_all gs e object (p + size c) u')) λ gs' u'' _.
+    after-bind (walk_all gs e object (p + size c) u') _ (λ _ _. Unit {0}) _ (after-any (walk_all gs e object (p + size c) u')) λ gs' u'' _.
     λ l h. called-by e c' gs' l (λ y k. ident-width c e.pass u y f g.2 (b.0 ∙ k)) h

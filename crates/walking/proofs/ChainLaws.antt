@@ -86,7 +86,7 @@ module _ (e : Setting) (two : e.pass ≡ second) where
 
   name-walks : (q : Field) (p : ℕ) (s : State) → Regular q → tag_of q ≡ 0x70 → walk q e false p s ≡ done (q, s)
   name-walks (field t y cs) p s w k =
-      let z : field t y cs ≡ field 0x70 y none = cc (k, w.0.name-bare k) in
+      let z : field t y cs ≡ field 0x70 y none = cc (k, w.0.name_bare k) in
       ap (λ (f : Field). walk f e false p s) z ∙ walk-70 e y false p s ∙ ap (λ (f : Field). done (f, s)) (sym z)
 
   -- the parts of such a 63
@@ -135,9 +135,9 @@ module _ (e : Setting) (two : e.pass ≡ second) where
           walk (field t x cs) e object p s ≡ done (field 0x60 i none, s)
       go true k b l h =
           subst (λ (u : ℕ). walk (field u x cs) e object p s ≡ done (field 0x60 i none, s)) (sym (eqb-true t 0x63 k))
-          (chain-member x cs object p s i (w.0.member-two (eqb-true t 0x63 k)) w.1 o h)
+          (chain-member x cs object p s i (w.0.member_two (eqb-true t 0x63 k)) w.1 o h)
       go false k true l h =
-          let z : field t x cs ≡ field 0x60 x none = cc (eqb-true t 0x60 l, w.0.ident-bare (eqb-true t 0x60 l)) in
+          let z : field t x cs ≡ field 0x60 x none = cc (eqb-true t 0x60 l, w.0.ident_bare (eqb-true t 0x60 l)) in
           let y : x ≡ i = cc in
           ap (λ (f : Field). walk f e object p s) z ∙ walk-60 e x object p s
           ∙ ap (λ (k : Pass). after_expression k e (field 0x60 x none) object p s) two ∙ second-60 e x object p s ∙ ap (λ (v : List ℕ). done (field 0x60 v none, s)) y

@@ -19,17 +19,17 @@ use Rattle.tree.specs.Access.{fixed_at, extent_at}
 use Rattle.tree.specs.Standing.{tree_at, row_at}
 use Rattle.tree.proofs.AccessLaws.{extent-upto}
 use Rattle.tree.proofs.FixedLaws.{upto-inj}
-use Rattle.tree.proofs.StandingLaws.{row_more, row-none, tree-upto, tree-short}
+use Rattle.tree.proofs.StandingLaws.{row-more, row-none, tree-upto, tree-short}
 use Rattle.tree.proofs.WidthLaws.{tree-bare}
-use Rattle.tree.proofs.TreeLaws.{encodes-none, encodes_more}
-use Rattle.writer.proofs.Wrote.{wrote_as}
+use Rattle.tree.proofs.TreeLaws.{encodes-none, encodes-more}
+use Rattle.writer.proofs.Wrote.{wrote-as}
 use Rattle.inputs.specs.Outcome.{Outcome, done, refused, onto}
 use Rattle.inputs.specs.Fields.{inside}
 use Rattle.extraction_rules.specs.State.{State, Pass, first, second, Setting}
 use Rattle.extraction_rules.specs.First.{id_from, required, with_callee, bindings, require_lazily, declarator}
 use Rattle.extraction_rules.specs.Walk.{after_expression, walk, walk_all}
-use Rattle.extraction_rules.proofs.OutcomeLaws.{After, after-bind, after-done, after_both, after-weaken}
-use Rattle.extraction_rules.proofs.ValueLaws.{after_any, first-expression}
+use Rattle.extraction_rules.proofs.OutcomeLaws.{After, after-bind, after-done, after-both, after-weaken}
+use Rattle.extraction_rules.proofs.ValueLaws.{after-any, first-expression}
 use Rattle.extraction_rules.proofs.ExactLaws.{id-width}
 use Rattle.extraction_rules.proofs.AlikeLaws.{Regular}
 use Rattle.extraction_rules.proofs.ShapeLaws.{Shaped, ShapedAll}
@@ -39,19 +39,19 @@ use Rattle.expressions.specs.After.{required_after}
 use Rattle.expressions.specs.Require.{RequiredIs}
 use Rattle.expressions.specs.declared.require.Source.{Source}
 use Rattle.expressions.specs.declared.require.Source.TheVariants.{Is, Other}
-use Rattle.expressions.proofs.RequiredLaws.{none_after, walk-required}
+use Rattle.expressions.proofs.RequiredLaws.{none-after, walk-required}
 use Rattle.expressions.proofs.BindingLaws.{walk-binds}
 use Rattle.steps.specs.declared.Why.{Why}
 use Rattle.steps.specs.declared.Step.{Step}
 use Rattle.steps.specs.declared.Step.TheVariants.{Done, Refused}
 use Rattle.steps.specs.Step.{Reads, SoundAll, Steps}
 use Rattle.steps.proofs.SoundLaws.{read-size, read-inside, sound_all-first, sound_all-rest}
-use Rattle.steps.proofs.StepsLaws.{done_refused, steps-by, steps-as, steps-give, steps_map, pair_of, steps-pair, steps-turned}
+use Rattle.steps.proofs.StepsLaws.{done-refused, steps-by, steps-as, steps-give, steps-map, pair_of, steps-pair, steps-turned}
 use Rattle.walking.specs.Walking.{FieldSteps, initialised, behind, declared, Sole, Declares, Behind, Called, Amends}
 use Rattle.walking.proofs.TagLaws.{walk-65, second-65}
-use Rattle.walking.proofs.RowLaws.{all_more, all_none}
+use Rattle.walking.proofs.RowLaws.{all-more, all-none}
 use Rattle.walking.proofs.CalledLaws.{FourBytes, four-shown, walked-called}
-use Rattle.walking.proofs.CallWalkLaws.{sound-shaped, source-other, source_is}
+use Rattle.walking.proofs.CallWalkLaws.{sound-shaped, source-other, source-is}
 use Rattle.walking.proofs.AmendLaws.{Bound}
 
 -- ---- A walked initialiser that meets the require conditions is a call with a callee of six bytes
@@ -87,17 +87,17 @@ module _ (e : Setting) where
           let z : field 0x65 [] cs ≡ field t x cs = cc (eqb-true t 0x65 q, b (eqb-true t 0x65 q)) in
           subst (λ (i : Field). After (walk i e object p u) (λ g v. IfCalled g)) z (walk-called-65 cs object p u f (subst Regular (sym z) w) (subst Shaped (sym z) g))
       go false q =
-          after-weaken (walk (field t x cs) e object p u) _ (λ g v. IfCalled g) (λ h v k l z. none-some (sym (k ∙ none_after e (field t x cs) u (eqb-false t 0x65 q)) ∙ z))
+          after-weaken (walk (field t x cs) e object p u) _ (λ g v. IfCalled g) (λ h v k l z. none-some (sym (k ∙ none-after e (field t x cs) u (eqb-false t 0x65 q)) ∙ z))
           (walk-required e (field t x cs) object p u w)
 
 -- ---- What stands behind the pattern
 
-all_one : (b : Bool) (e : Setting) (f : Field) (p : ℕ) (s : State) → walk_all (more f none) e b p s ≡ onto (walk f e b p s) (λ r. done (more r.0 none, r.1))
+all-one : (b : Bool) (e : Setting) (f : Field) (p : ℕ) (s : State) → walk_all (more f none) e b p s ≡ onto (walk f e b p s) (λ r. done (more r.0 none, r.1))
 unfolding walk
-all_one b e f p s = refl
+all-one b e f p s = refl
 
-encodes_one : (f : Field) → encodes (more f none) ≡ encode f
-encodes_one f = encodes_more f none ∙ ap (λ (l : List ℕ). encode f ++ l) encodes-none ∙ append-nil (encode f)
+encodes-one : (f : Field) → encodes (more f none) ≡ encode f
+encodes-one f = encodes-more f none ∙ ap (λ (l : List ℕ). encode f ++ l) encodes-none ∙ append-nil (encode f)
 
 initialised-more : (e : Setting) (q i : Field) (rest : Fields) (p : ℕ) (u : State) →
     initialised e q (more i rest) p u ≡ onto (require_lazily (required e i) e q i p u) (λ j. done (more j.0 rest, j.1))
@@ -119,28 +119,28 @@ module _ (object : Bool) (s : List ℕ) (bytes : Bytes s) (at end p pattern : �
   behind-over x g =
       steps-give encodes _ (λ y. behind y.setting object s at end p q) none g refl
       (λ y u w. ap (λ (fs : Fields). onto (walk_all fs y.setting object at u) (λ b. initialised y.setting q b.0 p b.1)) (row-none s at end le x)
-      ∙ ap (λ (m : Outcome (Fields × State)). onto m (λ b. initialised y.setting q b.0 p b.1)) (all_none object y.setting at u))
+      ∙ ap (λ (m : Outcome (Fields × State)). onto m (λ b. initialised y.setting q b.0 p b.1)) (all-none object y.setting at u))
 
   module _ (stop : ℕ) (x : extent_at s at end ≡ Upto stop) where
     -- what is known of the walked initialiser
     abbrev Known : Setting → State → Fields → Type 0
     Known e u ds = (i : Field) × (rest : Fields) × (ds ≡ more i rest) × (required e i ≡ required_after e (tree_at s at stop) u) × IfCalled e i
 
-    known_more : (e : Setting) (f : Field) (fs : Fields) (u : State) → After (walk f e object at u) (λ g v. (required e g ≡ required_after e f u) × IfCalled e g) →
+    known-more : (e : Setting) (f : Field) (fs : Fields) (u : State) → After (walk f e object at u) (λ g v. (required e g ≡ required_after e f u) × IfCalled e g) →
         After (walk_all (more f fs) e object at u) (λ ds v. (i : Field) × (rest : Fields) × (ds ≡ more i rest) × (required e i ≡ required_after e f u) × IfCalled e i)
     unfolding walk
-    known_more e f fs u h =
+    known-more e f fs u h =
         after-bind (walk f e object at u) _ _ _ h λ i v k.
-        after-bind (walk_all fs e object (at + size f) v) _ (λ _ _. Unit {0}) _ (after_any (walk_all fs e object (at + size f) v)) λ rest w _. (i, rest, refl, k.0, k.1)
+        after-bind (walk_all fs e object (at + size f) v) _ (λ _ _. Unit {0}) _ (after-any (walk_all fs e object (at + size f) v)) λ rest w _. (i, rest, refl, k.0, k.1)
 
     known : (e : Setting) (u : State) → FourBytes u → SoundAll s at end → After (walk_all (row_at s at end) e object at u) (λ ds v. Known e u ds)
     known e u f w =
-        let z = row_more s at end stop le x in
+        let z = row-more s at end stop le x in
         let g = sound_all-first le w x in
         let h = subst (λ (fs : Fields). ShapedAll fs w.rule) z (sound-shaped bytes le w) in
         subst (λ (fs : Fields). After (walk_all fs e object at u) (λ ds v. Known e u ds)) (sym z)
-        (known_more e (tree_at s at stop) (row_at s stop end) u
-        (after_both (walk (tree_at s at stop) e object at u) _ _ (walk-required e (tree_at s at stop) object at u g.regular)
+        (known-more e (tree_at s at stop) (row_at s stop end) u
+        (after-both (walk (tree_at s at stop) e object at u) _ _ (walk-required e (tree_at s at stop) object at u g.regular)
         (walk-called e (tree_at s at stop) object at u f g.regular h.2 (call-bare s at stop (read-inside g.read).0))))
 
     -- it does not meet the require conditions
@@ -157,13 +157,13 @@ module _ (object : Bool) (s : List ℕ) (bytes : Bytes s) (at end p pattern : �
         Steps encodes (λ y u. SoundAll s at end × Reads y s × Sole s at end) (λ y. walk_all (row_at s at end) y.setting object at) t out o t' out' k
     sole-row m =
         steps-as _
-        (steps_map encode encodes (λ f. more f none) (λ y u. SoundAll s at end × Reads y s × Sole s at end) m (λ y u w. (sound_all-first le w.0 x, w.1))
-        (λ y u w f v z. encodes_one f))
+        (steps-map encode encodes (λ f. more f none) (λ y u. SoundAll s at end × Reads y s × Sole s at end) m (λ y u w. (sound_all-first le w.0 x, w.1))
+        (λ y u w f v z. encodes-one f))
         (λ y u w. (
           w,
-          ap (λ (fs : Fields). walk_all fs y.setting object at u) (row_more s at end stop le x)
+          ap (λ (fs : Fields). walk_all fs y.setting object at u) (row-more s at end stop le x)
               ∙ ap (λ (fs : Fields). walk_all (more (tree_at s at stop) fs) y.setting object at u) (row-none s stop end (extent-upto s at end le x).1 (w.2 stop x))
-              ∙ all_one object y.setting (tree_at s at stop) at u,
+              ∙ all-one object y.setting (tree_at s at stop) at u,
         ))
 
     pub behind-plain : {t out t' out' : List ℕ} {o : ℕ} {k : Step} {r : Source} → RequiredIs (λ e. required_after e (tree_at s at stop)) s t r → r ≡ Other →
@@ -183,7 +183,7 @@ module _ (object : Bool) (s : List ℕ) (bytes : Bytes s) (at end p pattern : �
         record {
           good = m.good;
           size = m.size;
-          made = λ i z u w k. done_refused z refl;
+          made = λ i z u w k. done-refused z refl;
           turned = λ j i z {x = y} u w k.
               ap (λ (d : Outcome (Fields × State)). onto d (λ b. initialised y.setting q b.0 p b.1)) ((sole-row m).turned j i z u w (k.0, k.1, k.3));
         }
@@ -201,22 +201,22 @@ module _ (object : Bool) (s : List ℕ) (bytes : Bytes s) (at end p pattern : �
               let d = (sole-row m).made r refl u w (k.0, k.1, k.3) in
               let f = after-done (walk_all (row_at s at end) y.setting object at u) (λ ds v. Known y.setting u ds) (d.value, d.state) d.is
               (known y.setting u (four-shown w) k.0) in
-              let v = source_is told c y u w k.1 in
+              let v = source-is told c y u w k.1 in
               let l : required y.setting f.0 ≡ some (literal_by y n) = f.3 ∙ v.0 in
               let g = a.made i z d.state d.shows (k.2, v.1) out f.0 (encodes f.1) (f.4 (literal_by y n) l)
-              (wrote_as d.wrote (ap encodes f.2 ∙ encodes_more f.0 f.1)) in
+              (wrote-as d.wrote (ap encodes f.2 ∙ encodes-more f.0 f.1)) in
               record {
                 value = more g.value f.1;
                 state = g.state;
                 is = joined y u d.value d.state f.0 f.1 d.is f.2 l ∙ ap (λ (b : Outcome (Field × State)). onto b (λ j. done (more j.0 f.1, j.1))) g.is;
-                wrote = wrote_as g.wrote (sym (encodes_more g.value f.1));
+                wrote = wrote-as g.wrote (sym (encodes-more g.value f.1));
                 shows = g.shows;
               };
           turned = λ j i z {x = y} u w k.
               let d = (sole-row m).made r refl u w (k.0, k.1, k.3) in
               let f = after-done (walk_all (row_at s at end) y.setting object at u) (λ ds v. Known y.setting u ds) (d.value, d.state) d.is
               (known y.setting u (four-shown w) k.0) in
-              let v = source_is told c y u w k.1 in
+              let v = source-is told c y u w k.1 in
               joined y u d.value d.state f.0 f.1 d.is f.2 (f.3 ∙ v.0)
               ∙ ap (λ (b : Outcome (Field × State)). onto b (λ j. done (more j.0 f.1, j.1))) (a.turned j i z d.state d.shows (k.2, v.1) f.0);
         }
@@ -255,7 +255,7 @@ module _ (object : Bool) (s : List ℕ) (bytes : Bytes s) (at end p : ℕ) (le :
   declared-over x g =
       steps-give encodes _ (λ y. declared y.setting object s at end p) none g refl
       (λ y u w. ap (λ (fs : Fields). onto (walk_all fs y.setting object at u) (λ b. declarator y.setting b.0 p b.1)) (row-none s at end le x)
-      ∙ ap (λ (m : Outcome (Fields × State)). onto m (λ b. declarator y.setting b.0 p b.1)) (all_none object y.setting at u))
+      ∙ ap (λ (m : Outcome (Fields × State)). onto m (λ b. declarator y.setting b.0 p b.1)) (all-none object y.setting at u))
 
   module _ (stop : ℕ) (x : extent_at s at end ≡ Upto stop) where
     split-here : SoundAll s at end → (y : Env) (u : State) →
@@ -265,8 +265,8 @@ module _ (object : Bool) (s : List ℕ) (bytes : Bytes s) (at end p : ℕ) (le :
         let i = read-inside (sound_all-first le w x).read in
         let n = read-size (sound_all-first le w x).read bytes in
         let z : at + size (tree_at s at stop) ≡ stop = omega arith in
-        ap (λ (fs : Fields). onto (walk_all fs y.setting object at u) (λ r. declarator y.setting r.0 p r.1)) (row_more s at end stop le x)
-        ∙ ap (λ (m : Outcome (Fields × State)). onto m (λ r. declarator y.setting r.0 p r.1)) (all_more object y (tree_at s at stop) (row_at s stop end) at u)
+        ap (λ (fs : Fields). onto (walk_all fs y.setting object at u) (λ r. declarator y.setting r.0 p r.1)) (row-more s at end stop le x)
+        ∙ ap (λ (m : Outcome (Fields × State)). onto m (λ r. declarator y.setting r.0 p r.1)) (all-more object y (tree_at s at stop) (row_at s stop end) at u)
         ∙ ap (λ (k : ℕ). onto (pair_of more (λ v. walk (tree_at s at stop) v.setting object at) (λ _ v. walk_all (row_at s stop end) v.setting object k) y u)
         (λ r. declarator y.setting r.0 p r.1)) z
         ∙ go y.setting (walk (tree_at s at stop) y.setting object at u)
@@ -288,7 +288,7 @@ module _ (object : Bool) (s : List ℕ) (bytes : Bytes s) (at end p : ℕ) (le :
         Steps encodes (λ y u. Declares s at end y) (λ y. declared y.setting object s at end p) t out o t2 out2 k
     declared-then pos one rest =
         steps-as (λ y. declared y.setting object s at end p)
-        (steps-pair encode encodes encodes more encodes_more (λ y u. Declares s at end y) (λ q y. behind y.setting object s stop end p q) one rest (field 0 [] none)
+        (steps-pair encode encodes encodes more encodes-more (λ y u. Declares s at end y) (λ q y. behind y.setting object s stop end p q) one rest (field 0 [] none)
         (λ y u w. (sound_all-first le w.0 x, w.1))
         (λ y u w q v z.
         let g = sound_all-first le w.0 x in
@@ -300,6 +300,6 @@ module _ (object : Bool) (s : List ℕ) (bytes : Bytes s) (at end p : ℕ) (le :
         Steps encodes (λ y u. Declares s at end y) (λ y. declared y.setting object s at end p) t out o t1 out1 (Refused v r)
     declared-turned one =
         steps-as (λ y. declared y.setting object s at end p)
-        (steps-turned encode encodes encodes more encodes_more (λ y u. Declares s at end y)
+        (steps-turned encode encodes encodes more encodes-more (λ y u. Declares s at end y)
         (λ q y. behind y.setting object s stop end p q) one (λ y u w. (sound_all-first le w.0 x, w.1)))
         (λ y u w. (w, split-here w.0 y u))

@@ -33,29 +33,29 @@ use Rattle.steps.specs.declared.Step.{Step}
 use Rattle.steps.specs.declared.Step.TheVariants.{Done, Refused}
 use Rattle.steps.specs.declared.Why.{Why}
 use Rattle.steps.specs.Step.{Reads, Sound, Steps}
-use Rattle.steps.proofs.SoundLaws.{read_short, read-inside}
-use Rattle.steps.proofs.StepsLaws.{steps-done, steps-never, steps-by, steps-write, then_of, steps_then, steps-then-turned}
+use Rattle.steps.proofs.SoundLaws.{read-short, read-inside}
+use Rattle.steps.proofs.StepsLaws.{steps-done, steps-never, steps-by, steps-write, then_of, steps-then, steps-then-turned}
 use Rattle.walking.specs.Walking.{FieldSteps, InPass, forced_by, ForcedFirst}
 use Rattle.walking.proofs.TagLaws.{around, walk-60, walk-63, first-63, ident-by}
 use Rattle.walking.proofs.ChainLaws.{ident-walks, member-stays}
 use Rattle.walking.proofs.UsedLaws.{usage-walked}
 
 -- what is told, by what it is
-pub tells_as : {A : Type 0} {f : State → A} {t : List ℕ} {a b : A} → Tells f t a → a ≡ b → Tells f t b
-tells_as m e = record { is = λ u w. sym e ∙ m.is u w }
+pub tells-as : {A : Type 0} {f : State → A} {t : List ℕ} {a b : A} → Tells f t a → a ≡ b → Tells f t b
+tells-as m e = record { is = λ u w. sym e ∙ m.is u w }
 
 -- ---- The pass
 
-by_flag : (k : Pass) (b : Bool) → b ≡ is_second k → k ≡ cond b second first
-by_flag first b e = ap (λ (z : Bool). cond z second first) (sym e)
-by_flag second b e = ap (λ (z : Bool). cond z second first) (sym e)
+by-flag : (k : Pass) (b : Bool) → b ≡ is_second k → k ≡ cond b second first
+by-flag first b e = ap (λ (z : Bool). cond z second first) (sym e)
+by-flag second b e = ap (λ (z : Bool). cond z second first) (sym e)
 
 module _ {t : List ℕ} {b : Bool} (m : Says (λ e. is_second e.pass) t b) where
   pub pass-second : b ≡ true → InPass second t
-  pass-second e x u w = by_flag x.setting.pass b (m.is u w) ∙ ap (λ (z : Bool). cond z second first) e
+  pass-second e x u w = by-flag x.setting.pass b (m.is u w) ∙ ap (λ (z : Bool). cond z second first) e
 
   pub pass-first : b ≡ false → InPass first t
-  pass-first e x u w = by_flag x.setting.pass b (m.is u w) ∙ ap (λ (z : Bool). cond z second first) e
+  pass-first e x u w = by-flag x.setting.pass b (m.is u w) ∙ ap (λ (z : Bool). cond z second first) e
 
 -- ---- A 60
 
@@ -66,7 +66,7 @@ module _ (s : List ℕ) (at from stop : ℕ) (x : fixed_at s (get_or s at 0) (at
       let r = subst Regular z w.regular in
       let b : from ≡ at + 3 + 6 = plain-ends 0x60 id-value refl s (get_or s at 0) (at + 3) stop from q x in
       z ∙ ap (λ (n : ℕ). field n (slice (at + 3) from s) (row_at s from stop)) q
-      ∙ ap (λ (fs : Fields). field 0x60 (slice (at + 3) from s) fs) (r.0.ident-bare q) ∙ ap (λ (n : ℕ). field 0x60 (slice (at + 3) n s) none) b
+      ∙ ap (λ (fs : Fields). field 0x60 (slice (at + 3) from s) fs) (r.0.ident_bare q) ∙ ap (λ (n : ℕ). field 0x60 (slice (at + 3) n s) none) b
 
   -- the walk of this 60 in a pass
   ident-walk : (e : Setting) (k : Pass) (object : Bool) (id : Id) (u : State) → e.pass ≡ k → id_by id ≡ id_at s (at + 3) → Sound s at stop →
@@ -95,7 +95,7 @@ pub ident-short : (s : List ℕ) (at stop : ℕ) (act : Env → Act Field) {t ou
 ident-short s at stop act k q h g = steps-never encode _ act k g (λ y u w. go w.0 (fixed_at s (get_or s at 0) (at + 3) stop) refl)
   where
     go : Sound s at stop → (r : Reach) → fixed_at s (get_or s at 0) (at + 3) stop ≡ r → ⊥
-    go w Short e = read_short w.read e
+    go w Short e = read-short w.read e
     go w (Upto b) e =
         let z = plain-ends 0x60 id-value refl s (get_or s at 0) (at + 3) stop b q e in
         let i = upto-in s (get_or s at 0) (at + 3) stop (read-inside w.read).0 e in
@@ -163,7 +163,7 @@ module _ (object : Bool) (s : List ℕ) (at stop : ℕ) (h : at + 3 ≤ stop) (q
       let r = subst Regular z w.regular in
       ap (λ (f : Field). walk f y.setting object at u) z ∙ walk-63 y.setting [] (row_at s (at + 3) stop) object at u
       ∙ go (walk_member (row_at s (at + 3) stop) y.setting (inside at []) u)
-      (usage-walked y.setting one [] (row_at s (at + 3) stop) at (inside at []) u (r.0.member-two refl) r.1)
+      (usage-walked y.setting one [] (row_at s (at + 3) stop) at (inside at []) u (r.0.member_two refl) r.1)
       ∙ sym (ap (λ (m : Outcome (Field × State)). onto m (λ a. onto (usage (on_ident (tree_at s at stop)) y.setting at a.1) (λ b. done (a.0, b.1)))) (target-63 y.setting u)
       ∙ ap (λ (f : Field). onto (around 0x63 [] (walk_member (row_at s (at + 3) stop) y.setting (inside at [])) u)
       (λ a. onto (usage (on_ident f) y.setting at a.1) (λ b. done (a.0, b.1)))) z)
@@ -183,7 +183,7 @@ module _ (object : Bool) (s : List ℕ) (at stop : ℕ) (h : at + 3 ≤ stop) (q
         Steps (λ _. []) (λ y u. Sound s at stop) (λ y. usage (on_ident (tree_at s at stop)) y.setting at) t1 out1 p t2 out1 k →
         FieldSteps s at stop (λ y. walk (tree_at s at stop) y.setting object at) t out o t2 out1 k
     member-used m n =
-        steps-by _ (steps_then encode (field 0 [] none) (λ y u. Sound s at stop × Reads y s) m n (λ y u w. w) (λ y u w a v z. w.0))
+        steps-by _ (steps-then encode (field 0 [] none) (λ y u. Sound s at stop × Reads y s) m n (λ y u w. w) (λ y u w a v z. w.0))
         (λ y u w k. (k, walk-used y (one y u w) k.0 u))
 
     pub member-turned : {r : ℕ} {v : Why} → FieldSteps s at stop (λ y. walk_target (tree_at s at stop) y.setting at) t out o t1 out1 (Refused v r) →

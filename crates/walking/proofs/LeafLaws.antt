@@ -18,11 +18,11 @@ use Rattle.tree.specs.Grammar.{within, parts0, rule_of, step_at}
 use Rattle.tree.specs.Access.{fixed_at, extent_at}
 use Rattle.tree.specs.Standing.{tree_at, row_at}
 use Rattle.tree.proofs.AccessLaws.{extent-upto, upto-in}
-use Rattle.tree.proofs.GrammarLaws.{no_step}
-use Rattle.tree.proofs.StandingLaws.{row_more, row-none, tree-upto, row-cases}
+use Rattle.tree.proofs.GrammarLaws.{no-step}
+use Rattle.tree.proofs.StandingLaws.{row-more, row-none, tree-upto, row-cases}
 use Rattle.tree.proofs.WidthLaws.{plain-ends, bare-upto, tree-bare}
 use Rattle.writer.specs.Wrote.{Wrote}
-use Rattle.writer.proofs.Wrote.{wrote_as}
+use Rattle.writer.proofs.Wrote.{wrote-as}
 use Rattle.inputs.specs.Outcome.{Outcome, done, onto}
 use Rattle.inputs.specs.Fields.{inside}
 use Rattle.extraction_rules.specs.State.{State, Pass, first, second, Setting, Act}
@@ -32,14 +32,14 @@ use Rattle.expressions.proofs.IdentLaws.{walk-70}
 use Rattle.state.specs.Cells.{Env, Good, Shows}
 use Rattle.steps.specs.declared.Step.TheVariants.{Done}
 use Rattle.steps.specs.Step.{Sound, SoundAll}
-use Rattle.steps.proofs.SoundLaws.{read_short, read-inside, read-parts, read-bytes, sound-parts, sound_all-first, sound_all-rest}
+use Rattle.steps.proofs.SoundLaws.{read-short, read-inside, read-parts, read-bytes, sound-parts, sound_all-first, sound_all-rest}
 use Rattle.steps.proofs.StepsLaws.{steps-done}
 use Rattle.walking.specs.declared.Way.{Way}
 use Rattle.walking.specs.declared.Way.TheVariants.{Member}
 use Rattle.walking.specs.Walking.{FieldSteps, row_by, node_by, NameIs, forced_by}
 use Rattle.walking.proofs.TagLaws.{walk-60, ident-by}
 use Rattle.walking.proofs.RowLaws.{by-none}
-use Rattle.walking.proofs.NodeLaws.{none_left}
+use Rattle.walking.proofs.NodeLaws.{none-left}
 use Rattle.walking.proofs.ExpressionLaws.{ident-tree}
 
 -- a field that a rule leaves as it is, with the state
@@ -50,7 +50,7 @@ as-stands rule {s} {at} {stop} bytes g v h =
       value = tree_at s at stop;
       state = u;
       is = h y u w k.0;
-      wrote = wrote_as v (sym (read-bytes k.0.read bytes));
+      wrote = wrote-as v (sym (read-bytes k.0.read bytes));
       shows = w;
     })
 
@@ -68,7 +68,7 @@ pub node-leaf : (way : Way) (s : List ℕ) (bytes : Bytes s) (at from stop : ℕ
 node-leaf way s bytes at from stop x z g v =
     as-stands (λ y. node_by way (tree_at s at stop) y.setting at) bytes g v (λ y u _ w.
     node-none way y.setting at u (tree_at s at stop)
-    (ap parts_of (tree-upto s at stop from x) ∙ ap (λ (n : ℕ). row_at s n stop) z ∙ row-none s stop stop (omega arith) (none_left s stop)))
+    (ap parts_of (tree-upto s at stop from x) ∙ ap (λ (n : ℕ). row_at s n stop) z ∙ row-none s stop stop (omega arith) (none-left s stop)))
 
 -- ---- A name of an identifier
 
@@ -79,13 +79,13 @@ object-stays second x u = refl
 
 ident-stays : (e : Setting) (o : Field) (p : ℕ) (u : State) → Regular o → tag_of o ≡ 0x60 → walk o e true p u ≡ done (o, u)
 ident-stays e (field t x cs) p u w k =
-    let z : field t x cs ≡ field 0x60 x none = cc (k, w.0.ident-bare k) in
+    let z : field t x cs ≡ field 0x60 x none = cc (k, w.0.ident_bare k) in
     ap (λ (f : Field). walk f e true p u) z ∙ walk-60 e x true p u ∙ ident-by e.pass e x true p u
     ∙ ap (λ (v : State). done (field 0x60 x none, v)) (object-stays e.pass x u) ∙ ap (λ (f : Field). done (f, u)) (sym z)
 
 name-stays : (e : Setting) (q : Field) (p : ℕ) (u : State) → Regular q → tag_of q ≡ 0x70 → walk q e false p u ≡ done (q, u)
 name-stays e (field t x cs) p u w k =
-    let z : field t x cs ≡ field 0x70 x none = cc (k, w.0.name-bare k) in
+    let z : field t x cs ≡ field 0x70 x none = cc (k, w.0.name_bare k) in
     ap (λ (f : Field). walk f e false p u) z ∙ walk-70 e x false p u ∙ ap (λ (f : Field). done (f, u)) (sym z)
 
 pub both-stay : (e : Setting) (o q : Field) (p : ℕ) (u : State) → Regular o → Regular q → tag_of o ≡ 0x60 → tag_of q ≡ 0x70 →
@@ -102,77 +102,77 @@ ident-ends : (s : List ℕ) (at stop : ℕ) → Sound s at stop → get_or s at 
 ident-ends s at stop w q = go (fixed_at s (get_or s at 0) (at + 3) stop) refl
   where
     go : (r : Reach) → fixed_at s (get_or s at 0) (at + 3) stop ≡ r → at + 9 ≡ stop
-    go Short e = read_short w.read e
+    go Short e = read-short w.read e
     go (Upto b) e =
         let z = plain-ends 0x60 id-value refl s (get_or s at 0) (at + 3) stop b q e in
         let i = upto-in s (get_or s at 0) (at + 3) stop (read-inside w.read).0 e in
         ⊎_elim (λ d. let n = d.0 in omega arith)
-        (λ f. absurd (no_step (get_or s b 0) (subst (λ (r : Rule). step_at r (get_or s b 0) ≡ Go f.0) (ap rule_of q ∙ ident-rule) f.2)))
+        (λ f. absurd (no-step (get_or s b 0) (subst (λ (r : Rule). step_at r (get_or s b 0) ≡ Go f.0) (ap rule_of q ∙ ident-rule) f.2)))
         (row-cases s b stop (rule_of (get_or s at 0)) i.1 (read-parts w.read e))
 
-ident-whole : (s : List ℕ) (at stop : ℕ) → Sound s at stop → get_or s at 0 ≡ 0x60 → tree_at s at stop ≡ field 0x60 (id_at s (at + 3)) none
-ident-whole s at stop w q = go (fixed_at s (get_or s at 0) (at + 3) stop) refl
+ident_whole : (s : List ℕ) (at stop : ℕ) → Sound s at stop → get_or s at 0 ≡ 0x60 → tree_at s at stop ≡ field 0x60 (id_at s (at + 3)) none
+ident_whole s at stop w q = go (fixed_at s (get_or s at 0) (at + 3) stop) refl
   where
     go : (r : Reach) → fixed_at s (get_or s at 0) (at + 3) stop ≡ r → tree_at s at stop ≡ field 0x60 (id_at s (at + 3)) none
-    go Short e = read_short w.read e
+    go Short e = read-short w.read e
     go (Upto b) e = ident-tree s at b stop e q w
 
 name-whole : (s : List ℕ) (at stop : ℕ) → Sound s at stop → get_or s at 0 ≡ 0x70 → tree_at s at stop ≡ field 0x70 (atom_at s (at + 3)) none
 name-whole s at stop w q = go (fixed_at s (get_or s at 0) (at + 3) stop) refl
   where
     go : (r : Reach) → fixed_at s (get_or s at 0) (at + 3) stop ≡ r → tree_at s at stop ≡ field 0x70 (atom_at s (at + 3)) none
-    go Short e = read_short w.read e
+    go Short e = read-short w.read e
     go (Upto b) e =
         let z = tree-upto s at stop b e in
         let r = subst Regular z w.regular in
         let d : b ≡ at + 3 + 2 = plain-ends 0x70 atom-value refl s (get_or s at 0) (at + 3) stop b q e in
         z ∙ ap (λ (n : ℕ). field n (slice (at + 3) b s) (row_at s b stop)) q
-        ∙ ap (λ (fs : Fields). field 0x70 (slice (at + 3) b s) fs) (r.0.name-bare q) ∙ ap (λ (n : ℕ). field 0x70 (slice (at + 3) n s) none) d
+        ∙ ap (λ (fs : Fields). field 0x70 (slice (at + 3) b s) fs) (r.0.name_bare q) ∙ ap (λ (n : ℕ). field 0x70 (slice (at + 3) n s) none) d
 
 -- its parts
 pub record Named (s : List ℕ) (at stop : ℕ) : Type 0 where
   pub object : Field
   pub name : Field
   pub row : row_at s (at + 3) stop ≡ more object (more name none)
-  pub object-regular : Regular object
-  pub name-regular : Regular name
-  pub object-is : object ≡ field 0x60 (id_at s (at + 6)) none
-  pub name-is : name ≡ field 0x70 (atom_at s (at + 15)) none
+  pub object_regular : Regular object
+  pub name_regular : Regular name
+  pub object_is : object ≡ field 0x60 (id_at s (at + 6)) none
+  pub name_is : name ≡ field 0x70 (atom_at s (at + 15)) none
 
 pub named : (s : List ℕ) (at stop : ℕ) → at + 3 ≤ stop → Sound s at stop → NameIs s at true → Named s at stop
 named s at stop h w (a, b, c, _) = go (extent_at s (at + 3) stop) refl
   where
     two : Two (row_at s (at + 3) stop)
-    two = (subst Regular (tree-bare 0x63 refl s at stop h a) w.regular).0.member-two refl
+    two = (subst Regular (tree-bare 0x63 refl s at stop h a) w.regular).0.member_two refl
 
     all : SoundAll s (at + 3) stop
     all = sound-parts w (bare-upto 0x63 refl s (get_or s at 0) (at + 3) stop a h)
 
-    second_at : (m : ℕ) → extent_at s (at + 3) stop ≡ Upto m → (r : Reach) → extent_at s m stop ≡ r → Named s at stop
-    second_at m e Short e2 =
+    second-at : (m : ℕ) → extent_at s (at + 3) stop ≡ Upto m → (r : Reach) → extent_at s m stop ≡ r → Named s at stop
+    second-at m e Short e2 =
         let i = extent-upto s (at + 3) stop h e in
         let x = two.2 in
-        let y = row_more s (at + 3) stop m h e in
+        let y = row-more s (at + 3) stop m h e in
         let z = row-none s m stop i.1 e2 in
         absurd (let n : ◌≡◌ {A = ℕ} 0 1 = cc in omega arith)
-    second_at m e (Upto k) e2 =
+    second-at m e (Upto k) e2 =
         let i = extent-upto s (at + 3) stop h e in
         let f = sound_all-first h all e in
         let g = sound_all-first i.1 (sound_all-rest h all e) e2 in
         let n = ident-ends s (at + 3) m f b in
         let l : m ≡ at + 12 = omega arith in
         let x = two.2 in
-        let y = row_more s (at + 3) stop m h e in
-        let z = row_more s m stop k i.1 e2 in
+        let y = row-more s (at + 3) stop m h e in
+        let z = row-more s m stop k i.1 e2 in
         let r : row_at s k stop ≡ none = cc in
         record {
           object = tree_at s (at + 3) m;
           name = tree_at s m k;
           row = y ∙ ap (more (tree_at s (at + 3) m)) (z ∙ ap (more (tree_at s m k)) r);
-          object-regular = f.regular;
-          name-regular = g.regular;
-          object-is = let j : at + 3 + 3 ≡ at + 6 = omega arith in ident-whole s (at + 3) m f b ∙ ap (λ (d : ℕ). field 0x60 (id_at s d) none) j;
-          name-is =
+          object_regular = f.regular;
+          name_regular = g.regular;
+          object_is = let j : at + 3 + 3 ≡ at + 6 = omega arith in ident_whole s (at + 3) m f b ∙ ap (λ (d : ℕ). field 0x60 (id_at s d) none) j;
+          name_is =
               let j : m + 3 ≡ at + 15 = omega arith in
               name-whole s m k g (ap (λ (d : ℕ). get_or s d 0) l ∙ c) ∙ ap (λ (d : ℕ). field 0x70 (atom_at s d) none) j;
         }
@@ -182,7 +182,7 @@ named s at stop h w (a, b, c, _) = go (extent_at s (at + 3) stop) refl
         let x = two.2 in
         let y = row-none s (at + 3) stop h e in
         absurd (let n : ◌≡◌ {A = ℕ} 0 1 = cc in omega arith)
-    go (Upto m) e = second_at m e (extent_at s m stop) refl
+    go (Upto m) e = second-at m e (extent_at s m stop) refl
 
 member-stays : (e : Setting) (s : List ℕ) (at stop : ℕ) (u : State) → at + 3 ≤ stop → get_or s at 0 ≡ 0x63 → Named s at stop →
     node_by Member (tree_at s at stop) e at u ≡ done (tree_at s at stop, u)
@@ -191,7 +191,7 @@ member-stays e s at stop u h a d =
     let z = tree-bare 0x63 refl s at stop h a ∙ ap (field 0x63 []) d.row in
     ap (λ (f : Field). node_by Member f e at u) z
     ∙ ap (λ (m : Outcome (Fields × State)). onto m (λ r. done (field 0x63 [] r.0, r.1)))
-    (both-stay e d.object d.name (inside at []) u d.object-regular d.name-regular (ap tag_of d.object-is) (ap tag_of d.name-is))
+    (both-stay e d.object d.name (inside at []) u d.object_regular d.name_regular (ap tag_of d.object_is) (ap tag_of d.name_is))
     ∙ ap (λ (f : Field). done (f, u)) (sym z)
 
 pub node-name : (s : List ℕ) (bytes : Bytes s) (at stop : ℕ) {t out out' : List ℕ} {o p : ℕ} → at + 3 ≤ stop → NameIs s at true → Good t → Wrote out o (slice at stop s) out' p →

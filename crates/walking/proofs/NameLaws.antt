@@ -72,8 +72,8 @@ module _ (s : List ℕ) (bytes : Bytes s) (at stop : ℕ) (h : at + 3 ≤ stop) 
   name-tree w =
       let d = named s at stop h w n in
       tree-bare 0x63 refl s at stop h n.0 ∙ ap (field 0x63 []) d.row
-      ∙ ap (λ (f : Field). field 0x63 [] (more f (more d.name none))) (d.object-is ∙ ap (λ (x : List ℕ). field 0x60 x none) (sym i))
-      ∙ ap (λ (f : Field). field 0x63 [] (more (field 0x60 (id_by id) none) (more f none))) d.name-is
+      ∙ ap (λ (f : Field). field 0x63 [] (more f (more d.name none))) (d.object_is ∙ ap (λ (x : List ℕ). field 0x60 x none) (sym i))
+      ∙ ap (λ (f : Field). field 0x63 [] (more (field 0x60 (id_by id) none) (more f none))) d.name_is
 
   module _ {t : List ℕ} (g : Good t) where
     -- in the second pass it stays
@@ -88,7 +88,7 @@ module _ (s : List ℕ) (bytes : Bytes s) (at stop : ℕ) (h : at + 3 ≤ stop) 
         ∙ member-stays y.setting (two y u r) [] (more d.object (more d.name none)) object at u (subst Regular z w.regular)
         (ap (λ (f : Field). ident_after f second u) (sym z ∙ name-tree w) ∙ k y u w r)
         ∙ ap (λ (m : Outcome (Fields × State)). onto m (λ r. done (field 0x63 [] r.0, r.1)))
-        (both-stay y.setting d.object d.name (inside at []) u d.object-regular d.name-regular (ap tag_of d.object-is) (ap tag_of d.name-is))
+        (both-stay y.setting d.object d.name (inside at []) u d.object_regular d.name_regular (ap tag_of d.object_is) (ap tag_of d.name_is))
         ∙ ap (λ (f : Field). done (f, u)) (sym z))
 
     pub name-unused : (object : Bool) {b : Bool} {out out' : List ℕ} {o p : ℕ} → InPass second t → Tells (λ u. any (usages_of (id_by id) u.usages)) t b → b ≡ false →

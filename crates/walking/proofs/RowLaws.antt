@@ -11,8 +11,8 @@ use Rattle.tree.specs.Tree.{Field, field, Fields, none, more, encode, encodes, s
 use Rattle.tree.specs.Access.{extent_at}
 use Rattle.tree.specs.Standing.{tree_at, row_at}
 use Rattle.tree.proofs.AccessLaws.{extent-upto}
-use Rattle.tree.proofs.StandingLaws.{row_more, row-none}
-use Rattle.tree.proofs.TreeLaws.{encodes-none, encodes_more}
+use Rattle.tree.proofs.StandingLaws.{row-more, row-none}
+use Rattle.tree.proofs.TreeLaws.{encodes-none, encodes-more}
 use Rattle.inputs.specs.Outcome.{done}
 use Rattle.extraction_rules.specs.State.{State, Setting, Act}
 use Rattle.extraction_rules.specs.Walk.{walk, walk_all, walk_target}
@@ -29,14 +29,14 @@ use Rattle.walking.specs.Walking.{FieldSteps, RowSteps, first_by, others_by, row
 
 -- ---- Ways
 
-pub all_more : (b : Bool) (x : Env) (f : Field) (fs : Fields) (p : ℕ) (s : State) →
+pub all-more : (b : Bool) (x : Env) (f : Field) (fs : Fields) (p : ℕ) (s : State) →
     walk_all (more f fs) x.setting b p s ≡ pair_of more (λ y. walk f y.setting b p) (λ _ y. walk_all fs y.setting b (p + size f)) x s
 unfolding walk
-all_more b x f fs p s = refl
+all-more b x f fs p s = refl
 
-pub all_none : (b : Bool) (e : Setting) (p : ℕ) (s : State) → walk_all none e b p s ≡ done (none, s)
+pub all-none : (b : Bool) (e : Setting) (p : ℕ) (s : State) → walk_all none e b p s ≡ done (none, s)
 unfolding walk
-all_none b e p s = refl
+all-none b e p s = refl
 
 by-more : (w : Way) (x : Env) (f : Field) (fs : Fields) (p : ℕ) (s : State) →
     row_by w (more f fs) x.setting p s ≡ pair_of more (λ y. first_by w f y.setting p) (λ _ y. row_by (Children (others_by w)) fs y.setting (p + size f)) x s
@@ -57,10 +57,10 @@ pub first-child : {s : List ℕ} {at stop : ℕ} {w : Way} {b : Bool} {t out t' 
 unfolding first_by
 first-child {s} {at} {stop} e m = steps-as _ m (λ x u c. (c, ap (λ (w : Way). first_by w (tree_at s at stop) x.setting at u) e))
 
-pub first_member : {s : List ℕ} {at stop : ℕ} {w : Way} {t out t' out' : List ℕ} {o : ℕ} {k : Step} → w ≡ Member →
+pub first-member : {s : List ℕ} {at stop : ℕ} {w : Way} {t out t' out' : List ℕ} {o : ℕ} {k : Step} → w ≡ Member →
     FieldSteps s at stop (λ x. walk (tree_at s at stop) x.setting true at) t out o t' out' k → FieldSteps s at stop (λ x. first_by w (tree_at s at stop) x.setting at) t out o t' out' k
 unfolding first_by
-first_member {s} {at} {stop} e m = steps-as _ m (λ x u c. (c, ap (λ (w : Way). first_by w (tree_at s at stop) x.setting at u) e))
+first-member {s} {at} {stop} e m = steps-as _ m (λ x u c. (c, ap (λ (w : Way). first_by w (tree_at s at stop) x.setting at u) e))
 
 pub first-target : {s : List ℕ} {at stop : ℕ} {w : Way} {b : Bool} {t out t' out' : List ℕ} {o : ℕ} {k : Step} → w ≡ Assignment b →
     FieldSteps s at stop (λ x. walk_target (tree_at s at stop) x.setting at) t out o t' out' k → FieldSteps s at stop (λ x. first_by w (tree_at s at stop) x.setting at) t out o t' out' k
@@ -87,7 +87,7 @@ module _ (way : Way) {s : List ℕ} (bytes : Bytes s) {at end : ℕ} (le : at �
         let i = read-inside (sound_all-first le w x).read in
         let n = read-size (sound_all-first le w x).read bytes in
         let z : at + size (tree_at s at stop) ≡ stop = omega arith in
-        ap (λ (fs : Fields). row_by way fs y.setting at u) (row_more s at end stop le x) ∙ by-more way y (tree_at s at stop) (row_at s stop end) at u
+        ap (λ (fs : Fields). row_by way fs y.setting at u) (row-more s at end stop le x) ∙ by-more way y (tree_at s at stop) (row_at s stop end) at u
         ∙ ap (λ (p : ℕ). pair_of more (λ v. first_by way (tree_at s at stop) v.setting at) (λ _ v. row_by (Children (others_by way)) (row_at s stop end) v.setting p) y u) z
 
     -- the first field, then the rest
@@ -95,7 +95,7 @@ module _ (way : Way) {s : List ℕ} (bytes : Bytes s) {at end : ℕ} (le : at �
         RowSteps s stop end (rest_by way s stop end) t1 out1 p t2 out2 k → RowSteps s at end (λ y. row_by way (row_at s at end) y.setting at) t out o t2 out2 k
     row-then first others =
         steps-as (λ y. row_by way (row_at s at end) y.setting at)
-        (steps-pair encode encodes encodes more encodes_more (λ y u. SoundAll s at end × Reads y s) (λ _. rest_by way s stop end) first (λ _. others) (field 0 [] none)
+        (steps-pair encode encodes encodes more encodes-more (λ y u. SoundAll s at end × Reads y s) (λ _. rest_by way s stop end) first (λ _. others) (field 0 [] none)
         (λ y u w. (sound_all-first le w.0 x, w.1)) (λ y u w f v q. (sound_all-rest le w.0 x, w.1)))
         (λ y u w. (w, split-here w.0 y u))
 
@@ -103,7 +103,7 @@ module _ (way : Way) {s : List ℕ} (bytes : Bytes s) {at end : ℕ} (le : at �
         RowSteps s at end (λ y. row_by way (row_at s at end) y.setting at) t out o t1 out1 (Refused v q)
     row-turned first =
         steps-as (λ y. row_by way (row_at s at end) y.setting at)
-        (steps-turned encode encodes encodes more encodes_more (λ y u. SoundAll s at end × Reads y s) (λ _. rest_by way s stop end) first (λ y u w. (sound_all-first le w.0 x, w.1)))
+        (steps-turned encode encodes encodes more encodes-more (λ y u. SoundAll s at end × Reads y s) (λ _. rest_by way s stop end) first (λ y u w. (sound_all-first le w.0 x, w.1)))
         (λ y u w. (w, split-here w.0 y u))
 
 -- ---- A row in a loop
@@ -118,8 +118,8 @@ pub record Going (way : Way) (s : List ℕ) (from end : ℕ) (t₀ out₀ : List
   pub rest : (t' out' : List ℕ) (k : Step) → RowSteps s at end (λ x. row_by by (row_at s at end) x.setting at) t out to t' out' k →
       RowSteps s from end (λ x. row_by way (row_at s from end) x.setting from) t₀ out₀ o t' out' k
 
-pub going_start : {way : Way} {s : List ℕ} {from end : ℕ} {t out : List ℕ} {o : ℕ} → Good t → from ≤ end → Going way s from end t out o way t out from o
-going_start g le = record { good = g; kept = refl; size = refl; after = omega arith; inside = le; rest = λ t' out' k m. m }
+pub going-start : {way : Way} {s : List ℕ} {from end : ℕ} {t out : List ℕ} {o : ℕ} → Good t → from ≤ end → Going way s from end t out o way t out from o
+going-start g le = record { good = g; kept = refl; size = refl; after = omega arith; inside = le; rest = λ t' out' k m. m }
 
 module _ {way : Way} {s : List ℕ} {from end : ℕ} {t₀ out₀ : List ℕ} {o : ℕ} {by : Way} {t out : List ℕ} {at to : ℕ} (bytes : Bytes s)
     (g : Going way s from end t₀ out₀ o by t out at to) where
@@ -128,8 +128,8 @@ module _ {way : Way} {s : List ℕ} {from end : ℕ} {t₀ out₀ : List ℕ} {o
 
   module _ {stop : ℕ} (x : extent_at s at end ≡ Upto stop) {t1 out1 : List ℕ} {k : Step}
       (m : FieldSteps s at stop (λ y. first_by by (tree_at s at stop) y.setting at) t out to t1 out1 k) where
-    pub going_more : {p : ℕ} {b : Bool} → k ≡ Done p → b ≡ others_by by → length t1 ≡ length t → Going way s from end t₀ out₀ o (Children b) t1 out1 stop p
-    going_more {p} {b} z e n =
+    pub going-more : {p : ℕ} {b : Bool} → k ≡ Done p → b ≡ others_by by → length t1 ≡ length t → Going way s from end t₀ out₀ o (Children b) t1 out1 stop p
+    going-more {p} {b} z e n =
         let i = extent-upto s at end g.inside x in
         let a = g.after in
         record {

@@ -15,7 +15,7 @@ use Rattle.extraction_rules.specs.Second.{rewritten}
 use Rattle.extraction_rules.specs.Walk.{express, nothing as plain, after_expression, rule_for, after, Parts, super, assignment}
 use Rattle.extraction_rules.specs.Walk.{children, parts_for, enter, walk, walk_all, walk_member, walk_assignment, walk_target}
 use Rattle.extraction_rules.proofs.WalkLaws.{walk_parts, parts-children}
-use Rattle.extraction_rules.proofs.StayLaws.{no_member}
+use Rattle.extraction_rules.proofs.StayLaws.{no-member}
 use Rattle.expressions.proofs.RequiredLaws.{no-required}
 use Rattle.walking.specs.declared.Way.TheVariants.{Children, Member, Assignment}
 use Rattle.walking.specs.Walking.{node_by, row_by, forced_by}
@@ -30,8 +30,8 @@ around n x m = λ s. onto (m s) (λ r. done (field n x r.0, r.1))
 express-plain : (k : Pass) (e : Setting) (t : ℕ) (x : List ℕ) (ds : Fields) (object : Bool) (p : ℕ) (s : State) →
     (t ≡ 0x60 → ⊥) → (t ≡ 0x63 → ⊥) → (t ≡ 0x65 → ⊥) → after_expression k e (field t x ds) object p s ≡ done (field t x ds, s)
 unfolding after_expression rewritten usage require
-express-plain first e t x ds object p s a b c = rw (ne_eqb t 0x60 a, no_member t x ds b, no-required e (field t x ds) c) refl
-express-plain second e t x ds object p s a b c = rw (no_member t x ds b) refl
+express-plain first e t x ds object p s a b c = rw (ne_eqb t 0x60 a, no-member t x ds b, no-required e (field t x ds) c) refl
+express-plain second e t x ds object p s a b c = rw (no-member t x ds b) refl
 
 plain-after : (e : Setting) (t : ℕ) (x : List ℕ) (ds : Fields) (object : Bool) (p : ℕ) (s : State) → (t ≡ 0x10 → ⊥) → (t ≡ 0x23 → ⊥) → (t ≡ 0x42 → ⊥) →
     (t ≡ 0x60 → ⊥) → (t ≡ 0x63 → ⊥) → (t ≡ 0x65 → ⊥) → after (rule_for t) e t x ds object p s ≡ done (field t x ds, s)
@@ -43,11 +43,11 @@ plain-after e t x ds object p s i j k a b c = rw (ne_eqb t 0x10 i, ne_eqb t 0x23
     go false = refl
 
 -- a walk by its parts and its rule
-by_parts : (e : Setting) (t : ℕ) (x : List ℕ) (cs : Fields) (object : Bool) (p : ℕ) (s : State) (v : Parts) → parts_for t ≡ v →
+by-parts : (e : Setting) (t : ℕ) (x : List ℕ) (cs : Fields) (object : Bool) (p : ℕ) (s : State) (v : Parts) → parts_for t ≡ v →
     ((ds : Fields) (u : State) → after (rule_for t) e t x ds object p u ≡ done (field t x ds, u)) →
     walk (field t x cs) e object p s ≡ around t x (walk_parts v cs e object (inside p x)) (enter t s)
 unfolding walk
-by_parts e t x cs object p s v q h =
+by-parts e t x cs object p s v q h =
     ap (λ (w : Parts). onto (walk_parts w cs e object (inside p x) (enter t s)) (λ r. after (rule_for t) e t x r.0 object p r.1)) q
     ∙ go (walk_parts v cs e object (inside p x) (enter t s))
   where
@@ -62,7 +62,7 @@ module _ (e : Setting) (x : List ℕ) (cs : Fields) (object : Bool) (p : ℕ) (s
       (t ≡ 0x65 → ⊥) → (t ≡ 0x66 → ⊥) →
       walk (field t x cs) e object p s ≡ around t x (walk_all cs e object (inside p x)) s
   walk-plain t i j k b a m u c g =
-      by_parts e t x cs object p s children (parts-children t i j m u g) (λ ds u. plain-after e t x ds object p u i j k a m c)
+      by-parts e t x cs object p s children (parts-children t i j m u g) (λ ds u. plain-after e t x ds object p u i j k a m c)
       ∙ ap (around t x (walk_all cs e object (inside p x))) (ap (λ (b : Bool). cond b (set_top false s) s) (ne_eqb t 0x45 b))
 
   -- 'A block clears *top* for good.'
@@ -74,14 +74,14 @@ module _ (e : Setting) (x : List ℕ) (cs : Fields) (object : Bool) (p : ℕ) (s
   pub walk-64 : walk (field 0x64 x cs) e object p s ≡ around 0x64 x (walk_all cs e false (inside p x)) s
   unfolding parts_for
   walk-64 =
-      by_parts e 0x64 x cs object p s super refl
+      by-parts e 0x64 x cs object p s super refl
       (λ ds u. plain-after e 0x64 x ds object p u (λ z. omega arith) (λ z. omega arith) (λ z. omega arith) (λ z. omega arith) (λ z. omega arith)
       (λ z. omega arith))
 
   pub walk-66 : walk (field 0x66 x cs) e object p s ≡ around 0x66 x (walk_assignment cs e object (inside p x)) s
   unfolding parts_for
   walk-66 =
-      by_parts e 0x66 x cs object p s assignment refl
+      by-parts e 0x66 x cs object p s assignment refl
       (λ ds u. plain-after e 0x66 x ds object p u (λ z. omega arith) (λ z. omega arith) (λ z. omega arith) (λ z. omega arith) (λ z. omega arith)
       (λ z. omega arith))
 
@@ -125,19 +125,19 @@ first-63 e x ds object p s = rw (no-required e (field 0x63 x ds) (λ z. omega ar
 pub first-65 : (e : Setting) (x : List ℕ) (ds : Fields) (object : Bool) (p : ℕ) (s : State) →
     after_expression first e (field 0x65 x ds) object p s ≡ require (required e (field 0x65 x ds)) e (field 0x65 x ds) p s
 unfolding after_expression usage
-first-65 e x ds object p s = rw (no_member 0x65 x ds (λ z. omega arith)) refl
+first-65 e x ds object p s = rw (no-member 0x65 x ds (λ z. omega arith)) refl
 
 pub second-65 : (e : Setting) (x : List ℕ) (ds : Fields) (object : Bool) (p : ℕ) (s : State) → after_expression second e (field 0x65 x ds) object p s ≡ done (field 0x65 x ds, s)
 unfolding after_expression rewritten
-second-65 e x ds object p s = rw (no_member 0x65 x ds (λ z. omega arith)) refl
+second-65 e x ds object p s = rw (no-member 0x65 x ds (λ z. omega arith)) refl
 
 -- ---- By a field's tag: what its parts make of it, and the rule behind them
 
 module _ (e : Setting) (object : Bool) (p : ℕ) (s : State) where
-  pub plain_by : (f : Field) → (tag_of f ≡ 0x10 → ⊥) → (tag_of f ≡ 0x23 → ⊥) → (tag_of f ≡ 0x42 → ⊥) → (tag_of f ≡ 0x45 → ⊥) → (tag_of f ≡ 0x60 → ⊥) → (tag_of f ≡ 0x63 → ⊥) →
+  pub plain-by : (f : Field) → (tag_of f ≡ 0x10 → ⊥) → (tag_of f ≡ 0x23 → ⊥) → (tag_of f ≡ 0x42 → ⊥) → (tag_of f ≡ 0x45 → ⊥) → (tag_of f ≡ 0x60 → ⊥) → (tag_of f ≡ 0x63 → ⊥) →
       (tag_of f ≡ 0x64 → ⊥) → (tag_of f ≡ 0x65 → ⊥) → (tag_of f ≡ 0x66 → ⊥) → walk f e object p s ≡ node_by (Children object) f e p s
   unfolding node_by row_by
-  plain_by (field t x cs) i j k b a m u c g = walk-plain e x cs object p s t i j k b a m u c g
+  plain-by (field t x cs) i j k b a m u c g = walk-plain e x cs object p s t i j k b a m u c g
 
   pub block-by : (f : Field) → tag_of f ≡ 0x45 → walk f e object p s ≡ node_by (Children object) f e p (set_top false s)
   unfolding node_by row_by

@@ -76,7 +76,7 @@ module _ (e : Setting) (one : e.pass ≡ first) where
     where
       go : (b : Bool) → eqb t 0x60 ≡ b → After (walk (field t x cs) e true p s) (λ r u. Alike60 (field t x cs) r)
       go true k =
-          let z : field 0x60 x none ≡ field t x cs = cc (eqb-true t 0x60 k, w.0.ident-bare (eqb-true t 0x60 k)) in
+          let z : field 0x60 x none ≡ field t x cs = cc (eqb-true t 0x60 k, w.0.ident_bare (eqb-true t 0x60 k)) in
           subst (λ (f : Field). After (walk f e true p s) (λ r u. Alike60 f r)) z
           (after-weaken (walk (field 0x60 x none) e true p s) _ (λ r u. Alike60 (field 0x60 x none) r) (λ r u h. (ap tag_of h.0, λ _. h.0)) (walk-60 e x true p s))
       go false k =

@@ -40,9 +40,9 @@ pub has_room-true : (n room : ℕ) → n ≤ 65538 → n ≤ room → has_room n
 unfolding has_room
 has_room-true n room a b = le-leb n (min 65538 room) (omega arith)
 
-pub no_room : (n room : ℕ) → min 65538 room < n → has_room n room ≡ false
+pub no-room : (n room : ℕ) → min 65538 room < n → has_room n room ≡ false
 unfolding has_room
-no_room n room h = lt-leb n (min 65538 room) h
+no-room n room h = lt-leb n (min 65538 room) h
 
 -- a field's buffer by the answer: the field and zeros behind it, or zeros
 pub delivered-field : (bs : List ℕ) (room : ℕ) → has_room (length bs) room ≡ true →
@@ -60,7 +60,7 @@ room-written {l} {m} {bs} {p} w room = by (has_room (length bs) room) refl
   where
     by : (b : Bool) → has_room (length bs) room ≡ b → has_room p room ≡ b
     by true e = let a = w.at in let h = room-true (length bs) room e in has_room-true p room (omega arith) (omega arith)
-    by false e = let a = w.at in let h = room-false (length bs) room e in no_room p room (omega arith)
+    by false e = let a = w.at in let h = room-false (length bs) room e in no-room p room (omega arith)
 
 module _ {l m bs : List ℕ} {p : ℕ} (w : Wrote l 0 bs m p) where
   zeros-behind : length bs ≤ 65538 → length bs ≤ length l → zeroed_from p m ≡ bs ++ replicate (length l - length bs) 0

@@ -37,16 +37,16 @@ sets-patch l body o t hi lo =
     ∙ ap (λ (n : ℕ). sets (set (set (set l o t) (suc o) hi) (suc (suc o)) lo) n body) (omega arith)
 
 -- nothing is written
-pub wrote_none : {l : List ℕ} {o : ℕ} → Wrote l o [] l o
-wrote_none = record { at = omega arith; bytes = λ h. refl; size = refl }
+pub wrote-none : {l : List ℕ} {o : ℕ} → Wrote l o [] l o
+wrote-none = record { at = omega arith; bytes = λ h. refl; size = refl }
 
 -- a byte is stored
 pub wrote-byte : (l : List ℕ) (o b : ℕ) → Wrote l o (b ∷ []) (set l o b) (o + 1)
 wrote-byte l o b = record { at = refl; bytes = λ h. refl; size = length-set l o b }
 
 -- a run, and one from where it ends
-pub wrote_then : {l m k xs ys : List ℕ} {o p q : ℕ} → Wrote l o xs m p → Wrote m p ys k q → Wrote l o (xs ++ ys) k q
-wrote_then {l} {m} {k} {xs} {ys} {o} {p} {q} v w =
+pub wrote-then : {l m k xs ys : List ℕ} {o p q : ℕ} → Wrote l o xs m p → Wrote m p ys k q → Wrote l o (xs ++ ys) k q
+wrote-then {l} {m} {k} {xs} {ys} {o} {p} {q} v w =
     let e = length-append xs ys in
     let a = v.at in
     let b = w.at in
@@ -62,8 +62,8 @@ wrote_then {l} {m} {k} {xs} {ys} {o} {p} {q} v w =
     }
 
 -- the same bytes, said otherwise
-pub wrote_as : {l m xs ys : List ℕ} {o p : ℕ} → Wrote l o xs m p → xs ≡ ys → Wrote l o ys m p
-wrote_as w e = rw e at w
+pub wrote-as : {l m xs ys : List ℕ} {o p : ℕ} → Wrote l o xs m p → xs ≡ ys → Wrote l o ys m p
+wrote-as w e = rw e at w
 
 -- the position is exact where the output is not too long
 pub wrote-end : {l m bs : List ℕ} {o p : ℕ} → Wrote l o bs m p → p ≤ 65538 → p ≡ o + length bs
@@ -125,4 +125,4 @@ slice-none s at end h = drop_of_length-le (take end s) {i = at} (simp length-tak
 -- of a part of s a byte is written, and then the rest
 pub wrote-slice : (s : List ℕ) (at end : ℕ) {l m k : List ℕ} {o p q : ℕ} → at < end → end ≤ length s →
     Wrote l o (get_or s at 0 ∷ []) m p → Wrote m p (slice (at + 1) end s) k q → Wrote l o (slice at end s) k q
-wrote-slice s at end h g v w = rw (slice-cons at end s 0 h g, ← add-one at) (wrote_then v w)
+wrote-slice s at end h g v w = rw (slice-cons at end s 0 h g, ← add-one at) (wrote-then v w)

@@ -11,7 +11,7 @@ returns-in-Listed c =
     pairs-both (lent_as c.args.file.0 c.args.modes c.args.externals.now c.args.table.now c.args.tree.now)
     (room_in c.args.work.now c.args.out.now c.args.records.now) (length c.args.list.now) c.args.scope
     c.extract_import_info-r.result c.extract_import_info-r.ensures.0 c.resolve_front-q.result c.in-Extracted.is
-    c.resolve_front-q.ensures c.in-Listed.is (λ i. (c.shared_slice_known-3-1.given i).fits)
+    c.resolve_front-q.ensures c.in-Listed.is (λ i. (c.type_inv.tree i).fits)
 
 pub returns-in_default-listed : goal.returns-in_default-listed
 returns-in_default-listed c =

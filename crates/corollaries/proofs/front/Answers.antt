@@ -1,14 +1,14 @@
--- `front`: a buffer that is no longer than its field is taken whole (`front_cut`); otherwise the field ends where its length says
+-- `front`: a buffer that is no longer than its field is taken whole (`front-cut`); otherwise the field ends where its length says
 -- (`front-whole`).
 use Prim.Native.Nat.{◌+◌, ◌*◌}
-use Rattle.corollaries.proofs.PairLaws.{front_cut, front-whole}
+use Rattle.corollaries.proofs.PairLaws.{front-cut, front-whole}
 use native.Mathlib.Omega.{arith}
 use borrow.Author.Rules.{rules}
 use Rattle.corollaries.proofs.front.Goals as goal
 
 pub returns-then-s-lt3 : goal.returns-then-s-lt3
 returns-then-s-lt3 c =
-    (front_cut c.args.s.now (omega arith), omega arith)
+    (front-cut c.args.s.now (omega arith), omega arith)
 
 pub returns-then-end-s : goal.returns-then-end-s
 returns-then-end-s c =
@@ -16,4 +16,4 @@ returns-then-end-s c =
 
 pub returns-else-end-s : goal.returns-else-end-s
 returns-else-end-s c =
-    (front_cut c.args.s.now (omega (arith, c.wide.ensures, c.wide-2.ensures, c.if-end-s.false)), omega arith)
+    (front-cut c.args.s.now (omega (arith, c.wide.ensures, c.wide-2.ensures, c.if-end-s.false)), omega arith)

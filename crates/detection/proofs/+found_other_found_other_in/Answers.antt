@@ -8,7 +8,7 @@ use borrow.Author.Rules.{rules}
 use Rattle.tree.specs.Standing.{row_at}
 use Rattle.tree.proofs.AccessLaws.{extent-upto, upto-in}
 use Rattle.detection.specs.Detection.{found_other_in}
-use Rattle.detection.proofs.DetectionLaws.{found_none, found-more, found-short, found-upto}
+use Rattle.detection.proofs.DetectionLaws.{found-none, found-more, found-short, found-upto}
 use Rattle.detection.proofs.+found_other_found_other_in.Goals as goal
 
 pub found_other-returns-in_default : goal.found_other-returns-in_default
@@ -52,7 +52,7 @@ pub found_other_in-returns-in_default : goal.found_other_in-returns-in_default
 found_other_in-returns-in_default t c =
     let a = c.args in
     let l = c.loop-stop in
-    sym (l.invariant.2 ∙ found_none a.s.now l.at a.end l.invariant.1 (sym c.extent.ensures ∙ c.in_default.is))
+    sym (l.invariant.2 ∙ found-none a.s.now l.at a.end l.invariant.1 (sym c.extent.ensures ∙ c.in_default.is))
 
 pub found_other_in-found_other-requires : goal.found_other_in-found_other-requires
 found_other_in-found_other-requires t c =

@@ -8,7 +8,7 @@ use borrow.Author.Rules.{rules}
 use Rattle.tree.specs.Standing.{row_at}
 use Rattle.tree.proofs.AccessLaws.{extent-upto, upto-in}
 use Rattle.detection.specs.Detection.{found_other_in}
-use Rattle.detection.proofs.DetectionLaws.{found_none, found-more, found-short, found-upto}
+use Rattle.detection.proofs.DetectionLaws.{found-none, found-more, found-short, found-upto}
 use Rattle.detection.proofs.+found_other_found_other_in.Given as goal
 
 abbrev pub decreases-found_other : goal.decreases-found_other

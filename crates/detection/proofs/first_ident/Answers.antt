@@ -1,6 +1,6 @@
--- `first_ident`: no whole field (`first-none`), fixed bytes short (`first_short`), a 60 (`first-named`), another tag (`first-other`).
+-- `first_ident`: no whole field (`first-none`), fixed bytes short (`first-short`), a 60 (`first-named`), another tag (`first-other`).
 -- The atom of a 60 may be read since its fixed bytes are six (`plain-ends`).
-use Rattle.detection.proofs.DetectionLaws.{first-none, first_short, first-named, first-other}
+use Rattle.detection.proofs.DetectionLaws.{first-none, first-short, first-named, first-other}
 use Prim.Native.Nat.{◌+◌}
 use mathlib.Core.Path.{sym, ap, ◌∙◌, refl}
 use native.Mathlib.Omega.{arith}
@@ -39,7 +39,7 @@ returns-in_default-fixed c =
     let a = c.args in
     let le = c.requires.0 in
     let x = sym c.extent.ensures ∙ c.in-Upto.is in
-    sym (first_short a.s.now a.from a.end _ le x (sym c.fixed.ensures ∙ c.in_default-fixed.is))
+    sym (first-short a.s.now a.from a.end _ le x (sym c.fixed.ensures ∙ c.in_default-fixed.is))
 
 pub atom_at-requires : goal.atom_at-requires
 atom_at-requires c =

@@ -1,6 +1,6 @@
--- `other_here`: by the tag: a member (`member-here`), a call (`call-here`), any other (`none_here`); for the first two by the first part.
+-- `other_here`: by the tag: a member (`member-here`), a call (`call-here`), any other (`none-here`); for the first two by the first part.
 use mathlib.Core.Path.{sym, ◌∙◌}
-use Rattle.detection.proofs.DetectionLaws.{member-here, call-here, none_here}
+use Rattle.detection.proofs.DetectionLaws.{member-here, call-here, none-here}
 use borrow.Author.Rules.{rules}
 use Rattle.detection.proofs.other_here.Goals as goal
 
@@ -22,4 +22,4 @@ returns-in-Other-first_ident c =
 
 pub returns-in_default : goal.returns-in_default
 returns-in_default c =
-    sym (none_here c.args.tag _ c.in_default.in_default-own.rest.0.1 c.in_default.in_default-own.rest.1)
+    sym (none-here c.args.tag _ c.in_default.in_default-own.rest.0.1 c.in_default.in_default-own.rest.1)

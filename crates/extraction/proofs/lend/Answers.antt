@@ -1,7 +1,7 @@
 -- `lend`: an array of zeros shows an environment that is set to nothing, so both tables are empty when they are lent; the three settings
 -- one after the other are `LentTo` (`lent-to`).
 use Rattle.inputs.specs.Table.{atoms_in}
-use Rattle.extraction.proofs.TopLaws.{zeros-good, externals-empty, table_empty, lent-to}
+use Rattle.extraction.proofs.TopLaws.{zeros-good, externals-empty, table-empty, lent-to}
 use borrow.Author.Rules.{rules}
 use Rattle.extraction.proofs.lend.Goals as goal
 
@@ -15,7 +15,7 @@ lend_externals-requires c =
 
 pub lend_table-requires : goal.lend_table-requires
 lend_table-requires c =
-    (c.lend_externals.ensures.good, c.requires.2, table_empty c.args.modes c.requires.0 c.set_modes.ensures (atoms_in c.args.externals.now) c.lend_externals.ensures)
+    (c.lend_externals.ensures.good, c.requires.2, table-empty c.args.modes c.requires.0 c.set_modes.ensures (atoms_in c.args.externals.now) c.lend_externals.ensures)
 
 pub returns : goal.returns
 returns c =

@@ -17,7 +17,7 @@ own_file-requires c =
 pub returns-in-Good : goal.returns-in-Good
 returns-in-Good c =
     prepared-own c.args.file.0 c.args.modes c.args.externals.now c.args.table.now c.args.tree.now (modules_of c.args.scope)
-    c.lists.ensures c.in-Good.is (λ i. (c.shared_slice_known-3-1.given i).fits) c.lend.ensures c.own_file.ensures
+    c.lists.ensures c.in-Good.is (λ i. (c.type_inv.tree i).fits) c.lend.ensures c.own_file.ensures
 
 pub returns-in-Bad : goal.returns-in-Bad
 returns-in-Bad c =

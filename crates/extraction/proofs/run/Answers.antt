@@ -2,7 +2,7 @@
 -- which puts the steps before it together.
 use native.Mathlib.Omega.{arith}
 use Rattle.extraction.specs.Answer.{room_in}
-use Rattle.extraction.proofs.TopLaws.{inside-fits, run-bad, run-twice, run-unread, run-full, run-turned, run_short, run-turned-again, run-short-again, run-accepted, run-unwritten}
+use Rattle.extraction.proofs.TopLaws.{inside-fits, run-bad, run-twice, run-unread, run-full, run-turned, run-short, run-turned-again, run-short-again, run-accepted, run-unwritten}
 use borrow.Author.Rules.{rules}
 use Rattle.extraction.proofs.run.Goals as goal
 
@@ -52,7 +52,7 @@ returns-in-Refused c =
 
 pub returns-in-NoRoom : goal.returns-in-NoRoom
 returns-in-NoRoom c =
-    λ l ms q p. run_short l ms q p c.args.work.now c.args.out.now c.args.records.now c.in-Good.is c.first_pass.ensures c.in-NoRoom.is
+    λ l ms q p. run-short l ms q p c.args.work.now c.args.out.now c.args.records.now c.in-Good.is c.first_pass.ensures c.in-NoRoom.is
 
 pub second_pass-requires : goal.second_pass-requires
 second_pass-requires c =

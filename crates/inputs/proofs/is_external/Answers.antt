@@ -13,14 +13,14 @@ use Rattle.inputs.proofs.is_external.Goals as goal
 pub returns-then-atom-atom_at : goal.returns-then-atom-atom_at
 returns-then-atom-atom_at c =
     sym (c.loop-i.invariant.0
-    ∙ external-here c.args.externals.now c.loop-i.i c.args.atom.0 (omega arith) (c.shared_slice_known-1.given c.loop-i.i).fits
-    (c.shared_slice_known-1.given (c.loop-i.i + 1)).fits (omega arith) (c.if-atom-atom_at.true ∙ c.atom_at.ensures))
+    ∙ external-here c.args.externals.now c.loop-i.i c.args.atom.0 (omega arith) (c.type_inv.externals c.loop-i.i).fits
+    (c.type_inv.externals (c.loop-i.i + 1)).fits (omega arith) (c.if-atom-atom_at.true ∙ c.atom_at.ensures))
 
 pub loop-i-preserved : goal.loop-i-preserved
 loop-i-preserved c = (
   c.loop-i.invariant.0
-      ∙ external-on c.args.externals.now c.loop-i.i c.args.atom.0 (omega arith) (c.shared_slice_known-1.given c.loop-i.i).fits
-      (c.shared_slice_known-1.given (c.loop-i.i + 1)).fits (omega arith) (λ e. c.if-atom-atom_at.false (e ∙ sym c.atom_at.ensures)),
+      ∙ external-on c.args.externals.now c.loop-i.i c.args.atom.0 (omega arith) (c.type_inv.externals c.loop-i.i).fits
+      (c.type_inv.externals (c.loop-i.i + 1)).fits (omega arith) (λ e. c.if-atom-atom_at.false (e ∙ sym c.atom_at.ensures)),
   omega arith,
 )
 

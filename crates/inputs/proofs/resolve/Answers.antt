@@ -13,15 +13,15 @@ use Rattle.inputs.proofs.resolve.Goals as goal
 pub returns-then-atom_at-source : goal.returns-then-atom_at-source
 returns-then-atom_at-source c =
     sym (c.loop-i.invariant.0
-    ∙ file-here c.args.table.now c.loop-i.i c.args.source.0 (omega arith) (c.shared_slice_known-1.given c.loop-i.i).fits
-    (c.shared_slice_known-1.given (c.loop-i.i + 1)).fits (omega arith)
+    ∙ file-here c.args.table.now c.loop-i.i c.args.source.0 (omega arith) (c.type_inv.table c.loop-i.i).fits
+    (c.type_inv.table (c.loop-i.i + 1)).fits (omega arith)
     (sym c.atom_at.ensures ∙ c.if-atom_at-source.true) ∙ ap some (sym c.atom_at-then-atom_at-source.ensures))
 
 pub loop-i-preserved : goal.loop-i-preserved
 loop-i-preserved c = (
   c.loop-i.invariant.0
-      ∙ file-on c.args.table.now c.loop-i.i c.args.source.0 (omega arith) (c.shared_slice_known-1.given c.loop-i.i).fits
-      (c.shared_slice_known-1.given (c.loop-i.i + 1)).fits (omega arith) (λ e. c.if-atom_at-source.false (c.atom_at.ensures ∙ e)),
+      ∙ file-on c.args.table.now c.loop-i.i c.args.source.0 (omega arith) (c.type_inv.table c.loop-i.i).fits
+      (c.type_inv.table (c.loop-i.i + 1)).fits (omega arith) (λ e. c.if-atom_at-source.false (c.atom_at.ensures ∙ e)),
   omega arith,
 )
 

@@ -1,9 +1,9 @@
 -- `put_context`: a field with the key and the digits.
-use Rattle.writer.proofs.Wrote.{wrote_then, wrote_as, wrote-field}
+use Rattle.writer.proofs.Wrote.{wrote-then, wrote-as, wrote-field}
 use Rattle.metadata.proofs.EncodeLaws.{context-bytes}
 use borrow.Author.Rules.{rules}
 use Rattle.metadata.proofs.put_context.Goals as goal
 
 pub returns : goal.returns
 returns c =
-    wrote_as (wrote-field c.open_field-content.ensures (wrote_then c.put_all-value.ensures c.put_decimal-p.ensures) c.close_field.ensures) (context-bytes _)
+    wrote-as (wrote-field c.open_field-content.ensures (wrote-then c.put_all-value.ensures c.put_decimal-p.ensures) c.close_field.ensures) (context-bytes _)

@@ -6,7 +6,7 @@ use lib.Seq.{slice, length-slice}
 use Rattle.tree.specs.Layout.{same}
 use Rattle.tree.specs.Tree.{fixed_of}
 use Rattle.metadata.specs.Metadata.{injected_attribute}
-use Rattle.metadata.proofs.DecodeLaws.{other_length}
+use Rattle.metadata.proofs.DecodeLaws.{other-length}
 use borrow.Author.Rules.{rules}
 use Rattle.metadata.proofs.tells_injected.Goals as goal
 
@@ -15,7 +15,7 @@ unfolding injected_attribute
 returns-then-end-from-ne29 c =
     let a = c.args in
     let n = length-slice a.from a.end a.s.now c.requires.1 in
-    sym (other_length (slice a.from a.end a.s.now) (fixed_of injected_attribute) (λ e. c.if-end-from-ne29.true (sym n ∙ e)))
+    sym (other-length (slice a.from a.end a.s.now) (fixed_of injected_attribute) (λ e. c.if-end-from-ne29.true (sym n ∙ e)))
 
 pub returns : goal.returns
 unfolding injected_attribute

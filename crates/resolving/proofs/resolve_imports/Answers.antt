@@ -8,7 +8,7 @@ use Rattle.resolving.specs.declared.sources.NumberAnswer.{NumberAnswer}
 use Rattle.resolving.specs.Records.{records_in}
 use Rattle.resolving.specs.Numbers.{on_number}
 use Rattle.resolving.proofs.NumbersLaws.{numbers-all}
-use Rattle.resolving.proofs.AnswerLaws.{records-good, refused-bad, refused-twice, refused-unread, refused_over, answers-list}
+use Rattle.resolving.proofs.AnswerLaws.{records-good, refused-bad, refused-twice, refused-unread, refused-over, answers-list}
 use borrow.Author.Rules.{rules}
 use Rattle.resolving.proofs.resolve_imports.Goals as goal
 
@@ -30,21 +30,21 @@ returns-in-Unread c =
 pub number_sources-n-requires : goal.number_sources-n-requires
 number_sources-n-requires c =
     let a = c.args in
-    records-good a.table.now a.records.now c.lists.ensures c.in-Good.is (λ i. (c.shared_slice_known-2-1.given i).fits)
+    records-good a.table.now a.records.now c.lists.ensures c.in-Good.is (λ i. (c.type_inv.records i).fits)
 
 pub returns-in-TooManyFiles : goal.returns-in-TooManyFiles
 returns-in-TooManyFiles c =
     let a = c.args in
     let new = c.number_sources-n.result.scope in
     let over = sym c.number_sources-n.ensures ∙ ap (λ (e : NumberAnswer). on_number e (modules_of new)) c.in-TooManyFiles.is in
-    refused_over a.modes a.table.now a.records.now a.scope a.list.now c.lists.ensures c.in-Good.is over c.refuse-in-TooManyFiles.ensures
+    refused-over a.modes a.table.now a.records.now a.scope a.list.now c.lists.ensures c.in-Good.is over c.refuse-in-TooManyFiles.ensures
 
 pub listing-listed-requires : goal.listing-listed-requires
 listing-listed-requires c =
     let a = c.args in
     let new = c.number_sources-n.result.scope in
     let given = sym c.number_sources-n.ensures ∙ ap (λ (e : NumberAnswer). on_number e (modules_of new)) c.in-Given.is in
-    let good = records-good a.table.now a.records.now c.lists.ensures c.in-Good.is (λ i. (c.shared_slice_known-2-1.given i).fits) in
+    let good = records-good a.table.now a.records.now c.lists.ensures c.in-Good.is (λ i. (c.type_inv.records i).fits) in
     (good, numbers-all (rows_in a.table.now) (sources_in (records_in a.records.now)) (modules_of a.scope) (modules_of new) 3 given)
 
 pub returns : goal.returns

@@ -1,20 +1,20 @@
 -- `find_file`: the invariant says that the file's place is i plus its place among the files from i on. A file that differs is passed
--- (`place-passed`), an equal one stands at i (`place_here`), and behind the last there is none (`place_end`).
+-- (`place-passed`), an equal one stands at i (`place-here`), and behind the last there is none (`place-end`).
 use mathlib.Core.Path.{◌≡◌, sym, ◌∙◌}
 use Prim.Native.Nat.{◌≤◌, ◌-◌}
 use native.Mathlib.Omega.{arith}
 use lib.ListN.{take, drop}
 use Rattle.scope.specs.Modules.{place_of}
-use Rattle.scope.proofs.ScopeValueLaws.{shifted, shifted_none, place-passed, place_here, place_end}
+use Rattle.scope.proofs.ScopeValueLaws.{shifted, shifted-none, place-passed, place-here, place-end}
 use Rattle.scope.proofs.find_file.Goals as goal
 
 pub loop-i-init : goal.loop-i-init
 loop-i-init c =
-    (sym (shifted_none _), omega arith)
+    (sym (shifted-none _), omega arith)
 
 pub returns-then-file-files : goal.returns-then-file-files
 returns-then-file-files c =
-    sym (c.loop-i.invariant.0 ∙ place_here c.args.file c.args.n c.loop-i.i c.args.files.now c.loop-i-test.true c.requires.1 c.if-file-files.true)
+    sym (c.loop-i.invariant.0 ∙ place-here c.args.file c.args.n c.loop-i.i c.args.files.now c.loop-i-test.true c.requires.1 c.if-file-files.true)
 
 pub loop-i-preserved : goal.loop-i-preserved
 loop-i-preserved c =
@@ -22,4 +22,4 @@ loop-i-preserved c =
 
 pub returns : goal.returns
 returns c =
-    sym (c.loop-i.invariant.0 ∙ place_end c.args.file c.args.n c.loop-i.i c.args.files.now (omega arith))
+    sym (c.loop-i.invariant.0 ∙ place-end c.args.file c.args.n c.loop-i.i c.args.files.now (omega arith))

@@ -1,8 +1,8 @@
 -- `find_from`: the invariant says that what is found from row i on is what is found from row 0 on (`found-begin`). A key below lo or above hi is passed
--- (`found-low`, `found-high`), one between is the first (`found_here`), and behind the last row there is none (`found-end`).
+-- (`found-low`, `found-high`), one between is the first (`found-here`), and behind the last row there is none (`found-end`).
 use mathlib.Core.Path.{◌≡◌, sym, ◌∙◌}
 use mathlib.Core.Logic.{⊎_elim}
-use Rattle.tables.proofs.RowLaws.{found_from, found-start, found-begin, found-low, found-high, found_here, found-end}
+use Rattle.tables.proofs.RowLaws.{found_from, found-start, found-begin, found-low, found-high, found-here, found-end}
 use Prim.Native.Nat.{◌-◌}
 use native.Mathlib.Omega.{arith}
 use Rattle.tables.proofs.find_from.Goals.{then-lo-k+else-k-hi, else-lo-k}
@@ -19,7 +19,7 @@ loop-i-init c =
 pub returns-then-k-hi : goal.returns-then-k-hi
 returns-then-k-hi c =
     sym (found-start c.args.lo c.args.hi c.args.b c.count_of-n.result c.args.t.now c.count_of-n.ensures.0 ∙ c.loop-i.invariant
-    ∙ found_here c.args.lo c.args.hi c.count_of-n.result c.loop-i.i c.args.b.base c.args.t.now c.loop-i-test.true (omega arith) (omega arith))
+    ∙ found-here c.args.lo c.args.hi c.count_of-n.result c.loop-i.i c.args.b.base c.args.t.now c.loop-i-test.true (omega arith) (omega arith))
 
 pub loop-i-preserved : goal.loop-i-preserved
 loop-i-preserved c =

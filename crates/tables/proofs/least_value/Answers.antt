@@ -1,11 +1,11 @@
 -- `least_value`: the loop goes down; the invariant says that `best` is the least value of the key among the rows from i on.
--- The row before them is joined by `least-here` where it has the key, by `least_other` where not.
+-- The row before them is joined by `least-here` where it has the key, by `least-other` where not.
 use mathlib.Core.Path.{◌≡◌, sym, ap, ◌∙◌}
 use Prim.Native.Nat.{ℕ, ◌≤◌, ◌+◌, ◌*◌, ◌-◌}
 use native.Mathlib.Omega.{arith}
 use borrow.Author.Rules.{rules}
 use Rattle.tables.specs.Rows.{rows_from, lesser, least_by, least_of}
-use Rattle.tables.proofs.RowLaws.{least_start, least-here, least_other, least-end, back}
+use Rattle.tables.proofs.RowLaws.{least-start, least-here, least-other, least-end, back}
 use Rattle.tables.proofs.least_value.Goals as goal
 
 pub count_of-i-requires : goal.count_of-i-requires
@@ -14,7 +14,7 @@ count_of-i-requires c =
 
 pub loop-i-init : goal.loop-i-init
 loop-i-init c =
-    (sym (least_start c.args.key c.count_of-i.result c.args.b.base c.args.t.now), omega arith)
+    (sym (least-start c.args.key c.count_of-i.result c.args.b.base c.args.t.now), omega arith)
 
 pub loop-i-preserved-then-key_in-key : goal.loop-i-preserved-then-key_in-key
 loop-i-preserved-then-key_in-key c =
@@ -26,7 +26,7 @@ loop-i-preserved-then-key_in-key c =
 pub loop-i-preserved : goal.loop-i-preserved
 loop-i-preserved c =
     let rest = c.loop-i.invariant.0 ∙ back c.args.key c.count_of-i.result c.loop-i.i c.args.b.base c.args.t.now c.loop-i-test.true in
-    let other = least_other c.args.key c.count_of-i.result (c.loop-i.i - 1) c.args.b.base c.args.t.now (omega arith)
+    let other = least-other c.args.key c.count_of-i.result (c.loop-i.i - 1) c.args.b.base c.args.t.now (omega arith)
     (λ e. c.if-key_in-key.false (c.key_in.ensures ∙ e)) in
     (rest ∙ sym other, omega arith)
 

@@ -1,8 +1,8 @@
--- `value_of`: `rows_row` says in which two cells row i stands; the second of them is read. It is inside since i is below the count.
+-- `value_of`: `rows-row` says in which two cells row i stands; the second of them is read. It is inside since i is below the count.
 use mathlib.Core.Path.{sym, ap, ◌∙◌}
 use native.Mathlib.Omega.{arith}
 use Rattle.tables.specs.Rows.{Row}
-use Rattle.tables.proofs.RowLaws.{rows-length, rows_row}
+use Rattle.tables.proofs.RowLaws.{rows-length, rows-row}
 use Rattle.tables.proofs.value_of.Goals as goal
 
 pub value_in-requires : goal.value_in-requires
@@ -11,4 +11,4 @@ value_in-requires c =
 
 pub returns : goal.returns
 returns c =
-    c.value_in.ensures ∙ sym (ap (λ (r : Row). r.1) (rows_row c.args.b c.args.i c.args.t.now c.requires.1))
+    c.value_in.ensures ∙ sym (ap (λ (r : Row). r.1) (rows-row c.args.b c.args.i c.args.t.now c.requires.1))

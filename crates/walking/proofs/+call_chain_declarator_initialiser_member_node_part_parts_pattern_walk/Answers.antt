@@ -10,12 +10,12 @@ use Rattle.tree.proofs.FixedLaws.{no-upto}
 use Rattle.tree.proofs.AccessLaws.{extent-upto, upto-in}
 use Rattle.steps.specs.Step.{ident_by}
 use Rattle.steps.proofs.StepsLaws.{steps-is, effects-fine, effects-turned}
-use Rattle.walking.proofs.RowLaws.{first-child, first_member, first-target, Going, going_start, going-over, going_more, going-turned}
+use Rattle.walking.proofs.RowLaws.{first-child, first-member, first-target, Going, going-start, going-over, going-more, going-turned}
 use Rattle.walking.proofs.NodeLaws.{walk-short, node-field, node-42, node-plain, node-64, node-66, node-45, as-target}
 use Rattle.walking.proofs.LeafLaws.{node-leaf, node-name}
 use mathlib.Core.Path.{subst}
 use Rattle.walking.specs.Walking.{NameIs}
-use Rattle.walking.proofs.ExpressionLaws.{tells_as, pass-second, pass-first, member-ident, member-other, member-used, member-turned}
+use Rattle.walking.proofs.ExpressionLaws.{tells-as, pass-second, pass-first, member-ident, member-other, member-used, member-turned}
 use Rattle.walking.proofs.CallWalkLaws.{call-second, call-plain, call-turned, call-required}
 use Rattle.walking.proofs.DeclaratorLaws.{behind-from, behind-over, behind-plain, behind-turned, behind-required, declared-over, declared-then, declared-turned}
 use Prim.Native.Nat.{ℕ, ◌<◌}
@@ -31,7 +31,7 @@ call-node-requires t c =
 
 pub call-returns-then-is_second : goal.call-returns-then-is_second
 call-returns-then-is_second t c =
-    call-second c.args.object c.args.s.now (λ i. omega (arith, c.shared_slice_known-1.given i)) c.args.at c.args.stop c.requires.1 c.requires.0
+    call-second c.args.object c.args.s.now (λ i. omega (arith, c.type_inv.s i)) c.args.at c.args.stop c.requires.1 c.requires.0
     (pass-second c.is_second.ensures c.if-is_second.true) c.node.ensures
 
 pub call-required_at-requires : goal.call-required_at-requires
@@ -44,7 +44,7 @@ call-node-requires-in_default t c =
 
 pub call-returns-in_default : goal.call-returns-in_default
 call-returns-in_default t c =
-    call-plain c.args.object c.args.s.now (λ i. omega (arith, c.shared_slice_known-1.given i)) c.args.at c.args.stop c.requires.1 c.requires.0
+    call-plain c.args.object c.args.s.now (λ i. omega (arith, c.type_inv.s i)) c.args.at c.args.stop c.requires.1 c.requires.0
     (pass-first c.is_second.ensures c.if-is_second.false) c.required_at.ensures c.in_default.is c.node-in_default.ensures
 
 pub call-node-requires-2 : goal.call-node-requires-2
@@ -57,18 +57,18 @@ call-require-requires t c =
 
 pub call-returns-in-Done : goal.call-returns-in-Done
 call-returns-in-Done t c =
-    call-required c.args.object c.args.s.now (λ i. omega (arith, c.shared_slice_known-1.given i)) c.args.at c.args.stop c.requires.1 c.requires.0
+    call-required c.args.object c.args.s.now (λ i. omega (arith, c.type_inv.s i)) c.args.at c.args.stop c.requires.1 c.requires.0
     (pass-first c.is_second.ensures c.if-is_second.false) c.in-Is.literal c.required_at.ensures c.in-Is.is
     (steps-is c.node-2.ensures c.in-Done.is) c.require.ensures
 
 pub call-returns-in-Refused : goal.call-returns-in-Refused
 call-returns-in-Refused t c =
-    call-turned c.args.object c.args.s.now (λ i. omega (arith, c.shared_slice_known-1.given i)) c.args.at c.args.stop c.requires.1 c.requires.0
+    call-turned c.args.object c.args.s.now (λ i. omega (arith, c.type_inv.s i)) c.args.at c.args.stop c.requires.1 c.requires.0
     (pass-first c.is_second.ensures c.if-is_second.false) (steps-is c.node-2.ensures c.in-Refused.is)
 
 pub chain-returns-then-is_name : goal.chain-returns-then-is_name
 chain-returns-then-is_name t c =
-    node-name c.args.s.now (λ i. omega (arith, c.shared_slice_known-1.given i)) c.args.at c.args.stop c.requires.0
+    node-name c.args.s.now (λ i. omega (arith, c.type_inv.s i)) c.args.at c.args.stop c.requires.0
     (subst (NameIs c.args.s.now c.args.at) c.if-is_name.true c.is_name.ensures) c.requires.2 c.copy.ensures
 
 pub chain-node-requires : goal.chain-node-requires
@@ -99,7 +99,7 @@ initialiser-extent-requires-2 t c =
 pub initialiser-returns-in_default-extent : goal.initialiser-returns-in_default-extent
 initialiser-returns-in_default-extent t c =
     behind-from c.args.object c.args.s.now (c.args.at + 3) c.args.stop c.args.at (c.args.at + 3) (sym c.extent.ensures ∙ c.in-Upto.is)
-    (λ q. behind-over c.args.object c.args.s.now (λ i. omega (arith, c.shared_slice_known-1.given i)) c.in-Upto.from c.args.stop c.args.at
+    (λ q. behind-over c.args.object c.args.s.now (λ i. omega (arith, c.type_inv.s i)) c.in-Upto.from c.args.stop c.args.at
     (c.args.at + 3) (extent-upto c.args.s.now (c.args.at + 3) c.args.stop c.requires.0 (sym c.extent.ensures ∙ c.in-Upto.is)).1 q
     (sym c.extent-2.ensures ∙ c.in_default-extent.is) c.requires.2)
 
@@ -116,7 +116,7 @@ initialiser-walk-requires t c =
 pub initialiser-returns-in_default-required_at : goal.initialiser-returns-in_default-required_at
 initialiser-returns-in_default-required_at t c =
     behind-from c.args.object c.args.s.now (c.args.at + 3) c.args.stop c.args.at (c.args.at + 3) (sym c.extent.ensures ∙ c.in-Upto.is)
-    (λ q. behind-plain c.args.object c.args.s.now (λ i. omega (arith, c.shared_slice_known-1.given i)) c.in-Upto.from c.args.stop c.args.at
+    (λ q. behind-plain c.args.object c.args.s.now (λ i. omega (arith, c.type_inv.s i)) c.in-Upto.from c.args.stop c.args.at
     (c.args.at + 3) (extent-upto c.args.s.now (c.args.at + 3) c.args.stop c.requires.0 (sym c.extent.ensures ∙ c.in-Upto.is)).1 q
     c.in-Upto-extent.end (sym c.extent-2.ensures ∙ c.in-Upto-extent.is) c.required_at.ensures c.in_default-required_at.is c.walk.ensures)
 
@@ -132,7 +132,7 @@ initialiser-require_lazily-requires t c =
 pub initialiser-returns-in-Done : goal.initialiser-returns-in-Done
 initialiser-returns-in-Done t c =
     behind-from c.args.object c.args.s.now (c.args.at + 3) c.args.stop c.args.at (c.args.at + 3) (sym c.extent.ensures ∙ c.in-Upto.is)
-    (λ q. behind-required c.args.object c.args.s.now (λ i. omega (arith, c.shared_slice_known-1.given i)) c.in-Upto.from c.args.stop c.args.at
+    (λ q. behind-required c.args.object c.args.s.now (λ i. omega (arith, c.type_inv.s i)) c.in-Upto.from c.args.stop c.args.at
     (c.args.at + 3) (extent-upto c.args.s.now (c.args.at + 3) c.args.stop c.requires.0 (sym c.extent.ensures ∙ c.in-Upto.is)).1 q
     c.in-Upto-extent.end (sym c.extent-2.ensures ∙ c.in-Upto-extent.is) c.in-Is.literal c.required_at.ensures c.in-Is.is
     (steps-is c.walk-2.ensures c.in-Done.is) (c.require_lazily.ensures q))
@@ -140,7 +140,7 @@ initialiser-returns-in-Done t c =
 pub initialiser-returns-in-Refused : goal.initialiser-returns-in-Refused
 initialiser-returns-in-Refused t c =
     behind-from c.args.object c.args.s.now (c.args.at + 3) c.args.stop c.args.at (c.args.at + 3) (sym c.extent.ensures ∙ c.in-Upto.is)
-    (λ q. behind-turned c.args.object c.args.s.now (λ i. omega (arith, c.shared_slice_known-1.given i)) c.in-Upto.from c.args.stop c.args.at
+    (λ q. behind-turned c.args.object c.args.s.now (λ i. omega (arith, c.type_inv.s i)) c.in-Upto.from c.args.stop c.args.at
     (c.args.at + 3) (extent-upto c.args.s.now (c.args.at + 3) c.args.stop c.requires.0 (sym c.extent.ensures ∙ c.in-Upto.is)).1 q
     c.in-Upto-extent.end (sym c.extent-2.ensures ∙ c.in-Upto-extent.is) (steps-is c.walk-2.ensures c.in-Refused.is))
 
@@ -167,12 +167,12 @@ member-chain-requires t c =
 pub member-returns-in-Is : goal.member-returns-in-Is
 member-returns-in-Is t c =
     member-ident c.args.s.now c.args.at c.args.stop c.args.object c.in-Is.id c.requires.3 (pass-second c.is_second.ensures c.if-is_second.true)
-    (tells_as c.ident_after.ensures (ap ident_by c.in-Is.is)) c.put_ident.ensures
+    (tells-as c.ident_after.ensures (ap ident_by c.in-Is.is)) c.put_ident.ensures
 
 pub member-returns-in-Other : goal.member-returns-in-Other
 member-returns-in-Other t c =
     member-other c.args.object c.args.s.now c.args.at c.args.stop c.requires.1 c.requires.0 (pass-second c.is_second.ensures c.if-is_second.true)
-    (tells_as c.ident_after.ensures (ap ident_by c.in-Other.is)) (as-target c.chain.ensures)
+    (tells-as c.ident_after.ensures (ap ident_by c.in-Other.is)) (as-target c.chain.ensures)
 
 pub member-chain-requires-2 : goal.member-chain-requires-2
 member-chain-requires-2 t c =
@@ -203,7 +203,7 @@ node-returns-in_default t c =
 
 pub node-returns-then-from-stop : goal.node-returns-then-from-stop
 node-returns-then-from-stop t c =
-    node-leaf c.args.way c.args.s.now (λ i. omega (arith, c.shared_slice_known-1.given i)) c.args.at c.in-Upto.from c.args.stop
+    node-leaf c.args.way c.args.s.now (λ i. omega (arith, c.type_inv.s i)) c.args.at c.in-Upto.from c.args.stop
     (sym c.fixed.ensures ∙ c.in-Upto.is) c.if-from-stop.true c.requires.2 c.copy.ensures
 
 pub node-begin_field-content-requires : goal.node-begin_field-content-requires
@@ -240,7 +240,7 @@ part-returns-in-Children t c =
 
 pub part-returns-in-Member : goal.part-returns-in-Member
 part-returns-in-Member t c =
-    first_member c.in-Member.is c.walk-in-Member.ensures
+    first-member c.in-Member.is c.walk-in-Member.ensures
 
 pub part-returns-in-Assignment : goal.part-returns-in-Assignment
 part-returns-in-Assignment t c =
@@ -248,7 +248,7 @@ part-returns-in-Assignment t c =
 
 pub parts-loop-stop-init : goal.parts-loop-stop-init
 parts-loop-stop-init t c =
-    going_start c.requires.2 c.requires.0
+    going-start c.requires.2 c.requires.0
 
 pub parts-extent-requires : goal.parts-extent-requires
 parts-extent-requires t c =
@@ -256,7 +256,7 @@ parts-extent-requires t c =
 
 pub parts-returns-in_default : goal.parts-returns-in_default
 parts-returns-in_default t c =
-    going-over (λ i. omega (arith, c.shared_slice_known-1.given i)) c.loop-stop.invariant (sym c.extent.ensures ∙ c.in_default.is)
+    going-over (λ i. omega (arith, c.type_inv.s i)) c.loop-stop.invariant (sym c.extent.ensures ∙ c.in_default.is)
 
 pub parts-part-requires : goal.parts-part-requires
 parts-part-requires t c =
@@ -269,16 +269,16 @@ parts-loop-stop-smaller t c =
 
 pub parts-loop-stop-preserved : goal.parts-loop-stop-preserved
 parts-loop-stop-preserved t c =
-    going_more (λ i. omega (arith, c.shared_slice_known-1.given i)) c.loop-stop.invariant (sym c.extent.ensures ∙ c.in-Upto.is) c.part.ensures c.in-Done.is
+    going-more (λ i. omega (arith, c.type_inv.s i)) c.loop-stop.invariant (sym c.extent.ensures ∙ c.in-Upto.is) c.part.ensures c.in-Done.is
     c.others.ensures (omega (arith, c.part.auto))
 
 pub parts-returns-in-Refused : goal.parts-returns-in-Refused
 parts-returns-in-Refused t c =
-    going-turned (λ i. omega (arith, c.shared_slice_known-1.given i)) c.loop-stop.invariant (sym c.extent.ensures ∙ c.in-Upto.is) c.part.ensures c.in-Refused.is
+    going-turned (λ i. omega (arith, c.type_inv.s i)) c.loop-stop.invariant (sym c.extent.ensures ∙ c.in-Upto.is) c.part.ensures c.in-Refused.is
 
 pub pattern-returns-in_default : goal.pattern-returns-in_default
 pattern-returns-in_default t c =
-    declared-over c.args.object c.args.s.now (λ i. omega (arith, c.shared_slice_known-1.given i)) (c.args.at + 3) c.args.stop c.args.at c.requires.0
+    declared-over c.args.object c.args.s.now (λ i. omega (arith, c.type_inv.s i)) (c.args.at + 3) c.args.stop c.args.at c.requires.0
     (sym c.extent.ensures ∙ c.in_default.is) c.requires.2
 
 pub pattern-walk-requires : goal.pattern-walk-requires
@@ -292,13 +292,13 @@ pattern-initialiser-requires t c =
 
 pub pattern-returns-in-Done : goal.pattern-returns-in-Done
 pattern-returns-in-Done t c =
-    declared-then c.args.object c.args.s.now (λ i. omega (arith, c.shared_slice_known-1.given i)) (c.args.at + 3) c.args.stop c.args.at c.requires.0
+    declared-then c.args.object c.args.s.now (λ i. omega (arith, c.type_inv.s i)) (c.args.at + 3) c.args.stop c.args.at c.requires.0
     c.in-Upto.end (sym c.extent.ensures ∙ c.in-Upto.is) (omega arith) (steps-is c.walk.ensures c.in-Done.is)
     (λ q. c.initialiser.ensures q _ (sym c.extent.ensures ∙ c.in-Upto.is))
 
 pub pattern-returns-in-Refused : goal.pattern-returns-in-Refused
 pattern-returns-in-Refused t c =
-    declared-turned c.args.object c.args.s.now (λ i. omega (arith, c.shared_slice_known-1.given i)) (c.args.at + 3) c.args.stop c.args.at c.requires.0
+    declared-turned c.args.object c.args.s.now (λ i. omega (arith, c.type_inv.s i)) (c.args.at + 3) c.args.stop c.args.at c.requires.0
     c.in-Upto.end (sym c.extent.ensures ∙ c.in-Upto.is) (steps-is c.walk.ensures c.in-Refused.is)
 
 pub walk-exported-requires : goal.walk-exported-requires

@@ -10,12 +10,12 @@ use Rattle.tree.proofs.FixedLaws.{no-upto}
 use Rattle.tree.proofs.AccessLaws.{extent-upto, upto-in}
 use Rattle.steps.specs.Step.{ident_by}
 use Rattle.steps.proofs.StepsLaws.{steps-is, effects-fine, effects-turned}
-use Rattle.walking.proofs.RowLaws.{first-child, first_member, first-target, Going, going_start, going-over, going_more, going-turned}
+use Rattle.walking.proofs.RowLaws.{first-child, first-member, first-target, Going, going-start, going-over, going-more, going-turned}
 use Rattle.walking.proofs.NodeLaws.{walk-short, node-field, node-42, node-plain, node-64, node-66, node-45, as-target}
 use Rattle.walking.proofs.LeafLaws.{node-leaf, node-name}
 use mathlib.Core.Path.{subst}
 use Rattle.walking.specs.Walking.{NameIs}
-use Rattle.walking.proofs.ExpressionLaws.{tells_as, pass-second, pass-first, member-ident, member-other, member-used, member-turned}
+use Rattle.walking.proofs.ExpressionLaws.{tells-as, pass-second, pass-first, member-ident, member-other, member-used, member-turned}
 use Rattle.walking.proofs.CallWalkLaws.{call-second, call-plain, call-turned, call-required}
 use Rattle.walking.proofs.DeclaratorLaws.{behind-from, behind-over, behind-plain, behind-turned, behind-required, declared-over, declared-then, declared-turned}
 use Prim.Native.Nat.{ℕ, ◌<◌}

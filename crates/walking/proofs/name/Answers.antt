@@ -45,33 +45,33 @@ use Rattle.walking.proofs.name.Goals as goal
 
 pub returns-then-not-has_usages : goal.returns-then-not-has_usages
 returns-then-not-has_usages c =
-    λ object. name-unused c.args.s.now (λ i. omega (arith, c.shared_slice_known-1.given i)) c.args.at c.args.stop c.requires.1 c.requires.0 c.id_at-id.result
+    λ object. name-unused c.args.s.now (λ i. omega (arith, c.type_inv.s i)) c.args.at c.args.stop c.requires.1 c.requires.0 c.id_at-id.result
     c.id_at-id.ensures c.requires.3 object (pass-second c.is_second.ensures c.if-is_second.true) c.has_usages.ensures c.if-not-has_usages.true c.copy.ensures
 
 pub returns-in_default : goal.returns-in_default
 returns-in_default c =
-    λ object. name-nowhere c.args.s.now (λ i. omega (arith, c.shared_slice_known-1.given i)) c.args.at c.args.stop c.requires.1 c.requires.0 c.id_at-id.result
+    λ object. name-nowhere c.args.s.now (λ i. omega (arith, c.type_inv.s i)) c.args.at c.args.stop c.requires.1 c.requires.0 c.id_at-id.result
     c.id_at-id.ensures c.requires.3 object (pass-second c.is_second.ensures c.if-is_second.true) c.imported_as.ensures c.in_default.is c.copy-in_default.ensures
 
 pub returns-then-is_second : goal.returns-then-is_second
 returns-then-is_second c =
-    λ object. name-becomes c.args.s.now (λ i. omega (arith, c.shared_slice_known-1.given i)) c.args.at c.args.stop c.requires.1 c.requires.0 c.id_at-id.result
+    λ object. name-becomes c.args.s.now (λ i. omega (arith, c.type_inv.s i)) c.args.at c.args.stop c.requires.1 c.requires.0 c.id_at-id.result
     c.id_at-id.ensures c.requires.3 object (pass-second c.is_second.ensures c.if-is_second.true) c.has_usages.ensures c.if-not-has_usages.false c.imported_as.ensures
     c.in-Of.is c.atom_at.ensures c.put_ident.ensures
 
 pub returns-in_default-imported_as : goal.returns-in_default-imported_as
 returns-in_default-imported_as c =
-    λ object. name-first c.args.s.now (λ i. omega (arith, c.shared_slice_known-1.given i)) c.args.at c.args.stop c.requires.1 c.requires.0 c.id_at-id.result
+    λ object. name-first c.args.s.now (λ i. omega (arith, c.type_inv.s i)) c.args.at c.args.stop c.requires.1 c.requires.0 c.id_at-id.result
     c.id_at-id.ensures c.requires.3 object (pass-first c.is_second.ensures c.if-is_second.false) c.copy-p.ensures
-    (name-unimported c.args.s.now (λ i. omega (arith, c.shared_slice_known-1.given i)) c.args.at c.args.stop c.requires.1 c.requires.0 c.id_at-id.result
+    (name-unimported c.args.s.now (λ i. omega (arith, c.type_inv.s i)) c.args.at c.args.stop c.requires.1 c.requires.0 c.id_at-id.result
     c.id_at-id.ensures c.requires.3 c.imported_as-2.ensures c.in_default-imported_as.is)
 
 pub returns-in-Fine : goal.returns-in-Fine
 returns-in-Fine c =
-    λ object. name-first c.args.s.now (λ i. omega (arith, c.shared_slice_known-1.given i)) c.args.at c.args.stop c.requires.1 c.requires.0 c.id_at-id.result
+    λ object. name-first c.args.s.now (λ i. omega (arith, c.type_inv.s i)) c.args.at c.args.stop c.requires.1 c.requires.0 c.id_at-id.result
     c.id_at-id.ensures c.requires.3 object (pass-first c.is_second.ensures c.if-is_second.false) c.copy-p.ensures (effects-fine c.usage.ensures c.in-Fine.is)
 
 pub returns-in-Refused : goal.returns-in-Refused
 returns-in-Refused c =
-    λ object. name-first c.args.s.now (λ i. omega (arith, c.shared_slice_known-1.given i)) c.args.at c.args.stop c.requires.1 c.requires.0 c.id_at-id.result
+    λ object. name-first c.args.s.now (λ i. omega (arith, c.type_inv.s i)) c.args.at c.args.stop c.requires.1 c.requires.0 c.id_at-id.result
     c.id_at-id.ensures c.requires.3 object (pass-first c.is_second.ensures c.if-is_second.false) c.copy-p.ensures (effects-turned c.usage.ensures c.in-Refused.is)

@@ -7,7 +7,7 @@ use borrow.Author.Rules.{rules}
 use lib.ListN.{length}
 use lib.Seq.{slice}
 use Rattle.writer.specs.Wrote.{Wrote}
-use Rattle.writer.proofs.Wrote.{wrote_none, wrote-slice, slice-none}
+use Rattle.writer.proofs.Wrote.{wrote-none, wrote-slice, slice-none}
 use Rattle.writer.proofs.copy_part.Goals as goal
 
 pub loop-at-init : goal.loop-at-init
@@ -27,4 +27,4 @@ pub returns : goal.returns
 returns c =
     let a = c.args in
     let here = c.loop-at in
-    here.invariant.0 _ _ (rw (slice-none a.s.now here.at a.end (omega arith)) wrote_none)
+    here.invariant.0 _ _ (rw (slice-none a.s.now here.at a.end (omega arith)) wrote-none)

@@ -7,7 +7,7 @@ use borrow.Author.Rules.{rules}
 use lib.ListN.{length}
 use lib.Seq.{slice}
 use Rattle.writer.specs.Wrote.{Wrote}
-use Rattle.writer.proofs.Wrote.{wrote_none, wrote-slice, slice-none}
+use Rattle.writer.proofs.Wrote.{wrote-none, wrote-slice, slice-none}
 use Rattle.writer.proofs.copy_part.Given as goal
 
 abbrev pub invariant-loop-at : goal.invariant-loop-at

@@ -8,7 +8,7 @@ use native.Mathlib.Omega.{arith}
 use lib.ListN.{length, get_or}
 use lib.Seq.{slice}
 use Rattle.writer.specs.Wrote.{Wrote}
-use Rattle.writer.proofs.Wrote.{wrote_none, wrote-byte, wrote-slice, slice-none}
+use Rattle.writer.proofs.Wrote.{wrote-none, wrote-byte, wrote-slice, slice-none}
 use Rattle.writer.proofs.copy_whole.Goals as goal
 
 pub loop-i-init : goal.loop-i-init
@@ -34,4 +34,4 @@ returns c =
     let a = c.args in
     let here = c.loop-i in
     let e : a.o + here.i ≡ a.o + (a.end - a.from) = omega arith in
-    here.invariant.0 _ _ (rw (slice-none a.s.now (a.from + here.i) a.end (omega arith), e) wrote_none)
+    here.invariant.0 _ _ (rw (slice-none a.s.now (a.from + here.i) a.end (omega arith), e) wrote-none)

@@ -8,7 +8,7 @@ use native.Mathlib.Omega.{arith}
 use lib.ListN.{length, get_or}
 use lib.Seq.{slice}
 use Rattle.writer.specs.Wrote.{Wrote}
-use Rattle.writer.proofs.Wrote.{wrote_none, wrote-byte, wrote-slice, slice-none}
+use Rattle.writer.proofs.Wrote.{wrote-none, wrote-byte, wrote-slice, slice-none}
 use Rattle.writer.proofs.copy_whole.Given as goal
 
 abbrev pub invariant-loop-i : goal.invariant-loop-i

@@ -31,4 +31,4 @@ returns c =
     let a = c.args in
     leaves-both a.files.now (lent_as a.file (modes_of a.modes) a.externals.now a.table.now a.tree.now)
     (room_in a.work.now a.out.now a.records.now) (length a.list.now) c.tychodrel_extract-a.ensures c.resolve_with-b.ensures c.if-a-ne0.false c.if-b-ne0.false
-    (λ i. (c.shared_slice_known-4-1.given i).fits)
+    (λ i. (c.type_inv.tree i).fits)

@@ -3,12 +3,12 @@
 use Rattle.modes.specs.Bits.{modes_of}
 use native.Mathlib.Omega.{arith}
 use lib.ListN.{length}
-use Rattle.corollaries.proofs.FilesLaws.{lent_fits, lent-part}
+use Rattle.corollaries.proofs.FilesLaws.{lent-fits, lent-part}
 use borrow.Author.Rules.{rules}
 use Rattle.corollaries.proofs.exported.resolve_with.Goals as goal
 
 pub slice_bounds-tychodrel_resolve-end : goal.slice_bounds-tychodrel_resolve-end
-slice_bounds-tychodrel_resolve-end c = let h = lent_fits c.args.scope.now c.requires.0 c.put_files-n.ensures in omega arith
+slice_bounds-tychodrel_resolve-end c = let h = lent-fits c.args.scope.now c.requires.0 c.put_files-n.ensures in omega arith
 
 pub returns : goal.returns
 returns c =

@@ -4,7 +4,7 @@ use mathlib.Core.Path.{sym, ◌∙◌, refl}
 use native.Mathlib.Omega.{arith}
 use borrow.Author.Rules.{rules}
 use Rattle.tree.proofs.AccessLaws.{upto-in}
-use Rattle.expressions.proofs.AfterLaws.{after-short, after-60, after-63, after_first, after-rest}
+use Rattle.expressions.proofs.AfterLaws.{after-short, after-60, after-63, after-first, after-rest}
 use mathlib.Core.Path.{sym, ◌∙◌}
 use native.Mathlib.Omega.{arith}
 use borrow.Author.Rules.{rules}
@@ -41,7 +41,7 @@ ident_after-returns-then-second t c =
 
 pub ident_after-returns-else-second : goal.ident_after-returns-else-second
 ident_after-returns-else-second t c =
-    after_first c.args.s.now c.args.at c.args.stop (sym c.fixed.ensures ∙ c.in-Upto.is) c.in-99.is c.if-second.false
+    after-first c.args.s.now c.args.at c.args.stop (sym c.fixed.ensures ∙ c.in-Upto.is) c.in-99.is c.if-second.false
 
 pub ident_after-returns-in_default-tag : goal.ident_after-returns-in_default-tag
 ident_after-returns-in_default-tag t c =

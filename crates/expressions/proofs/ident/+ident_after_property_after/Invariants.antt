@@ -4,7 +4,7 @@ use mathlib.Core.Path.{sym, ◌∙◌, refl}
 use native.Mathlib.Omega.{arith}
 use borrow.Author.Rules.{rules}
 use Rattle.tree.proofs.AccessLaws.{upto-in}
-use Rattle.expressions.proofs.AfterLaws.{after-short, after-60, after-63, after_first, after-rest}
+use Rattle.expressions.proofs.AfterLaws.{after-short, after-60, after-63, after-first, after-rest}
 use mathlib.Core.Path.{sym, ◌∙◌}
 use native.Mathlib.Omega.{arith}
 use borrow.Author.Rules.{rules}

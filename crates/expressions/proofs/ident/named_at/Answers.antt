@@ -18,7 +18,7 @@ use mathlib.Core.Path.{sym, ◌∙◌, refl}
 use native.Mathlib.Omega.{arith}
 use Rattle.tree.specs.Layout.{four}
 use Rattle.tree.proofs.AccessLaws.{extent-upto, upto-in}
-use Rattle.expressions.proofs.AfterLaws.{named_none, named-short, named-70, named-rest}
+use Rattle.expressions.proofs.AfterLaws.{named-none, named-short, named-70, named-rest}
 use Rattle.tree.proofs.WidthLaws.{plain-ends}
 use Rattle.tree.specs.declared.grammar.Value.TheVariants.{Atom}
 use borrow.Author.Rules.{rules}
@@ -26,7 +26,7 @@ use Rattle.expressions.proofs.ident.named_at.Goals as goal
 
 pub returns-in_default : goal.returns-in_default
 returns-in_default c =
-    named_none c.args.s.now c.args.at c.args.end (four c.args.c.0) c.requires.0 (sym c.extent.ensures ∙ c.in_default.is)
+    named-none c.args.s.now c.args.at c.args.end (four c.args.c.0) c.requires.0 (sym c.extent.ensures ∙ c.in_default.is)
 
 pub bounds-s-at : goal.bounds-s-at
 bounds-s-at c =
@@ -55,7 +55,7 @@ returns-then-tag-eq112 c =
     plain-ends 0x70 Atom refl c.args.s.now _ (c.args.at + 3) _ _ c.if-tag-eq112.true
     (sym c.fixed.ensures ∙ c.in-Upto-fixed.is) in
     named-70 c.args.s.now c.args.at c.args.end (four c.args.c.0) c.requires.0
-    (sym c.extent.ensures ∙ c.in-Upto.is) (λ i. (c.shared_slice_known-1.given i).fits) (omega arith)
+    (sym c.extent.ensures ∙ c.in-Upto.is) (λ i. (c.type_inv.s i).fits) (omega arith)
     (sym c.fixed.ensures ∙ c.in-Upto-fixed.is) c.if-tag-eq112.true c.atom_at.ensures
 
 pub returns-else-tag-eq112 : goal.returns-else-tag-eq112

@@ -16,7 +16,7 @@ use Prim.Native.Nat.{◌+◌}
 use mathlib.Core.Path.{sym, ◌∙◌, refl}
 use native.Mathlib.Omega.{arith}
 use Rattle.tree.proofs.AccessLaws.{extent-upto, upto-in}
-use Rattle.expressions.proofs.LiteralLaws.{first-none, first_short, first-61, first_rest}
+use Rattle.expressions.proofs.LiteralLaws.{first-none, first-short, first-61, first-rest}
 use Rattle.tree.proofs.WidthLaws.{plain-ends}
 use Rattle.tree.specs.declared.grammar.Value.TheVariants.{Literal}
 use borrow.Author.Rules.{rules}
@@ -36,7 +36,7 @@ fixed-requires c =
 
 pub returns-in_default-fixed : goal.returns-in_default-fixed
 returns-in_default-fixed c =
-    first_short c.args.s.now c.args.at c.args.end c.requires.0 (sym c.extent.ensures ∙ c.in-Upto.is) (sym c.fixed.ensures ∙ c.in_default-fixed.is)
+    first-short c.args.s.now c.args.at c.args.end c.requires.0 (sym c.extent.ensures ∙ c.in-Upto.is) (sym c.fixed.ensures ∙ c.in_default-fixed.is)
 
 pub returns-then-tag-eq97 : goal.returns-then-tag-eq97
 returns-then-tag-eq97 c =
@@ -49,5 +49,5 @@ returns-then-tag-eq97 c =
 
 pub returns-else-tag-eq97 : goal.returns-else-tag-eq97
 returns-else-tag-eq97 c =
-    first_rest c.args.s.now c.args.at c.args.end c.requires.0 (sym c.extent.ensures ∙ c.in-Upto.is)
+    first-rest c.args.s.now c.args.at c.args.end c.requires.0 (sym c.extent.ensures ∙ c.in-Upto.is)
     (sym c.fixed.ensures ∙ c.in-Upto-fixed.is) c.if-tag-eq97.false

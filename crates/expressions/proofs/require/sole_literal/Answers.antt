@@ -2,13 +2,13 @@
 use mathlib.Core.Path.{sym, ◌∙◌}
 use native.Mathlib.Omega.{arith}
 use Rattle.tree.proofs.AccessLaws.{extent-upto}
-use Rattle.expressions.proofs.LiteralLaws.{sole_none, sole-two, sole-one}
+use Rattle.expressions.proofs.LiteralLaws.{sole-none, sole-two, sole-one}
 use borrow.Author.Rules.{rules}
 use Rattle.expressions.proofs.require.sole_literal.Goals as goal
 
 pub returns-in_default : goal.returns-in_default
 returns-in_default c =
-    sole_none c.args.s.now c.args.from c.args.end c.requires.0 (sym c.extent.ensures ∙ c.in_default.is)
+    sole-none c.args.s.now c.args.from c.args.end c.requires.0 (sym c.extent.ensures ∙ c.in_default.is)
 
 pub extent-requires-2 : goal.extent-requires-2
 extent-requires-2 c =

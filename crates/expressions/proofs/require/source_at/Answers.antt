@@ -9,7 +9,7 @@
 -- src/require.rt:81:8
 -- src/require.rt:73:1
 -- src/require.rt:73:1
-use Rattle.expressions.proofs.RequiredAtLaws.{found-fits, source-none, source-external, source_is}
+use Rattle.expressions.proofs.RequiredAtLaws.{found-fits, source-none, source-external, source-is}
 use borrow.Author.Rules.{rules}
 use Rattle.expressions.proofs.require.source_at.Goals as goal
 
@@ -28,5 +28,5 @@ returns-then-is_external c =
 
 pub returns-else-is_external : goal.returns-else-is_external
 returns-else-is_external c =
-    source_is c.sole_literal.ensures c.literal_at-literal.result c.in-At.is
+    source-is c.sole_literal.ensures c.literal_at-literal.result c.in-At.is
     c.place_of.ensures c.literal_at-literal.ensures c.is_external.ensures c.if-is_external.false

@@ -102,5 +102,5 @@ returns c =
     usage-from c.args.s.now c.args.at c.args.stop c.requires.0 c.requires.2
     (sym c.extent.ensures ∙ c.in-Upto.is) (sym c.extent-2.ensures ∙ c.in-Upto-extent.is)
     c.in-Is.is c.ident_after.ensures
-    c.in-Of.is c.imported_as.ensures (λ i. (c.shared_slice_known-1.given i).fits) c.if-s-member-eq113.false
+    c.in-Of.is c.imported_as.ensures (λ i. (c.type_inv.s i).fits) c.if-s-member-eq113.false
     c.use_from.ensures

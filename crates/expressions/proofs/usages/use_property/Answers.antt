@@ -54,7 +54,7 @@ returns-in-Made c =
     plain-ends 0x70 Atom refl c.args.s.now _ (c.args.member + 3) _ _ c.if-tag-ne112.false
     (sym c.fixed.ensures ∙ c.in-Upto.is) in
     property-made c.args.s.now c.args.at c.args.member c.args.end c.args.id c.args.n
-    (sym c.fixed.ensures ∙ c.in-Upto.is) (λ i. (c.shared_slice_known-1.given i).fits) (omega arith) c.if-tag-ne112.false
+    (sym c.fixed.ensures ∙ c.in-Upto.is) (λ i. (c.type_inv.s i).fits) (omega arith) c.if-tag-ne112.false
     c.atom_at.ensures c.export_ctxt.ensures c.add_usage.ensures c.in-Made.is
 
 pub returns-in-Full : goal.returns-in-Full
@@ -63,5 +63,5 @@ returns-in-Full c =
     plain-ends 0x70 Atom refl c.args.s.now _ (c.args.member + 3) _ _ c.if-tag-ne112.false
     (sym c.fixed.ensures ∙ c.in-Upto.is) in
     property-full c.args.s.now c.args.at c.args.member c.args.end c.args.id c.args.n
-    (sym c.fixed.ensures ∙ c.in-Upto.is) (λ i. (c.shared_slice_known-1.given i).fits) (omega arith) c.if-tag-ne112.false
+    (sym c.fixed.ensures ∙ c.in-Upto.is) (λ i. (c.type_inv.s i).fits) (omega arith) c.if-tag-ne112.false
     c.atom_at.ensures c.export_ctxt.ensures c.add_usage.ensures c.in-Full.is

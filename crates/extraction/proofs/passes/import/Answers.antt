@@ -19,10 +19,10 @@ import_first-requires c =
 
 pub returns-then-is_second : goal.returns-then-is_second
 returns-then-is_second c =
-    import-two c.args.s.now (λ i. omega (arith, c.shared_slice_known-1.given i)) c.args.at c.args.stop c.is_second.ensures c.if-is_second.true c.requires.0
+    import-two c.args.s.now (λ i. omega (arith, c.type_inv.s i)) c.args.at c.args.stop c.is_second.ensures c.if-is_second.true c.requires.0
     c.import_second.ensures
 
 pub returns-else-is_second : goal.returns-else-is_second
 returns-else-is_second c =
-    import-one c.args.s.now (λ i. omega (arith, c.shared_slice_known-1.given i)) c.args.at c.args.stop c.is_second.ensures c.if-is_second.false c.requires.0
+    import-one c.args.s.now (λ i. omega (arith, c.type_inv.s i)) c.args.at c.args.stop c.is_second.ensures c.if-is_second.false c.requires.0
     c.import_first.ensures

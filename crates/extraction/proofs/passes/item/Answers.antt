@@ -8,19 +8,19 @@ use Rattle.extraction.proofs.passes.item.Goals as goal
 
 pub returns-in-64 : goal.returns-in-64
 returns-in-64 c =
-    item-40 c.args.s.now (λ i. omega (arith, c.shared_slice_known-1.given i)) c.args.at c.args.stop c.in-64.is c.requires.2
+    item-40 c.args.s.now (λ i. omega (arith, c.type_inv.s i)) c.args.at c.args.stop c.in-64.is c.requires.2
 
 pub returns-in-Upto : goal.returns-in-Upto
 returns-in-Upto c =
-    item-41 c.args.s.now (λ i. omega (arith, c.shared_slice_known-1.given i)) c.args.at c.args.stop c.in-65.is c.requires.0 (sym c.extent.ensures
+    item-41 c.args.s.now (λ i. omega (arith, c.type_inv.s i)) c.args.at c.args.stop c.in-65.is c.requires.0 (sym c.extent.ensures
     ∙ c.in-Upto.is) c.walk.ensures
 
 pub returns-in-Short : goal.returns-in-Short
 returns-in-Short c =
-    item-bare c.args.s.now (λ i. omega (arith, c.shared_slice_known-1.given i)) c.args.at c.args.stop c.in-65.is c.requires.0 (sym
+    item-bare c.args.s.now (λ i. omega (arith, c.type_inv.s i)) c.args.at c.args.stop c.in-65.is c.requires.0 (sym
     c.extent.ensures ∙ c.in-Short.is) c.requires.2
 
 pub returns-in_default : goal.returns-in_default
 returns-in_default c =
-    item-plain c.args.s.now (λ i. omega (arith, c.shared_slice_known-1.given i)) c.args.at c.args.stop c.in_default.in_default-own.rest.0.0.1 c.in_default.in_default-own.rest.0.1
+    item-plain c.args.s.now (λ i. omega (arith, c.type_inv.s i)) c.args.at c.args.stop c.in_default.in_default-own.rest.0.0.1 c.in_default.in_default-own.rest.0.1
     c.in_default.in_default-own.rest.1 c.walk-in_default.ensures

@@ -18,7 +18,7 @@ extent-requires c =
 
 pub returns-in_default : goal.returns-in_default
 returns-in_default c =
-    passing-over (λ i. omega (arith, c.shared_slice_known-1.given i)) c.loop-stop.invariant (sym c.extent.ensures ∙ c.in_default.is)
+    passing-over (λ i. omega (arith, c.type_inv.s i)) c.loop-stop.invariant (sym c.extent.ensures ∙ c.in_default.is)
 
 pub item-requires : goal.item-requires
 item-requires c =
@@ -32,7 +32,7 @@ loop-stop-smaller c =
 
 pub loop-stop-preserved : goal.loop-stop-preserved
 loop-stop-preserved c =
-    passing-more (λ i. omega (arith, c.shared_slice_known-1.given i))
+    passing-more (λ i. omega (arith, c.type_inv.s i))
     c.loop-stop.invariant
     (sym c.extent.ensures
     ∙ c.in-Upto.is)
@@ -40,4 +40,4 @@ loop-stop-preserved c =
 
 pub returns-in-Refused : goal.returns-in-Refused
 returns-in-Refused c =
-    passing-turned (λ i. omega (arith, c.shared_slice_known-1.given i)) c.loop-stop.invariant (sym c.extent.ensures ∙ c.in-Upto.is) c.item.ensures c.in-Refused.is
+    passing-turned (λ i. omega (arith, c.type_inv.s i)) c.loop-stop.invariant (sym c.extent.ensures ∙ c.in-Upto.is) c.item.ensures c.in-Refused.is

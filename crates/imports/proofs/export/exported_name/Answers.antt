@@ -10,8 +10,8 @@ atom_at-requires c =
 
 pub returns-then-s-at-eq1 : goal.returns-then-s-at-eq1
 returns-then-s-at-eq1 c =
-    exported-given c.args.s.now c.args.at (λ i. (c.shared_slice_known-1.given i).fits) c.if-s-at-eq1.true (c.requires.1 c.if-s-at-eq1.true) c.atom_at.ensures
+    exported-given c.args.s.now c.args.at (λ i. (c.type_inv.s i).fits) c.if-s-at-eq1.true (c.requires.1 c.if-s-at-eq1.true) c.atom_at.ensures
 
 pub returns-else-s-at-eq1 : goal.returns-else-s-at-eq1
 returns-else-s-at-eq1 c =
-    exported-filled c.args.s.now c.args.at (λ i. (c.shared_slice_known-1.given i).fits) c.if-s-at-eq1.false c.requires.0 c.atom_at-else-s-at-eq1.ensures
+    exported-filled c.args.s.now c.args.at (λ i. (c.type_inv.s i).fits) c.if-s-at-eq1.false c.requires.0 c.atom_at-else-s-at-eq1.ensures

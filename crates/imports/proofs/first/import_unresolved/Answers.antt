@@ -19,5 +19,5 @@ gathered-requires c =
 
 pub returns : goal.returns
 returns c =
-    first-unresolved (λ i. (c.shared_slice_known-1.given i).fits) (headed c.requires.0 c.requires.1 c.requires.2 (sym c.fixed.ensures ∙ c.in-Upto.is))
+    first-unresolved (λ i. (c.type_inv.s i).fits) (headed c.requires.0 c.requires.1 c.requires.2 (sym c.fixed.ensures ∙ c.in-Upto.is))
     c.copy-p.ensures c.gathered.ensures

@@ -6,12 +6,12 @@ use mathlib.Core.Path.{sym, ◌∙◌}
 use borrow.Author.Rules.{rules}
 use Prim.Native.Nat.{◌-◌}
 use Rattle.tree.proofs.AccessLaws.{extent-upto}
-use Rattle.imports.proofs.NoteAllLaws.{Going, going_start, going_more, notes-end, notes-attributes, notes-refused}
+use Rattle.imports.proofs.NoteAllLaws.{Going, going-start, going-more, notes-end, notes-attributes, notes-refused}
 use Rattle.imports.proofs.note.note_all.Goals as goal
 
 pub loop-stop-init : goal.loop-stop-init
 loop-stop-init c =
-    going_start c.args.n.0 c.args.s.now c.args.from c.args.end c.requires.2 c.requires.0
+    going-start c.args.n.0 c.args.s.now c.args.from c.args.end c.requires.2 c.requires.0
 
 pub extent-requires : goal.extent-requires
 extent-requires c =
@@ -20,7 +20,7 @@ extent-requires c =
 pub returns-in_default : goal.returns-in_default
 returns-in_default c =
     c.loop-stop.invariant.rest _ _ _
-    (notes-end c.args.n.0 c.args.s.now c.loop-stop.at c.args.end (λ i. (c.shared_slice_known-1.given i).fits)
+    (notes-end c.args.n.0 c.args.s.now c.loop-stop.at c.args.end (λ i. (c.type_inv.s i).fits)
     c.loop-stop.invariant.before c.requires.1 c.loop-stop.invariant.good (sym c.extent.ensures ∙ c.in_default.is))
 
 pub bounds-s-at : goal.bounds-s-at
@@ -30,7 +30,7 @@ bounds-s-at c =
 pub returns-then-s-at-eq47 : goal.returns-then-s-at-eq47
 returns-then-s-at-eq47 c =
     c.loop-stop.invariant.rest _ _ _
-    (notes-attributes c.args.n.0 c.args.s.now c.loop-stop.at c.args.end (λ i. (c.shared_slice_known-1.given i).fits)
+    (notes-attributes c.args.n.0 c.args.s.now c.loop-stop.at c.args.end (λ i. (c.type_inv.s i).fits)
     c.loop-stop.invariant.before c.requires.1 (sym c.extent.ensures ∙ c.in-Upto.is) c.loop-stop.invariant.good c.if-s-at-eq47.true)
 
 pub note_specifier-requires : goal.note_specifier-requires
@@ -45,13 +45,13 @@ loop-stop-smaller c =
 
 pub loop-stop-preserved : goal.loop-stop-preserved
 loop-stop-preserved c =
-    going_more c.args.n.0 c.args.s.now c.args.from c.args.end c.loop-stop.invariant (λ i. (c.shared_slice_known-1.given i).fits)
+    going-more c.args.n.0 c.args.s.now c.args.from c.args.end c.loop-stop.invariant (λ i. (c.type_inv.s i).fits)
     c.requires.1 (sym c.extent.ensures ∙ c.in-Upto.is) c.if-s-at-eq47.false c.note_specifier.ensures c.in-Done.is
     c.note_specifier.auto.t
 
 pub returns-in-Refused : goal.returns-in-Refused
 returns-in-Refused c =
     c.loop-stop.invariant.rest _ _ _
-    (notes-refused c.args.n.0 c.args.s.now c.loop-stop.at c.args.end (λ i. (c.shared_slice_known-1.given i).fits)
+    (notes-refused c.args.n.0 c.args.s.now c.loop-stop.at c.args.end (λ i. (c.type_inv.s i).fits)
     c.loop-stop.invariant.before c.requires.1 (sym c.extent.ensures ∙ c.in-Upto.is) c.if-s-at-eq47.false c.note_specifier.ensures
     c.in-Refused.is)

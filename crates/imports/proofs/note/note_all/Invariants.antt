@@ -6,7 +6,7 @@ use mathlib.Core.Path.{sym, ◌∙◌}
 use borrow.Author.Rules.{rules}
 use Prim.Native.Nat.{◌-◌}
 use Rattle.tree.proofs.AccessLaws.{extent-upto}
-use Rattle.imports.proofs.NoteAllLaws.{Going, going_start, going_more, notes-end, notes-attributes, notes-refused}
+use Rattle.imports.proofs.NoteAllLaws.{Going, going-start, going-more, notes-end, notes-attributes, notes-refused}
 use Rattle.imports.proofs.note.note_all.Given as goal
 
 abbrev pub invariant-loop-stop : goal.invariant-loop-stop

@@ -15,7 +15,7 @@ id_at-requires c =
 pub returns-in-Made : goal.returns-in-Made
 returns-in-Made c =
     acts-made c.args.at (tree_at c.args.s.now c.args.at c.args.stop) (noted-as (four c.args.c.0) c.id_at.ensures c.note_id.ensures) c.in-Made.is
-    c.copy.ensures.size (other-copied (λ i. (c.shared_slice_known-1.given i).fits) c.copy.ensures)
+    c.copy.ensures.size (other-copied (λ i. (c.type_inv.s i).fits) c.copy.ensures)
 
 pub returns-in-Full : goal.returns-in-Full
 returns-in-Full c =

@@ -34,7 +34,7 @@ returns-in-1 c =
     let h = c.requires.1 (λ z. let k = c.in-1.is in omega arith) in (
       c.in-1.is,
       ap two c.atom_at.ensures
-          ∙ two_at-is c.args.s.now _ (λ i. (c.shared_slice_known-1.given i).fits) (omega arith),
+          ∙ two_at-is c.args.s.now _ (λ i. (c.type_inv.s i).fits) (omega arith),
     )
 
 pub returns-in_default : goal.returns-in_default

@@ -12,8 +12,8 @@ copy-requires c =
 
 pub returns-in-Upto : goal.returns-in-Upto
 returns-in-Upto c =
-    attributes-copied (λ i. (c.shared_slice_known-1.given i).fits) c.requires.0 c.requires.1 (sym c.extent.ensures ∙ c.in-Upto.is) c.copy.ensures
+    attributes-copied (λ i. (c.type_inv.s i).fits) c.requires.0 c.requires.1 (sym c.extent.ensures ∙ c.in-Upto.is) c.copy.ensures
 
 pub returns-in-Short : goal.returns-in-Short
 returns-in-Short c =
-    attributes-none (λ i. (c.shared_slice_known-1.given i).fits) c.requires.0 c.requires.1 (sym c.extent.ensures ∙ c.in-Short.is)
+    attributes-none (λ i. (c.type_inv.s i).fits) c.requires.0 c.requires.1 (sym c.extent.ensures ∙ c.in-Short.is)

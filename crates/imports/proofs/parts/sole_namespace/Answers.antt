@@ -9,7 +9,7 @@ use Rattle.imports.proofs.parts.sole_namespace.Goals as goal
 
 pub returns-in_default : goal.returns-in_default
 returns-in_default c =
-    sole-short c.args.s.now c.args.from c.args.end (λ i. (c.shared_slice_known-1.given i).fits) c.requires.0 c.requires.1
+    sole-short c.args.s.now c.args.from c.args.end (λ i. (c.type_inv.s i).fits) c.requires.0 c.requires.1
     (sym c.extent.ensures ∙ c.in_default.is)
 
 pub specifiers_end-requires : goal.specifiers_end-requires
@@ -22,11 +22,11 @@ namespace_at-requires c =
 
 pub returns-then-specifiers_end-stop : goal.returns-then-specifiers_end-stop
 returns-then-specifiers_end-stop c =
-    sole-is c.args.s.now c.args.from c.args.end (λ i. (c.shared_slice_known-1.given i).fits) c.requires.0 c.requires.1
+    sole-is c.args.s.now c.args.from c.args.end (λ i. (c.type_inv.s i).fits) c.requires.0 c.requires.1
     (sym c.extent.ensures ∙ c.in-Upto.is) c.namespace_at.result c.if-specifiers_end-stop.true
     c.specifiers_end.ensures c.namespace_at.ensures
 
 pub returns-else-specifiers_end-stop : goal.returns-else-specifiers_end-stop
 returns-else-specifiers_end-stop c =
-    sole-more c.args.s.now c.args.from c.args.end (λ i. (c.shared_slice_known-1.given i).fits) c.requires.0 c.requires.1
+    sole-more c.args.s.now c.args.from c.args.end (λ i. (c.type_inv.s i).fits) c.requires.0 c.requires.1
     (sym c.extent.ensures ∙ c.in-Upto.is) c.if-specifiers_end-stop.false c.specifiers_end.ensures

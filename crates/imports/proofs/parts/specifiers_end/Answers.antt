@@ -18,7 +18,7 @@ extent-requires c =
 
 pub returns-in_default : goal.returns-in_default
 returns-in_default c =
-    c.loop-stop.invariant.rest _ (ends-short (λ i. (c.shared_slice_known-1.given i).fits) c.loop-stop.invariant.before c.requires.1 (sym c.extent.ensures ∙ c.in_default.is))
+    c.loop-stop.invariant.rest _ (ends-short (λ i. (c.type_inv.s i).fits) c.loop-stop.invariant.before c.requires.1 (sym c.extent.ensures ∙ c.in_default.is))
 
 pub bounds-s-at : goal.bounds-s-at
 bounds-s-at c =
@@ -26,7 +26,7 @@ bounds-s-at c =
 
 pub returns-then-s-at-eq47 : goal.returns-then-s-at-eq47
 returns-then-s-at-eq47 c =
-    c.loop-stop.invariant.rest _ (ends-attributes (λ i. (c.shared_slice_known-1.given i).fits) c.loop-stop.invariant.before c.requires.1 (sym c.extent.ensures ∙ c.in-Upto.is) c.if-s-at-eq47.true)
+    c.loop-stop.invariant.rest _ (ends-attributes (λ i. (c.type_inv.s i).fits) c.loop-stop.invariant.before c.requires.1 (sym c.extent.ensures ∙ c.in-Upto.is) c.if-s-at-eq47.true)
 
 pub loop-stop-smaller : goal.loop-stop-smaller
 loop-stop-smaller c =
@@ -34,4 +34,4 @@ loop-stop-smaller c =
 
 pub loop-stop-preserved : goal.loop-stop-preserved
 loop-stop-preserved c =
-    seeking-more c.loop-stop.invariant (λ i. (c.shared_slice_known-1.given i).fits) c.requires.1 (sym c.extent.ensures ∙ c.in-Upto.is) c.if-s-at-eq47.false
+    seeking-more c.loop-stop.invariant (λ i. (c.type_inv.s i).fits) c.requires.1 (sym c.extent.ensures ∙ c.in-Upto.is) c.if-s-at-eq47.false

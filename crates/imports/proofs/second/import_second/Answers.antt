@@ -2,10 +2,10 @@
 -- without a sole namespace (these stay), or taken apart. `head-source` says that the atom at at + 3 is the tree's source.
 -- `import_second`: an import that was read has its literal (`head-short`). Each other return has its law of AgainLaws: external, forced,
 -- without a sole namespace (these stay), or taken apart. `head-source` says that the atom at at + 3 is the tree's source.
-use Rattle.imports.proofs.HeadLaws.{headed, head_in, head-source, head-short}
+use Rattle.imports.proofs.HeadLaws.{headed, head-in, head-source, head-short}
 use native.Mathlib.Omega.{arith}
 use mathlib.Core.Path.{sym, ◌∙◌}
-use Rattle.imports.proofs.HeadLaws.{head_in, head-source, head-short}
+use Rattle.imports.proofs.HeadLaws.{head-in, head-source, head-short}
 use Rattle.imports.proofs.AgainLaws.{again-external, again-forced, again-other, again-apart}
 use borrow.Author.Rules.{rules}
 use Rattle.imports.proofs.second.import_second.Goals as goal
@@ -16,40 +16,40 @@ returns-in_default c =
 
 pub atom_at-requires : goal.atom_at-requires
 atom_at-requires c =
-    let i = head_in (headed c.requires.0 c.requires.1 c.requires.2 (sym c.fixed.ensures ∙ c.in-Upto.is)) in omega arith
+    let i = head-in (headed c.requires.0 c.requires.1 c.requires.2 (sym c.fixed.ensures ∙ c.in-Upto.is)) in omega arith
 
 pub returns-then-is_external : goal.returns-then-is_external
 returns-then-is_external c =
     let w = headed c.requires.0 c.requires.1 c.requires.2 (sym c.fixed.ensures ∙ c.in-Upto.is) in
-    again-external (λ i. (c.shared_slice_known-1.given i).fits) w c.atom_at.result (head-source w (λ i. (c.shared_slice_known-1.given i).fits) c.atom_at.ensures)
+    again-external (λ i. (c.type_inv.s i).fits) w c.atom_at.result (head-source w (λ i. (c.type_inv.s i).fits) c.atom_at.ensures)
     c.is_external.ensures c.requires.3 c.if-is_external.true c.copy.ensures
 
 pub returns-then-is_forced : goal.returns-then-is_forced
 returns-then-is_forced c =
     let w = headed c.requires.0 c.requires.1 c.requires.2 (sym c.fixed.ensures ∙ c.in-Upto.is) in
-    again-forced (λ i. (c.shared_slice_known-1.given i).fits) w c.atom_at.result (head-source w (λ i. (c.shared_slice_known-1.given i).fits) c.atom_at.ensures)
+    again-forced (λ i. (c.type_inv.s i).fits) w c.atom_at.result (head-source w (λ i. (c.type_inv.s i).fits) c.atom_at.ensures)
     c.is_external.ensures c.requires.3 c.if-is_external.false c.is_forced.ensures c.if-is_forced.true c.copy-then-is_forced.ensures
 
 pub sole_namespace-requires : goal.sole_namespace-requires
 sole_namespace-requires c =
-    let i = head_in (headed c.requires.0 c.requires.1 c.requires.2 (sym c.fixed.ensures ∙ c.in-Upto.is)) in
+    let i = head-in (headed c.requires.0 c.requires.1 c.requires.2 (sym c.fixed.ensures ∙ c.in-Upto.is)) in
     (i.1, c.requires.1)
 
 pub take_apart-requires : goal.take_apart-requires
 take_apart-requires c =
-    let i = head_in (headed c.requires.0 c.requires.1 c.requires.2 (sym c.fixed.ensures ∙ c.in-Upto.is)) in
+    let i = head-in (headed c.requires.0 c.requires.1 c.requires.2 (sym c.fixed.ensures ∙ c.in-Upto.is)) in
     (omega arith, c.requires.1, c.requires.2, c.requires.3)
 
 pub returns-in-Is : goal.returns-in-Is
 returns-in-Is c =
     let w = headed c.requires.0 c.requires.1 c.requires.2 (sym c.fixed.ensures ∙ c.in-Upto.is) in
-    again-apart (λ i. (c.shared_slice_known-1.given i).fits) w c.atom_at.result (head-source w (λ i. (c.shared_slice_known-1.given i).fits) c.atom_at.ensures)
+    again-apart (λ i. (c.type_inv.s i).fits) w c.atom_at.result (head-source w (λ i. (c.type_inv.s i).fits) c.atom_at.ensures)
     c.is_external.ensures c.requires.3 c.if-is_external.false c.is_forced.ensures c.if-is_forced.false c.sole_namespace.result c.sole_namespace.ensures
     c.in-Is.id c.in-Is.is c.take_apart.ensures
 
 pub returns-in-Other : goal.returns-in-Other
 returns-in-Other c =
     let w = headed c.requires.0 c.requires.1 c.requires.2 (sym c.fixed.ensures ∙ c.in-Upto.is) in
-    again-other (λ i. (c.shared_slice_known-1.given i).fits) w c.atom_at.result (head-source w (λ i. (c.shared_slice_known-1.given i).fits) c.atom_at.ensures)
+    again-other (λ i. (c.type_inv.s i).fits) w c.atom_at.result (head-source w (λ i. (c.type_inv.s i).fits) c.atom_at.ensures)
     c.is_external.ensures c.requires.3 c.if-is_external.false c.is_forced.ensures c.if-is_forced.false c.sole_namespace.result c.sole_namespace.ensures
     c.in-Other.is c.copy-in-Other.ensures

@@ -3,7 +3,7 @@
 use native.Mathlib.Omega.{arith}
 use Prim.Native.Nat.{◌-◌}
 use Rattle.state.specs.Cells.{id_by}
-use Rattle.imports.proofs.TakenLaws.{Listing, listing_start, listing-more, usages-end}
+use Rattle.imports.proofs.TakenLaws.{Listing, listing-start, listing-more, usages-end}
 use Rattle.imports.proofs.second.put_usages.Goals as goal
 
 pub count_usages-n-requires : goal.count_usages-n-requires
@@ -12,7 +12,7 @@ count_usages-n-requires c =
 
 pub loop-i-init : goal.loop-i-init
 loop-i-init c =
-    listing_start (id_by c.args.id)
+    listing-start (id_by c.args.id)
 
 pub put_usage-to-requires : goal.put_usage-to-requires
 put_usage-to-requires c =

@@ -3,7 +3,7 @@
 use native.Mathlib.Omega.{arith}
 use Prim.Native.Nat.{◌-◌}
 use Rattle.state.specs.Cells.{id_by}
-use Rattle.imports.proofs.TakenLaws.{Listing, listing_start, listing-more, usages-end}
+use Rattle.imports.proofs.TakenLaws.{Listing, listing-start, listing-more, usages-end}
 use Rattle.imports.proofs.second.put_usages.Given as goal
 
 abbrev pub invariant-loop-i : goal.invariant-loop-i

@@ -1,6 +1,6 @@
--- `take_apart`: by whether the id has usages. `apart_some` has the import written with them; `apart_none` forces its source and keeps it.
+-- `take_apart`: by whether the id has usages. `apart-some` has the import written with them; `apart-none` forces its source and keeps it.
 use native.Mathlib.Omega.{arith}
-use Rattle.imports.proofs.TakenLaws.{apart_some, apart_none}
+use Rattle.imports.proofs.TakenLaws.{apart-some, apart-none}
 use borrow.Author.Rules.{rules}
 use Rattle.imports.proofs.second.take_apart.Goals as goal
 
@@ -12,7 +12,7 @@ put_taken_apart-requires c =
 pub returns-then-has_usages : goal.returns-then-has_usages
 returns-then-has_usages c =
     let a = c.requires.0 in
-    apart_some c.args.s.now c.args.at c.args.stop (λ i. (c.shared_slice_known-1.given i).fits) (omega arith) c.requires.1 c.requires.2 c.args.id c.requires.3
+    apart-some c.args.s.now c.args.at c.args.stop (λ i. (c.type_inv.s i).fits) (omega arith) c.requires.1 c.requires.2 c.args.id c.requires.3
     c.put_taken_apart.auto.out c.has_usages.ensures c.if-has_usages.true c.put_taken_apart.ensures
 
 pub atom_at-requires : goal.atom_at-requires
@@ -24,5 +24,5 @@ atom_at-requires c =
 pub returns : goal.returns
 returns c =
     let a = c.requires.0 in
-    apart_none c.args.s.now c.args.at c.args.stop (λ i. (c.shared_slice_known-1.given i).fits) (omega arith) c.requires.1 c.requires.2 c.args.id
+    apart-none c.args.s.now c.args.at c.args.stop (λ i. (c.type_inv.s i).fits) (omega arith) c.requires.1 c.requires.2 c.args.id
     c.atom_at.result c.has_usages.ensures c.if-has_usages.false c.atom_at.ensures c.force_source.ensures c.copy.ensures

@@ -2,13 +2,13 @@
 use mathlib.Core.Path.{sym, ◌∙◌}
 use native.Mathlib.Omega.{arith}
 use Rattle.tree.proofs.AccessLaws.{extent-upto, upto-in}
-use Rattle.metadata.proofs.DecodeLaws.{parts-upto, parts-short, parts_none}
+use Rattle.metadata.proofs.DecodeLaws.{parts-upto, parts-short, parts-none}
 use borrow.Author.Rules.{rules}
 use Rattle.metadata.proofs.ExportMetadata.decode_parts.Goals as goal
 
 pub returns-in_default : goal.returns-in_default
 returns-in_default c =
-    c.unset.ensures ∙ parts_none c.args.s.now (sym c.extent.ensures ∙ c.in_default.is)
+    c.unset.ensures ∙ parts-none c.args.s.now (sym c.extent.ensures ∙ c.in_default.is)
 
 pub bounds-s-0 : goal.bounds-s-0
 bounds-s-0 c =

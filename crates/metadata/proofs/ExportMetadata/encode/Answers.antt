@@ -9,7 +9,7 @@ use Rattle.metadata.proofs.ExportMetadata.encode.Goals as goal
 pub returns-then-finish : goal.returns-then-finish
 returns-then-finish c =
     let a = c.args in
-    let bytes : Bytes a.attributes.now = λ i. (c.shared_slice_known-1.given i).fits in
+    let bytes : Bytes a.attributes.now = λ i. (c.type_inv.attributes i).fits in
     let good = sym c.read_lent.ensures
     ∙ c.in-Good.is in
     encode-done a.attributes.now (metadata_of a.self) bytes good c.write-n.ensures
@@ -18,7 +18,7 @@ returns-then-finish c =
 pub returns-else-finish : goal.returns-else-finish
 returns-else-finish c =
     let a = c.args in
-    let bytes : Bytes a.attributes.now = λ i. (c.shared_slice_known-1.given i).fits in
+    let bytes : Bytes a.attributes.now = λ i. (c.type_inv.attributes i).fits in
     let good = sym c.read_lent.ensures
     ∙ c.in-Good.is in
     encode-short a.attributes.now (metadata_of a.self) bytes good c.write-n.ensures

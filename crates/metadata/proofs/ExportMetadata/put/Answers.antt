@@ -1,6 +1,6 @@
 -- `put`: with a context, and without.
 use mathlib.Core.Path.{ap}
-use Rattle.writer.proofs.Wrote.{wrote_then, wrote_as}
+use Rattle.writer.proofs.Wrote.{wrote-then, wrote-as}
 use Rattle.metadata.specs.MetadataValue.{context_of}
 use Rattle.metadata.proofs.EncodeLaws.{with-context, without-context}
 use borrow.Author.Rules.{rules}
@@ -8,8 +8,8 @@ use Rattle.metadata.proofs.ExportMetadata.put.Goals as goal
 
 pub returns-in-Some : goal.returns-in-Some
 returns-in-Some c =
-    wrote_as (wrote_then c.put_injected-p.ensures c.put_context.ensures) (with-context c.args.self.injected _ _ (ap context_of c.in-Some.is))
+    wrote-as (wrote-then c.put_injected-p.ensures c.put_context.ensures) (with-context c.args.self.injected _ _ (ap context_of c.in-Some.is))
 
 pub returns-in-None : goal.returns-in-None
 returns-in-None c =
-    wrote_as c.put_injected-p.ensures (without-context c.args.self.injected _ (ap context_of c.in-None.is))
+    wrote-as c.put_injected-p.ensures (without-context c.args.self.injected _ (ap context_of c.in-None.is))

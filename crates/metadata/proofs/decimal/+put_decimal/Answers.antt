@@ -2,14 +2,14 @@
 use mathlib.Core.Path.{sym}
 use native.Mathlib.Omega.{arith}
 use borrow.Author.Rules.{rules}
-use Rattle.writer.proofs.Wrote.{wrote_then, wrote_as}
-use Rattle.metadata.proofs.DecimalLaws.{decimal_digit, decimal-more}
+use Rattle.writer.proofs.Wrote.{wrote-then, wrote-as}
+use Rattle.metadata.proofs.DecimalLaws.{decimal-digit, decimal-more}
 use Prim.Native.Nat.{ℕ, ◌<◌}
 use Rattle.metadata.proofs.decimal.+put_decimal.Goals as goal
 
 pub returns-then-n-lt10 : goal.returns-then-n-lt10
 returns-then-n-lt10 t c =
-    wrote_as c.put.ensures (sym (decimal_digit c.args.n c.if-n-lt10.true))
+    wrote-as c.put.ensures (sym (decimal-digit c.args.n c.if-n-lt10.true))
 
 pub put_decimal-last-requires : goal.put_decimal-last-requires
 put_decimal-last-requires t c =
@@ -17,4 +17,4 @@ put_decimal-last-requires t c =
 
 pub returns : goal.returns
 returns t c =
-    wrote_as (wrote_then c.put_decimal-last.ensures c.put-2.ensures) (sym (decimal-more c.args.n c.if-n-lt10.false))
+    wrote-as (wrote-then c.put_decimal-last.ensures c.put-2.ensures) (sym (decimal-more c.args.n c.if-n-lt10.false))

@@ -2,8 +2,8 @@
 use mathlib.Core.Path.{sym}
 use native.Mathlib.Omega.{arith}
 use borrow.Author.Rules.{rules}
-use Rattle.writer.proofs.Wrote.{wrote_then, wrote_as}
-use Rattle.metadata.proofs.DecimalLaws.{decimal_digit, decimal-more}
+use Rattle.writer.proofs.Wrote.{wrote-then, wrote-as}
+use Rattle.metadata.proofs.DecimalLaws.{decimal-digit, decimal-more}
 use Prim.Native.Nat.{ℕ, ◌<◌}
 use Rattle.metadata.proofs.decimal.+put_decimal.Given as goal
 

@@ -7,7 +7,7 @@ use borrow.Author.Rules.{rules}
 use borrow.Author.Tests.{le-leb}
 use lib.Seq.{slice}
 use Rattle.metadata.specs.Decimal.{number_from, limited}
-use Rattle.metadata.proofs.DecimalLaws.{digit-is, number_more, number-other, number-end, too_large}
+use Rattle.metadata.proofs.DecimalLaws.{digit-is, number-more, number-other, number-end, too-large}
 use Rattle.metadata.proofs.decimal.number_at.Goals as goal
 
 pub loop-at-init : goal.loop-at-init
@@ -35,7 +35,7 @@ pub overflow_cast-n : goal.overflow_cast-n
 overflow_cast-n c =
     let a = c.args in
     let here = c.loop-at in
-    let b = c.shared_slice_known-in-loop-at-1.given here.at in
+    let b = c.type_inv.s here.at in
     omega arith
 
 pub overflow_add-n : goal.overflow_add-n
@@ -44,7 +44,7 @@ overflow_add-n c =
     let here = c.loop-at in
     let digit = sym c.is_digit.ensures ∙ c.if-not-is_digit.false in
     let d = digit-is (get_or a.s.now here.at 0) digit in
-    let b = c.shared_slice_known-in-loop-at-1.given here.at in
+    let b = c.type_inv.s here.at in
     omega arith
 
 pub returns-then-n-gt4294967295 : goal.returns-then-n-gt4294967295
@@ -52,16 +52,16 @@ returns-then-n-gt4294967295 c =
     let a = c.args in
     let here = c.loop-at in
     let digit = sym c.is_digit.ensures ∙ c.if-not-is_digit.false in
-    let more = number_more a.s.now here.at a.end c.loop-at-test.true c.requires.1 here.n digit in
+    let more = number-more a.s.now here.at a.end c.loop-at-test.true c.requires.1 here.n digit in
     let large : 4294967295 < here.n * 10 + (get_or a.s.now here.at 0 - 48) = omega arith in
-    sym (ap limited more ∙ too_large _ _ large) ∙ here.invariant.0
+    sym (ap limited more ∙ too-large _ _ large) ∙ here.invariant.0
 
 pub loop-at-preserved : goal.loop-at-preserved
 loop-at-preserved c =
     let a = c.args in
     let here = c.loop-at in
     let digit = sym c.is_digit.ensures ∙ c.if-not-is_digit.false in
-    let more = number_more a.s.now here.at a.end c.loop-at-test.true c.requires.1 here.n digit in
+    let more = number-more a.s.now here.at a.end c.loop-at-test.true c.requires.1 here.n digit in
     (sym (ap limited more) ∙ here.invariant.0, omega arith, omega arith)
 
 pub returns : goal.returns

@@ -7,7 +7,7 @@ use borrow.Author.Rules.{rules}
 use borrow.Author.Tests.{not-true, not-false, le-leb}
 use lib.Seq.{slice}
 use Rattle.metadata.specs.Decimal.{number_from, limited}
-use Rattle.metadata.proofs.DecimalLaws.{digit-is, number_more, number-other, number-end, too_large}
+use Rattle.metadata.proofs.DecimalLaws.{digit-is, number-more, number-other, number-end, too-large}
 use Rattle.metadata.proofs.decimal.number_at.Given as goal
 
 abbrev pub invariant-loop-at : goal.invariant-loop-at

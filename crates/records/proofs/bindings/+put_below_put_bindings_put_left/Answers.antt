@@ -12,7 +12,7 @@ use Rattle.tree.specs.Standing.{row_at}
 use Rattle.tree.proofs.AccessLaws.{upto-in, extent-upto}
 use Rattle.writer.specs.Wrote.{Wrote}
 use Rattle.extraction_rules.specs.First.{bindings_all}
-use Rattle.records.proofs.PatternLaws.{bindings-short, bound-ends, bindings-bound, bindings-left, bindings-below, first-none, first_more, all_none, all_more}
+use Rattle.records.proofs.PatternLaws.{bindings-short, bound-ends, bindings-bound, bindings-left, bindings-below, first-none, first-more, all-none, all-more}
 use Prim.Native.Nat.{ℕ, ◌<◌}
 use Rattle.records.proofs.bindings.+put_below_put_bindings_put_left.Goals as goal
 
@@ -22,7 +22,7 @@ put_below-loop-stop-init t c =
 
 pub put_below-returns-in_default : goal.put_below-returns-in_default
 put_below-returns-in_default t c =
-    c.loop-stop.invariant.0 _ _ (all_none c.args.s.now c.loop-stop.at c.args.end c.loop-stop.invariant.2 (sym c.extent.ensures ∙ c.in_default.is))
+    c.loop-stop.invariant.0 _ _ (all-none c.args.s.now c.loop-stop.at c.args.end c.loop-stop.invariant.2 (sym c.extent.ensures ∙ c.in_default.is))
 
 pub put_below-put_bindings-to-requires : goal.put_below-put_bindings-to-requires
 put_below-put_bindings-to-requires t c =
@@ -36,7 +36,7 @@ pub put_below-loop-stop-preserved : goal.put_below-loop-stop-preserved
 put_below-loop-stop-preserved t c =
     let i = extent-upto c.args.s.now c.loop-stop.at c.args.end c.loop-stop.invariant.2 (sym c.extent.ensures ∙ c.in-Upto.is) in (
       λ p l w. c.loop-stop.invariant.0 p l
-          (all_more c.args.s.now c.loop-stop.at c.args.end c.loop-stop.invariant.2 (sym c.extent.ensures ∙ c.in-Upto.is)
+          (all-more c.args.s.now c.loop-stop.at c.args.end c.loop-stop.invariant.2 (sym c.extent.ensures ∙ c.in-Upto.is)
           c.put_bindings-to.ensures w),
       omega arith,
       omega arith,
@@ -81,7 +81,7 @@ put_left-put_bindings-requires t c =
 
 pub put_left-returns-in-Upto : goal.put_left-returns-in-Upto
 put_left-returns-in-Upto t c =
-    first_more c.args.s.now c.args.from c.args.end c.requires.0 (sym c.extent.ensures ∙ c.in-Upto.is) c.put_bindings.ensures
+    first-more c.args.s.now c.args.from c.args.end c.requires.0 (sym c.extent.ensures ∙ c.in-Upto.is) c.put_bindings.ensures
 
 pub put_left-returns-in-Short : goal.put_left-returns-in-Short
 put_left-returns-in-Short t c =

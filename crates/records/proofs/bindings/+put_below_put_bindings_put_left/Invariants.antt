@@ -12,7 +12,7 @@ use Rattle.tree.specs.Standing.{row_at}
 use Rattle.tree.proofs.AccessLaws.{upto-in, extent-upto}
 use Rattle.writer.specs.Wrote.{Wrote}
 use Rattle.extraction_rules.specs.First.{bindings_all}
-use Rattle.records.proofs.PatternLaws.{bindings-short, bound-ends, bindings-bound, bindings-left, bindings-below, first-none, first_more, all_none, all_more}
+use Rattle.records.proofs.PatternLaws.{bindings-short, bound-ends, bindings-bound, bindings-left, bindings-below, first-none, first-more, all-none, all-more}
 use Prim.Native.Nat.{ℕ, ◌<◌}
 use Rattle.records.proofs.bindings.+put_below_put_bindings_put_left.Given as goal
 

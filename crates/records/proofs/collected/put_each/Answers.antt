@@ -9,7 +9,7 @@ use Rattle.extraction_rules.specs.Records.{record_fields}
 use Rattle.records.specs.Model.{rebuilt}
 use Rattle.records.specs.Writes.{Placing, BothRead, Onward, items_in, retold}
 use Rattle.records.proofs.OnwardLaws.{onward-start, onward-end, drop-end}
-use Rattle.records.proofs.CollectedLaws.{onward-if, valued_by, collected-more, collected-none}
+use Rattle.records.proofs.CollectedLaws.{onward-if, valued-by, collected-more, collected-none}
 use Rattle.records.proofs.collected.put_each.Goals as goal
 
 pub count_records-n-requires : goal.count_records-n-requires
@@ -37,7 +37,7 @@ loop-i-preserved c =
     let a = c.args in (
       onward-if c.loop-i.invariant.0
           (λ x s w k. (
-            (k.1, valued_by a.tree.now a.work.now c.record_literal-literal.result c.record_literal-literal.ensures.0 c.record_literal-literal.ensures.1 s w k.0),
+            (k.1, valued-by a.tree.now a.work.now c.record_literal-literal.result c.record_literal-literal.ensures.0 c.record_literal-literal.ensures.1 s w k.0),
             collected-more a.tree.now a.work.now c.record_literal-literal.result c.record_literal-literal.ensures.0 a.out.now c.is_forced-namespaces.result
                 c.record_literal-literal.ensures.1 c.is_forced-namespaces.ensures s w k.0,
           ))

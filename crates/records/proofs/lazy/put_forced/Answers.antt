@@ -5,7 +5,7 @@ use lib.ListN.{drop}
 use native.Mathlib.Omega.{arith}
 use borrow.Author.Rules.{rules}
 use Rattle.tree.specs.Tree.{encodes}
-use Rattle.writer.proofs.Wrote.{wrote_as, wrote-field}
+use Rattle.writer.proofs.Wrote.{wrote-as, wrote-field}
 use Rattle.extraction_rules.specs.Records.{forced_fields}
 use Rattle.records.specs.Writes.{Onward}
 use Rattle.records.proofs.OnwardLaws.{onward-start, onward-step, onward-end, drop-end}
@@ -27,7 +27,7 @@ forced_at-requires c =
 pub loop-i-preserved : goal.loop-i-preserved
 loop-i-preserved c = (
   onward-step c.loop-i.invariant.0 (λ x s w k. forced-more c.forced_at.result.0 c.forced_at.ensures x s w)
-      (wrote_as (wrote-field c.open_field-source.ensures c.put_u16-p.ensures c.close_field.ensures)
+      (wrote-as (wrote-field c.open_field-source.ensures c.put_u16-p.ensures c.close_field.ensures)
       (forced-field c.forced_at.result.0 (omega arith))),
   omega arith,
 )

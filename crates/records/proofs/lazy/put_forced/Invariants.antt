@@ -5,7 +5,7 @@ use lib.ListN.{drop}
 use native.Mathlib.Omega.{arith}
 use borrow.Author.Rules.{rules}
 use Rattle.tree.specs.Tree.{encodes}
-use Rattle.writer.proofs.Wrote.{wrote_as, wrote-field}
+use Rattle.writer.proofs.Wrote.{wrote-as, wrote-field}
 use Rattle.extraction_rules.specs.Records.{forced_fields}
 use Rattle.records.specs.Writes.{Onward}
 use Rattle.records.proofs.OnwardLaws.{onward-start, onward-step, onward-end, drop-end}

@@ -1,9 +1,9 @@
--- `is_whole`: by whether the item is an import (else `whole-other`), and by whether its literal is this one (`whole_is`) or
+-- `is_whole`: by whether the item is an import (else `whole-other`), and by whether its literal is this one (`whole-is`) or
 -- another (`whole-differs`).
 use mathlib.Core.Path.{sym, ◌∙◌}
 use native.Mathlib.Omega.{arith}
 use Rattle.records.specs.Writes.{literal_in}
-use Rattle.records.proofs.CollectedLaws.{whole-other, whole_is, whole-differs}
+use Rattle.records.proofs.CollectedLaws.{whole-other, whole-is, whole-differs}
 use borrow.Author.Rules.{rules}
 use Rattle.records.proofs.namespaces.is_whole.Goals as goal
 
@@ -30,7 +30,7 @@ is_namespace-requires c =
 pub returns-then-same_literal : goal.returns-then-same_literal
 returns-then-same_literal c =
     c.is_namespace.ensures
-    ∙ whole_is c.args.work.now c.args.at (literal_in c.args.tree.now c.args.work.now c.args.place) _ (c.import_end.ensures.is _ c.in-Upto.is)
+    ∙ whole-is c.args.work.now c.args.at (literal_in c.args.tree.now c.args.work.now c.args.place) _ (c.import_end.ensures.is _ c.in-Upto.is)
     (sym c.same_literal.ensures ∙ c.if-same_literal.true)
 
 pub returns-else-same_literal : goal.returns-else-same_literal

@@ -5,18 +5,18 @@ use Prim.Native.Nat.{◌+◌}
 use lib.ListN.{length}
 use native.Mathlib.Omega.{arith}
 use Rattle.tree.proofs.AccessLaws.{upto-in, extent-upto}
-use Rattle.records.proofs.SpecifierLaws.{if_none, extent-past}
-use Rattle.records.proofs.CollectedLaws.{if-as, if-from, parts-read, named-nowhere, named-short, named-is, named_other}
+use Rattle.records.proofs.SpecifierLaws.{if-none, extent-past}
+use Rattle.records.proofs.CollectedLaws.{if-as, if-from, parts-read, named-nowhere, named-short, named-is, named-other}
 use borrow.Author.Rules.{rules}
 use Rattle.records.proofs.namespaces.put_named_parts.Goals as goal
 
 pub returns-then-out-at : goal.returns-then-out-at
 returns-then-out-at c =
-    if_none (named-nowhere c.args.namespaces c.args.out.now c.args.at (extent-past c.args.out.now c.args.at (length c.args.out.now) c.if-out-at.true))
+    if-none (named-nowhere c.args.namespaces c.args.out.now c.args.at (extent-past c.args.out.now c.args.at (length c.args.out.now) c.if-out-at.true))
 
 pub returns-in_default : goal.returns-in_default
 returns-in_default c =
-    if_none (named-nowhere c.args.namespaces c.args.out.now c.args.at (sym c.extent.ensures ∙ c.in_default.is))
+    if-none (named-nowhere c.args.namespaces c.args.out.now c.args.at (sym c.extent.ensures ∙ c.in_default.is))
 
 pub bounds-out-at : goal.bounds-out-at
 bounds-out-at c =
@@ -28,7 +28,7 @@ fixed-requires c =
 
 pub returns-in_default-fixed : goal.returns-in_default-fixed
 returns-in_default-fixed c =
-    if_none (named-short c.args.namespaces c.args.out.now c.args.at _ (sym c.extent.ensures ∙ c.in-Upto.is)
+    if-none (named-short c.args.namespaces c.args.out.now c.args.at _ (sym c.extent.ensures ∙ c.in-Upto.is)
     (sym c.fixed.ensures ∙ c.in_default-fixed.is))
 
 pub starts_named-requires : goal.starts_named-requires
@@ -49,6 +49,6 @@ returns-then-starts_named c =
 
 pub returns-else-starts_named : goal.returns-else-starts_named
 returns-else-starts_named c =
-    if_none
-    (named_other c.args.namespaces c.args.out.now c.args.at _ (sym c.extent.ensures ∙ c.in-Upto.is) _ (sym c.fixed.ensures ∙ c.in-Upto-fixed.is)
+    if-none
+    (named-other c.args.namespaces c.args.out.now c.args.at _ (sym c.extent.ensures ∙ c.in-Upto.is) _ (sym c.fixed.ensures ∙ c.in-Upto-fixed.is)
     (sym c.starts_named.ensures ∙ c.if-starts_named.false))

@@ -1,5 +1,5 @@
 -- `put_pairs`: the invariant says that with what is taken of the items from here on in both trees, what is taken of all is written.
--- `taken_more` splits off one item of each; the loop ends where either row ends. The measure is the length of `work` less at.
+-- `taken-more` splits off one item of each; the loop ends where either row ends. The measure is the length of `work` less at.
 use mathlib.Core.Path.{sym, ◌∙◌}
 use Prim.Native.Nat.{◌-◌, ◌≤◌}
 use lib.ListN.{length}
@@ -10,20 +10,20 @@ use Rattle.tree.specs.Standing.{row_at}
 use Rattle.tree.proofs.AccessLaws.{extent-upto}
 use Rattle.records.specs.Model.{taken}
 use Rattle.records.specs.Writes.{sieve, literal_in, RowOnward}
-use Rattle.records.proofs.SpecifierLaws.{if_none, item-read, row-start, row_step, row-stop}
-use Rattle.records.proofs.CollectedLaws.{if-from, taken-past, taken-past-out, taken_none, taken-none-out, taken_more}
+use Rattle.records.proofs.SpecifierLaws.{if-none, item-read, row-start, row-step, row-stop}
+use Rattle.records.proofs.CollectedLaws.{if-from, taken-past, taken-past-out, taken-none, taken-none-out, taken-more}
 use Rattle.records.proofs.namespaces.put_pairs.Goals as goal
 
 pub returns-then-work-from : goal.returns-then-work-from
 returns-then-work-from c =
     let a = c.args in
-    if_none (taken-past a.wanted.namespaces (literal_in a.tree.now a.work.now a.wanted.place) a.work.now a.from.at (length a.work.now) a.out.now a.from.made
+    if-none (taken-past a.wanted.namespaces (literal_in a.tree.now a.work.now a.wanted.place) a.work.now a.from.at (length a.work.now) a.out.now a.from.made
     (length a.out.now) c.if-work-from.true)
 
 pub returns-then-out-from : goal.returns-then-out-from
 returns-then-out-from c =
     let a = c.args in
-    if_none (taken-past-out a.wanted.namespaces (literal_in a.tree.now a.work.now a.wanted.place) a.work.now a.from.at (length a.work.now) a.out.now a.from.made
+    if-none (taken-past-out a.wanted.namespaces (literal_in a.tree.now a.work.now a.wanted.place) a.work.now a.from.at (length a.work.now) a.out.now a.from.made
     (length a.out.now) c.if-out-from.true)
 
 pub loop-stop-init : goal.loop-stop-init
@@ -34,7 +34,7 @@ pub returns-in_default : goal.returns-in_default
 returns-in_default c =
     let a = c.args in
     row-stop c.loop-stop.invariant.0
-    (taken_none a.wanted.namespaces (literal_in a.tree.now a.work.now a.wanted.place) a.work.now c.loop-stop.at (length a.work.now) a.out.now
+    (taken-none a.wanted.namespaces (literal_in a.tree.now a.work.now a.wanted.place) a.work.now c.loop-stop.at (length a.work.now) a.out.now
     c.loop-stop.made (length a.out.now) c.loop-stop.invariant.1
     (sym c.extent.ensures ∙ c.in_default.is))
 
@@ -54,8 +54,8 @@ pub loop-stop-preserved : goal.loop-stop-preserved
 loop-stop-preserved c =
     let a = c.args in let i = extent-upto c.args.work.now c.loop-stop.at (length c.args.work.now) c.loop-stop.invariant.1 (sym c.extent.ensures ∙ c.in-Upto.is) in
     let j = extent-upto c.args.out.now c.loop-stop.made (length c.args.out.now) c.loop-stop.invariant.2 (sym c.extent-in-loop-stop.ensures ∙ c.in-Upto-extent.is) in (
-      row_step c.loop-stop.invariant.2 (omega arith) (sym c.extent-in-loop-stop.ensures ∙ c.in-Upto-extent.is) c.loop-stop.invariant.0
-          (taken_more a.wanted.namespaces (literal_in a.tree.now a.work.now a.wanted.place) a.work.now c.loop-stop.at a.out.now c.loop-stop.made _ _
+      row-step c.loop-stop.invariant.2 (omega arith) (sym c.extent-in-loop-stop.ensures ∙ c.in-Upto-extent.is) c.loop-stop.invariant.0
+          (taken-more a.wanted.namespaces (literal_in a.tree.now a.work.now a.wanted.place) a.work.now c.loop-stop.at a.out.now c.loop-stop.made _ _
           c.loop-stop.invariant.1 (sym c.extent.ensures ∙ c.in-Upto.is) c.loop-stop.invariant.2 (sym c.extent-in-loop-stop.ensures ∙ c.in-Upto-extent.is))
           (if-from (item-read (sym c.extent-in-loop-stop.ensures ∙ c.in-Upto-extent.is)) c.put_pair-to.ensures),
       i.1,

@@ -1,5 +1,5 @@
 -- `put_pairs`: the invariant says that with what is taken of the items from here on in both trees, what is taken of all is written.
--- `taken_more` splits off one item of each; the loop ends where either row ends. The measure is the length of `work` less at.
+-- `taken-more` splits off one item of each; the loop ends where either row ends. The measure is the length of `work` less at.
 use mathlib.Core.Path.{sym, ◌∙◌}
 use Prim.Native.Nat.{◌-◌, ◌≤◌}
 use lib.ListN.{length}
@@ -10,8 +10,8 @@ use Rattle.tree.specs.Standing.{row_at}
 use Rattle.tree.proofs.AccessLaws.{extent-upto}
 use Rattle.records.specs.Model.{taken}
 use Rattle.records.specs.Writes.{sieve, literal_in, RowOnward}
-use Rattle.records.proofs.SpecifierLaws.{if_none, item-read, row-start, row_step, row-stop}
-use Rattle.records.proofs.CollectedLaws.{if-from, taken-past, taken-past-out, taken_none, taken-none-out, taken_more}
+use Rattle.records.proofs.SpecifierLaws.{if-none, item-read, row-start, row-step, row-stop}
+use Rattle.records.proofs.CollectedLaws.{if-from, taken-past, taken-past-out, taken-none, taken-none-out, taken-more}
 use Rattle.records.proofs.namespaces.put_pairs.Given as goal
 
 abbrev pub invariant-loop-stop : goal.invariant-loop-stop

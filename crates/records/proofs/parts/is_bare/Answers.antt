@@ -8,12 +8,12 @@ use Rattle.tree.specs.Standing.{row_at}
 use Rattle.tree.proofs.AccessLaws.{extent-upto}
 use Rattle.extraction_rules.specs.First.{specifiers_in}
 use Rattle.records.specs.Writes.{is_none}
-use Rattle.records.proofs.SpecifierLaws.{row_ends, row-skips, row-takes}
+use Rattle.records.proofs.SpecifierLaws.{row-ends, row-skips, row-takes}
 use Rattle.records.proofs.parts.is_bare.Goals as goal
 
 pub returns-in_default : goal.returns-in_default
 returns-in_default c =
-    sym (c.loop-stop.invariant.0 ∙ row_ends c.args.s.now c.loop-stop.at c.args.end c.loop-stop.invariant.2 is_none (sym c.extent.ensures ∙ c.in_default.is))
+    sym (c.loop-stop.invariant.0 ∙ row-ends c.args.s.now c.loop-stop.at c.args.end c.loop-stop.invariant.2 is_none (sym c.extent.ensures ∙ c.in_default.is))
 
 pub tag_of-requires : goal.tag_of-requires
 tag_of-requires c =

@@ -8,7 +8,7 @@ use Rattle.tree.specs.Standing.{row_at}
 use Rattle.tree.proofs.AccessLaws.{extent-upto}
 use Rattle.extraction_rules.specs.First.{specifiers_in}
 use Rattle.records.specs.Writes.{is_none}
-use Rattle.records.proofs.SpecifierLaws.{row_ends, row-skips, row-takes}
+use Rattle.records.proofs.SpecifierLaws.{row-ends, row-skips, row-takes}
 use Rattle.records.proofs.parts.is_bare.Given as goal
 
 abbrev pub invariant-loop-stop : goal.invariant-loop-stop

@@ -10,14 +10,14 @@ use Rattle.tree.proofs.AccessLaws.{extent-upto}
 use Rattle.inputs.specs.Fields.{sole}
 use Rattle.extraction_rules.specs.First.{specifiers_in}
 use Rattle.records.specs.Model.{is_namespace}
-use Rattle.records.proofs.SpecifierLaws.{row_ends, row-skips, row-takes, sole_none, namespace-then, namespace-no}
+use Rattle.records.proofs.SpecifierLaws.{row-ends, row-skips, row-takes, sole-none, namespace-then, namespace-no}
 use Rattle.records.proofs.parts.is_namespace.Goals as goal
 
 pub returns-in_default : goal.returns-in_default
 returns-in_default c =
     sym (c.loop-stop.invariant.0
-    ∙ row_ends c.args.s.now c.loop-stop.at c.args.end c.loop-stop.invariant.2 (λ (fs : Fields). is_namespace (sole fs))
-    (sym c.extent.ensures ∙ c.in_default.is) ∙ sole_none)
+    ∙ row-ends c.args.s.now c.loop-stop.at c.args.end c.loop-stop.invariant.2 (λ (fs : Fields). is_namespace (sole fs))
+    (sym c.extent.ensures ∙ c.in_default.is) ∙ sole-none)
 
 pub tag_of-tag-requires : goal.tag_of-tag-requires
 tag_of-tag-requires c =

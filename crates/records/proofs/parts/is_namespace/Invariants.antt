@@ -10,7 +10,7 @@ use Rattle.tree.proofs.AccessLaws.{extent-upto}
 use Rattle.inputs.specs.Fields.{sole}
 use Rattle.extraction_rules.specs.First.{specifiers_in}
 use Rattle.records.specs.Model.{is_namespace}
-use Rattle.records.proofs.SpecifierLaws.{row_ends, row-skips, row-takes, sole_none, namespace-then, namespace-no}
+use Rattle.records.proofs.SpecifierLaws.{row-ends, row-skips, row-takes, sole-none, namespace-then, namespace-no}
 use Rattle.records.proofs.parts.is_namespace.Given as goal
 
 abbrev pub invariant-loop-stop : goal.invariant-loop-stop

@@ -9,7 +9,7 @@ use Rattle.tree.specs.Standing.{row_at}
 use Rattle.tree.proofs.AccessLaws.{extent-upto}
 use Rattle.extraction_rules.specs.First.{specifiers_in}
 use Rattle.records.specs.Writes.{sieve, RowOnward}
-use Rattle.records.proofs.SpecifierLaws.{bytes-none, bytes-more, row-start, row_step, row-stop}
+use Rattle.records.proofs.SpecifierLaws.{bytes-none, bytes-more, row-start, row-step, row-stop}
 use Rattle.records.proofs.parts.put_specifiers.Goals as goal
 
 pub loop-stop-init : goal.loop-stop-init
@@ -33,7 +33,7 @@ loop-stop-smaller c =
 pub loop-stop-preserved : goal.loop-stop-preserved
 loop-stop-preserved c =
     let i = extent-upto c.args.s.now c.loop-stop.at c.args.end c.loop-stop.invariant.2 (sym c.extent.ensures ∙ c.in-Upto.is) in (
-      row_step c.loop-stop.invariant.2 c.requires.1 (sym c.extent.ensures ∙ c.in-Upto.is) c.loop-stop.invariant.0
+      row-step c.loop-stop.invariant.2 c.requires.1 (sym c.extent.ensures ∙ c.in-Upto.is) c.loop-stop.invariant.0
           (bytes-more c.args.s.now c.loop-stop.at c.args.end c.loop-stop.invariant.2 c.args.namespaces _
           (sym c.extent.ensures ∙ c.in-Upto.is)) c.put_specifier-to.ensures,
       omega arith,

@@ -9,7 +9,7 @@ use Rattle.tree.specs.Standing.{row_at}
 use Rattle.tree.proofs.AccessLaws.{extent-upto}
 use Rattle.extraction_rules.specs.First.{specifiers_in}
 use Rattle.records.specs.Writes.{sieve, RowOnward}
-use Rattle.records.proofs.SpecifierLaws.{bytes-none, bytes-more, row-start, row_step, row-stop}
+use Rattle.records.proofs.SpecifierLaws.{bytes-none, bytes-more, row-start, row-step, row-stop}
 use Rattle.records.proofs.parts.put_specifiers.Given as goal
 
 abbrev pub invariant-loop-stop : goal.invariant-loop-stop

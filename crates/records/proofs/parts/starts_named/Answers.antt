@@ -9,12 +9,12 @@ use Rattle.tree.specs.Standing.{row_at}
 use Rattle.tree.proofs.AccessLaws.{extent-upto}
 use Rattle.extraction_rules.specs.First.{specifiers_in}
 use Rattle.records.specs.Model.{starts_named}
-use Rattle.records.proofs.SpecifierLaws.{row_ends, row-skips, row-takes}
+use Rattle.records.proofs.SpecifierLaws.{row-ends, row-skips, row-takes}
 use Rattle.records.proofs.parts.starts_named.Goals as goal
 
 pub returns-in_default : goal.returns-in_default
 returns-in_default c =
-    sym (c.loop-stop.invariant.0 ∙ row_ends c.args.s.now c.loop-stop.at c.args.end c.loop-stop.invariant.2 starts_named (sym c.extent.ensures ∙ c.in_default.is))
+    sym (c.loop-stop.invariant.0 ∙ row-ends c.args.s.now c.loop-stop.at c.args.end c.loop-stop.invariant.2 starts_named (sym c.extent.ensures ∙ c.in_default.is))
 
 pub tag_of-tag-requires : goal.tag_of-tag-requires
 tag_of-tag-requires c =

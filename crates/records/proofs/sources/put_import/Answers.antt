@@ -2,14 +2,14 @@
 -- `parts-read` says that the parts of an import that was read are read.
 use mathlib.Core.Path.{sym, ◌∙◌}
 use native.Mathlib.Omega.{arith}
-use Rattle.records.proofs.SpecifierLaws.{if_none}
-use Rattle.records.proofs.CollectedLaws.{if-as, if-from, parts-read, gathered_none, gathered-is, gathered-differs}
+use Rattle.records.proofs.SpecifierLaws.{if-none}
+use Rattle.records.proofs.CollectedLaws.{if-as, if-from, parts-read, gathered-none, gathered-is, gathered-differs}
 use borrow.Author.Rules.{rules}
 use Rattle.records.proofs.sources.put_import.Goals as goal
 
 pub returns-in_default : goal.returns-in_default
 returns-in_default c =
-    let a = c.args in if_none (gathered_none a.wanted.namespaces a.work.now a.at a.wanted.value.0 (c.import_end.ensures.other c.in_default.is))
+    let a = c.args in if-none (gathered-none a.wanted.namespaces a.work.now a.at a.wanted.value.0 (c.import_end.ensures.other c.in_default.is))
 
 pub overflow_add-at : goal.overflow_add-at
 overflow_add-at c =
@@ -33,10 +33,10 @@ returns-then-literal_value-value c =
     if-as (if-from (λ r. parts-read (c.import_end.ensures.is _ c.in-Upto.is).fixed (r _ (c.import_end.ensures.is _ c.in-Upto.is).extent))
     c.put_specifiers.ensures)
     (gathered-is a.wanted.namespaces a.work.now a.at a.wanted.value.0 _ (c.import_end.ensures.is _ c.in-Upto.is)
-    (λ i. (c.shared_slice_known-1.given i).fits) (omega arith) (sym c.literal_value.ensures ∙ c.if-literal_value-value.true))
+    (λ i. (c.type_inv.work i).fits) (omega arith) (sym c.literal_value.ensures ∙ c.if-literal_value-value.true))
 
 pub returns-else-literal_value-value : goal.returns-else-literal_value-value
 returns-else-literal_value-value c =
     let a = c.args in
-    if_none (gathered-differs a.wanted.namespaces a.work.now a.at a.wanted.value.0 _ (c.import_end.ensures.is _ c.in-Upto.is)
-    (λ i. (c.shared_slice_known-1.given i).fits) (omega arith) (λ e. c.if-literal_value-value.false (c.literal_value.ensures ∙ e)))
+    if-none (gathered-differs a.wanted.namespaces a.work.now a.at a.wanted.value.0 _ (c.import_end.ensures.is _ c.in-Upto.is)
+    (λ i. (c.type_inv.work i).fits) (omega arith) (λ e. c.if-literal_value-value.false (c.literal_value.ensures ∙ e)))

@@ -11,13 +11,13 @@ use Rattle.tree.specs.Standing.{row_at}
 use Rattle.tree.proofs.AccessLaws.{extent-upto}
 use Rattle.records.specs.Model.{gathered}
 use Rattle.records.specs.Writes.{sieve, RowOnward}
-use Rattle.records.proofs.SpecifierLaws.{if_none, item-read, row-start, row_step, row-stop}
+use Rattle.records.proofs.SpecifierLaws.{if-none, item-read, row-start, row-step, row-stop}
 use Rattle.records.proofs.CollectedLaws.{if-from, imports-past, imports-none, imports-more}
 use Rattle.records.proofs.sources.put_imports.Goals as goal
 
 pub returns-then-work-from : goal.returns-then-work-from
 returns-then-work-from c =
-    let a = c.args in if_none (imports-past a.wanted.namespaces (two a.wanted.value.0) a.work.now a.from (length a.work.now) c.if-work-from.true)
+    let a = c.args in if-none (imports-past a.wanted.namespaces (two a.wanted.value.0) a.work.now a.from (length a.work.now) c.if-work-from.true)
 
 pub loop-stop-init : goal.loop-stop-init
 loop-stop-init c =
@@ -37,7 +37,7 @@ loop-stop-smaller c =
 pub loop-stop-preserved : goal.loop-stop-preserved
 loop-stop-preserved c =
     let a = c.args in let i = extent-upto c.args.work.now c.loop-stop.at (length c.args.work.now) c.loop-stop.invariant.1 (sym c.extent.ensures ∙ c.in-Upto.is) in (
-      row_step c.loop-stop.invariant.1 (omega arith) (sym c.extent.ensures ∙ c.in-Upto.is) c.loop-stop.invariant.0
+      row-step c.loop-stop.invariant.1 (omega arith) (sym c.extent.ensures ∙ c.in-Upto.is) c.loop-stop.invariant.0
           (imports-more a.wanted.namespaces (two a.wanted.value.0) a.work.now c.loop-stop.at _ c.loop-stop.invariant.1 (sym c.extent.ensures ∙ c.in-Upto.is))
           (if-from (item-read (sym c.extent.ensures ∙ c.in-Upto.is)) c.put_import-to.ensures),
       i.1,

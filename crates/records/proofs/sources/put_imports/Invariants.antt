@@ -11,7 +11,7 @@ use Rattle.tree.specs.Standing.{row_at}
 use Rattle.tree.proofs.AccessLaws.{extent-upto}
 use Rattle.records.specs.Model.{gathered}
 use Rattle.records.specs.Writes.{sieve, RowOnward}
-use Rattle.records.proofs.SpecifierLaws.{if_none, item-read, row-start, row_step, row-stop}
+use Rattle.records.proofs.SpecifierLaws.{if-none, item-read, row-start, row-step, row-stop}
 use Rattle.records.proofs.CollectedLaws.{if-from, imports-past, imports-none, imports-more}
 use Rattle.records.proofs.sources.put_imports.Given as goal
 

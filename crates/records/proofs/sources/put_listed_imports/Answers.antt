@@ -4,7 +4,7 @@ use Prim.Native.Nat.{◌-◌, ◌<◌}
 use native.Mathlib.Omega.{arith}
 use borrow.Author.Rules.{rules}
 use Rattle.records.specs.Listing.{count_in}
-use Rattle.records.proofs.ChainLaws.{ImportsOn, imports-start, imports-next, imports-last, goes_later}
+use Rattle.records.proofs.ChainLaws.{ImportsOn, imports-start, imports-next, imports-last, goes-later}
 use Rattle.records.proofs.sources.put_listed_imports.Goals as goal
 
 pub loop-i-init : goal.loop-i-init
@@ -30,7 +30,7 @@ pub loop-i-smaller : goal.loop-i-smaller
 loop-i-smaller c =
     let a = c.args in
     let lt : c.loop-i.i < count_in a.imports.now = let e = c.count_imports-n.ensures in let t = c.loop-i-test.true in omega arith in
-    let g = goes_later a.work.now a.imports.now (count_in a.imports.now) c.loop-i.i c.requires.linked lt in
+    let g = goes-later a.work.now a.imports.now (count_in a.imports.now) c.loop-i.i c.requires.linked lt in
     let f = c.next_of-i.ensures in
     omega arith
 

@@ -4,7 +4,7 @@ use Prim.Native.Nat.{◌-◌, ◌<◌}
 use native.Mathlib.Omega.{arith}
 use borrow.Author.Rules.{rules}
 use Rattle.records.specs.Listing.{count_in}
-use Rattle.records.proofs.ChainLaws.{ImportsOn, imports-start, imports-next, imports-last, goes_later}
+use Rattle.records.proofs.ChainLaws.{ImportsOn, imports-start, imports-next, imports-last, goes-later}
 use Rattle.records.proofs.sources.put_listed_imports.Given as goal
 
 abbrev pub invariant-loop-i : goal.invariant-loop-i

@@ -13,7 +13,7 @@ use Rattle.resolving.specs.declared.sources.NumberAnswer.{NumberAnswer}
 use Rattle.resolving.specs.Records.{RecordsFrom, records_in}
 use Rattle.resolving.specs.Numbers.{on_number}
 use Rattle.resolving.proofs.RecordsLaws.{source-stands}
-use Rattle.resolving.proofs.NumbersLaws.{numbers-end, numbers_more, numbers-stop}
+use Rattle.resolving.proofs.NumbersLaws.{numbers-end, numbers-more, numbers-stop}
 use Rattle.resolving.proofs.sources.number_sources.Goals as goal
 
 pub loop-stop-init : goal.loop-stop-init
@@ -43,7 +43,7 @@ loop-stop-smaller c =
 pub loop-stop-preserved : goal.loop-stop-preserved
 loop-stop-preserved c = (
   c.loop-stop.invariant.0
-      ∙ numbers_more (rows_in c.args.table.now) (modules_of c.loop-stop.scope) c.loop-stop.invariant.1
+      ∙ numbers-more (rows_in c.args.table.now) (modules_of c.loop-stop.scope) c.loop-stop.invariant.1
       (sym c.source_end.ensures ∙ c.in-Upto.is) c.literal_value.ensures
       (sym c.number_source-n.ensures
       ∙ ap (λ (e : NumberAnswer). on_number e (modules_of c.number_source-n.result.scope)) c.in-Given.is),

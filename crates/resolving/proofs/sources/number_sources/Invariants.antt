@@ -13,7 +13,7 @@ use Rattle.resolving.specs.declared.sources.NumberAnswer.{NumberAnswer}
 use Rattle.resolving.specs.Records.{RecordsFrom, records_in}
 use Rattle.resolving.specs.Numbers.{on_number}
 use Rattle.resolving.proofs.RecordsLaws.{source-stands}
-use Rattle.resolving.proofs.NumbersLaws.{numbers-end, numbers_more, numbers-stop}
+use Rattle.resolving.proofs.NumbersLaws.{numbers-end, numbers-more, numbers-stop}
 use Rattle.resolving.proofs.sources.number_sources.Given as goal
 
 abbrev pub invariant-loop-stop : goal.invariant-loop-stop

@@ -1,17 +1,17 @@
--- `put_specifier`: fixed bytes that are not whole contradict the precondition (`read_short`).
+-- `put_specifier`: fixed bytes that are not whole contradict the precondition (`read-short`).
 -- Otherwise by the specifier: `specifier-by` says what the rule makes of each kind. `named-inside` says that a 20 has its kind byte.
 use mathlib.Core.Path.{sym, ◌∙◌}
 use native.Mathlib.Omega.{arith}
 use Prim.Native.Nat.{◌+◌}
 use Rattle.tree.proofs.AccessLaws.{upto-in}
 use Rattle.resolving.proofs.WritesLaws.{puts-done, puts-as}
-use Rattle.resolving.proofs.SpecifiersLaws.{read_short, named-inside, specifier-by}
+use Rattle.resolving.proofs.SpecifiersLaws.{read-short, named-inside, specifier-by}
 use borrow.Author.Rules.{rules}
 use Rattle.resolving.proofs.specifiers.put_specifier.Goals as goal
 
 pub returns-in_default : goal.returns-in_default
 returns-in_default c =
-    read_short c.requires (sym c.fixed.ensures ∙ c.in_default.is)
+    read-short c.requires (sym c.fixed.ensures ∙ c.in_default.is)
 
 pub specifier_at-requires : goal.specifier_at-requires
 specifier_at-requires c =

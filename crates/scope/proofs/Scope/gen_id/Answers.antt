@@ -1,4 +1,4 @@
--- `gen_id`: `found_number` says that what the search found is the file's number by the rule. Then the rule's three cases:
+-- `gen_id`: `found-number` says that what the search found is the file's number by the rule. Then the rule's three cases:
 -- a known file (`gen-known`), a new one (`modules-added`), and a new one where there are 256 modules (`gen-refused`).
 use mathlib.Core.Path.{◌≡◌, sym, ◌∙◌, ap}
 use lib.ListN.{length}
@@ -6,7 +6,7 @@ use native.Mathlib.Omega.{arith}
 use borrow.Author.Rules.{rules}
 use Rattle.scope.specs.ScopeValue.{modules_of, place_by}
 use Rattle.scope.proofs.Laws.{number-below, gen-known, gen-refused}
-use Rattle.scope.proofs.ScopeValueLaws.{modules-length, modules-added, found_number}
+use Rattle.scope.proofs.ScopeValueLaws.{modules-length, modules-added, found-number}
 use Rattle.scope.proofs.Scope.gen_id.Goals as goal
 
 pub find_file-requires : goal.find_file-requires
@@ -20,7 +20,7 @@ numbered-requires c =
     let f = c.args.file in
     let files : length s.files ≡ 256 = search rules in
     let number =
-    found_number s f.0 c.counted-n.result c.find_file.result
+    found-number s f.0 c.counted-n.result c.find_file.result
     files c.counted-n.ensures.0 c.find_file.ensures
     ∙ ap place_by c.in-At.is in
     let below = number-below f.0 (modules_of s) number in
@@ -33,7 +33,7 @@ returns-in-At c =
     let f = c.args.file in
     let files : length s.files ≡ 256 = search rules in
     let number =
-    found_number s f.0 c.counted-n.result
+    found-number s f.0 c.counted-n.result
     c.find_file.result files c.counted-n.ensures.0
     c.find_file.ensures ∙ ap place_by c.in-At.is in
     c.numbered.ensures ∙ sym (gen-known f (modules_of s) number)
@@ -44,7 +44,7 @@ returns-then-n-lt256 c =
     let f = c.args.file in
     let files : length s.files ≡ 256 = search rules in
     let number =
-    found_number s f.0 c.counted-n.result
+    found-number s f.0 c.counted-n.result
     c.find_file.result files
     c.counted-n.ensures.0
     c.find_file.ensures ∙ ap place_by c.in-Nowhere.is in
@@ -59,7 +59,7 @@ returns-else-n-lt256 c =
     let f = c.args.file in
     let files : length s.files ≡ 256 = search rules in
     let number =
-    found_number s f.0 c.counted-n.result
+    found-number s f.0 c.counted-n.result
     c.find_file.result files
     c.counted-n.ensures.0
     c.find_file.ensures ∙ ap place_by c.in-Nowhere.is in

@@ -5,7 +5,7 @@ use mathlib.Core.Path.{sym, ◌∙◌, ap}
 use mathlib.Core.Bool.{Bool, true}
 use mathlib.Core.Option.{some}
 use Rattle.scope.specs.declared.Mark.TheVariants.{Stored, Wrapping}
-use Rattle.scope.specs.Id.{mod-atom, atom}
+use Rattle.scope.specs.Id.{mod_atom, atom}
 use Rattle.scope.specs.Modules.{done, esm_id}
 use Rattle.scope.specs.ScopeValue.{modules_of, read_by}
 use Rattle.scope.proofs.Laws.{esm-read, esm-refused}
@@ -31,7 +31,7 @@ returns-then-stored c =
     let read = esm-read n (modules_of c.args.self) w v wrapping stored in
     sym (read ∙ ap (λ (b : Bool). done (esm_id b v n)) c.if-wrapping.true
     ∙ ap (λ (b : Bool). done (esm_id true b n)) c.if-stored.true
-    ∙ ap (λ (x : SyntaxContext). done (some (record { 0 = atom mod-atom; 1 = x }))) (sym c.export_ctxt.ensures))
+    ∙ ap (λ (x : SyntaxContext). done (some (record { 0 = atom mod_atom; 1 = x }))) (sym c.export_ctxt.ensures))
 
 pub returns-then-wrapping : goal.returns-then-wrapping
 returns-then-wrapping c =

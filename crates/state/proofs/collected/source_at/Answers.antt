@@ -1,4 +1,4 @@
--- `source_at`: a split on the place. The key is below its limit (`below_row`), so the cast of its upper part keeps it; that part is the
+-- `source_at`: a split on the place. The key is below its limit (`below-row`), so the cast of its upper part keeps it; that part is the
 -- literal's value (`id-name`).
 use mathlib.Core.Path.{sym, ap, ◌∙◌}
 use mathlib.Core.Option.{some}
@@ -9,7 +9,7 @@ use Rattle.tree.specs.Layout.{two}
 use Rattle.inputs.specs.Lists.{mapped}
 use Rattle.state.specs.Cells.{records}
 use Rattle.state.specs.Does.{source_at}
-use Rattle.state.proofs.ListLaws.{below_row}
+use Rattle.state.proofs.ListLaws.{below-row}
 use borrow.Author.Rules.{rules}
 use Rattle.state.proofs.collected.source_at.Goals as goal
 
@@ -20,7 +20,7 @@ key_of-requires c =
 pub overflow_cast-result : goal.overflow_cast-result
 overflow_cast-result c =
     let b =
-    (below_row _ _ _ _ (c.requires.0.below records)
+    (below-row _ _ _ _ (c.requires.0.below records)
     (c.requires.1 c.in-At.i (ap place_by c.in-At.is))).0 in let e = c.key_of.ensures in
     omega arith
 

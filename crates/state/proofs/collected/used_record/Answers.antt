@@ -1,5 +1,5 @@
 -- `used_record`: by whether the id's context is the own local one: then a range of values is searched, which is that of all ids with this
--- name (`used-name`), else this id alone (`used-id`). No row before the hint has such a value (`named_past`, `id-past`). A row that is
+-- name (`used-name`), else this id alone (`used-id`). No row before the hint has such a value (`named-past`, `id-past`). A row that is
 -- found stands in the table (`first-value-below`).
 use native.Mathlib.Omega.{arith}
 use Rattle.tables.specs.Rows.{rows}
@@ -9,13 +9,13 @@ use Rattle.extraction_rules.specs.First.{used_record}
 use Rattle.state.specs.Cells.{records, table_of, id_by}
 use Rattle.state.specs.Does.{Tells, source_of}
 use Rattle.state.proofs.IndexLaws.{first-value-below}
-use Rattle.state.proofs.RecordLaws.{used-name, used-id, named_past, id-past}
+use Rattle.state.proofs.RecordLaws.{used-name, used-id, named-past, id-past}
 use borrow.Author.Rules.{rules}
 use Rattle.state.proofs.collected.used_record.Goals as goal
 
 pub find_value-found-requires : goal.find_value-found-requires
 find_value-found-requires c =
-    (c.requires.lies records, let e = c.requires.size in omega arith, named_past c.first_named-from.ensures)
+    (c.requires.lies records, let e = c.requires.size in omega arith, named-past c.first_named-from.ensures)
 
 pub source_at-requires : goal.source_at-requires
 source_at-requires c =

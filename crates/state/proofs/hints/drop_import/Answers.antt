@@ -4,7 +4,7 @@ use borrow.Author.Rules.{rules}
 use mathlib.Core.Path.{sym, ap, ◌∙◌}
 use Rattle.tables.specs.Rows.{place_by}
 use Rattle.state.specs.Cells.{imports}
-use Rattle.state.proofs.ListLaws.{first_below}
+use Rattle.state.proofs.ListLaws.{first-below}
 use Rattle.state.proofs.ChangeLaws.{import-dropped, absent}
 use Rattle.state.proofs.hints.drop_import.Goals as goal
 
@@ -14,7 +14,7 @@ returns-in_default c =
 
 pub drop_row-requires : goal.drop_row-requires
 drop_row-requires c =
-    (c.requires.lies imports, first_below _ _ _ _ (sym (ap place_by (sym c.in-At.is) ∙ c.import_row.ensures)))
+    (c.requires.lies imports, first-below _ _ _ _ (sym (ap place_by (sym c.in-At.is) ∙ c.import_row.ensures)))
 
 pub returns : goal.returns
 returns c =

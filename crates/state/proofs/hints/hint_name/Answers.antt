@@ -1,9 +1,9 @@
--- `hint_name`: a lower hint is replaced (`named-grows`), another stays (`cell_stays`); both name record i or one before it.
+-- `hint_name`: a lower hint is replaced (`named-grows`), another stays (`cell-stays`); both name record i or one before it.
 use native.Mathlib.Omega.{arith}
 use Prim.Native.Nat.{◌-◌}
 use mathlib.Core.Path.{ap}
 use Rattle.state.specs.Cells.{named_in}
-use Rattle.state.proofs.ChangeLaws.{cell_stays, named-grows}
+use Rattle.state.proofs.ChangeLaws.{cell-stays, named-grows}
 use borrow.Author.Rules.{rules}
 use Rattle.state.proofs.hints.hint_name.Goals as goal
 
@@ -17,4 +17,4 @@ returns-then-v-hint c =
 
 pub returns-else-v-hint : goal.returns-else-v-hint
 returns-else-v-hint c =
-    (cell_stays c.requires.0, let e = ap named_in c.cell_of-v.ensures in let b = c.requires.1 in omega arith)
+    (cell-stays c.requires.0, let e = ap named_in c.cell_of-v.ensures in let b = c.requires.1 in omega arith)

@@ -1,4 +1,4 @@
--- `is_used`: without a hint no row has the key (`not-used`); where the row that the hint names has it there is one (`some_at`); else all
+-- `is_used`: without a hint no row has the key (`not-used`); where the row that the hint names has it there is one (`some-at`); else all
 -- rows are searched.
 use native.Mathlib.Omega.{arith}
 use mathlib.Core.Path.{sym, ap, ◌∙◌}
@@ -7,7 +7,7 @@ use Prim.Native.Nat.{ℕ, ◌-◌, ◌/◌}
 use Rattle.tables.specs.Rows.{rows, place_by}
 use Rattle.inputs.specs.Lists.{is_some}
 use Rattle.state.specs.Cells.{uses, table_of, use_hint}
-use Rattle.state.proofs.HintLaws.{some_at}
+use Rattle.state.proofs.HintLaws.{some-at}
 use Rattle.state.proofs.ChangeLaws.{not-used}
 use borrow.Author.Rules.{rules}
 use Rattle.state.proofs.hints.is_used.Goals as goal
@@ -26,7 +26,7 @@ key_of-requires c =
 
 pub returns-then-key_of-id : goal.returns-then-key_of-id
 returns-then-key_of-id c =
-    sym (some_at c.args.id (rows (table_of uses) c.args.t.now) (c.hint_of.result / 2048 - 1) (omega arith) (sym c.key_of.ensures ∙ c.if-key_of-id.true))
+    sym (some-at c.args.id (rows (table_of uses) c.args.t.now) (c.hint_of.result / 2048 - 1) (omega arith) (sym c.key_of.ensures ∙ c.if-key_of-id.true))
 
 pub find-requires : goal.find-requires
 find-requires c =

@@ -1,6 +1,6 @@
 -- `raise`: the cell grows, and stands beside the tables (`raise-set`), or it is as great already.
 use native.Mathlib.Omega.{arith}
-use Rattle.state.proofs.ChangeLaws.{cell_stays, behind-stays, raise-set}
+use Rattle.state.proofs.ChangeLaws.{cell-stays, behind-stays, raise-set}
 use borrow.Author.Rules.{rules}
 use Rattle.state.proofs.hints.raise.Goals as goal
 
@@ -10,4 +10,4 @@ returns-then-t-h c =
 
 pub returns-else-t-h : goal.returns-else-t-h
 returns-else-t-h c =
-    (cell_stays c.requires.0, behind-stays _, omega arith)
+    (cell-stays c.requires.0, behind-stays _, omega arith)

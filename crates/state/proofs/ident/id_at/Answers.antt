@@ -10,4 +10,4 @@ use Rattle.state.proofs.ident.id_at.Goals as goal
 pub returns : goal.returns
 returns c =
     ap₂ (λ (a c : ℕ). two a ++ four c) c.atom_at.ensures c.context_at.ensures
-    ∙ id-stands c.args.s.now c.args.at (λ i. (c.shared_slice_known-1.given i).fits) c.requires
+    ∙ id-stands c.args.s.now c.args.at (λ i. (c.type_inv.s i).fits) c.requires

@@ -7,7 +7,7 @@ use Rattle.state.proofs.ident.literal_at.Goals as goal
 
 pub returns : goal.returns
 returns c = (
-  value-stands c.args.s.now c.args.at (λ i. (c.shared_slice_known-1.given i).fits) c.requires ∙ ap two
+  value-stands c.args.s.now c.args.at (λ i. (c.type_inv.s i).fits) c.requires ∙ ap two
       (sym c.atom_at.ensures),
   refl,
 )

@@ -4,14 +4,14 @@ use native.Mathlib.Omega.{arith}
 use mathlib.Core.Path.{◌∙◌, sym, ap}
 use Rattle.tables.specs.Rows.{place_by}
 use Rattle.state.specs.Cells.{imports}
-use Rattle.state.proofs.ListLaws.{first_below}
+use Rattle.state.proofs.ListLaws.{first-below}
 use Rattle.state.proofs.ImportedLaws.{noted-again, noted-new, noted-full}
 use borrow.Author.Rules.{rules}
 use Rattle.state.proofs.imported.note_id.Goals as goal
 
 pub set_value-requires : goal.set_value-requires
 set_value-requires c =
-    (c.requires.lies imports, first_below _ _ _ _ (sym (ap place_by (sym c.in-At.is) ∙ c.import_row-entry.ensures)))
+    (c.requires.lies imports, first-below _ _ _ _ (sym (ap place_by (sym c.in-At.is) ∙ c.import_row-entry.ensures)))
 
 pub count_of-requires : goal.count_of-requires
 count_of-requires c =

@@ -4,7 +4,7 @@ use native.Mathlib.Omega.{arith}
 use mathlib.Core.Path.{refl, sym, ap, ◌∙◌}
 use Rattle.tables.specs.Rows.{place_by}
 use Rattle.state.specs.Cells.{modules}
-use Rattle.state.proofs.ListLaws.{first_below}
+use Rattle.state.proofs.ListLaws.{first-below}
 use Rattle.state.proofs.FrameLaws.{room-for}
 use Rattle.state.proofs.ModulesLaws.{request-known, request-new, request-full}
 use lib.ListN.{length}
@@ -18,7 +18,7 @@ find_from-found-requires c =
 
 pub overflow_cast-result : goal.overflow_cast-result
 overflow_cast-result c =
-    let i = first_below _ _ _ _ (sym (ap place_by (sym c.in-At.is) ∙ c.find_from-found.ensures)) in let r = room-for modules c.requires in omega arith
+    let i = first-below _ _ _ _ (sym (ap place_by (sym c.in-At.is) ∙ c.find_from-found.ensures)) in let r = room-for modules c.requires in omega arith
 
 pub count_of-n-requires : goal.count_of-n-requires
 count_of-n-requires c =

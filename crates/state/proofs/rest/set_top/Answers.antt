@@ -1,5 +1,5 @@
--- `set_top`: `top_set` says that storing a flag's number in its cell sets it in the state and changes no table; once for each flag.
-use Rattle.state.proofs.RestLaws.{top_set}
+-- `set_top`: `top-set` says that storing a flag's number in its cell sets it in the state and changes no table; once for each flag.
+use Rattle.state.proofs.RestLaws.{top-set}
 use native.Mathlib.Omega.{arith}
 use mathlib.Core.Path.{subst, sym}
 use mathlib.Core.Bool.{Bool, true, false}
@@ -20,8 +20,8 @@ bounds-t-7-else-top c =
 
 pub returns-then-top : goal.returns-then-top
 returns-then-top c =
-    subst (λ (b : Bool). Turns (set_top b) c.args.t.now (set c.args.t.now 7 1)) (sym c.if-top.true) (top_set true c.requires)
+    subst (λ (b : Bool). Turns (set_top b) c.args.t.now (set c.args.t.now 7 1)) (sym c.if-top.true) (top-set true c.requires)
 
 pub returns-else-top : goal.returns-else-top
 returns-else-top c =
-    subst (λ (b : Bool). Turns (set_top b) c.args.t.now (set c.args.t.now 7 0)) (sym c.if-top.false) (top_set false c.requires)
+    subst (λ (b : Bool). Turns (set_top b) c.args.t.now (set c.args.t.now 7 0)) (sym c.if-top.false) (top-set false c.requires)

@@ -9,7 +9,7 @@ use Rattle.tree.specs.Layout.{two}
 use Rattle.inputs.specs.Table.{file_of}
 use Rattle.state.specs.Cells.{table}
 use Rattle.state.specs.Does.{Says}
-use Rattle.state.proofs.ListLaws.{first_below}
+use Rattle.state.proofs.ListLaws.{first-below}
 use Rattle.state.proofs.SettingLaws.{file-told, file-small}
 use borrow.Author.Rules.{rules}
 use Rattle.state.proofs.setting.file_for.Goals as goal
@@ -20,7 +20,7 @@ find_from-requires c =
 
 pub value_of-requires : goal.value_of-requires
 value_of-requires c =
-    (c.requires.lies table, first_below _ _ _ _ (sym (ap place_by (sym c.in-At.is) ∙ c.find_from.ensures)))
+    (c.requires.lies table, first-below _ _ _ _ (sym (ap place_by (sym c.in-At.is) ∙ c.find_from.ensures)))
 
 pub overflow_cast-result : goal.overflow_cast-result
 overflow_cast-result c =

@@ -7,7 +7,7 @@ use Prim.Native.Nat.{◌*◌, ◌-◌, ◌≤◌}
 use native.Mathlib.Omega.{arith}
 use lib.ListN.{length}
 use Rattle.inputs.specs.Table.{atoms_in}
-use Rattle.state.proofs.ListLaws.{length_more}
+use Rattle.state.proofs.ListLaws.{length-more}
 use Rattle.state.proofs.SettingLaws.{Lending, lend-start, external-more, externals-lent}
 use Rattle.state.proofs.setting.lend_externals.Goals as goal
 
@@ -21,10 +21,10 @@ push-requires c =
 
 pub loop-i-preserved : goal.loop-i-preserved
 loop-i-preserved c = (
-  external-more c.loop-i.invariant.0 (λ i. (c.shared_slice_known-1.given i).fits) (omega arith) (let h = c.requires.1 in omega arith) (omega arith) c.atom_at.ensures
+  external-more c.loop-i.invariant.0 (λ i. (c.type_inv.externals i).fits) (omega arith) (let h = c.requires.1 in omega arith) (omega arith) c.atom_at.ensures
       c.push.ensures.0
       c.push.ensures.1,
-  let e = ap length c.push.ensures.0 in let m = length_more (rows (table_of kind) c.loop-i.t) (c.atom_at.result, 0) in omega arith,
+  let e = ap length c.push.ensures.0 in let m = length-more (rows (table_of kind) c.loop-i.t) (c.atom_at.result, 0) in omega arith,
   omega arith,
 )
 

@@ -7,7 +7,7 @@ use Prim.Native.Nat.{◌*◌, ◌-◌, ◌≤◌}
 use native.Mathlib.Omega.{arith}
 use lib.ListN.{length}
 use Rattle.inputs.specs.Table.{atoms_in}
-use Rattle.state.proofs.ListLaws.{length_more}
+use Rattle.state.proofs.ListLaws.{length-more}
 use Rattle.state.proofs.SettingLaws.{Lending, lend-start, external-more, externals-lent}
 use Rattle.state.proofs.setting.lend_externals.Given as goal
 

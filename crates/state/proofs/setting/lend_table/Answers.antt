@@ -8,8 +8,8 @@ use lib.ListN.{length}
 use Rattle.tables.specs.Rows.{rows}
 use Rattle.inputs.specs.Table.{rows_in}
 use Rattle.state.specs.Cells.{table as kind, table_of, held, lent_of}
-use Rattle.state.proofs.ListLaws.{length_more}
-use Rattle.state.proofs.SettingLaws.{Lending, lend-start, row_more, table-lent}
+use Rattle.state.proofs.ListLaws.{length-more}
+use Rattle.state.proofs.SettingLaws.{Lending, lend-start, row-more, table-lent}
 use Rattle.state.proofs.setting.lend_table.Goals as goal
 
 pub loop-i-init : goal.loop-i-init
@@ -26,10 +26,10 @@ push-requires c =
 
 pub loop-i-preserved : goal.loop-i-preserved
 loop-i-preserved c = (
-  row_more c.loop-i.invariant.0 (λ i. (c.shared_slice_known-1.given i).fits) (omega arith) (let h = c.requires.1 in omega arith) (omega arith) (omega arith) c.atom_at-source.ensures
+  row-more c.loop-i.invariant.0 (λ i. (c.type_inv.table i).fits) (omega arith) (let h = c.requires.1 in omega arith) (omega arith) (omega arith) c.atom_at-source.ensures
       c.atom_at.ensures c.hint_row.ensures.0 (let z = c.hint_row.auto in omega arith) (let r = c.hint_row.ensures.1 in omega arith) c.push.ensures.0
       c.push.ensures.1,
-  let x = ap length (c.hint_row.ensures.0.same_rows kind) in let e = ap length c.push.ensures.0 in let m = length_more
+  let x = ap length (c.hint_row.ensures.0.same_rows kind) in let e = ap length c.push.ensures.0 in let m = length-more
       (rows (table_of kind) c.hint_row.new.t) (c.atom_at-source.result, c.atom_at.result) in omega arith,
   omega arith,
 )

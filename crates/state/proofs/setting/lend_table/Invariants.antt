@@ -8,8 +8,8 @@ use lib.ListN.{length}
 use Rattle.tables.specs.Rows.{rows}
 use Rattle.inputs.specs.Table.{rows_in}
 use Rattle.state.specs.Cells.{table as kind, table_of, held, lent_of}
-use Rattle.state.proofs.ListLaws.{length_more}
-use Rattle.state.proofs.SettingLaws.{Lending, lend-start, row_more, table-lent}
+use Rattle.state.proofs.ListLaws.{length-more}
+use Rattle.state.proofs.SettingLaws.{Lending, lend-start, row-more, table-lent}
 use Rattle.state.proofs.setting.lend_table.Given as goal
 
 abbrev pub invariant-loop-i : goal.invariant-loop-i

@@ -1,6 +1,6 @@
 -- `spread_end`: the byte is there and 0 or 1, or it is none of these, or it is not there.
 use mathlib.Core.Path.{sym}
-use Rattle.tree.proofs.TagWidthLaws.{spread-upto, spread-bad, spread_cut}
+use Rattle.tree.proofs.TagWidthLaws.{spread-upto, spread-bad, spread-cut}
 use borrow.Author.Rules.{rules}
 use Rattle.tree.proofs.access.spread_end.Goals as goal
 
@@ -14,4 +14,4 @@ returns-else-s-at-lt2 c =
 
 pub returns-else-at-stop : goal.returns-else-at-stop
 returns-else-at-stop c =
-    sym (spread_cut c.args.s.now c.args.at c.args.stop c.if-at-stop.false)
+    sym (spread-cut c.args.s.now c.args.at c.args.stop c.if-at-stop.false)

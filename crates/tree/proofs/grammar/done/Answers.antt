@@ -6,7 +6,7 @@ use native.Mathlib.Omega.{arith}
 use borrow.Author.Rules.{rules}
 use Rattle.tree.specs.Grammar.{done_at}
 use Rattle.tree.specs.Packed.{unpack_rule}
-use Rattle.tree.proofs.PackedLaws.{done-nothing, done-lacks, done-over, done_end}
+use Rattle.tree.proofs.PackedLaws.{done-nothing, done-lacks, done-over, done-end}
 use Rattle.tree.proofs.grammar.done.Goals as goal
 
 pub loop-rule-init : goal.loop-rule-init
@@ -27,4 +27,4 @@ loop-rule-preserved c =
 
 pub returns : goal.returns
 returns c =
-    sym (c.loop-rule.invariant.0 ∙ ap (λ (n : ℕ). done_at (unpack_rule n)) c.loop-rule-test.false ∙ done_end)
+    sym (c.loop-rule.invariant.0 ∙ ap (λ (n : ℕ). done_at (unpack_rule n)) c.loop-rule-test.false ∙ done-end)

@@ -6,7 +6,7 @@ use native.Mathlib.Omega.{arith}
 use borrow.Author.Rules.{rules}
 use Rattle.tree.specs.Grammar.{done_at}
 use Rattle.tree.specs.Packed.{unpack_rule}
-use Rattle.tree.proofs.PackedLaws.{done-nothing, done-lacks, done-over, done_end}
+use Rattle.tree.proofs.PackedLaws.{done-nothing, done-lacks, done-over, done-end}
 use Rattle.tree.proofs.grammar.done.Given as goal
 
 abbrev pub invariant-loop-rule : goal.invariant-loop-rule

@@ -6,7 +6,7 @@ use Prim.Native.Nat.{ℕ, ◌<◌, ◌^◌}
 use native.Mathlib.Omega.{arith}
 use Rattle.tree.specs.Grammar.{step_at}
 use Rattle.tree.specs.Packed.{unpack_rule}
-use Rattle.tree.proofs.PackedLaws.{step-nothing, step-used, step-stay, step-off, step-over, step_end}
+use Rattle.tree.proofs.PackedLaws.{step-nothing, step-used, step-stay, step-off, step-over, step-end}
 use Rattle.tree.proofs.grammar.step_by.Goals as goal
 
 pub loop-rule-init : goal.loop-rule-init
@@ -50,4 +50,4 @@ loop-rule-preserved c =
 
 pub returns : goal.returns
 returns c =
-    sym (c.loop-rule.invariant.0 ∙ ap (λ (n : ℕ). step_at (unpack_rule n) c.args.tag) c.loop-rule-test.false ∙ step_end c.args.tag)
+    sym (c.loop-rule.invariant.0 ∙ ap (λ (n : ℕ). step_at (unpack_rule n) c.args.tag) c.loop-rule-test.false ∙ step-end c.args.tag)

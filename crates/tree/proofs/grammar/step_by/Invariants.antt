@@ -6,7 +6,7 @@ use Prim.Native.Nat.{ℕ, ◌<◌, ◌^◌}
 use native.Mathlib.Omega.{arith}
 use Rattle.tree.specs.Grammar.{step_at}
 use Rattle.tree.specs.Packed.{unpack_rule}
-use Rattle.tree.proofs.PackedLaws.{step-nothing, step-used, step-stay, step-off, step-over, step_end}
+use Rattle.tree.proofs.PackedLaws.{step-nothing, step-used, step-stay, step-off, step-over, step-end}
 use Rattle.tree.proofs.grammar.step_by.Given as goal
 
 abbrev pub invariant-loop-rule : goal.invariant-loop-rule

@@ -6,8 +6,8 @@ use Rattle.tree.proofs.layout.atom_at.Goals as goal
 
 pub overflow_mul-result : goal.overflow_mul-result
 overflow_mul-result c =
-    omega (arith, c.shared_slice_known-1.given c.args.at)
+    omega (arith, c.type_inv.s c.args.at)
 
 pub overflow_add-result-2 : goal.overflow_add-result-2
 overflow_add-result-2 c =
-    omega (arith, c.shared_slice_known-1.given c.args.at, c.shared_slice_known-1.given (c.args.at + 1))
+    omega (arith, c.type_inv.s c.args.at, c.type_inv.s (c.args.at + 1))

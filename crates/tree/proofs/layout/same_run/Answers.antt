@@ -4,7 +4,7 @@ use Prim.Native.Nat.{ℕ, ◌+◌, ◌-◌, ◌≤◌}
 use native.Mathlib.Omega.{arith}
 use lib.Seq.{slice}
 use Rattle.tree.specs.Layout.{same}
-use Rattle.tree.proofs.LayoutLaws.{same_more, same-other, same_end}
+use Rattle.tree.proofs.LayoutLaws.{same-more, same-other, same-end}
 use Rattle.tree.proofs.layout.same_run.Goals as goal
 
 pub loop-i-init : goal.loop-i-init
@@ -23,7 +23,7 @@ returns-then-s-a c =
 pub loop-i-preserved : goal.loop-i-preserved
 loop-i-preserved c = (
   c.loop-i.invariant.0
-      ∙ same_more c.args.s.now c.args.t.now c.args.a c.args.b c.loop-i.i (c.args.a + c.args.n)
+      ∙ same-more c.args.s.now c.args.t.now c.args.a c.args.b c.loop-i.i (c.args.a + c.args.n)
       (c.args.b + c.args.n) (omega arith) (omega arith) (omega arith) (omega arith) c.if-s-a.false,
   omega arith,
 )
@@ -31,6 +31,6 @@ loop-i-preserved c = (
 pub returns : goal.returns
 returns c =
     sym (c.loop-i.invariant.0
-    ∙ same_end c.args.s.now c.args.t.now (c.args.a + c.loop-i.i)
+    ∙ same-end c.args.s.now c.args.t.now (c.args.a + c.loop-i.i)
     (c.args.b + c.loop-i.i) (c.args.a + c.args.n)
     (c.args.b + c.args.n) (omega arith) (omega arith))

@@ -4,7 +4,7 @@ use Prim.Native.Nat.{ℕ, ◌+◌, ◌-◌, ◌≤◌}
 use native.Mathlib.Omega.{arith}
 use lib.Seq.{slice}
 use Rattle.tree.specs.Layout.{same}
-use Rattle.tree.proofs.LayoutLaws.{same_more, same-other, same_end}
+use Rattle.tree.proofs.LayoutLaws.{same-more, same-other, same-end}
 use Rattle.tree.proofs.layout.same_run.Given as goal
 
 abbrev pub invariant-loop-i : goal.invariant-loop-i

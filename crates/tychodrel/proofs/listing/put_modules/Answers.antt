@@ -9,12 +9,12 @@ use borrow.Author.Rules.{rules}
 use Rattle.scope.specs.ScopeValue.{modules_in}
 use Rattle.writer.specs.Wrote.{Wrote}
 use Rattle.tychodrel.specs.Answer.{modules_bytes}
-use Rattle.tychodrel.proofs.ListingLaws.{module-written, all_left, none_left}
+use Rattle.tychodrel.proofs.ListingLaws.{module-written, all-left, none-left}
 use Rattle.tychodrel.proofs.listing.put_modules.Goals as goal
 
 pub loop-i-init : goal.loop-i-init
 loop-i-init c =
-    (λ l p w. all_left c.args.cells.now c.args.n w, refl)
+    (λ l p w. all-left c.args.cells.now c.args.n w, refl)
 
 pub loop-i-preserved : goal.loop-i-preserved
 loop-i-preserved c = (
@@ -27,4 +27,4 @@ loop-i-preserved c = (
 
 pub returns : goal.returns
 returns c =
-    c.loop-i.invariant.0 _ _ (none_left c.args.cells.now c.args.n c.loop-i.i c.loop-i-test.false)
+    c.loop-i.invariant.0 _ _ (none-left c.args.cells.now c.args.n c.loop-i.i c.loop-i-test.false)

@@ -9,7 +9,7 @@ use borrow.Author.Rules.{rules}
 use Rattle.scope.specs.ScopeValue.{modules_in}
 use Rattle.writer.specs.Wrote.{Wrote}
 use Rattle.tychodrel.specs.Answer.{modules_bytes}
-use Rattle.tychodrel.proofs.ListingLaws.{module-written, all_left, none_left}
+use Rattle.tychodrel.proofs.ListingLaws.{module-written, all-left, none-left}
 use Rattle.tychodrel.proofs.listing.put_modules.Given as goal
 
 abbrev pub invariant-loop-i : goal.invariant-loop-i
