@@ -152,7 +152,8 @@ unfolding imports_in has_source has_local
 has-at i k none f e t m = absurd (let z : ◌≡◌ {A = ℕ} 0 1 = cc in omega arith)
 has-at i zero (more g fs) f e t m =
     let q : g ≡ f = cc in
-    rw (q, eq-eqb (tag_of f) 0x10 t) (ap (λ (b : Bool). b || has_source (value_of (fixed_of f)) (imports_in fs)) (same-refl (value_of (fixed_of f))), ap (λ (b : Bool). b || has_local i (imports_in fs)) m)
+    rw (q, eq-eqb (tag_of f) 0x10 t)
+    (ap (λ (b : Bool). b || has_source (value_of (fixed_of f)) (imports_in fs)) (same-refl (value_of (fixed_of f))), ap (λ (b : Bool). b || has_local i (imports_in fs)) m)
 has-at i (suc k) (more g fs) f e t m = go (has 0x10 g) (has-at i k fs f e t m)
   where
     go : (b : Bool) → (has_source (value_of (fixed_of f)) (imports_in fs) ≡ true) × (has_local i (imports_in fs) ≡ true) →

@@ -415,7 +415,9 @@ module _ (v id hint : ℕ) (h : hint < 8388608) (k : Keeps (v % 8388608) hint) w
 
   -- the id itself has the hint
   own-tag : tagged (new (tag_of id)) id ≡ true
-  own-tag = or-second (eqb (new (tag_of id) / 2199023255552) 0) (eqb (new (tag_of id) / 2199023255552) (tag_of id)) (eq-eqb (new (tag_of id) / 2199023255552) (tag_of id) (entered-tag v (tag_of id) hint h))
+  own-tag =
+      let tag = new (tag_of id) / 2199023255552 in
+      or-second (eqb tag 0) (eqb tag (tag_of id)) (eq-eqb tag (tag_of id) (entered-tag v (tag_of id) hint h))
 
   hint-by : (x y : Bool) → tagged (new (cond x (tag_of id) (cond y (tag_of id) 0))) id ≡ true
   hint-by true y = own-tag

@@ -12,10 +12,6 @@ use Rattle.detection.specs.Detection.{forced_es6, Accepted}
 use Rattle.detection.proofs.DetectionLaws.{forced-none, forced-more, accepted-next}
 use Rattle.detection.proofs.forced_es6.Goals as goal
 
-pub loop-stop-init : goal.loop-stop-init
-loop-stop-init c =
-    (omega arith, omega arith, refl, c.requires.2)
-
 pub returns-in_default : goal.returns-in_default
 returns-in_default c =
     let a = c.args in

@@ -11,12 +11,6 @@ returns-then-not-starts_with c =
     let a = c.args in
     sym (context-untold a.s.now a.from a.end c.requires.1 (sym c.starts_with.ensures ∙ c.if-not-starts_with.true))
 
-pub overflow_add-from : goal.overflow_add-from
-overflow_add-from c =
-    let a = c.args in
-    let w = context-told a.s.now a.from a.end c.requires.1 (sym c.starts_with.ensures ∙ c.if-not-starts_with.false) in
-    omega arith
-
 pub parse-requires : goal.parse-requires
 parse-requires c =
     let a = c.args in

@@ -8,10 +8,6 @@ use Rattle.scope.specs.Modules.{place_of}
 use Rattle.scope.proofs.ScopeValueLaws.{shifted, shifted-none, place-passed, place-here, place-end}
 use Rattle.scope.proofs.find_file.Goals as goal
 
-pub loop-i-init : goal.loop-i-init
-loop-i-init c =
-    (sym (shifted-none _), omega arith)
-
 pub returns-then-file-files : goal.returns-then-file-files
 returns-then-file-files c =
     sym (c.loop-i.invariant.0 ∙ place-here c.args.file c.args.n c.loop-i.i c.args.files.now c.loop-i-test.true c.requires.1 c.if-file-files.true)

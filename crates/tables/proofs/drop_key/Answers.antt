@@ -8,10 +8,6 @@ use Rattle.tables.proofs.RowLaws.{Dropping, drop-starts, drop-skips, drop-keeps}
 use Rattle.tables.proofs.OnlyLaws.{rows-dropped}
 use Rattle.tables.proofs.drop_key.Goals as goal
 
-pub count_of-n-requires : goal.count_of-n-requires
-count_of-n-requires c =
-    c.requires
-
 pub loop-i-init : goal.loop-i-init
 loop-i-init c =
     drop-starts c.args.key c.args.b.base c.count_of-n.result c.args.t.now

@@ -7,10 +7,6 @@ use Rattle.tables.proofs.RowLaws.{Closing, closing-starts, closes-one}
 use Rattle.tables.proofs.OnlyLaws.{row-dropped}
 use Rattle.tables.proofs.drop_row.Goals as goal
 
-pub count_of-n-requires : goal.count_of-n-requires
-count_of-n-requires c =
-    c.requires.0
-
 pub loop-k-init : goal.loop-k-init
 loop-k-init c =
     closing-starts c.args.i c.args.b.base c.count_of-n.result c.args.t.now (omega arith)

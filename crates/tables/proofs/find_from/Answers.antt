@@ -8,10 +8,6 @@ use native.Mathlib.Omega.{arith}
 use Rattle.tables.proofs.find_from.Goals.{then-lo-k+else-k-hi, else-lo-k}
 use Rattle.tables.proofs.find_from.Goals as goal
 
-pub count_of-n-requires : goal.count_of-n-requires
-count_of-n-requires c =
-    c.requires.0
-
 pub loop-i-init : goal.loop-i-init
 loop-i-init c =
     found-begin _ _ _ c.args.b _ _ c.count_of-n.ensures.0 c.requires.1

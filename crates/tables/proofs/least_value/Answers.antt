@@ -8,10 +8,6 @@ use Rattle.tables.specs.Rows.{rows_from, lesser, least_by, least_of}
 use Rattle.tables.proofs.RowLaws.{least-start, least-here, least-other, least-end, back}
 use Rattle.tables.proofs.least_value.Goals as goal
 
-pub count_of-i-requires : goal.count_of-i-requires
-count_of-i-requires c =
-    c.requires
-
 pub loop-i-init : goal.loop-i-init
 loop-i-init c =
     (sym (least-start c.args.key c.count_of-i.result c.args.b.base c.args.t.now), omega arith)

@@ -7,10 +7,6 @@ use Rattle.writer.specs.Finished.{zeroed_from}
 use Rattle.writer.proofs.Finished.{zeroed-next, zeroed-end}
 use Rattle.writer.proofs.clear_from.Goals as goal
 
-pub loop-i-smaller : goal.loop-i-smaller
-loop-i-smaller c =
-    simp length-set (omega arith)
-
 pub loop-i-preserved : goal.loop-i-preserved
 loop-i-preserved c =
     let here = c.loop-i in

@@ -10,10 +10,6 @@ use Rattle.writer.specs.Wrote.{Wrote}
 use Rattle.writer.proofs.Wrote.{wrote-none, wrote-slice, slice-none}
 use Rattle.writer.proofs.copy_part.Goals as goal
 
-pub loop-at-init : goal.loop-at-init
-loop-at-init c =
-    (λ l p w. w, refl)
-
 pub loop-at-preserved : goal.loop-at-preserved
 loop-at-preserved c =
     let a = c.args in

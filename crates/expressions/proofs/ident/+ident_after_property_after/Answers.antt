@@ -61,18 +61,10 @@ property_after-returns-in_default-ident_after t c =
     member-other c.args.s.now c.args.from c.args.end c.requires.0 (sym c.extent.ensures ∙ c.in-Upto.is)
     c.in_default-ident_after.is c.ident_after.ensures
 
-pub property_after-has_usages-requires : goal.property_after-has_usages-requires
-property_after-has_usages-requires t c =
-    c.requires.2
-
 pub property_after-returns-then-not-has_usages : goal.property_after-returns-then-not-has_usages
 property_after-returns-then-not-has_usages t c =
     member-unused c.args.s.now c.args.from c.args.end c.requires.0 (sym c.extent.ensures ∙ c.in-Upto.is)
     c.in-Is.is c.ident_after.ensures c.if-not-has_usages.true c.has_usages.ensures
-
-pub property_after-imported_as-requires : goal.property_after-imported_as-requires
-property_after-imported_as-requires t c =
-    c.requires.2
 
 pub property_after-returns-in_default-imported_as : goal.property_after-returns-in_default-imported_as
 property_after-returns-in_default-imported_as t c =

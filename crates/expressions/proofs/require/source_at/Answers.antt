@@ -17,10 +17,6 @@ pub returns-in_default : goal.returns-in_default
 returns-in_default c =
     source-none c.sole_literal.ensures c.in_default.is
 
-pub literal_at-literal-requires : goal.literal_at-literal-requires
-literal_at-literal-requires c =
-    found-fits c.sole_literal.ensures c.in-At.is
-
 pub returns-then-is_external : goal.returns-then-is_external
 returns-then-is_external c =
     source-external c.sole_literal.ensures c.literal_at-literal.result c.in-At.is

@@ -41,10 +41,6 @@ returns-in_default c =
     c.requires.3
     (sym c.extent.ensures ∙ c.in_default.is)
 
-pub overflow_add-at-2 : goal.overflow_add-at-2
-overflow_add-at-2 c =
-    let i = extent-upto c.args.s.now (c.args.at + 3) c.args.stop c.requires.0 (sym c.extent.ensures ∙ c.in-Upto.is) in omega arith
-
 pub ident_after-requires : goal.ident_after-requires
 ident_after-requires c =
     let i =

@@ -11,10 +11,6 @@ pub returns-then-n-lt10 : goal.returns-then-n-lt10
 returns-then-n-lt10 t c =
     wrote-as c.put.ensures (sym (decimal-digit c.args.n c.if-n-lt10.true))
 
-pub put_decimal-last-requires : goal.put_decimal-last-requires
-put_decimal-last-requires t c =
-    (omega arith, tt)
-
 pub returns : goal.returns
 returns t c =
     wrote-as (wrote-then c.put_decimal-last.ensures c.put-2.ensures) (sym (decimal-more c.args.n c.if-n-lt10.false))

@@ -10,10 +10,6 @@ use Rattle.metadata.specs.Decimal.{number_from, limited}
 use Rattle.metadata.proofs.DecimalLaws.{digit-is, number-more, number-other, number-end, too-large}
 use Rattle.metadata.proofs.decimal.number_at.Goals as goal
 
-pub loop-at-init : goal.loop-at-init
-loop-at-init c =
-    (refl, omega arith, c.requires.0)
-
 pub returns-then-not-is_digit : goal.returns-then-not-is_digit
 returns-then-not-is_digit c =
     let a = c.args in
@@ -22,30 +18,6 @@ returns-then-not-is_digit c =
     (number-other a.s.now here.at a.end c.loop-at-test.true
     c.requires.1 here.n (sym c.is_digit.ensures ∙ c.if-not-is_digit.true)))
     ∙ here.invariant.0
-
-pub overflow_sub-n : goal.overflow_sub-n
-overflow_sub-n c =
-    let a = c.args in
-    let here = c.loop-at in
-    let digit = sym c.is_digit.ensures ∙ c.if-not-is_digit.false in
-    let d = digit-is (get_or a.s.now here.at 0) digit in
-    omega arith
-
-pub overflow_cast-n : goal.overflow_cast-n
-overflow_cast-n c =
-    let a = c.args in
-    let here = c.loop-at in
-    let b = c.type_inv.s here.at in
-    omega arith
-
-pub overflow_add-n : goal.overflow_add-n
-overflow_add-n c =
-    let a = c.args in
-    let here = c.loop-at in
-    let digit = sym c.is_digit.ensures ∙ c.if-not-is_digit.false in
-    let d = digit-is (get_or a.s.now here.at 0) digit in
-    let b = c.type_inv.s here.at in
-    omega arith
 
 pub returns-then-n-gt4294967295 : goal.returns-then-n-gt4294967295
 returns-then-n-gt4294967295 c =

@@ -17,7 +17,9 @@ use Rattle.records.proofs.namespaces.put_pairs.Given as goal
 abbrev pub invariant-loop-stop : goal.invariant-loop-stop
 invariant-loop-stop l = RowOnward l.out l.initial.made l.made (length l.out)
     (encodes (sieve l.wanted.namespaces (taken (literal_in l.tree l.work l.wanted.place) (row_at l.work l.initial.at (length l.work)) (row_at l.out l.initial.made (length l.out)))))
-    (encodes (sieve l.wanted.namespaces (taken (literal_in l.tree l.work l.wanted.place) (row_at l.work l.at (length l.work)) (row_at l.out l.made (length l.out))))) l.initial.records l.o l.records l.to
+    (encodes
+    (sieve l.wanted.namespaces
+    (taken (literal_in l.tree l.work l.wanted.place) (row_at l.work l.at (length l.work)) (row_at l.out l.made (length l.out))))) l.initial.records l.o l.records l.to
     × (l.at ≤ length l.work) × (l.made ≤ length l.out)
 
 abbrev pub decreases-loop-stop : goal.decreases-loop-stop

@@ -15,7 +15,8 @@ use Rattle.resolving.proofs.SpecifiersLaws.{specifiers-end, specifiers-more}
 use Rattle.resolving.proofs.specifiers.put_specifiers.Given as goal
 
 abbrev pub invariant-loop-stop : goal.invariant-loop-stop
-invariant-loop-stop l = Onward (resolved_specifiers l.all (row_at l.s l.from l.end) l.from) (resolved_specifiers l.all (row_at l.s l.at l.end) l.at) l.initial.list l.o l.list l.to × FieldsRead l.s l.at l.end
+invariant-loop-stop l = Onward (resolved_specifiers l.all (row_at l.s l.from l.end) l.from)
+    (resolved_specifiers l.all (row_at l.s l.at l.end) l.at) l.initial.list l.o l.list l.to × FieldsRead l.s l.at l.end
 
 abbrev pub decreases-loop-stop : goal.decreases-loop-stop
 decreases-loop-stop l = l.end - l.at

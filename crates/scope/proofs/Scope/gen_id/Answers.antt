@@ -9,11 +9,6 @@ use Rattle.scope.proofs.Laws.{number-below, gen-known, gen-refused}
 use Rattle.scope.proofs.ScopeValueLaws.{modules-length, modules-added, found-number}
 use Rattle.scope.proofs.Scope.gen_id.Goals as goal
 
-pub find_file-requires : goal.find_file-requires
-find_file-requires c =
-    let files : length c.args.self.files ≡ 256 = search rules in
-    omega arith
-
 pub numbered-requires : goal.numbered-requires
 numbered-requires c =
     let s = c.args.self in

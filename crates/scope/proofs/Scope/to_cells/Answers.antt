@@ -16,10 +16,6 @@ unfolding modules_from modules_in
 loop-k-init c =
     (refl, omega arith, rewrites-none _ _ _, λ i h. absurd (omega arith))
 
-pub bounds-cells-at-in-loop-k : goal.bounds-cells-at-in-loop-k
-bounds-cells-at-in-loop-k c =
-    simp length-set (omega arith)
-
 pub loop-k-preserved : goal.loop-k-preserved
 loop-k-preserved c = (
   cells-put c.loop-k.cells c.args.self.files c.args.self.marks c.args.base c.loop-k.k c.wide_file.result

@@ -8,14 +8,6 @@ use Rattle.tree.specs.Access.{extent_at}
 use borrow.Author.Rules.{rules}
 use Rattle.tree.proofs.access.extent.Goals as goal
 
-pub overflow_mul-n : goal.overflow_mul-n
-overflow_mul-n c =
-    omega (arith, c.type_inv.s (c.args.at + 1), c.wide.ensures)
-
-pub overflow_add-n : goal.overflow_add-n
-overflow_add-n c =
-    omega (arith, c.type_inv.s (c.args.at + 1), c.type_inv.s (c.args.at + 2), c.wide.ensures, c.wide-then-end-at-ge3.ensures)
-
 pub returns-then-end-at-ge3 : goal.returns-then-end-at-ge3
 unfolding extent_at length_at
 returns-then-end-at-ge3 c =

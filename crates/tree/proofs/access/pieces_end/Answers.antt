@@ -7,10 +7,6 @@ use Rattle.tree.proofs.AccessLaws.{ReachIn, piece-in}
 use borrow.Author.Rules.{rules}
 use Rattle.tree.proofs.access.pieces_end.Goals as goal
 
-pub returns-then-tag-eq117 : goal.returns-then-tag-eq117
-returns-then-tag-eq117 c =
-    c.spread_end.ensures ∙ ap (λ (t : ℕ). fixed_at c.args.s.now t c.args.at c.args.stop) (sym c.if-tag-eq117.true)
-
 pub piece_end-requires-in-Upto : goal.piece_end-requires-in-Upto
 piece_end-requires-in-Upto c =
     let r = subst (ReachIn c.args.at c.args.stop) (sym c.piece_end.ensures ∙ c.in-Upto.is) (piece-in _ _ _ _ c.requires.0) in omega arith

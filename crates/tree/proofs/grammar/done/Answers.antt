@@ -9,10 +9,6 @@ use Rattle.tree.specs.Packed.{unpack_rule}
 use Rattle.tree.proofs.PackedLaws.{done-nothing, done-lacks, done-over, done-end}
 use Rattle.tree.proofs.grammar.done.Goals as goal
 
-pub loop-rule-init : goal.loop-rule-init
-loop-rule-init c =
-    (refl, search rules)
-
 pub loop-rule-preserved-then-slot-eq0 : goal.loop-rule-preserved-then-slot-eq0
 loop-rule-preserved-then-slot-eq0 c =
     (c.loop-rule.invariant.0 ∙ done-nothing c.loop-rule.rule c.loop-rule.invariant.1 c.if-slot-eq0.true, omega arith)

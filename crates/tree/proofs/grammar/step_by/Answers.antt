@@ -9,10 +9,6 @@ use Rattle.tree.specs.Packed.{unpack_rule}
 use Rattle.tree.proofs.PackedLaws.{step-nothing, step-used, step-stay, step-off, step-over, step-end}
 use Rattle.tree.proofs.grammar.step_by.Goals as goal
 
-pub loop-rule-init : goal.loop-rule-init
-loop-rule-init c =
-    (refl, search rules)
-
 pub loop-rule-preserved-then-slot-eq0 : goal.loop-rule-preserved-then-slot-eq0
 loop-rule-preserved-then-slot-eq0 c =
     let l = c.loop-rule in

@@ -7,13 +7,6 @@ use Rattle.tree.specs.Layout.{same}
 use Rattle.tree.proofs.LayoutLaws.{same-more, same-other, same-end}
 use Rattle.tree.proofs.layout.same_run.Goals as goal
 
-pub loop-i-init : goal.loop-i-init
-loop-i-init c =
-    let ea : c.args.a ≡ c.args.a + 0 = omega arith in let eb : c.args.b ≡ c.args.b + 0 = omega arith in (
-      ap₂ (λ (x y : ℕ). same (slice x (c.args.a + c.args.n) c.args.s.now) (slice y (c.args.b + c.args.n) c.args.t.now)) ea eb,
-      omega arith,
-    )
-
 pub returns-then-s-a : goal.returns-then-s-a
 returns-then-s-a c =
     sym (c.loop-i.invariant.0

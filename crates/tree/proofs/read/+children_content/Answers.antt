@@ -39,14 +39,6 @@ children-returns-in-Bad t c =
     ∙ children-verdict a.s.now l.at a.end a.depth (unpack_rule l.rule) a.place _ l.invariant.2
     (sym c.head_of.ensures ∙ ap unpack_head c.in-Bad.is))
 
-pub children-overflow_add-depth : goal.children-overflow_add-depth
-children-overflow_add-depth t c =
-    let l = c.loop-why in
-    let a = c.args in
-    let e = sym c.head_of.ensures ∙ ap unpack_head c.in-Child.is in
-    let i = child-in a.s.now l.at a.end a.depth (unpack_rule l.rule) l.invariant.2 e in
-    omega arith
-
 pub children-content-requires : goal.children-content-requires
 children-content-requires t c =
     let l = c.loop-why in

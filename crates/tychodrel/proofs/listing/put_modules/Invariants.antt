@@ -13,7 +13,8 @@ use Rattle.tychodrel.proofs.ListingLaws.{module-written, all-left, none-left}
 use Rattle.tychodrel.proofs.listing.put_modules.Given as goal
 
 abbrev pub invariant-loop-i : goal.invariant-loop-i
-invariant-loop-i it = ((l : List ℕ) (p : ℕ) → Wrote it.out it.to (modules_bytes (modules_in (it.n - it.i) (2 * it.i) it.cells)) l p → Wrote it.initial.out it.o (modules_bytes (modules_in it.n 0 it.cells)) l p)
+invariant-loop-i it = ((l : List ℕ) (p : ℕ) → Wrote it.out it.to (modules_bytes (modules_in (it.n - it.i) (2 * it.i) it.cells)) l p →
+    Wrote it.initial.out it.o (modules_bytes (modules_in it.n 0 it.cells)) l p)
     × (length it.out ≡ length it.initial.out)
 
 abbrev pub decreases-loop-i : goal.decreases-loop-i

@@ -1,7 +1,0 @@
--- `put_mark`: `slot` promises the place that the definition writes; the rest is congruence.
-use borrow.Author.Rules.{rules}
-use Rattle.scope.proofs.Scope.put_mark.Goals as goal
-
-pub returns : goal.returns
-returns c =
-    cc
