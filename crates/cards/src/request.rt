@@ -5,7 +5,6 @@ ghost use Rattle.std.specs.Prelude.{◌≤◌, length};
 ghost use Rattle.text.specs.Hex.{BytesIn};
 ghost use Rattle.cards.specs.Request.{AskedIn, ListsIn, PairIn};
 
-use check::same;
 use text::decimal::{Number, number_at};
 use text::fields::{Span, field, find};
 use text::hex::{Bytes, bytes_at, read_hex};
@@ -26,7 +25,7 @@ pub enum Lists {
 }
 
 // An extraction that is asked for.
-#[derive(Drop)]
+#[derive(Clone, Copy)]
 pub struct Request {
     pub own: u16,
     pub modes: u32,
@@ -74,14 +73,11 @@ fn modes_of(s: &[u8], k: usize) -> Modes {
     let Span::At(a, e) = field(s, 0, s.len(), k) else {
         return Modes::Bad;
     };
-    let word = &s[a..e];
-    if same(word, b"on") {
-        return Modes::Is(1);
+    match &s[a..e] {
+        b"on" => Modes::Is(1),
+        b"off" => Modes::Is(0),
+        _ => Modes::Bad,
     }
-    if same(word, b"off") {
-        return Modes::Is(0);
-    }
-    Modes::Bad
 }
 
 // Puts the bytes of the groups from `from` on into lent, from `at` on.

@@ -12,7 +12,7 @@ use Rattle.metadata.specs.Metadata.{append}
 use Rattle.writer.specs.Finished.{Finished}
 use Rattle.tree.proofs.WidthLaws.{read-module}
 use Rattle.inputs.specs.Outcome.{Outcome, done, refused, onto}
-use Rattle.extraction_rules.specs.State.{Record, State, second, Setting, set_collected}
+use Rattle.extraction_rules.specs.State.{Record, State, Setting, set_collected}
 use Rattle.extraction_rules.specs.Second.{wrap_all, lose_namespaces, finish}
 use Rattle.extraction_rules.specs.Walk.{walk_module, walk_again}
 use Rattle.extraction_rules.specs.Records.{records_of, record_fields, forced_fields}

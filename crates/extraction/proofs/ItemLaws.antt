@@ -1,5 +1,5 @@
 -- An item: one that stays is what it is walked to, one that is dropped leaves nothing, an import follows its rules.
-use Prim.Native.Nat.{ℕ, ◌+◌, ◌-◌, ◌*◌, ◌≤◌}
+use Prim.Native.Nat.{ℕ, ◌+◌, ◌*◌, ◌≤◌}
 use native.Mathlib.Omega.{arith}
 use mathlib.Core.Path.{◌≡◌, refl, sym, ap, subst, ◌∙◌}
 use mathlib.Core.Logic.{◌⊎◌, inl, inr}
@@ -14,11 +14,11 @@ use Rattle.tree.specs.declared.grammar.Set.TheVariants.{Item}
 use Rattle.tree.specs.Layout.{Bytes, value_of}
 use Rattle.tree.specs.Grammar.{within, holds_at, rule_of}
 use Rattle.tree.specs.Tree.{Field, field, Fields, none, more, tag_of, fixed_of, parts_of, encode, encodes}
-use Rattle.tree.specs.Access.{fixed_at, extent_at}
+use Rattle.tree.specs.Access.{extent_at}
 use Rattle.tree.specs.Standing.{tree_at}
 use Rattle.tree.proofs.StandingLaws.{row-more, row-none, tree-upto, whole-step}
 use Rattle.tree.proofs.WidthLaws.{tree-bare}
-use Rattle.inputs.specs.Outcome.{Outcome, done, onto}
+use Rattle.inputs.specs.Outcome.{done, onto}
 use Rattle.inputs.specs.Lists.{among}
 use Rattle.inputs.specs.Fields.{has, keep, sole, inside}
 use Rattle.extraction_rules.specs.State.{Usage, State, Pass, first, second, Setting, give}
@@ -39,7 +39,7 @@ use Rattle.state.specs.Does.{Says, is_second}
 use Rattle.steps.specs.declared.Step.{Step}
 use Rattle.steps.specs.declared.Step.TheVariants.{Done}
 use Rattle.steps.specs.Step.{ReadAt, Reads, Steps}
-use Rattle.steps.proofs.SoundLaws.{read-formed, read-short, read-tag}
+use Rattle.steps.proofs.SoundLaws.{read-formed, read-tag}
 use Rattle.steps.proofs.StepsLaws.{steps-give, steps-by, steps-map}
 use Rattle.walking.specs.Walking.{FieldSteps}
 use Rattle.extraction.specs.Passes.{Ready, ItemRead, item_act}

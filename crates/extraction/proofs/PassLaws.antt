@@ -1,5 +1,5 @@
 -- The items one after the other, and the pass that they are.
-use Prim.Native.Nat.{ℕ, ◌+◌, ◌-◌, ◌*◌, ◌≤◌, ◌<◌}
+use Prim.Native.Nat.{ℕ, ◌+◌, ◌*◌, ◌≤◌, ◌<◌}
 use native.Mathlib.Omega.{arith}
 use mathlib.Core.Path.{◌≡◌, refl, sym, ap, subst, ◌∙◌}
 use mathlib.Core.Bool.{Bool, true, false, cond}
@@ -22,11 +22,11 @@ use Rattle.writer.proofs.Wrote.{wrote-none}
 use Rattle.metadata.specs.Metadata.{append}
 use Rattle.metadata.proofs.EncodeLaws.{encodes-append}
 use Rattle.inputs.specs.Outcome.{Outcome, done, refused, onto}
-use Rattle.inputs.specs.Fields.{keep, inside}
+use Rattle.inputs.specs.Fields.{keep}
 use Rattle.inputs.proofs.AcceptedLaws.{done-inj, onto-done}
 use Rattle.extraction_rules.specs.State.{State, Pass, first, second, Setting, Act, set_top}
 use Rattle.extraction_rules.specs.First.{stays, import_first}
-use Rattle.extraction_rules.specs.Walk.{after_import, after, walk, walk_all, walk_module}
+use Rattle.extraction_rules.specs.Walk.{after_import, walk, walk_all, walk_module}
 use Rattle.extraction_rules.proofs.OutcomeLaws.{After, after-done, after-weaken}
 use Rattle.extraction_rules.proofs.ShapeLaws.{Shaped, ShapedAll}
 use Rattle.extraction_rules.proofs.ReadableLaws.{item-step}

@@ -1,7 +1,6 @@
 -- The whole call: an array of zeros, the steps in their order, and what is left at the end.
 use Prim.Native.Nat.{ℕ, zero, suc, ◌-◌, ◌≤◌}
 use native.Mathlib.Omega.{arith}
-use mathlib.Core.Logic.{◌⊎◌, inl, inr}
 use mathlib.Core.Path.{◌≡◌, refl, sym, ap, subst, ◌∙◌}
 use mathlib.Core.Bool.{Bool, true, false}
 use mathlib.Core.List.{List, [], ◌∷◌, map}
@@ -52,7 +51,7 @@ use Rattle.extraction.specs.declared.Tested.TheVariants.{Good as Passable, Bad, 
 use Rattle.extraction.specs.declared.Passed.{Passed}
 use Rattle.extraction.specs.declared.Passed.TheVariants.{Fits, Refused as Turned, NoRoom as Short}
 use Rattle.extraction.specs.Answer.{answer_refusal, outcome_of, UnreadAs, lent_as, room_in, left}
-use Rattle.extraction.specs.Stages.{lists_of, ModuleRead, setting_in, LentTo, OwnIs, Owns, Begun, PreparedIs, Prepares, PassIs, Inside, Firsts, marking, Seconds, DeliversFor}
+use Rattle.extraction.specs.Stages.{lists_of, setting_in, LentTo, OwnIs, Owns, Begun, PreparedIs, Prepares, PassIs, Inside, Firsts, marking, Seconds, DeliversFor}
 use Rattle.extraction.specs.Stages.{Whole, AcceptedAs, TurnedAs, Ends}
 use Rattle.extraction.proofs.HeldLaws.{fits-not, fits-so, room-size}
 use Rattle.extraction.proofs.ReadLaws.{module-read}

@@ -1,6 +1,6 @@
 -- Whole records: literals of six bytes, specifiers within the grammar, forced values of two bytes. What the tree gives is whole, and
 -- collecting, extending and losing namespaces keep it so.
-use Prim.Native.Nat.{ℕ, ◌+◌}
+use Prim.Native.Nat.{ℕ}
 use mathlib.Core.Path.{◌≡◌, refl, sym, ap, subst, ◌∙◌}
 use mathlib.Core.Bool.{Bool, true, false, not, cond, ◌&&◌, ◌||◌}
 use mathlib.Core.List.{List, [], ◌∷◌, ◌++◌}
@@ -22,7 +22,7 @@ use Rattle.metadata.specs.Metadata.{append}
 use Rattle.inputs.specs.Lists.{among}
 use Rattle.inputs.specs.Fields.{has, keep, sole}
 use Rattle.extraction_rules.specs.State.{Record, State, Setting, set_forced}
-use Rattle.extraction_rules.specs.First.{external, holds_namespace, forget, force_id, argument, not_external, required, collect_in, require}
+use Rattle.extraction_rules.specs.First.{external, holds_namespace, forget, force_id, argument, not_external, required, collect_in}
 use Rattle.extraction_rules.specs.First.{Binding, bound, left, below, binding_of, bindings, bindings_all, bindings_first}
 use Rattle.extraction_rules.specs.Second.{extend, lose_namespaces}
 use Rattle.extraction_rules.proofs.ListLaws.{All, all-last, all-find}

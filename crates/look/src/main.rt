@@ -1,7 +1,11 @@
 // Shows a tree one field a line, read from the file that the argument names or from standard input;
 // for bytes that are no tree, the refusal's number, its place, and the bytes around it.
-use libc::STDIN_FILENO;
+#![tactic(auto)]
+
+use show::input::read_full;
 use show::{fields, print};
+use std::io::Read;
+use std::{env, fs, io};
 use tree::grammar::Set;
 use tree::read::{Verdict, Why, read_tree};
 
@@ -17,57 +21,54 @@ fn root_of(s: &[u8]) -> Set {
     }
 }
 
-fn refused(why: Why, place: usize, s: &[u8]) {
+fn refused(rt: &impl Print, why: Why, place: usize, s: &[u8]) {
     match why {
         Why::Misplaced => print::refused(
+            rt,
             b"refused 3: a tag that may not stand there, at ",
             place,
             s,
         ),
-        Why::Cut => print::refused(b"refused 3: a field cut off, at ", place, s),
+        Why::Cut => print::refused(rt, b"refused 3: a field cut off, at ", place, s),
         Why::Lacking => print::refused(
+            rt,
             b"refused 3: a field that lacks a part or holds a wrong byte, at ",
             place,
             s,
         ),
-        Why::Deep => print::refused(b"refused 4: a field too deep, at ", place, s),
+        Why::Deep => print::refused(rt, b"refused 4: a field too deep, at ", place, s),
     }
 }
 
-fn show(s: &[u8]) {
+fn show(rt: &impl Print, s: &[u8]) {
     match read_tree(s, root_of(s)) {
-        Verdict::Good => fields::show(s),
-        Verdict::Refused(why, place) => refused(why, place, s),
+        Verdict::Good => fields::show(rt, s),
+        Verdict::Refused(why, place) => refused(rt, why, place, s),
     }
 }
 
 // Reads all that there is, and shows it.
-fn show_all(fd: i32) {
+fn show_all(rt: &impl Print, input: &mut impl Read) {
     let mut bytes = [0u8; 131072];
-    let n = io::read_full(fd, &mut bytes);
+    let n = read_full(input, &mut bytes);
     if n == 131072 {
-        print::say(b"longer than 131071 bytes\n");
+        print::say(rt, b"longer than 131071 bytes\n");
         return;
     }
-    show(&bytes[..n]);
+    show(rt, &bytes[..n]);
 }
 
-fn main() {
-    if os::arg_count() < 2 {
-        show_all(STDIN_FILENO);
-        return;
+fn main(rt: HostRuntime) -> io::Result<()> {
+    let mut args = env::args(&rt)?;
+    let Some(path) = args.nth(1) else {
+        show_all(&rt, &mut rt.stdin());
+        return Ok(());
+    };
+    match fs::open(&rt, path.as_str()) {
+        Ok(mut file) => show_all(&rt, &mut file),
+        Err(e) => {
+            let _ = eprintln!(rt; "{path}: {e}");
+        }
     }
-    let mut path = io::buffer();
-    let n = os::arg(1, &mut path);
-    if os::errno() != 0 {
-        os::fail(b"path");
-        return;
-    }
-    let fd = os::open_read(&path[..n]);
-    if fd < 0 {
-        os::fail(&path[..n]);
-        return;
-    }
-    show_all(fd);
-    libc::close(fd);
+    Ok(())
 }

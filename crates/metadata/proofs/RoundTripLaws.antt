@@ -20,7 +20,7 @@ use Rattle.tree.proofs.CompleteLaws.{read-complete}
 use Rattle.metadata.specs.Metadata.{Metadata, Small, injected_attribute, context_attribute, injected_attributes, context_attributes, append}
 use Rattle.metadata.specs.Metadata.{attributes_for, with_metadata, starts_with, context_in, told, newer, merged, decode_from, unset, decode}
 use Rattle.metadata.specs.declared.Encoded.TheVariants.{Done, NoRoom}
-use Rattle.metadata.specs.Calls.{attributes_in, lent, decode_call, answer_on, out_on, encode_answer, encode_out, Encoding}
+use Rattle.metadata.specs.Calls.{attributes_in, lent, decode_call, answer_on, out_on, encode_answer, encode_out}
 use Rattle.metadata.specs.RoundTrip.{WrittenAlone, WrittenOnto}
 use Rattle.metadata.proofs.DecimalLaws.{decimal-parses}
 use Rattle.metadata.proofs.CallsLaws.{lent-sound}

@@ -1,5 +1,5 @@
 -- Modes as a host tells them: one u32 of bits, 1 require. Bits without a meaning change nothing.
-use Rattle.std.specs.Prelude.{ℕ, ◌+◌, ◌*◌, ◌%◌, ◌≡◌, refl, true, false, eqb}
+use Rattle.std.specs.Prelude.{ℕ, ◌%◌, ◌≡◌, refl, true, false, eqb}
 use Rattle.modes.specs.declared.Modes.{Modes}
 
 abbrev pub modes_of : ℕ → Modes

@@ -40,23 +40,30 @@ fn different(t: Tally) -> Tally {
     }
 }
 
-fn malformed(t: Tally, why: &[u8]) -> Tally {
-    report::malformed(one_more(t.cases), why);
+fn malformed(rt: &impl Print, t: Tally, why: &[u8]) -> Tally {
+    report::malformed(rt, one_more(t.cases), why);
     different(t)
 }
 
-fn compared(t: Tally, expected: &[u8], got: &[u8]) -> Tally {
-    if check::same(expected, got) {
+fn compared(rt: &impl Print, t: Tally, expected: &[u8], got: &[u8]) -> Tally {
+    if expected == got {
         return same(t);
     }
-    report::difference(one_more(t.cases), expected, got);
+    report::difference(rt, one_more(t.cases), expected, got);
     different(t)
 }
 
 // Replays the line s, the `last` one if no line end stands behind it; `answer` is for the answer's text.
-pub fn replay(s: &[u8], broken: bool, last: bool, answer: &mut [u8], t: Tally) -> Tally {
+pub fn replay(
+    rt: &impl Print,
+    s: &[u8],
+    broken: bool,
+    last: bool,
+    answer: &mut [u8],
+    t: Tally,
+) -> Tally {
     if broken {
-        return malformed(t, b"line too long, or reading failed");
+        return malformed(rt, t, b"line too long, or reading failed");
     }
     let len = s.len();
     if is_none(len, last) {
@@ -64,11 +71,11 @@ pub fn replay(s: &[u8], broken: bool, last: bool, answer: &mut [u8], t: Tally) -
     }
     let tab = find(s, 0, len, 9);
     if tab == len {
-        return malformed(t, b"no answer");
+        return malformed(rt, t, b"no answer");
     }
     match respond(s, tab, answer) {
-        Answer::Text(n) => compared(t, &s[tab + 1..], &answer[0..n]),
-        Answer::Malformed => malformed(t, b"request"),
+        Answer::Text(n) => compared(rt, t, &s[tab + 1..], &answer[0..n]),
+        Answer::Malformed => malformed(rt, t, b"request"),
         Answer::Unknown => skipped(t),
     }
 }

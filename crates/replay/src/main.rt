@@ -1,5 +1,7 @@
 // Replays the vectors on standard input: a line is a request, a tab and the answer that is expected.
 // Writes each line whose answer differs, and last how many cases there were.
+#![tactic(auto)]
+
 mod line;
 mod report;
 
@@ -7,6 +9,7 @@ ghost use Rattle.std.specs.Prelude.{◌≤◌, ◌<◌, length};
 ghost use Rattle.replay.specs.Window.{Within, CameIn};
 
 use line::Tally;
+use std::io::Read;
 use text::fields::find;
 
 // What was read and not yet taken: the window from start up to end.
@@ -32,7 +35,7 @@ fn shift(window: &mut [u8], start: usize, end: usize)
 }
 
 // Reads more. A window without a line end and without room is dropped.
-fn fill(window: &mut [u8], w: Window) -> Window
+fn fill(input: &mut impl Read, window: &mut [u8], w: Window) -> Window
     requires { Within (length window.old) w }
     ensures { Within (length window.old) result }
 {
@@ -48,7 +51,7 @@ fn fill(window: &mut [u8], w: Window) -> Window
         };
     }
     shift(window, start, end);
-    match read_more(&mut window[kept..]) {
+    match read_more(input, &mut window[kept..]) {
         Came::Bytes(more) => Window {
             start: 0,
             end: kept + more,
@@ -72,14 +75,13 @@ pub enum Came {
 }
 
 // Reads once.
-fn read_more(room: &mut [u8]) -> Came
+fn read_more(input: &mut impl Read, room: &mut [u8]) -> Came
     ensures { CameIn (length room.old) result }
 {
-    let got = libc::read(libc::STDIN_FILENO, room);
-    if got < 0 {
-        return Came::Failed;
+    match input.read(room) {
+        Ok(n) => Came::Bytes(n),
+        Err(_) => Came::Failed,
     }
-    Came::Bytes(io::count(got, room))
 }
 
 // What is left to read, and the count so far.
@@ -91,7 +93,7 @@ pub struct State {
 }
 
 // Takes the line that ends at `stop`: at a line end, or last at the end of all.
-fn take_line(window: &[u8], stop: usize, answer: &mut [u8], s: State) -> State
+fn take_line(rt: &impl Print, window: &[u8], stop: usize, answer: &mut [u8], s: State) -> State
     requires { Within (length window.now) s.window × (s.window.start ≤ stop) × (stop ≤ s.window.end) }
     ensures { Within (length window.now) result.window }
 {
@@ -101,7 +103,7 @@ fn take_line(window: &[u8], stop: usize, answer: &mut [u8], s: State) -> State
     let end = w.end;
     let last = stop == end;
     let line = &window[start..stop];
-    let tally = line::replay(line, w.broken, last, answer, t);
+    let tally = line::replay(rt, line, w.broken, last, answer, t);
     let next = Window {
         start: behind(stop, end),
         end,
@@ -124,7 +126,13 @@ fn behind(stop: usize, end: usize) -> usize
 }
 
 // Takes a line, or reads more, or ends.
-fn turn(window: &mut [u8], answer: &mut [u8], s: State) -> State
+fn turn(
+    rt: &impl Print,
+    input: &mut impl Read,
+    window: &mut [u8],
+    answer: &mut [u8],
+    s: State,
+) -> State
     requires { Within (length window.old) s.window }
     ensures { Within (length window.old) result.window }
 {
@@ -133,22 +141,22 @@ fn turn(window: &mut [u8], answer: &mut [u8], s: State) -> State
     let end = w.end;
     let stop = find(window, start, end, 10);
     if stop < end {
-        return take_line(window, stop, answer, s);
+        return take_line(rt, window, stop, answer, s);
     }
     if w.open {
         let tally = s.tally;
-        let filled = fill(window, w);
+        let filled = fill(input, window, w);
         return State {
             window: filled,
             tally,
             done: false,
         };
     }
-    take_line(window, stop, answer, s)
+    take_line(rt, window, stop, answer, s)
 }
 
 // Nothing says that the input ends, so the turns are counted down from a number that no run uses up.
-fn run(window: &mut [u8], answer: &mut [u8]) -> Tally {
+fn run(rt: &impl Print, input: &mut impl Read, window: &mut [u8], answer: &mut [u8]) -> Tally {
     let empty = Window {
         start: 0,
         end: 0,
@@ -167,7 +175,7 @@ fn run(window: &mut [u8], answer: &mut [u8]) -> Tally {
     };
     let mut turns = u64::MAX;
     while turns > 0 {
-        s = turn(window, answer, s);
+        s = turn(rt, input, window, answer, s);
         if s.done {
             return s.tally;
         }
@@ -176,10 +184,10 @@ fn run(window: &mut [u8], answer: &mut [u8]) -> Tally {
     s.tally
 }
 
-fn main() {
+fn main(rt: HostRuntime) {
     // A line of up to a mebibyte, and the text of its answer.
     let mut window = [0u8; 1048576];
     let mut answer = [0u8; 1048576];
-    let t = run(&mut window, &mut answer);
-    report::total(t.cases, t.skipped, t.differences);
+    let t = run(&rt, &mut rt.stdin(), &mut window, &mut answer);
+    report::total(&rt, t.cases, t.skipped, t.differences);
 }

@@ -1,42 +1,40 @@
 // What the program writes.
 ghost use Rattle.std.specs.Prelude.{◌+◌, ◌≤◌, length};
 
-use io::{print_decimal, write_all};
-use libc::STDOUT_FILENO;
-
-fn print(s: &[u8]) {
-    write_all(STDOUT_FILENO, s);
+// What cannot be written is left out, and the program goes on.
+fn print(rt: &impl Print, s: &[u8]) {
+    let _ = rt.write_all(s);
 }
 
 // A number between two texts.
-fn number(before: &[u8], n: u64, after: &[u8]) {
-    print(before);
-    print_decimal(STDOUT_FILENO, n);
-    print(after);
+fn number(rt: &impl Print, before: &[u8], n: u64, after: &[u8]) {
+    print(rt, before);
+    let _ = rt.print(n);
+    print(rt, after);
 }
 
 // The last line: `N cases, S skipped, D differences`.
-pub fn total(cases: u64, skipped: u64, differences: u64) {
-    number(b"", cases, b" cases, ");
-    number(b"", skipped, b" skipped, ");
-    number(b"", differences, b" differences\n");
+pub fn total(rt: &impl Print, cases: u64, skipped: u64, differences: u64) {
+    number(rt, b"", cases, b" cases, ");
+    number(rt, b"", skipped, b" skipped, ");
+    number(rt, b"", differences, b" differences\n");
 }
 
-pub fn malformed(line: u64, why: &[u8]) {
-    number(b"line ", line, b": malformed: ");
-    print(why);
-    print(b"\n");
+pub fn malformed(rt: &impl Print, line: u64, why: &[u8]) {
+    number(rt, b"line ", line, b": malformed: ");
+    print(rt, why);
+    print(rt, b"\n");
 }
 
 // Both answers, from shortly before the first character in which they differ if they are long.
-pub fn difference(line: u64, expected: &[u8], got: &[u8]) {
+pub fn difference(rt: &impl Print, line: u64, expected: &[u8], got: &[u8]) {
     let at = common(expected, got);
-    number(b"line ", line, b": differs at character ");
-    number(b"", at as u64, b"\n  expected ");
-    excerpt(expected, at);
-    print(b"\n  got      ");
-    excerpt(got, at);
-    print(b"\n");
+    number(rt, b"line ", line, b": differs at character ");
+    number(rt, b"", at as u64, b"\n  expected ");
+    excerpt(rt, expected, at);
+    print(rt, b"\n  got      ");
+    excerpt(rt, got, at);
+    print(rt, b"\n");
 }
 
 // How many bytes a and b have in common at the front.
@@ -55,13 +53,13 @@ fn common(a: &[u8], b: &[u8]) -> usize {
 }
 
 // All of s, or 100 bytes of it around `at`.
-fn excerpt(s: &[u8], at: usize) {
+fn excerpt(rt: &impl Print, s: &[u8], at: usize) {
     let len = s.len();
     if len <= 120 {
-        print(s);
+        print(rt, s);
         return;
     }
-    excerpt_from(s, before(at, len))
+    excerpt_from(rt, s, before(at, len))
 }
 
 // A place 20 before `at`, and no later than 100 before the end.
@@ -79,15 +77,15 @@ fn before(at: usize, len: usize) -> usize
     from
 }
 
-fn excerpt_from(s: &[u8], from: usize)
+fn excerpt_from(rt: &impl Print, s: &[u8], from: usize)
     requires { from + 100 ≤ length s.now }
 {
     let to = from + 100;
     if 0 < from {
-        print(b"..");
+        print(rt, b"..");
     }
-    print(&s[from..to]);
+    print(rt, &s[from..to]);
     if to < s.len() {
-        print(b"..");
+        print(rt, b"..");
     }
 }

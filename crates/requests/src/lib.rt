@@ -1,12 +1,13 @@
 // Answers a request as the vectors have it: those with a scope by the crate scoped_requests, the others here. `lent` gets the bytes that a
 // request spells; `work`, `out`, `records` and `list` lend a call its buffers.
+#![tactic(auto)]
+
 mod plain; // detect, encode, decode
 
 ghost use Rattle.std.specs.Prelude.{◌≤◌, length};
 ghost use Rattle.answer_text.specs.Answer.{AnswerIn};
 
 use answer_text::Answer;
-use check::same;
 use plain::{decode, detect, encode};
 use scoped_requests::extracting::extract;
 use scoped_requests::listing::resolve;
@@ -52,16 +53,12 @@ fn respond_in(
         return Answer::Malformed;
     };
     let word = &s[a..e];
-    if same(word, b"extract") {
-        return extract(s, to, lent, work, out, records, text);
+    match word {
+        b"extract" => extract(s, to, lent, work, out, records, text),
+        b"resolve" => resolve(s, to, lent, list, text),
+        b"both" => both(s, to, lent, work, out, records, list, text),
+        _ => respond_plain(s, to, word, lent, out, text),
     }
-    if same(word, b"resolve") {
-        return resolve(s, to, lent, list, text);
-    }
-    if same(word, b"both") {
-        return both(s, to, lent, work, out, records, list, text);
-    }
-    respond_plain(s, to, word, lent, out, text)
 }
 
 // The same for the requests without a scope.
@@ -76,17 +73,11 @@ fn respond_plain(
     requires { to ≤ length s.now }
     ensures { AnswerIn (length text.old) result }
 {
-    if word.len() == 0 {
-        return Answer::Malformed;
+    match word {
+        [] => Answer::Malformed,
+        b"detect" => detect(s, to, lent, text),
+        b"encode" => encode(s, to, lent, out, text),
+        b"decode" => decode(s, to, lent, text),
+        _ => Answer::Unknown,
     }
-    if same(word, b"detect") {
-        return detect(s, to, lent, text);
-    }
-    if same(word, b"encode") {
-        return encode(s, to, lent, out, text);
-    }
-    if same(word, b"decode") {
-        return decode(s, to, lent, text);
-    }
-    Answer::Unknown
 }

@@ -14,7 +14,7 @@ use Rattle.tree.specs.declared.grammar.Set.TheVariants.{Records}
 use Rattle.tree.specs.declared.read.Why.{Why as ReadWhy}
 use Rattle.tree.specs.declared.read.Verdict.{Verdict}
 use Rattle.tree.specs.declared.read.Verdict.TheVariants.{Good as Well, Refused as Broken}
-use Rattle.tree.specs.Tree.{Field, field, Fields, encode, size}
+use Rattle.tree.specs.Tree.{Field, field, Fields, encode}
 use Rattle.tree.specs.Layout.{Bytes}
 use Rattle.tree.specs.Read.{Reading, fine, refused as unread, read, verdict}
 use Rattle.tree.proofs.TreeLaws.{size-encode}

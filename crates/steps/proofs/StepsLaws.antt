@@ -1,5 +1,5 @@
 -- Steps one after the other: what two steps do, or the first one's refusal, is what the rule of both does.
-use Prim.Native.Nat.{ℕ, ◌<◌}
+use Prim.Native.Nat.{ℕ}
 use native.Mathlib.Omega.{arith}
 use mathlib.Core.Path.{◌≡◌, refl, sym, ap, subst, ◌∙◌, ap₂}
 use mathlib.Core.List.{List, [], ◌++◌, append-nil}

@@ -14,12 +14,12 @@ use Rattle.text.specs.Hex.{DigitIs}
 use Rattle.text.specs.Decimal.{Short, NumberRead, NumberWritten}
 use Rattle.text.specs.Write.{Written}
 use Rattle.text.proofs.HexLaws.{glyph-low, glyph-high}
-use Rattle.text.proofs.WriteLaws.{written_as, written_then}
+use Rattle.text.proofs.WriteLaws.{written-as, written-then}
 
-length_digits : (k n : ℕ) → length (last_digits 10 k n) ≡ k
-length_digits zero n = refl
-length_digits (suc k) n =
-    let h = length_digits k (n / 10) in
+length-digits : (k n : ℕ) → length (last_digits 10 k n) ≡ k
+length-digits zero n = refl
+length-digits (suc k) n =
+    let h = length-digits k (n / 10) in
     length-append (last_digits 10 k (n / 10)) (hex_digit_ascii (n % 10) ∷ []) ∙ omega arith
 
 -- a character that is no digit of a decimal number
@@ -35,7 +35,7 @@ high-no-decimal {c} {w} h k v l e = omega (arith, h.1, glyph-low v l, glyph-high
 no-decimal-in : (k n i : ℕ) → i < k → NoDecimal (get_or (last_digits 10 k n) i 0) → ⊥
 no-decimal-in zero n i h f = omega arith
 no-decimal-in (suc k) n i h f =
-    let l = length_digits k (n / 10) in
+    let l = length-digits k (n / 10) in
     ⊎_elim
     (λ (e : i ≡ k). f (n % 10) (omega arith) (get_or_at (last_digits 10 k (n / 10)) (hex_digit_ascii (n % 10)) [] 0 i (l ∙ sym e)))
     (λ (m : i < k).
@@ -53,21 +53,21 @@ module _ (s : List ℕ) (from to : ℕ) (inside : to ≤ length s) where
 
 -- the number of the characters before i, and with the character at i
 module _ (s : List ℕ) (from i : ℕ) where
-  slice_snoc : from ≤ i → i < length s → slice from (i + 1) s ≡ slice from i s ++ (get_or s i 0 ∷ [])
-  slice_snoc f h =
+  slice-snoc : from ≤ i → i < length s → slice from (i + 1) s ≡ slice from i s ++ (get_or s i 0 ∷ [])
+  slice-snoc f h =
       let e : i + 1 ≡ suc i = omega arith in
       let l = length-take-le i s (omega arith) in
       ap (λ (n : ℕ). drop from (take n s)) e
       ∙ ap (drop from) (take-suc s i 0 h)
       ∙ drop-append-le from (take i s) (get_or s i 0 ∷ []) (omega arith)
 
-  pub number_more : (n : ℕ) {v : ℕ} → from ≤ i → i < length s → DigitIs (get_or s i 0) (Value v) → v ≤ 9 →
+  pub number-more : (n : ℕ) {v : ℕ} → from ≤ i → i < length s → DigitIs (get_or s i 0) (Value v) → v ≤ 9 →
       slice from i s ≡ last_digits 10 (i - from) n → slice from (i + 1) s ≡ last_digits 10 (i + 1 - from) (n * 10 + v)
-  number_more n {v} f h d k e =
+  number-more n {v} f h d k e =
       let a : n ≡ (n * 10 + v) / 10 = omega arith in
       let b : v ≡ (n * 10 + v) % 10 = omega arith in
       let c : suc (i - from) ≡ i + 1 - from = omega arith in
-      slice_snoc f h
+      slice-snoc f h
       ∙ ap₂ (λ (l : List ℕ) (g : ℕ). l ++ (g ∷ [])) (e ∙ ap (last_digits 10 (i - from)) a) (d.1 ∙ ap hex_digit_ascii b)
       ∙ ap (λ (m : ℕ). last_digits 10 m (n * 10 + v)) c
 
@@ -77,8 +77,8 @@ module _ (s : List ℕ) (from i : ℕ) where
       let p = ap (λ (m : ℕ). 10 ^ m) c ∙ pow-suc 10 (i - from) in
       omega arith
 
-  pub number_fits : {n : ℕ} → i - from ≤ 9 → n < 10 ^ (i - from) → n < 1000000000
-  number_fits {n} k h = let p : 10 ^ (i - from) ≤ 10 ^ 9 = pow-le-pow_right {n = 10} (omega arith) k in omega arith
+  pub number-fits : {n : ℕ} → i - from ≤ 9 → n < 10 ^ (i - from) → n < 1000000000
+  number-fits {n} k h = let p : 10 ^ (i - from) ≤ 10 ^ 9 = pow-le-pow_right {n = 10} (omega arith) k in omega arith
 
 pub number-none : (s : List ℕ) (from to : ℕ) → from ≤ to → Short from to →
     (slice from from s ≡ last_digits 10 (from - from) 0) × (0 < 10 ^ (from - from)) × (from ≤ from) × (from ≤ to) × Short from to
@@ -108,11 +108,11 @@ fewest-more n (suc j) h w =
     let q = pow-suc 10 j in
     (omega arith, omega (arith, w.1), λ m. lead-more n j h w.2)
 
-pub number_next : {out m k : List ℕ} {at p q n g : ℕ} → 10 ≤ n → NumberWritten out at (n / 10) m p → g ≡ hex_digit_ascii (n % 10) →
+pub number-next : {out m k : List ℕ} {at p q n g : ℕ} → 10 ≤ n → NumberWritten out at (n / 10) m p → g ≡ hex_digit_ascii (n % 10) →
     Written m p (g ∷ []) k q → NumberWritten out at n k q
-number_next {n = n} h w e v =
+number-next {n = n} h w e v =
     record {
       count = suc w.count;
       fewest = fewest-more n w.count h w.fewest;
-      written = written_as (ap (λ (x : ℕ). last_digits 10 w.count (n / 10) ++ (x ∷ [])) e) (written_then w.written v);
+      written = written-as (ap (λ (x : ℕ). last_digits 10 w.count (n / 10) ++ (x ∷ [])) e) (written-then w.written v);
     }

@@ -25,19 +25,19 @@ module _ (b i to : ℕ) (s : List ℕ) where
 
 -- the field that starts at `at` ends at `end`: it is the one that is looked for, or the last, or another one stands behind it
 module _ (s : List ℕ) (at to end : ℕ) (ends : end ≡ at + first_of 32 (slice at to s)) where
-  pub field_found : (k : ℕ) → k ≡ 0 → field_at k s at to ≡ At at end
+  pub field-found : (k : ℕ) → k ≡ 0 → field_at k s at to ≡ At at end
   unfolding field_at end_at
-  field_found zero h = ap (At at) (sym ends)
-  field_found (suc k) h = absurd (omega arith)
+  field-found zero h = ap (At at) (sym ends)
+  field-found (suc k) h = absurd (omega arith)
 
   pub field-missing : (k : ℕ) → (k ≡ 0 → ⊥) → end ≡ to → field_at k s at to ≡ Missing
   unfolding field_at end_at
   field-missing zero h e = absurd (h refl)
   field-missing (suc k) h e = rw (← ends, eq-eqb end to e)
 
-  pub field_next : (k : ℕ) → (k ≡ 0 → ⊥) → (end ≡ to → ⊥) → field_at k s at to ≡ field_at (k - 1) s (end + 1) to
+  pub field-next : (k : ℕ) → (k ≡ 0 → ⊥) → (end ≡ to → ⊥) → field_at k s at to ≡ field_at (k - 1) s (end + 1) to
   unfolding field_at end_at
-  field_next zero h n = absurd (h refl)
-  field_next (suc k) h n =
+  field-next zero h n = absurd (h refl)
+  field-next (suc k) h n =
       let e : suc k - 1 ≡ k = omega arith in
       rw (← ends, ne_eqb end to n, e)

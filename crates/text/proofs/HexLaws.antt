@@ -27,12 +27,12 @@ glyph-cases true v e h = let l = ltb-true v 10 e in inl (l, glyph-low v l)
 glyph-cases false v e h = let l = ltb-false v 10 e in inr (l, glyph-high v l)
 
 -- a character that is neither 0 to 9 nor a to f is no digit
-pub no_digit : (c : ℕ) → (48 ≤ c → c ≤ 57 → ⊥) → (97 ≤ c → c ≤ 102 → ⊥) → DigitIs c Other
-no_digit c h k v l e =
+pub no-digit : (c : ℕ) → (48 ≤ c → c ≤ 57 → ⊥) → (97 ≤ c → c ≤ 102 → ⊥) → DigitIs c Other
+no-digit c h k v l e =
     ⊎_elim (λ w. h (omega (arith, w.1)) (omega (arith, w.1))) (λ w. k (omega (arith, w.1)) (omega (arith, w.1))) (glyph-cases (ltb v 10) v refl l)
 
-pub digit_low : (c : ℕ) → 48 ≤ c → c ≤ 57 → DigitIs c (Value (c - 48))
-digit_low c h k = let e = glyph-low (c - 48) (omega arith) in (omega arith, omega arith)
+pub digit-low : (c : ℕ) → 48 ≤ c → c ≤ 57 → DigitIs c (Value (c - 48))
+digit-low c h k = let e = glyph-low (c - 48) (omega arith) in (omega arith, omega arith)
 
 pub digit-high : (c : ℕ) → 97 ≤ c → c ≤ 102 → DigitIs c (Value (c - 87))
 digit-high c h k = let e = glyph-high (c - 87) (omega arith) in (omega arith, omega arith)
@@ -108,9 +108,9 @@ module _ (s : List ℕ) (i to : ℕ) (inside : to ≤ length s) (two : i + 1 < t
       }
   hex-more {v} {w} d e out o h Bad k rest = hex-bad (v * 16 + w) out k o rest
 
-length_none : (bs : List ℕ) → length bs ≡ 0 → bs ≡ []
-length_none [] h = refl
-length_none (b ∷ bs) h = absurd (omega arith)
+length-none : (bs : List ℕ) → length bs ≡ 0 → bs ≡ []
+length-none [] h = refl
+length-none (b ∷ bs) h = absurd (omega arith)
 
 pub spelt-none : (bs : List ℕ) → length bs ≡ 0 → spelt bs ≡ 45 ∷ []
 spelt-none [] h = refl
@@ -150,7 +150,7 @@ module _ (s : List ℕ) (from to : ℕ) (inside : to ≤ length s) where
   field-longer h d n out k o (b ∷ bs) m f e =
       let x = slice-more s from to inside h in
       let z : 45 ≡ hex_digit_ascii (b / 16) = cc in
-      no_digit 45 (λ p q. omega arith) (λ p q. omega arith) (b / 16) (omega (arith, m.0)) z
+      no-digit 45 (λ p q. omega arith) (λ p q. omega arith) (b / 16) (omega (arith, m.0)) z
 
   field-bad : from < to → (get_or s from 0 ≡ 45 → ⊥) → (out k : List ℕ) (o : ℕ) → BytesRead hexed s from to out o Bad k → BytesRead spelt s from to out o Bad k
   field-bad h d out k o r [] m f e =
@@ -164,7 +164,7 @@ module _ (s : List ℕ) (from to : ℕ) (inside : to ≤ length s) where
       record {
         bytes = r.bytes;
         small = r.small;
-        text = r.text ∙ sym (spelt-some r.bytes (λ e. slice-none s from to inside h (r.text ∙ ap hexed (length_none r.bytes e))));
+        text = r.text ∙ sym (spelt-some r.bytes (λ e. slice-none s from to inside h (r.text ∙ ap hexed (length-none r.bytes e))));
         ends = r.ends;
         fits = r.fits;
         put = r.put;

@@ -33,14 +33,14 @@ sets-min false vs l i e =
     let h = ltb-false i (length l) e in
     sets-out vs l (min i (length l)) (omega arith) ∙ sym (sets-out vs l i h)
 
-pub written_none : (out : List ℕ) (at : ℕ) → at ≤ length out → Written out at [] out at
-written_none out at h = record { is = refl; next = omega arith }
+pub written-none : (out : List ℕ) (at : ℕ) → at ≤ length out → Written out at [] out at
+written-none out at h = record { is = refl; next = omega arith }
 
-pub written_as : {out xs ys k : List ℕ} {at r : ℕ} → xs ≡ ys → Written out at xs k r → Written out at ys k r
-written_as {out} {xs} {ys} {k} {at} {r} e = subst (λ (l : List ℕ). Written out at l k r) e
+pub written-as : {out xs ys k : List ℕ} {at r : ℕ} → xs ≡ ys → Written out at xs k r → Written out at ys k r
+written-as {out} {xs} {ys} {k} {at} {r} e = subst (λ (l : List ℕ). Written out at l k r) e
 
-pub written_then : {out xs m ys k : List ℕ} {at p q : ℕ} → Written out at xs m p → Written m p ys k q → Written out at (xs ++ ys) k q
-written_then {out} {xs} {m} {ys} {k} {at} {p} {q} w v =
+pub written-then : {out xs m ys k : List ℕ} {at p q : ℕ} → Written out at xs m p → Written m p ys k q → Written out at (xs ++ ys) k q
+written-then {out} {xs} {m} {ys} {k} {at} {p} {q} w v =
     let n : length m ≡ length out = ap length w.is ∙ length-sets out at xs in
     let e : p ≡ min (at + length xs) (length m) = omega arith in
     let l = length-append xs ys in
@@ -59,15 +59,15 @@ written-length {out} {bs} {out'} {at} {r} w = ap length w.is ∙ length-sets out
 
 -- what is left of s, from its element i on
 module _ (s : List ℕ) (i : ℕ) where
-  drop_more : i < length s → drop i s ≡ get_or s i 0 ∷ drop (i + 1) s
-  drop_more h = drop-cons s i 0 h ∙ ap (λ (n : ℕ). get_or s i 0 ∷ drop n s) (sym (add-one i))
+  drop-more : i < length s → drop i s ≡ get_or s i 0 ∷ drop (i + 1) s
+  drop-more h = drop-cons s i 0 h ∙ ap (λ (n : ℕ). get_or s i 0 ∷ drop n s) (sym (add-one i))
 
   pub written-end : (spell : List ℕ → List ℕ) → spell [] ≡ [] → length s ≤ i → (out : List ℕ) (at : ℕ) → at ≤ length out → Written out at (spell (drop i s)) out at
   written-end spell e h out at k =
-      written_as (sym (ap spell (drop_of_length-le s h) ∙ e)) (written_none out at k)
+      written-as (sym (ap spell (drop_of_length-le s h) ∙ e)) (written-none out at k)
 
-  pub written_byte : {out m k : List ℕ} {at p q : ℕ} → i < length s → Written out at (get_or s i 0 ∷ []) m p → Written m p (drop (i + 1) s) k q → Written out at (drop i s) k q
-  written_byte h w v = written_as (sym (drop_more h)) (written_then w v)
+  pub written-byte : {out m k : List ℕ} {at p q : ℕ} → i < length s → Written out at (get_or s i 0 ∷ []) m p → Written m p (drop (i + 1) s) k q → Written out at (drop i s) k q
+  written-byte h w v = written-as (sym (drop-more h)) (written-then w v)
 
   pub written-pair : {out m n k : List ℕ} {at o p q x y : ℕ} → i < length s →
       x ≡ hex_digit_ascii (get_or s i 0 / 16) → Written out at (x ∷ []) m o →
@@ -75,4 +75,4 @@ module _ (s : List ℕ) (i : ℕ) where
       Written n p (hexed (drop (i + 1) s)) k q → Written out at (hexed (drop i s)) k q
   written-pair {x = x} {y = y} h d w e v u =
       let g = ap₂ (λ (a b : ℕ). a ∷ b ∷ hexed (drop (i + 1) s)) d e in
-      written_as (g ∙ sym (ap hexed (drop_more h))) (written_then w (written_then v u))
+      written-as (g ∙ sym (ap hexed (drop-more h))) (written-then w (written-then v u))

@@ -16,7 +16,6 @@ use Rattle.inputs.specs.Lists.{among}
 use Rattle.extraction_rules.specs.State.{State, Setting}
 use Rattle.extraction_rules.specs.First.{id_from, force_id, imported_as, required, with_callee, declarator}
 use Rattle.extraction_rules.specs.Second.{usages_of}
-use Rattle.extraction_rules.specs.Walk.{member}
 use Rattle.extraction_rules.proofs.OutcomeLaws.{After}
 use Rattle.extraction_rules.proofs.ListLaws.{same-not, not-same}
 use Rattle.extraction_rules.proofs.ValueLaws.{required-call, declarator-value}

@@ -37,7 +37,7 @@ use Rattle.extraction_rules.proofs.AlikeLaws.{Two, RegularAt, Regular, RegularAl
 use Rattle.extraction_rules.proofs.TestLaws.{or-neither}
 use Rattle.extraction_rules.proofs.SeekLaws.{seek, holds_in, force-tables}
 use Rattle.extraction_rules.proofs.SpaceLaws.{Property}
-use Rattle.placement.specs.Stands.{How, bare, original, otherwise, ids_in, object_ids, is_misplaced, properties}
+use Rattle.placement.specs.Stands.{How, original, otherwise, ids_in, object_ids, is_misplaced, properties}
 use Rattle.placement.specs.Placed.{all}
 use Rattle.placement.proofs.WaysLaws.{met-append, met, ways, ways_all, ways_member, ways_assignment, ways_target, ways_parts, ways_object}
 use Rattle.placement.proofs.HowLaws.{all-append, all_plain, fits}

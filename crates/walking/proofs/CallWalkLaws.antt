@@ -1,18 +1,16 @@
 -- Calls: one that does not meet the require conditions is its walked parts; one that does is then amended.
 use Prim.Native.Nat.{ℕ, ◌+◌, ◌≤◌}
-use native.Mathlib.Omega.{arith}
 use mathlib.Core.Path.{◌≡◌, refl, sym, ap, subst, ◌∙◌}
 use mathlib.Core.Bool.{Bool}
 use mathlib.Core.List.{List, [], append-nil}
 use mathlib.Core.Option.{Option, none as nothing, some}
 use lib.ListN.{get_or}
-use lib.Seq.{slice}
 use Rattle.tree.specs.Layout.{Bytes}
 use Rattle.tree.specs.Tree.{Field, field, Fields, encode}
 use Rattle.tree.specs.Standing.{tree_at, row_at}
 use Rattle.tree.proofs.SoundLaws.{row-sound}
 use Rattle.tree.proofs.WidthLaws.{tree-bare, bare-upto}
-use Rattle.writer.proofs.Wrote.{wrote-as, slice-none}
+use Rattle.writer.proofs.Wrote.{wrote-as}
 use Rattle.inputs.specs.Outcome.{Outcome, done, refused, onto}
 use Rattle.inputs.specs.Fields.{inside}
 use Rattle.extraction_rules.specs.State.{State, Pass, first, second, Setting, Act}
@@ -30,7 +28,7 @@ use Rattle.expressions.proofs.RequiredLaws.{parts-required}
 use Rattle.steps.specs.declared.Why.{Why}
 use Rattle.steps.specs.declared.Step.{Step}
 use Rattle.steps.specs.declared.Step.TheVariants.{Done, Refused}
-use Rattle.steps.specs.Step.{Reads, Sound, SoundAll, with_parts}
+use Rattle.steps.specs.Step.{Reads, Sound, SoundAll}
 use Rattle.steps.proofs.SoundLaws.{sound-parts}
 use Rattle.steps.proofs.StepsLaws.{done-refused, steps-by}
 use Rattle.walking.specs.declared.Way.TheVariants.{Children}

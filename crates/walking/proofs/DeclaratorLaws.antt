@@ -26,7 +26,7 @@ use Rattle.writer.proofs.Wrote.{wrote-as}
 use Rattle.inputs.specs.Outcome.{Outcome, done, refused, onto}
 use Rattle.inputs.specs.Fields.{inside}
 use Rattle.extraction_rules.specs.State.{State, Pass, first, second, Setting}
-use Rattle.extraction_rules.specs.First.{id_from, required, with_callee, bindings, require_lazily, declarator}
+use Rattle.extraction_rules.specs.First.{id_from, required, with_callee, require_lazily, declarator}
 use Rattle.extraction_rules.specs.Walk.{after_expression, walk, walk_all}
 use Rattle.extraction_rules.proofs.OutcomeLaws.{After, after-bind, after-done, after-both, after-weaken}
 use Rattle.extraction_rules.proofs.ValueLaws.{after-any, first-expression}

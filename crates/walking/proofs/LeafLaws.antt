@@ -5,7 +5,7 @@ use mathlib.Core.Path.{◌≡◌, refl, sym, ap, subst, ◌∙◌}
 use mathlib.Core.Logic.{⊎_elim}
 use mathlib.Core.Bool.{true, false}
 use mathlib.Core.List.{List, []}
-use lib.ListN.{length, get_or}
+use lib.ListN.{get_or}
 use lib.Seq.{slice}
 use Rattle.tree.specs.declared.layout.Reach.{Reach}
 use Rattle.tree.specs.declared.layout.Reach.TheVariants.{Upto, Short}
@@ -13,7 +13,7 @@ use Rattle.tree.specs.declared.grammar.Rule.{Rule}
 use Rattle.tree.specs.declared.grammar.Step.TheVariants.{Go}
 use Rattle.tree.specs.declared.grammar.Value.TheVariants.{Atom as atom-value, Id as id-value}
 use Rattle.tree.specs.Layout.{Bytes, atom_at, id_at}
-use Rattle.tree.specs.Tree.{Field, field, Fields, none, more, encode, tag_of, parts_of, size}
+use Rattle.tree.specs.Tree.{Field, field, Fields, none, more, tag_of, parts_of, size}
 use Rattle.tree.specs.Grammar.{within, parts0, rule_of, step_at}
 use Rattle.tree.specs.Access.{fixed_at, extent_at}
 use Rattle.tree.specs.Standing.{tree_at, row_at}

@@ -5,19 +5,19 @@ use mathlib.Core.Path.{◌≡◌, refl, sym, ap, subst, ◌∙◌}
 use mathlib.Core.Bool.{Bool, true, false}
 use mathlib.Core.List.{List, [], ◌∷◌, ◌++◌}
 use mathlib.Core.Option.{Option, none as nothing, some}
-use lib.ListN.{length, get_or}
+use lib.ListN.{length}
 use lib.Seq.{slice}
 use Rattle.scope.specs.declared.id.Id.{Id}
 use Rattle.scope.specs.declared.id.SyntaxContext.{SyntaxContext}
 use Rattle.tree.specs.Layout.{Bytes, two, four, two_at, atom_at, id_at}
 use Rattle.tree.specs.Tree.{Field, field, Fields, none, more, encode, tag_of}
-use Rattle.tree.specs.Standing.{tree_at, row_at}
+use Rattle.tree.specs.Standing.{tree_at}
 use Rattle.tree.proofs.LayoutLaws.{two_at-is}
 use Rattle.tree.proofs.WidthLaws.{tree-bare}
 use Rattle.writer.specs.Wrote.{Wrote}
 use Rattle.inputs.specs.Outcome.{Outcome, done, onto}
 use Rattle.inputs.specs.Fields.{inside}
-use Rattle.extraction_rules.specs.State.{Usage, State, Pass, first, second, Setting}
+use Rattle.extraction_rules.specs.State.{Usage, State, first, second, Setting}
 use Rattle.extraction_rules.specs.First.{imported_as, on_ident, use_imported, usage}
 use Rattle.extraction_rules.specs.Second.{usages_of}
 use Rattle.extraction_rules.specs.Walk.{walk}
@@ -33,7 +33,7 @@ use Rattle.steps.specs.Step.{Sound, Steps}
 use Rattle.steps.proofs.StepsLaws.{steps-done, steps-did}
 use Rattle.walking.specs.Walking.{FieldSteps, NameIs, InPass}
 use Rattle.walking.proofs.NodeLaws.{as-target}
-use Rattle.walking.proofs.LeafLaws.{as-stands, Named, named, both-stay, node-name}
+use Rattle.walking.proofs.LeafLaws.{as-stands, named, both-stay, node-name}
 use Rattle.walking.proofs.ChainLaws.{ident-walks, member-stays}
 use Rattle.walking.proofs.ExpressionLaws.{member-used}
 

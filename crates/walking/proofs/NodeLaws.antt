@@ -31,7 +31,7 @@ use Rattle.extraction_rules.proofs.AlikeLaws.{Regular}
 use Rattle.state.specs.Cells.{Env, Good}
 use Rattle.state.specs.Does.{Turns}
 use Rattle.steps.specs.declared.Step.{Step}
-use Rattle.steps.specs.Step.{Reads, Sound, SoundAll, Steps, Begun, Ended, with_parts}
+use Rattle.steps.specs.Step.{Reads, Sound, Steps, Begun, Ended, with_parts}
 use Rattle.steps.proofs.SoundLaws.{read-short, read-inside, read-tag, read-parts, row-read, inside-fixed, sound-parts}
 use Rattle.steps.proofs.StepsLaws.{steps-as, steps-changed, steps-never, steps-field}
 use Rattle.walking.specs.declared.Way.{Way}

@@ -1,8 +1,7 @@
--- `prefill`: the invariant says that the buffer keeps its length (`length-set`: a store changes no length). The rest is arithmetic.
+-- `prefill`: the invariant says that the buffer keeps its length: a store changes no length.
 use Prim.Native.Nat.{◌-◌}
-use lib.ListN.{length, length-set}
+use lib.ListN.{length}
 use mathlib.Core.Path.{◌≡◌}
-use native.Mathlib.Omega.{arith}
 use Rattle.answer_text.proofs.prefill.Given as goal
 
 abbrev pub invariant-loop-i : goal.invariant-loop-i

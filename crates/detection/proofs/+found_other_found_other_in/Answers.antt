@@ -1,13 +1,10 @@
 -- `found_other` and `found_other_in`: the loop's invariant says that the row from here on answers what the whole row answers.
 -- The measure is a field's length, and a row's length and one more: a field is no longer than the row around it, and its parts start
 -- behind its head of three bytes.
-use Prim.Native.Nat.{◌+◌, ◌-◌, ◌≤◌, ℕ, ◌<◌}
-use mathlib.Core.Path.{◌≡◌, refl, sym, ◌∙◌}
+use Prim.Native.Nat.{◌+◌}
+use mathlib.Core.Path.{sym, ◌∙◌}
 use native.Mathlib.Omega.{arith}
-use borrow.Author.Rules.{rules}
-use Rattle.tree.specs.Standing.{row_at}
 use Rattle.tree.proofs.AccessLaws.{extent-upto, upto-in}
-use Rattle.detection.specs.Detection.{found_other_in}
 use Rattle.detection.proofs.DetectionLaws.{found-none, found-more, found-short, found-upto}
 use Rattle.detection.proofs.+found_other_found_other_in.Goals as goal
 

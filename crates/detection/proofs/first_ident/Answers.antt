@@ -9,7 +9,6 @@ use Rattle.tree.proofs.WidthLaws.{plain-ends}
 use Rattle.tree.specs.declared.grammar.Value.TheVariants.{Id}
 use Rattle.scope.specs.Id.{atom}
 use Rattle.detection.specs.declared.Ident.TheVariants.{Name}
-use borrow.Author.Rules.{rules}
 use Rattle.detection.proofs.first_ident.Goals as goal
 
 pub returns-in_default : goal.returns-in_default

@@ -1,14 +1,9 @@
 -- `forced_es6`: the invariant says that the items from here on answer what all items answer, and that reading accepts them
 -- (`accepted-next`): so the byte that is tested is the tag of the field that stands there (`forced-more`).
 use Prim.Native.Nat.{◌-◌, ◌≤◌}
-use Rattle.tree.proofs.GrammarLaws.{within-true, within-below, within-above}
-use mathlib.Core.Path.{◌≡◌, refl, sym, ◌∙◌}
-use native.Mathlib.Omega.{arith}
-use borrow.Author.Rules.{rules}
+use mathlib.Core.Path.{◌≡◌}
 use Rattle.tree.specs.Standing.{row_at}
-use Rattle.tree.proofs.AccessLaws.{extent-upto}
 use Rattle.detection.specs.Detection.{forced_es6, Accepted}
-use Rattle.detection.proofs.DetectionLaws.{forced-none, forced-more, accepted-next}
 use Rattle.detection.proofs.forced_es6.Given as goal
 
 abbrev pub invariant-loop-stop : goal.invariant-loop-stop

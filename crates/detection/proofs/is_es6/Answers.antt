@@ -7,7 +7,6 @@ use Rattle.tree.specs.Read.{read}
 use Rattle.tree.proofs.ReadLaws.{verdict-refused}
 use Rattle.detection.specs.Detection.{answers}
 use Rattle.detection.proofs.DetectionLaws.{items-accepted, detect-long, detect-refused, detect-read}
-use borrow.Author.Rules.{rules}
 use Rattle.detection.proofs.is_es6.Goals as goal
 
 pub returns-then-tree-gt-MOST : goal.returns-then-tree-gt-MOST

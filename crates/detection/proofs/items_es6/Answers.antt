@@ -2,7 +2,6 @@
 use mathlib.Core.Path.{sym, ap, ◌∙◌}
 use mathlib.Core.Bool.{not}
 use Rattle.detection.specs.Detection.{es6}
-use borrow.Author.Rules.{rules}
 use Rattle.detection.proofs.items_es6.Goals as goal
 
 pub returns-then-not-modes : goal.returns-then-not-modes

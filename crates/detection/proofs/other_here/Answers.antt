@@ -1,7 +1,6 @@
 -- `other_here`: by the tag: a member (`member-here`), a call (`call-here`), any other (`none-here`); for the first two by the first part.
 use mathlib.Core.Path.{sym, ◌∙◌}
 use Rattle.detection.proofs.DetectionLaws.{member-here, call-here, none-here}
-use borrow.Author.Rules.{rules}
 use Rattle.detection.proofs.other_here.Goals as goal
 
 pub returns-in-Name : goal.returns-in-Name

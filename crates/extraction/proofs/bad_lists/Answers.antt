@@ -1,6 +1,5 @@
 -- `bad_lists`: the tests of the code are those of the rule, in the same order; each return has its law of ListsLaws.
 use Rattle.extraction.proofs.ListsLaws.{bad-long, bad-first, bad-second}
-use borrow.Author.Rules.{rules}
 use Rattle.extraction.proofs.bad_lists.Goals as goal
 
 pub returns-then-tree-gt-MOST : goal.returns-then-tree-gt-MOST

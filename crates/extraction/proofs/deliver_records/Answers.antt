@@ -1,6 +1,5 @@
 -- `deliver_records`: what `put_records` wrote, `finish` holds to the buffer (`records-delivered`).
 use Rattle.extraction.proofs.HeldLaws.{records-delivered}
-use borrow.Author.Rules.{rules}
 use Rattle.extraction.proofs.deliver_records.Goals as goal
 
 pub returns : goal.returns

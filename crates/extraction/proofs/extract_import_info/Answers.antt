@@ -4,7 +4,6 @@ use mathlib.Core.Path.{refl}
 use Rattle.scope.specs.ScopeValue.{modules_of}
 use Rattle.extraction.specs.Answer.{lent_as}
 use Rattle.extraction.proofs.TopLaws.{accepted-good, left-accepted, left-refused}
-use borrow.Author.Rules.{rules}
 use Rattle.extraction.proofs.extract_import_info.Goals as goal
 
 pub run-answer-requires : goal.run-answer-requires

@@ -1,6 +1,5 @@
 -- `first_pass`: by whether the pass refused and then by whether its tree fits; each return has its law of OnceLaws.
 use Rattle.extraction.proofs.OnceLaws.{once-refused, once-fits, once-long}
-use borrow.Author.Rules.{rules}
 use Rattle.extraction.proofs.first_pass.Goals as goal
 
 pub returns-then-finish : goal.returns-then-finish

@@ -2,7 +2,6 @@
 -- one after the other are `LentTo` (`lent-to`).
 use Rattle.inputs.specs.Table.{atoms_in}
 use Rattle.extraction.proofs.TopLaws.{zeros-good, externals-empty, table-empty, lent-to}
-use borrow.Author.Rules.{rules}
 use Rattle.extraction.proofs.lend.Goals as goal
 
 pub set_modes-requires : goal.set_modes-requires

@@ -1,6 +1,5 @@
 -- `lists`: the tests of the code are those of `lists_of`, in the same order; each return has its law of ListsLaws.
 use Rattle.extraction.proofs.ListsLaws.{lists-bad, lists-twice, lists-read, lists-unread}
-use borrow.Author.Rules.{rules}
 use Rattle.extraction.proofs.lists.Goals as goal
 
 pub returns-then-bad_lists : goal.returns-then-bad_lists

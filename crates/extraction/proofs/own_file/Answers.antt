@@ -1,7 +1,6 @@
 -- `own_file`: by the answer of `gen_id`; the array then shows the scope's modules (`load`) and the own number (`set_own`).
 use Rattle.scope.specs.ScopeValue.{modules_of}
 use Rattle.extraction.proofs.OnceLaws.{own-given, own-full}
-use borrow.Author.Rules.{rules}
 use Rattle.extraction.proofs.own_file.Goals as goal
 
 pub set_own-requires : goal.set_own-requires

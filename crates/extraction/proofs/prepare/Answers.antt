@@ -2,7 +2,6 @@
 -- `lists` never asks for a number (`prepared-never`).
 use Rattle.scope.specs.ScopeValue.{modules_of}
 use Rattle.extraction.proofs.TopLaws.{prepared-bad, prepared-twice, prepared-unread, prepared-never, lists-short, prepared-own}
-use borrow.Author.Rules.{rules}
 use Rattle.extraction.proofs.prepare.Goals as goal
 
 pub lend-requires : goal.lend-requires

@@ -1,9 +1,7 @@
 -- `run`: the refusals of `prepare` are passed on; then by what each pass and the records gave. Each return has its law in TopLaws,
 -- which puts the steps before it together.
-use native.Mathlib.Omega.{arith}
 use Rattle.extraction.specs.Answer.{room_in}
-use Rattle.extraction.proofs.TopLaws.{inside-fits, run-bad, run-twice, run-unread, run-full, run-turned, run-short, run-turned-again, run-short-again, run-accepted, run-unwritten}
-use borrow.Author.Rules.{rules}
+use Rattle.extraction.proofs.TopLaws.{run-bad, run-twice, run-unread, run-full, run-turned, run-short, run-turned-again, run-short-again, run-accepted, run-unwritten}
 use Rattle.extraction.proofs.run.Goals as goal
 
 -- UNTRANSLATED Need-slice-bounds-second-pass-end

@@ -1,6 +1,5 @@
 -- `second_pass`: by whether the pass or the marks refused, and then by whether the tree fits; each return has its law of AgainLaws.
 use Rattle.extraction.proofs.AgainLaws.{again-refused, again-unmarked, again-fits, again-long}
-use borrow.Author.Rules.{rules}
 use Rattle.extraction.proofs.second_pass.Goals as goal
 
 pub returns-then-finish : goal.returns-then-finish

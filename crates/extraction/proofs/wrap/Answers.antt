@@ -1,11 +1,7 @@
 -- `wrap`: the invariant `Wrapping` says that wrapping the forced sources from i on completes wrapping all of them.
 -- The measure is 256 - i; `forces-most` says that at most 256 sources are forced.
-use Prim.Native.Nat.{◌-◌}
-use mathlib.Core.Path.{◌≡◌, refl}
+use mathlib.Core.Path.{refl}
 use native.Mathlib.Omega.{arith}
-use borrow.Author.Rules.{rules}
-use lib.ListN.{length}
-use Rattle.extraction.specs.Stages.{Wrapping}
 use Rattle.extraction.proofs.WrapLaws.{wrapping-start, wrapping-next, wrapping-turned, wrapping-over, forces-most}
 use Rattle.extraction.proofs.wrap.Goals as goal
 

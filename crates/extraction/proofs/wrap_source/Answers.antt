@@ -1,6 +1,5 @@
 -- `wrap_source`: by what `module_for` gave; each answer has its law of WrapLaws.
 use Rattle.extraction.proofs.WrapLaws.{source-marked, source-unresolved, source-full}
-use borrow.Author.Rules.{rules}
 use Rattle.extraction.proofs.wrap_source.Goals as goal
 
 pub returns-in-Is : goal.returns-in-Is

@@ -1,12 +1,8 @@
 -- `is_external`: the invariant says that the atom is among all externals just where it is among those from i on. `external-here` and
 -- `external-on` go from the number that is compared to the two bytes: each is below 256, so equal numbers are equal bytes.
-use mathlib.Core.Path.{◌≡◌, refl, sym, ◌∙◌}
-use Prim.Native.Nat.{◌≤◌, ◌-◌, ◌+◌}
+use mathlib.Core.Path.{sym, ◌∙◌}
+use Prim.Native.Nat.{◌+◌}
 use native.Mathlib.Omega.{arith}
-use lib.ListN.{length, drop}
-use Rattle.tree.specs.Layout.{two}
-use Rattle.inputs.specs.Lists.{among}
-use Rattle.inputs.specs.Table.{atoms_in}
 use Rattle.inputs.proofs.TableLaws.{external-here, external-on, external-end}
 use Rattle.inputs.proofs.is_external.Goals as goal
 

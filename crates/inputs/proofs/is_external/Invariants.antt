@@ -1,13 +1,11 @@
 -- `is_external`: the invariant says that the atom is among all externals just where it is among those from i on. `external-here` and
 -- `external-on` go from the number that is compared to the two bytes: each is below 256, so equal numbers are equal bytes.
-use mathlib.Core.Path.{◌≡◌, refl, sym, ◌∙◌}
-use Prim.Native.Nat.{◌≤◌, ◌-◌, ◌+◌}
-use native.Mathlib.Omega.{arith}
+use mathlib.Core.Path.{◌≡◌}
+use Prim.Native.Nat.{◌≤◌, ◌-◌}
 use lib.ListN.{length, drop}
 use Rattle.tree.specs.Layout.{two}
 use Rattle.inputs.specs.Lists.{among}
 use Rattle.inputs.specs.Table.{atoms_in}
-use Rattle.inputs.proofs.TableLaws.{external-here, external-on, external-end}
 use Rattle.inputs.proofs.is_external.Given as goal
 
 abbrev pub invariant-loop-i : goal.invariant-loop-i

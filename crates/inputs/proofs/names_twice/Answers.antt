@@ -1,7 +1,6 @@
 -- `names_twice`: a source is named twice just where one of either half is (`names-by-halves`).
 use mathlib.Core.Path.{sym, ◌∙◌}
 use Rattle.inputs.proofs.SeenLaws.{names-by-halves}
-use borrow.Author.Rules.{rules}
 use Rattle.inputs.proofs.names_twice.Goals as goal
 
 pub returns-then-names_twice_in : goal.returns-then-names_twice_in

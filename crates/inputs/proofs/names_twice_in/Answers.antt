@@ -2,12 +2,10 @@
 -- that was met before, so that its bit is set, or two of them have the same (`twice_from`). A row of the other half is passed (`twice-past`);
 -- one of this half is a hit (`twice-here`), or its bit is set now and it is passed (`twice-on`); with fewer than four bytes left there is no
 -- row (`twice-end`).
-use mathlib.Core.Path.{◌≡◌, refl, sym, ap, ◌∙◌}
-use Prim.Native.Nat.{◌-◌, ◌≤◌}
+use mathlib.Core.Path.{refl, sym, ap, ◌∙◌}
 use native.Mathlib.Omega.{arith}
-use lib.ListN.{length, drop}
 use Rattle.inputs.specs.Bitmap.{half_of}
-use Rattle.inputs.specs.Table.{rows_in, repeats}
+use Rattle.inputs.specs.Table.{rows_in}
 use Rattle.inputs.proofs.SeenLaws.{twice_from, twice-first, twice-past, twice-here, twice-on, twice-end}
 use Rattle.inputs.proofs.names_twice_in.Goals as goal
 

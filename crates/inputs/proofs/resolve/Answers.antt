@@ -1,12 +1,9 @@
 -- `resolve`: the invariant says that the source's file in the table is its file in the rows from i on.
 -- A row of the source has it (`file-here`), another is passed (`file-on`), and with fewer than four bytes left there is none (`file-end`).
-use mathlib.Core.Path.{◌≡◌, refl, sym, ap, ◌∙◌}
+use mathlib.Core.Path.{sym, ap, ◌∙◌}
 use mathlib.Core.Option.{some}
-use Prim.Native.Nat.{◌≤◌, ◌-◌, ◌+◌}
+use Prim.Native.Nat.{◌+◌}
 use native.Mathlib.Omega.{arith}
-use lib.ListN.{length, drop}
-use Rattle.tree.specs.Layout.{two}
-use Rattle.inputs.specs.Table.{rows_in, file_of}
 use Rattle.inputs.proofs.TableLaws.{file-here, file-on, file-end}
 use Rattle.inputs.proofs.resolve.Goals as goal
 

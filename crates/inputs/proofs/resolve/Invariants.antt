@@ -1,13 +1,10 @@
 -- `resolve`: the invariant says that the source's file in the table is its file in the rows from i on.
 -- A row of the source has it (`file-here`), another is passed (`file-on`), and with fewer than four bytes left there is none (`file-end`).
-use mathlib.Core.Path.{◌≡◌, refl, sym, ap, ◌∙◌}
-use mathlib.Core.Option.{some}
-use Prim.Native.Nat.{◌≤◌, ◌-◌, ◌+◌}
-use native.Mathlib.Omega.{arith}
+use mathlib.Core.Path.{◌≡◌}
+use Prim.Native.Nat.{◌≤◌, ◌-◌}
 use lib.ListN.{length, drop}
 use Rattle.tree.specs.Layout.{two}
 use Rattle.inputs.specs.Table.{rows_in, file_of}
-use Rattle.inputs.proofs.TableLaws.{file-here, file-on, file-end}
 use Rattle.inputs.proofs.resolve.Given as goal
 
 abbrev pub invariant-loop-i : goal.invariant-loop-i

@@ -1,7 +1,6 @@
 -- `set_bit`: an `or` with a shifted 1 sets the one bit (`with-bit`).
 use native.Mathlib.Omega.{arith}
 use Rattle.inputs.proofs.BitmapLaws.{with-bit}
-use borrow.Author.Rules.{rules}
 use Rattle.inputs.proofs.set_bit.Goals as goal
 
 pub returns : goal.returns

@@ -1,9 +1,7 @@
 -- `context_in`: by whether the content starts with the key, and by what parses.
 use mathlib.Core.Path.{sym, ap, ◌∙◌}
-use native.Mathlib.Omega.{arith}
 use Rattle.metadata.specs.MetadataValue.{number_by}
 use Rattle.metadata.proofs.DecodeLaws.{context-told, context-untold}
-use borrow.Author.Rules.{rules}
 use Rattle.metadata.proofs.context_in.Goals as goal
 
 pub returns-then-not-starts_with : goal.returns-then-not-starts_with

@@ -1,7 +1,6 @@
 -- `put_context`: a field with the key and the digits.
 use Rattle.writer.proofs.Wrote.{wrote-then, wrote-as, wrote-field}
 use Rattle.metadata.proofs.EncodeLaws.{context-bytes}
-use borrow.Author.Rules.{rules}
 use Rattle.metadata.proofs.put_context.Goals as goal
 
 pub returns : goal.returns

@@ -2,7 +2,6 @@
 use Rattle.writer.proofs.Wrote.{wrote-none, wrote-as, wrote-field}
 use Rattle.metadata.specs.Metadata.{injected_attribute}
 use Rattle.metadata.proofs.EncodeLaws.{injected-none, injected-bytes}
-use borrow.Author.Rules.{rules}
 use Rattle.metadata.proofs.put_injected.Goals as goal
 
 pub returns-then-injected : goal.returns-then-injected

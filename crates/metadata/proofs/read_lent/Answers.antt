@@ -1,7 +1,6 @@
 -- `read_lent`: empty bytes are good by the rule (`lent-empty`); the rule reads all others (`lent-read`), as `read_tree` does.
 use mathlib.Core.Path.{sym, ◌∙◌}
 use Rattle.metadata.proofs.CallsLaws.{lent-empty, lent-read}
-use borrow.Author.Rules.{rules}
 use Rattle.metadata.proofs.read_lent.Goals as goal
 
 pub returns-then-attributes-eq0 : goal.returns-then-attributes-eq0

@@ -3,7 +3,6 @@ use mathlib.Core.Path.{sym, ◌∙◌}
 use native.Mathlib.Omega.{arith}
 use lib.Seq.{slice, length-slice}
 use Rattle.metadata.proofs.DecodeLaws.{starts-short, starts-run}
-use borrow.Author.Rules.{rules}
 use Rattle.metadata.proofs.starts_with.Goals as goal
 
 pub returns-then-end-from : goal.returns-then-end-from

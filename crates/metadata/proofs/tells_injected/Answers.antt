@@ -7,7 +7,6 @@ use Rattle.tree.specs.Layout.{same}
 use Rattle.tree.specs.Tree.{fixed_of}
 use Rattle.metadata.specs.Metadata.{injected_attribute}
 use Rattle.metadata.proofs.DecodeLaws.{other-length}
-use borrow.Author.Rules.{rules}
 use Rattle.metadata.proofs.tells_injected.Goals as goal
 
 pub returns-then-end-from-ne29 : goal.returns-then-end-from-ne29

@@ -1,7 +1,6 @@
 -- `put_records`: one way; `records-written` joins the three runs of records into the encoding of the whole tree.
 use native.Mathlib.Omega.{arith}
 use Rattle.records.proofs.CollectedLaws.{records-written}
-use borrow.Author.Rules.{rules}
 use Rattle.records.proofs.put_records.Goals as goal
 
 pub returns : goal.returns

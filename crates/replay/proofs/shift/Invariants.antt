@@ -1,8 +1,5 @@
--- `shift`: the invariant says that i is no less than start, and that the window keeps its length. The rest is arithmetic.
-use Prim.Native.Nat.{◌-◌, ◌≤◌}
-use lib.ListN.{length, length-set}
-use mathlib.Core.Path.{◌≡◌}
-use native.Mathlib.Omega.{arith}
+-- `shift`: the place is no less than start, and the window keeps its length.
+use Rattle.std.proofs.Common.{◌≡◌, ◌-◌, ◌≤◌, length}
 use Rattle.replay.proofs.shift.Given as goal
 
 abbrev pub invariant-loop-i : goal.invariant-loop-i

@@ -1,7 +1,6 @@
 -- `listing`: by whether `put_list` refused and then by whether the list fits; each return has its law of AnswerLaws.
 use Rattle.scope.specs.ScopeValue.{modules_of}
 use Rattle.resolving.proofs.AnswerLaws.{list-turned, list-fits, list-long}
-use borrow.Author.Rules.{rules}
 use Rattle.resolving.proofs.listing.Goals as goal
 
 pub returns-then-finish : goal.returns-then-finish

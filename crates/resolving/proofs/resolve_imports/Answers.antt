@@ -9,7 +9,6 @@ use Rattle.resolving.specs.Records.{records_in}
 use Rattle.resolving.specs.Numbers.{on_number}
 use Rattle.resolving.proofs.NumbersLaws.{numbers-all}
 use Rattle.resolving.proofs.AnswerLaws.{records-good, refused-bad, refused-twice, refused-unread, refused-over, answers-list}
-use borrow.Author.Rules.{rules}
 use Rattle.resolving.proofs.resolve_imports.Goals as goal
 
 pub returns-in-BadTable : goal.returns-in-BadTable

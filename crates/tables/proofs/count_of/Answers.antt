@@ -1,7 +1,6 @@
 -- `count_of`: the number in the count cell is the number of rows (`rows-length`), and `Lies` says that it is at most the room.
 use native.Mathlib.Omega.{arith}
 use Rattle.tables.proofs.RowLaws.{rows-length}
-use borrow.Author.Rules.{rules}
 use Rattle.tables.proofs.count_of.Goals as goal
 
 pub returns : goal.returns

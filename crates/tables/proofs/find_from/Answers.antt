@@ -1,9 +1,7 @@
 -- `find_from`: the invariant says that what is found from row i on is what is found from row 0 on (`found-begin`). A key below lo or above hi is passed
 -- (`found-low`, `found-high`), one between is the first (`found-here`), and behind the last row there is none (`found-end`).
-use mathlib.Core.Path.{◌≡◌, sym, ◌∙◌}
-use mathlib.Core.Logic.{⊎_elim}
-use Rattle.tables.proofs.RowLaws.{found_from, found-start, found-begin, found-low, found-high, found-here, found-end}
-use Prim.Native.Nat.{◌-◌}
+use mathlib.Core.Path.{sym, ◌∙◌}
+use Rattle.tables.proofs.RowLaws.{found-start, found-begin, found-low, found-high, found-here, found-end}
 use native.Mathlib.Omega.{arith}
 use Rattle.tables.proofs.find_from.Goals.{then-lo-k+else-k-hi, else-lo-k}
 use Rattle.tables.proofs.find_from.Goals as goal

@@ -2,7 +2,6 @@
 use mathlib.Core.Path.{refl, ◌∙◌}
 use Rattle.tables.proofs.RowLaws.{found-value, none-value}
 use native.Mathlib.Omega.{arith}
-use borrow.Author.Rules.{rules}
 use Rattle.tables.proofs.find_value.Goals as goal
 
 pub find_from-requires : goal.find_from-requires

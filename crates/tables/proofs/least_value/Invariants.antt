@@ -1,11 +1,8 @@
 -- `least_value`: the loop goes down; the invariant says that `best` is the least value of the key among the rows from i on.
 -- The row before them is joined by `least-here` where it has the key, by `least-other` where not.
-use mathlib.Core.Path.{◌≡◌, sym, ap, ◌∙◌}
-use Prim.Native.Nat.{ℕ, ◌≤◌, ◌+◌, ◌*◌, ◌-◌}
-use native.Mathlib.Omega.{arith}
-use borrow.Author.Rules.{rules}
-use Rattle.tables.specs.Rows.{rows_from, lesser, least_by, least_of}
-use Rattle.tables.proofs.RowLaws.{least-start, least-here, least-other, least-end, back}
+use mathlib.Core.Path.{◌≡◌}
+use Prim.Native.Nat.{◌≤◌, ◌+◌, ◌*◌, ◌-◌}
+use Rattle.tables.specs.Rows.{rows_from, least_by, least_of}
 use Rattle.tables.proofs.least_value.Given as goal
 
 abbrev pub invariant-loop-i : goal.invariant-loop-i

@@ -1,7 +1,6 @@
 -- `push`: `row-pushed` says that the three stores, the row's two cells and the count, make one row more and stay inside the table.
 use native.Mathlib.Omega.{arith}
 use Rattle.tables.proofs.OnlyLaws.{row-pushed}
-use borrow.Author.Rules.{rules}
 use Rattle.tables.proofs.push.Goals as goal
 
 pub returns : goal.returns

@@ -1,6 +1,5 @@
 -- `put_row`: the two stores are a row anew (`row-put`).
 use Rattle.tables.proofs.RowLaws.{row-put}
-use borrow.Author.Rules.{rules}
 use Rattle.tables.proofs.put_row.Goals as goal
 
 pub returns : goal.returns

@@ -2,7 +2,6 @@
 use native.Mathlib.Omega.{arith}
 use Rattle.tables.proofs.RowLaws.{rows-length}
 use Rattle.tables.proofs.OnlyLaws.{row-valued}
-use borrow.Author.Rules.{rules}
 use Rattle.tables.proofs.set_value.Goals as goal
 
 pub overflow_mul-t : goal.overflow_mul-t

@@ -1,5 +1,4 @@
 -- `bytes_of`: by whether there is a context; the six bytes of the rule then compute to those of the array.
-use borrow.Author.Rules.{rules}
 use Rattle.tychodrel.proofs.bytes_of.Goals as goal
 
 pub returns-in-Some : goal.returns-in-Some

@@ -1,6 +1,5 @@
 -- `extract_in`: one way; `leaves-extracted` takes the contracts of the extraction, of `scope_bytes` and of `extract_answer` together.
 use Rattle.tychodrel.proofs.ExportedLaws.{leaves-extracted}
-use borrow.Author.Rules.{rules}
 use Rattle.tychodrel.proofs.extract_in.Goals as goal
 
 pub returns : goal.returns

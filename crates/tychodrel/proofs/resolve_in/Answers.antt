@@ -1,6 +1,5 @@
 -- `resolve_in`: one way; `leaves-resolved` takes the contracts of the resolving, of `scope_bytes` and of `resolve_answer` together.
 use Rattle.tychodrel.proofs.ExportedLaws.{leaves-resolved}
-use borrow.Author.Rules.{rules}
 use Rattle.tychodrel.proofs.resolve_in.Goals as goal
 
 pub returns : goal.returns

@@ -3,7 +3,6 @@ use mathlib.Core.Path.{sym, ◌∙◌, ap}
 use Rattle.metadata.specs.declared.Decoded.{Decoded}
 use Rattle.metadata.specs.Calls.{decoded}
 use Rattle.tychodrel.specs.Answer.{decode_answer_of, metadata_bytes}
-use borrow.Author.Rules.{rules}
 use Rattle.tychodrel.proofs.tychodrel_decode_metadata.Goals as goal
 
 pub returns-in-Done : goal.returns-in-Done

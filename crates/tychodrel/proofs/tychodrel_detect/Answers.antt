@@ -3,7 +3,6 @@ use mathlib.Core.Path.{sym, ◌∙◌, ap}
 use Rattle.detection.specs.declared.DetectAnswer.{DetectAnswer}
 use Rattle.detection.specs.Detection.{outcome_of}
 use Rattle.tychodrel.specs.Answer.{detect_answer}
-use borrow.Author.Rules.{rules}
 use Rattle.tychodrel.proofs.tychodrel_detect.Goals as goal
 
 pub returns-in-Es6 : goal.returns-in-Es6

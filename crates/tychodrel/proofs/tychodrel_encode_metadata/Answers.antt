@@ -1,7 +1,6 @@
 -- `tychodrel_encode_metadata`: one way; the contract of `encode`, for the metadata that `metadata_given` gives.
 use mathlib.Core.Path.{◌∙◌, ap}
 use Rattle.tychodrel.specs.Answer.{encode_answer_of}
-use borrow.Author.Rules.{rules}
 use Rattle.tychodrel.proofs.tychodrel_encode_metadata.Goals as goal
 
 pub returns : goal.returns

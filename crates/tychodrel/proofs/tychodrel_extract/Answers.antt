@@ -1,7 +1,6 @@
 -- `tychodrel_extract`: by whether all files got numbers: then the call is that of `extract_in` (`extract-given`).
 -- `extract-refused` says that otherwise the buffers are zero.
 use Rattle.tychodrel.proofs.ExportedLaws.{extract-given, extract-refused}
-use borrow.Author.Rules.{rules}
 use Rattle.tychodrel.proofs.tychodrel_extract.Goals as goal
 
 pub returns-in-Given : goal.returns-in-Given

@@ -1,7 +1,6 @@
 -- `tychodrel_resolve`: by whether all files got numbers: then the call is that of `resolve_in` (`resolve-given`).
 -- `resolve-refused` says that otherwise the buffer is zero.
 use Rattle.tychodrel.proofs.ExportedLaws.{resolve-given, resolve-refused}
-use borrow.Author.Rules.{rules}
 use Rattle.tychodrel.proofs.tychodrel_resolve.Goals as goal
 
 pub returns-in-Given : goal.returns-in-Given

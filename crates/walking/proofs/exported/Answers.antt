@@ -8,14 +8,10 @@
 -- src/lib.rt:187:1
 -- src/lib.rt:187:1
 -- src/lib.rt:187:1
-use mathlib.Core.Path.{◌≡◌, sym, ap, subst, ◌∙◌}
+use mathlib.Core.Path.{sym, ap, ◌∙◌}
 use Prim.Native.Nat.{ℕ, ◌+◌}
-use lib.ListN.{get_or}
-use native.Mathlib.Omega.{arith}
 use Rattle.tree.specs.Access.{fixed_at}
-use Rattle.tree.specs.declared.layout.Reach.TheVariants.{Upto, Short}
 use Rattle.walking.proofs.NodeLaws.{walk-short, node-23}
-use borrow.Author.Rules.{rules}
 use Rattle.walking.proofs.exported.Goals as goal
 
 pub returns-in_default : goal.returns-in_default

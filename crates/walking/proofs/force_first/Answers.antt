@@ -8,7 +8,6 @@
 -- src/lib.rt:367:1
 use Rattle.state.specs.Cells.{id_by}
 use Rattle.walking.proofs.ExpressionLaws.{pass-second, pass-first, forced-object, forced-again, forced-first}
-use borrow.Author.Rules.{rules}
 use Rattle.walking.proofs.force_first.Goals as goal
 
 pub returns-then-object : goal.returns-then-object

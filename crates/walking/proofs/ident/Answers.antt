@@ -8,9 +8,7 @@
 -- src/lib.rt:208:1
 -- src/lib.rt:208:1
 -- src/lib.rt:208:1
-use native.Mathlib.Omega.{arith}
 use Rattle.walking.proofs.ExpressionLaws.{ident-short, ident-written}
-use borrow.Author.Rules.{rules}
 use Rattle.walking.proofs.ident.Goals as goal
 
 pub returns-then-stop-at : goal.returns-then-stop-at

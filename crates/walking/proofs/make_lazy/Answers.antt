@@ -7,7 +7,6 @@
 -- src/lib.rt:418:1
 -- src/lib.rt:418:1
 use Rattle.walking.proofs.AmendLaws.{lazy-made, lazy-full}
-use borrow.Author.Rules.{rules}
 use Rattle.walking.proofs.make_lazy.Goals as goal
 
 pub returns-in-Made : goal.returns-in-Made

@@ -11,7 +11,6 @@
 -- src/lib.rt:404:1
 -- src/lib.rt:404:1
 use Rattle.walking.proofs.AmendLaws.{record-lazy, record-collected, record-full}
-use borrow.Author.Rules.{rules}
 use Rattle.walking.proofs.make_record.Goals as goal
 
 pub returns-then-not-is_top : goal.returns-then-not-is_top

@@ -40,7 +40,6 @@ use native.Mathlib.Omega.{arith}
 use Rattle.steps.proofs.StepsLaws.{effects-fine, effects-turned}
 use Rattle.walking.proofs.ExpressionLaws.{pass-second, pass-first}
 use Rattle.walking.proofs.NameLaws.{name-unused, name-nowhere, name-becomes, name-first, name-unimported}
-use borrow.Author.Rules.{rules}
 use Rattle.walking.proofs.name.Goals as goal
 
 pub returns-then-not-has_usages : goal.returns-then-not-has_usages

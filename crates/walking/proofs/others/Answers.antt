@@ -7,7 +7,6 @@
 -- src/lib.rt:153:1
 use mathlib.Core.Path.{sym, ap}
 use Rattle.walking.specs.Walking.{others_by}
-use borrow.Author.Rules.{rules}
 use Rattle.walking.proofs.others.Goals as goal
 
 pub returns-in-Children : goal.returns-in-Children

@@ -15,7 +15,6 @@
 -- src/lib.rt:380:1
 -- src/lib.rt:380:1
 use Rattle.walking.proofs.AmendLaws.{require-marked, require-unresolved, require-full}
-use borrow.Author.Rules.{rules}
 use Rattle.walking.proofs.require.Goals as goal
 
 pub returns-in-Marked : goal.returns-in-Marked

@@ -16,7 +16,6 @@
 -- src/lib.rt:431:1
 -- src/lib.rt:431:1
 use Rattle.walking.proofs.AmendLaws.{lazily-marked, lazily-unresolved, lazily-full}
-use borrow.Author.Rules.{rules}
 use Rattle.walking.proofs.require_lazily.Goals as goal
 
 pub returns-in-Marked : goal.returns-in-Marked

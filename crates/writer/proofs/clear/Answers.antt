@@ -1,6 +1,5 @@
 -- `clear`: it zeroes from 0 on.
 use mathlib.Core.Path.{◌∙◌}
-use borrow.Author.Rules.{rules}
 use Rattle.writer.proofs.Finished.{zeroed-all}
 use Rattle.writer.proofs.clear.Goals as goal
 

@@ -1,9 +1,7 @@
 -- `clear_from`: the invariant: zeroing what is left, from here, zeroes all.
-use mathlib.Core.Path.{◌≡◌, refl, sym, ◌∙◌}
-use Prim.Native.Nat.{◌-◌}
+use mathlib.Core.Path.{sym, ◌∙◌}
 use native.Mathlib.Omega.{arith}
-use lib.ListN.{length, length-set}
-use Rattle.writer.specs.Finished.{zeroed_from}
+use lib.ListN.{length-set}
 use Rattle.writer.proofs.Finished.{zeroed-next, zeroed-end}
 use Rattle.writer.proofs.clear_from.Goals as goal
 

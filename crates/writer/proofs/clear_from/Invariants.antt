@@ -1,10 +1,8 @@
 -- `clear_from`: the invariant: zeroing what is left, from here, zeroes all.
-use mathlib.Core.Path.{◌≡◌, refl, sym, ◌∙◌}
+use mathlib.Core.Path.{◌≡◌}
 use Prim.Native.Nat.{◌-◌}
-use native.Mathlib.Omega.{arith}
-use lib.ListN.{length, length-set}
+use lib.ListN.{length}
 use Rattle.writer.specs.Finished.{zeroed_from}
-use Rattle.writer.proofs.Finished.{zeroed-next, zeroed-end}
 use Rattle.writer.proofs.clear_from.Given as goal
 
 abbrev pub invariant-loop-i : goal.invariant-loop-i

@@ -2,7 +2,6 @@
 -- definition too leaves the buffer as it is (`closed-long`).
 use mathlib.Core.Path.{sym, ◌∙◌}
 use native.Mathlib.Omega.{arith}
-use borrow.Author.Rules.{rules}
 use Rattle.writer.proofs.Wrote.{closed-fills, closed-long}
 use Rattle.writer.proofs.close_field.Goals as goal
 

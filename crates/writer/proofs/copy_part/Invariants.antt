@@ -1,13 +1,10 @@
 -- `copy_part`: the invariant: writing what is left of the part, from here, writes the whole of it.
 use mathlib.Core.List.{List}
-use mathlib.Core.Path.{◌≡◌, refl, ◌∙◌}
+use mathlib.Core.Path.{◌≡◌}
 use Prim.Native.Nat.{ℕ, ◌-◌}
-use native.Mathlib.Omega.{arith}
-use borrow.Author.Rules.{rules}
 use lib.ListN.{length}
 use lib.Seq.{slice}
 use Rattle.writer.specs.Wrote.{Wrote}
-use Rattle.writer.proofs.Wrote.{wrote-none, wrote-slice, slice-none}
 use Rattle.writer.proofs.copy_part.Given as goal
 
 abbrev pub invariant-loop-at : goal.invariant-loop-at

@@ -1,14 +1,11 @@
 -- `copy_whole`: the invariant: writing what is left of the part, from its i-th byte on, writes the whole of it. A turn stores one byte
 -- (`wrote-byte`) inside the buffer, since o + i is below o + (end - from), and no position is past its end.
 use mathlib.Core.List.{List}
-use mathlib.Core.Path.{◌≡◌, refl, ◌∙◌}
+use mathlib.Core.Path.{◌≡◌}
 use Prim.Native.Nat.{ℕ, ◌+◌, ◌-◌, ◌≤◌}
-use native.Mathlib.Nat.{add-zero}
-use native.Mathlib.Omega.{arith}
-use lib.ListN.{length, get_or}
+use lib.ListN.{length}
 use lib.Seq.{slice}
 use Rattle.writer.specs.Wrote.{Wrote}
-use Rattle.writer.proofs.Wrote.{wrote-none, wrote-byte, wrote-slice, slice-none}
 use Rattle.writer.proofs.copy_whole.Given as goal
 
 abbrev pub invariant-loop-i : goal.invariant-loop-i

@@ -1,6 +1,5 @@
 -- `marked`: the invariant is empty: the loop test i < 770 bounds each read and write. The measure is 770 - i; all is arithmetic.
 use Prim.Native.Nat.{◌-◌}
-use native.Mathlib.Omega.{arith}
 use Rattle.answer_text.proofs.modules.marked.Given as goal
 
 abbrev pub invariant-loop-i : goal.invariant-loop-i

@@ -21,7 +21,6 @@ use Rattle.tree.proofs.AccessLaws.{extent-upto, upto-in}
 use Rattle.expressions.proofs.AfterLaws.{named-none, named-short, named-70, named-rest}
 use Rattle.tree.proofs.WidthLaws.{plain-ends}
 use Rattle.tree.specs.declared.grammar.Value.TheVariants.{Atom}
-use borrow.Author.Rules.{rules}
 use Rattle.expressions.proofs.ident.named_at.Goals as goal
 
 pub returns-in_default : goal.returns-in_default

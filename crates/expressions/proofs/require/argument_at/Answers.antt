@@ -19,7 +19,6 @@ use mathlib.Core.Path.{sym, ◌∙◌}
 use native.Mathlib.Omega.{arith}
 use Rattle.tree.proofs.AccessLaws.{upto-in}
 use Rattle.expressions.proofs.LiteralLaws.{argument-other, argument-short, argument-wide, argument-spread, argument-plain}
-use borrow.Author.Rules.{rules}
 use Rattle.expressions.proofs.require.argument_at.Goals as goal
 
 pub returns-then-tag-ne117 : goal.returns-then-tag-ne117

@@ -19,7 +19,6 @@ use Rattle.tree.proofs.AccessLaws.{extent-upto, upto-in}
 use Rattle.expressions.proofs.LiteralLaws.{first-none, first-short, first-61, first-rest}
 use Rattle.tree.proofs.WidthLaws.{plain-ends}
 use Rattle.tree.specs.declared.grammar.Value.TheVariants.{Literal}
-use borrow.Author.Rules.{rules}
 use Rattle.expressions.proofs.require.first_literal.Goals as goal
 
 pub returns-in_default : goal.returns-in_default

@@ -12,7 +12,6 @@
 -- src/require.rt:143:1
 -- src/require.rt:143:1
 use Rattle.expressions.proofs.MarkLaws.{mark-marked, mark-unresolved, mark-full}
-use borrow.Author.Rules.{rules}
 use Rattle.expressions.proofs.require.mark_required.Goals as goal
 
 pub returns-in-Is : goal.returns-in-Is

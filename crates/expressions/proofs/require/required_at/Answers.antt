@@ -23,7 +23,6 @@ use mathlib.Core.Path.{sym, ◌∙◌}
 use native.Mathlib.Omega.{arith}
 use Rattle.tree.proofs.AccessLaws.{extent-upto}
 use Rattle.expressions.proofs.RequiredAtLaws.{call-off, call-other, call-bare, call-nameless, call-misnamed, call-named}
-use borrow.Author.Rules.{rules}
 use Rattle.expressions.proofs.require.required_at.Goals as goal
 
 pub returns-then-not-counts_require : goal.returns-then-not-counts_require

@@ -4,7 +4,6 @@ use native.Mathlib.Omega.{arith}
 use mathlib.Core.Path.{ap}
 use Rattle.scope.specs.declared.id.SyntaxContext.{SyntaxContext}
 use Rattle.expressions.proofs.CalleeLaws.{callee-past, callee-set}
-use borrow.Author.Rules.{rules}
 use Rattle.expressions.proofs.require.set_callee.Goals as goal
 
 pub returns-then-out-lt8 : goal.returns-then-out-lt8

@@ -3,7 +3,6 @@ use mathlib.Core.Path.{sym, ◌∙◌}
 use native.Mathlib.Omega.{arith}
 use Rattle.tree.proofs.AccessLaws.{extent-upto}
 use Rattle.expressions.proofs.LiteralLaws.{sole-none, sole-two, sole-one}
-use borrow.Author.Rules.{rules}
 use Rattle.expressions.proofs.require.sole_literal.Goals as goal
 
 pub returns-in_default : goal.returns-in_default

@@ -9,8 +9,7 @@
 -- src/require.rt:81:8
 -- src/require.rt:73:1
 -- src/require.rt:73:1
-use Rattle.expressions.proofs.RequiredAtLaws.{found-fits, source-none, source-external, source-is}
-use borrow.Author.Rules.{rules}
+use Rattle.expressions.proofs.RequiredAtLaws.{source-none, source-external, source-is}
 use Rattle.expressions.proofs.require.source_at.Goals as goal
 
 pub returns-in_default : goal.returns-in_default

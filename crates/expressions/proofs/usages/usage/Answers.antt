@@ -32,7 +32,6 @@ use mathlib.Core.Path.{sym, ◌∙◌}
 use native.Mathlib.Omega.{arith}
 use Rattle.tree.proofs.AccessLaws.{extent-upto}
 use Rattle.expressions.proofs.UsageLaws.{usage-bare, usage-other, usage-alone, usage-unknown, usage-computed, usage-from}
-use borrow.Author.Rules.{rules}
 use Rattle.expressions.proofs.usages.usage.Goals as goal
 
 pub returns-in_default : goal.returns-in_default

@@ -18,7 +18,6 @@
 -- src/usages.rt:60:1
 use Rattle.tree.specs.Standing.{tree_at}
 use Rattle.expressions.proofs.PropertyLaws.{from-none, from-number, from-unresolved, from-full}
-use borrow.Author.Rules.{rules}
 use Rattle.expressions.proofs.usages.use_from.Goals as goal
 
 pub returns-in_default : goal.returns-in_default

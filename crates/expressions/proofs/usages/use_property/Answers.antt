@@ -24,7 +24,6 @@ use Rattle.tree.proofs.AccessLaws.{upto-in}
 use Rattle.expressions.proofs.PropertyLaws.{property-short, property-private, property-other, property-made, property-full}
 use Rattle.tree.proofs.WidthLaws.{plain-ends}
 use Rattle.tree.specs.declared.grammar.Value.TheVariants.{Atom}
-use borrow.Author.Rules.{rules}
 use Rattle.expressions.proofs.usages.use_property.Goals as goal
 
 pub returns-in_default : goal.returns-in_default

@@ -2,7 +2,6 @@
 -- `import_second`.
 use native.Mathlib.Omega.{arith}
 use Rattle.extraction.proofs.ItemLaws.{import-one, import-two}
-use borrow.Author.Rules.{rules}
 use Rattle.extraction.proofs.passes.import.Goals as goal
 
 pub is_second-requires : goal.is_second-requires

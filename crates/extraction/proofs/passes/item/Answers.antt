@@ -3,7 +3,6 @@
 use mathlib.Core.Path.{sym, ◌∙◌}
 use native.Mathlib.Omega.{arith}
 use Rattle.extraction.proofs.ItemLaws.{item-plain, item-40, item-41, item-bare}
-use borrow.Author.Rules.{rules}
 use Rattle.extraction.proofs.passes.item.Goals as goal
 
 pub returns-in-64 : goal.returns-in-64

@@ -1,11 +1,9 @@
 -- `items`: the invariant `Passing` says that the pass over the items from here on completes the pass over those from `from` on.
 -- The measure is end - at.
-use mathlib.Core.Path.{sym, ◌∙◌, refl}
+use mathlib.Core.Path.{sym, ◌∙◌}
 use native.Mathlib.Omega.{arith}
-use Prim.Native.Nat.{◌-◌}
-use borrow.Author.Rules.{rules}
 use Rattle.tree.proofs.AccessLaws.{extent-upto}
-use Rattle.extraction.proofs.PassLaws.{Passing, passing-start, passing-over, passing-more, passing-turned}
+use Rattle.extraction.proofs.PassLaws.{passing-start, passing-over, passing-more, passing-turned}
 use Rattle.extraction.proofs.passes.items.Goals as goal
 
 pub loop-stop-init : goal.loop-stop-init

@@ -1,7 +1,6 @@
 -- `pass`: bytes that are no module cannot have been read (`pass-short`); else the items are written into a module (`pass-made`).
 use native.Mathlib.Omega.{arith}
 use Rattle.extraction.proofs.PassLaws.{pass-short, pass-made}
-use borrow.Author.Rules.{rules}
 use Rattle.extraction.proofs.passes.pass.Goals as goal
 
 pub returns-then-s-lt-START : goal.returns-then-s-lt-START

@@ -5,7 +5,6 @@ use native.Mathlib.Omega.{arith}
 use mathlib.Core.Path.{ap}
 use Rattle.imports.proofs.WidthLaws.{framing-as, framed-in}
 use Rattle.imports.proofs.ExportLaws.{export-first, export-second, export-room, export-string, export-outside, export-made}
-use borrow.Author.Rules.{rules}
 use Rattle.imports.proofs.export.export_specifier.Goals as goal
 
 pub bounds-s-at : goal.bounds-s-at

@@ -1,7 +1,6 @@
 -- `exported_name`: by the kind byte at at + 10; the two laws of ExportLaws say which two bytes are the exported name.
 use native.Mathlib.Omega.{arith}
 use Rattle.imports.proofs.ExportLaws.{exported-given, exported-filled}
-use borrow.Author.Rules.{rules}
 use Rattle.imports.proofs.export.exported_name.Goals as goal
 
 pub atom_at-requires : goal.atom_at-requires

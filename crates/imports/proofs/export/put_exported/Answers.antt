@@ -7,7 +7,6 @@ use Rattle.tree.specs.Layout.{four}
 use Rattle.tree.specs.Tree.{encode, field, none}
 use Rattle.writer.proofs.Wrote.{wrote-then, wrote-as, wrote-field}
 use Rattle.metadata.proofs.EncodeLaws.{framed-leaf}
-use borrow.Author.Rules.{rules}
 use Rattle.imports.proofs.export.put_exported.Goals as goal
 
 pub returns : goal.returns

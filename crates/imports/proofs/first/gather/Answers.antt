@@ -1,7 +1,6 @@
 -- `gather`: by whether `collect` had room. `gathering-made` adds what `gather_namespaces` did to the record.
 use Rattle.tree.specs.Standing.{row_at}
 use Rattle.imports.proofs.GatherLaws.{gathering-made, gathering-full}
-use borrow.Author.Rules.{rules}
 use Rattle.imports.proofs.first.gather.Goals as goal
 
 pub gather_namespaces-requires : goal.gather_namespaces-requires

@@ -2,7 +2,6 @@
 -- `extending-other` says that another field adds none.
 use Rattle.tree.specs.Standing.{tree_at}
 use Rattle.imports.proofs.GatherLaws.{extending-is, extending-other}
-use borrow.Author.Rules.{rules}
 use Rattle.imports.proofs.first.gather_namespace.Goals as goal
 
 pub returns-in_default : goal.returns-in_default

@@ -2,10 +2,8 @@
 -- `filling-more` takes one field; `filling-end` says that none is left. The measure is end - at.
 use native.Mathlib.Omega.{arith}
 use mathlib.Core.Path.{sym, ◌∙◌}
-use borrow.Author.Rules.{rules}
-use Prim.Native.Nat.{◌-◌}
 use Rattle.tree.proofs.AccessLaws.{extent-upto}
-use Rattle.imports.proofs.GatherLaws.{Filling, filling-start, filling-more, filling-end}
+use Rattle.imports.proofs.GatherLaws.{filling-start, filling-more, filling-end}
 use Rattle.imports.proofs.first.gather_namespaces.Goals as goal
 
 pub loop-stop-init : goal.loop-stop-init

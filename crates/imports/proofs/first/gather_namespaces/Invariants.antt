@@ -1,11 +1,7 @@
 -- `gather_namespaces`: the invariant `Filling` says that gathering the fields from here on completes gathering those from `from` on.
 -- `filling-more` takes one field; `filling-end` says that none is left. The measure is end - at.
-use native.Mathlib.Omega.{arith}
-use mathlib.Core.Path.{sym, ◌∙◌}
-use borrow.Author.Rules.{rules}
 use Prim.Native.Nat.{◌-◌}
-use Rattle.tree.proofs.AccessLaws.{extent-upto}
-use Rattle.imports.proofs.GatherLaws.{Filling, filling-start, filling-more, filling-end}
+use Rattle.imports.proofs.GatherLaws.{Filling}
 use Rattle.imports.proofs.first.gather_namespaces.Given as goal
 
 abbrev pub invariant-loop-stop : goal.invariant-loop-stop

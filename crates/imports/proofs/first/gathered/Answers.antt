@@ -6,7 +6,6 @@ use Rattle.imports.proofs.HeadLaws.{headed, head-in, head-literal, head-parts}
 use native.Mathlib.Omega.{arith}
 use Rattle.imports.proofs.HeadLaws.{head-in, head-literal, head-parts}
 use Rattle.imports.proofs.GatherLaws.{collected-made, collected-full}
-use borrow.Author.Rules.{rules}
 use Rattle.imports.proofs.first.gathered.Goals as goal
 
 pub literal_at-literal-requires : goal.literal_at-literal-requires

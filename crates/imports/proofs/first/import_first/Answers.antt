@@ -7,7 +7,6 @@ use native.Mathlib.Omega.{arith}
 use mathlib.Core.Path.{sym, ◌∙◌}
 use Rattle.imports.proofs.HeadLaws.{head-in, head-value, head-short}
 use Rattle.imports.proofs.FirstLaws.{first-external, first-module, first-nowhere, first-many}
-use borrow.Author.Rules.{rules}
 use Rattle.imports.proofs.first.import_first.Goals as goal
 
 pub returns-in_default : goal.returns-in_default

@@ -9,7 +9,6 @@ use native.Mathlib.Omega.{arith}
 use mathlib.Core.Path.{sym, ◌∙◌}
 use Rattle.imports.proofs.HeadLaws.{head-in, head-short}
 use Rattle.imports.proofs.FirstLaws.{first-resolved, first-refused}
-use borrow.Author.Rules.{rules}
 use Rattle.imports.proofs.first.import_resolved.Goals as goal
 
 pub returns-in_default : goal.returns-in_default

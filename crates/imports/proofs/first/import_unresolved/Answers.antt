@@ -6,7 +6,6 @@ use Rattle.imports.proofs.HeadLaws.{headed, head-short}
 use mathlib.Core.Path.{sym, ◌∙◌}
 use Rattle.imports.proofs.HeadLaws.{head-short}
 use Rattle.imports.proofs.FirstLaws.{first-unresolved}
-use borrow.Author.Rules.{rules}
 use Rattle.imports.proofs.first.import_unresolved.Goals as goal
 
 pub returns-in_default : goal.returns-in_default

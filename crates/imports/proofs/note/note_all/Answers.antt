@@ -3,10 +3,8 @@
 -- The measure is end - at.
 use native.Mathlib.Omega.{arith}
 use mathlib.Core.Path.{sym, ◌∙◌}
-use borrow.Author.Rules.{rules}
-use Prim.Native.Nat.{◌-◌}
 use Rattle.tree.proofs.AccessLaws.{extent-upto}
-use Rattle.imports.proofs.NoteAllLaws.{Going, going-start, going-more, notes-end, notes-attributes, notes-refused}
+use Rattle.imports.proofs.NoteAllLaws.{going-start, going-more, notes-end, notes-attributes, notes-refused}
 use Rattle.imports.proofs.note.note_all.Goals as goal
 
 pub loop-stop-init : goal.loop-stop-init

@@ -1,12 +1,8 @@
 -- `note_all`: the invariant `Going` says that noting the fields from here on completes noting those from `from` on.
 -- The loop ends at the end of the row, at a 2F (behind which a row that was read has nothing), or at a refusal.
 -- The measure is end - at.
-use native.Mathlib.Omega.{arith}
-use mathlib.Core.Path.{sym, ◌∙◌}
-use borrow.Author.Rules.{rules}
 use Prim.Native.Nat.{◌-◌}
-use Rattle.tree.proofs.AccessLaws.{extent-upto}
-use Rattle.imports.proofs.NoteAllLaws.{Going, going-start, going-more, notes-end, notes-attributes, notes-refused}
+use Rattle.imports.proofs.NoteAllLaws.{Going}
 use Rattle.imports.proofs.note.note_all.Given as goal
 
 abbrev pub invariant-loop-stop : goal.invariant-loop-stop

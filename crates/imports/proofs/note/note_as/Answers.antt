@@ -1,7 +1,6 @@
 -- `note_as`: by whether `note_id` had room. `as-made` and `as-full` put the export context into the rule.
 use mathlib.Core.Path.{ap}
 use Rattle.imports.proofs.NoteLaws.{as-made, as-full}
-use borrow.Author.Rules.{rules}
 use Rattle.imports.proofs.note.note_as.Goals as goal
 
 pub returns-in-Made : goal.returns-in-Made

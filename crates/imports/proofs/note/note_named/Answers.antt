@@ -1,6 +1,5 @@
 -- `note_named`: by the kind of the outside name, which the premise `OutsideIs` ties to the fixed bytes. A string is refused (`named-text`).
 use Rattle.imports.proofs.NoteLaws.{named-name, named-nothing, named-text}
-use borrow.Author.Rules.{rules}
 use Rattle.imports.proofs.note.note_named.Goals as goal
 
 pub returns-in-Nothing : goal.returns-in-Nothing

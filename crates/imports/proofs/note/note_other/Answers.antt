@@ -5,7 +5,6 @@ use Rattle.tree.specs.Layout.{four}
 use Rattle.tree.specs.Standing.{tree_at}
 use Rattle.imports.proofs.MadeLaws.{acts-made, acts-full}
 use Rattle.imports.proofs.NoteLaws.{noted-as, other-copied}
-use borrow.Author.Rules.{rules}
 use Rattle.imports.proofs.note.note_other.Goals as goal
 
 pub id_at-requires : goal.id_at-requires

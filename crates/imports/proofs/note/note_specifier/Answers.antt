@@ -4,7 +4,6 @@ use native.Mathlib.Omega.{arith}
 use mathlib.Core.Path.{sym, ap, ◌∙◌}
 use Rattle.imports.proofs.WidthLaws.{framing, framed-in}
 use Rattle.imports.proofs.NoteLaws.{specifier-id, specified-short, specified-else, given-named, given-default, given-namespace}
-use borrow.Author.Rules.{rules}
 use Rattle.imports.proofs.note.note_specifier.Goals as goal
 
 pub returns-in_default : goal.returns-in_default

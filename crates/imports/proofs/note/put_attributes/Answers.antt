@@ -3,7 +3,6 @@ use native.Mathlib.Omega.{arith}
 use mathlib.Core.Path.{sym, ◌∙◌}
 use Rattle.tree.proofs.AccessLaws.{extent-upto}
 use Rattle.imports.proofs.AttributesLaws.{attributes-copied, attributes-none}
-use borrow.Author.Rules.{rules}
 use Rattle.imports.proofs.note.put_attributes.Goals as goal
 
 pub copy-requires : goal.copy-requires

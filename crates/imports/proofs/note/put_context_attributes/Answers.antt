@@ -1,7 +1,6 @@
 -- `put_context_attributes`: one way; `context-put` says that the old attributes and the context one, framed as a 2F, are `with_metadata`.
 use mathlib.Core.Path.{ap}
 use Rattle.imports.proofs.AttributesLaws.{context-put}
-use borrow.Author.Rules.{rules}
 use Rattle.imports.proofs.note.put_context_attributes.Goals as goal
 
 pub returns : goal.returns

@@ -1,7 +1,6 @@
 -- `put_outside`: the writes follow one another (`wrote-then`), and opening and closing around them frames the field (`wrote-field`).
 use Rattle.writer.proofs.Wrote.{wrote-then, wrote-as, wrote-field}
 use Rattle.metadata.proofs.EncodeLaws.{framed-leaf}
-use borrow.Author.Rules.{rules}
 use Rattle.imports.proofs.note.put_outside.Goals as goal
 
 pub returns : goal.returns

@@ -3,7 +3,6 @@
 use native.Mathlib.Omega.{arith}
 use Rattle.imports.proofs.WidthLaws.{framed-in}
 use Rattle.imports.proofs.NoteLaws.{specifier-id, outside-room, specifier-named, specifier-default, specifier-namespace}
-use borrow.Author.Rules.{rules}
 use Rattle.imports.proofs.note.specifier_at.Goals as goal
 
 pub id_at-id-requires : goal.id_at-id-requires

@@ -5,7 +5,6 @@ use mathlib.Core.Path.{sym, ◌∙◌}
 use Rattle.imports.proofs.WidthLaws.{framing, framed-in}
 use Rattle.imports.proofs.NoteLaws.{specifier-id, specifier-namespace}
 use Rattle.imports.proofs.SoleLaws.{namespace-is, namespace-other, namespace-short}
-use borrow.Author.Rules.{rules}
 use Rattle.imports.proofs.parts.namespace_at.Goals as goal
 
 pub returns-in_default : goal.returns-in_default

@@ -4,7 +4,6 @@ use native.Mathlib.Omega.{arith}
 use mathlib.Core.Path.{sym, ◌∙◌}
 use Rattle.tree.proofs.AccessLaws.{extent-upto}
 use Rattle.imports.proofs.SoleLaws.{sole-short, sole-is, sole-more}
-use borrow.Author.Rules.{rules}
 use Rattle.imports.proofs.parts.sole_namespace.Goals as goal
 
 pub returns-in_default : goal.returns-in_default

@@ -2,10 +2,8 @@
 -- It ends at the end of the row or at a 2F. The measure is end - at.
 use native.Mathlib.Omega.{arith}
 use mathlib.Core.Path.{sym, ◌∙◌}
-use borrow.Author.Rules.{rules}
-use Prim.Native.Nat.{◌-◌}
 use Rattle.tree.proofs.AccessLaws.{extent-upto}
-use Rattle.imports.proofs.PartsLaws.{Seeking, seeking-start, seeking-more, ends-short, ends-attributes}
+use Rattle.imports.proofs.PartsLaws.{seeking-start, seeking-more, ends-short, ends-attributes}
 use Rattle.imports.proofs.parts.specifiers_end.Goals as goal
 
 pub loop-stop-init : goal.loop-stop-init

@@ -1,11 +1,7 @@
 -- `specifiers_end`: the invariant `Seeking` says that where the specifiers from here on end, those from `from` on end too.
 -- It ends at the end of the row or at a 2F. The measure is end - at.
-use native.Mathlib.Omega.{arith}
-use mathlib.Core.Path.{sym, ◌∙◌}
-use borrow.Author.Rules.{rules}
 use Prim.Native.Nat.{◌-◌}
-use Rattle.tree.proofs.AccessLaws.{extent-upto}
-use Rattle.imports.proofs.PartsLaws.{Seeking, seeking-start, seeking-more, ends-short, ends-attributes}
+use Rattle.imports.proofs.PartsLaws.{Seeking}
 use Rattle.imports.proofs.parts.specifiers_end.Given as goal
 
 abbrev pub invariant-loop-stop : goal.invariant-loop-stop

@@ -7,7 +7,6 @@ use native.Mathlib.Omega.{arith}
 use mathlib.Core.Path.{sym, ◌∙◌}
 use Rattle.imports.proofs.HeadLaws.{head-in, head-source, head-short}
 use Rattle.imports.proofs.AgainLaws.{again-external, again-forced, again-other, again-apart}
-use borrow.Author.Rules.{rules}
 use Rattle.imports.proofs.second.import_second.Goals as goal
 
 pub returns-in_default : goal.returns-in_default

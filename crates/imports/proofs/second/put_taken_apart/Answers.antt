@@ -7,7 +7,6 @@ use native.Mathlib.Omega.{arith}
 use mathlib.Core.Path.{sym, ◌∙◌}
 use Rattle.imports.proofs.HeadLaws.{head-in, head-never}
 use Rattle.imports.proofs.TakenLaws.{taken-written}
-use borrow.Author.Rules.{rules}
 use Rattle.imports.proofs.second.put_taken_apart.Goals as goal
 
 pub returns-in_default : goal.returns-in_default

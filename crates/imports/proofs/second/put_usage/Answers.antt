@@ -2,7 +2,6 @@
 -- usages from i + 1 on, those from i on are written.
 use Rattle.state.specs.Cells.{id_by}
 use Rattle.imports.proofs.TakenLaws.{usage-is, usage-other}
-use borrow.Author.Rules.{rules}
 use Rattle.imports.proofs.second.put_usage.Goals as goal
 
 pub returns-in-Is : goal.returns-in-Is

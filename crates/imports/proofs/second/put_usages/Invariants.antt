@@ -1,9 +1,8 @@
 -- `put_usages`: the invariant `Listing` says that writing the usages from i on completes writing all of them. The measure is n - i.
 -- `usages-end` says that from n on there is none.
-use native.Mathlib.Omega.{arith}
 use Prim.Native.Nat.{◌-◌}
 use Rattle.state.specs.Cells.{id_by}
-use Rattle.imports.proofs.TakenLaws.{Listing, listing-start, listing-more, usages-end}
+use Rattle.imports.proofs.TakenLaws.{Listing}
 use Rattle.imports.proofs.second.put_usages.Given as goal
 
 abbrev pub invariant-loop-i : goal.invariant-loop-i

@@ -1,7 +1,6 @@
 -- `take_apart`: by whether the id has usages. `apart-some` has the import written with them; `apart-none` forces its source and keeps it.
 use native.Mathlib.Omega.{arith}
 use Rattle.imports.proofs.TakenLaws.{apart-some, apart-none}
-use borrow.Author.Rules.{rules}
 use Rattle.imports.proofs.second.take_apart.Goals as goal
 
 pub put_taken_apart-requires : goal.put_taken_apart-requires

@@ -2,7 +2,6 @@
 use mathlib.Core.Path.{sym, ap, ◌∙◌}
 use Rattle.tree.specs.Read.{fine}
 use Rattle.metadata.proofs.CallsLaws.{decode-good, decode-refused}
-use borrow.Author.Rules.{rules}
 use Rattle.metadata.proofs.ExportMetadata.decode.Goals as goal
 
 pub returns-in-Good : goal.returns-in-Good

@@ -3,7 +3,6 @@ use mathlib.Core.Path.{sym, ◌∙◌}
 use native.Mathlib.Omega.{arith}
 use Rattle.tree.proofs.AccessLaws.{extent-upto, upto-in}
 use Rattle.metadata.proofs.DecodeLaws.{parts-upto, parts-short, parts-none}
-use borrow.Author.Rules.{rules}
 use Rattle.metadata.proofs.ExportMetadata.decode_parts.Goals as goal
 
 pub returns-in_default : goal.returns-in_default

@@ -1,13 +1,9 @@
 -- `decode_row`: the invariant: what is left tells, onto what was told, what the whole row tells.
-use mathlib.Core.Path.{◌≡◌, sym, ap, ◌∙◌}
+use mathlib.Core.Path.{◌≡◌}
 use Prim.Native.Nat.{◌-◌, ◌≤◌}
-use native.Mathlib.Omega.{arith}
-use borrow.Author.Rules.{rules}
 use Rattle.tree.specs.Standing.{row_at}
-use Rattle.tree.proofs.AccessLaws.{extent-upto}
-use Rattle.metadata.specs.Metadata.{Metadata, merged, decode_from, decode}
+use Rattle.metadata.specs.Metadata.{decode_from, decode}
 use Rattle.metadata.specs.MetadataValue.{metadata_of}
-use Rattle.metadata.proofs.DecodeLaws.{decode-more, decode-none}
 use Rattle.metadata.proofs.ExportMetadata.decode_row.Given as goal
 
 abbrev pub invariant-loop-stop : goal.invariant-loop-stop

@@ -3,7 +3,6 @@ use mathlib.Core.Path.{sym, ◌∙◌}
 use Rattle.tree.specs.Layout.{Bytes}
 use Rattle.metadata.specs.MetadataValue.{metadata_of}
 use Rattle.metadata.proofs.CallsLaws.{encode-done, encode-short, encode-refused}
-use borrow.Author.Rules.{rules}
 use Rattle.metadata.proofs.ExportMetadata.encode.Goals as goal
 
 pub returns-then-finish : goal.returns-then-finish

@@ -3,7 +3,6 @@ use mathlib.Core.Path.{ap}
 use Rattle.writer.proofs.Wrote.{wrote-then, wrote-as}
 use Rattle.metadata.specs.MetadataValue.{context_of}
 use Rattle.metadata.proofs.EncodeLaws.{with-context, without-context}
-use borrow.Author.Rules.{rules}
 use Rattle.metadata.proofs.ExportMetadata.put.Goals as goal
 
 pub returns-in-Some : goal.returns-in-Some

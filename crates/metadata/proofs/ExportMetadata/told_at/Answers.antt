@@ -7,7 +7,6 @@ use Rattle.tree.proofs.AccessLaws.{upto-in}
 use native.Mathlib.Omega.{arith}
 use Rattle.metadata.specs.Metadata.{Metadata, told}
 use Rattle.metadata.proofs.DecodeLaws.{told-upto, told-short}
-use borrow.Author.Rules.{rules}
 use Rattle.metadata.proofs.ExportMetadata.told_at.Goals as goal
 
 pub tells_injected-requires : goal.tells_injected-requires

@@ -9,7 +9,6 @@ use Rattle.writer.proofs.Wrote.{wrote-then, wrote-as, wrote-field}
 use Rattle.tree.specs.Tree.{encodes}
 use Rattle.metadata.specs.Metadata.{attributes_for}
 use Rattle.metadata.specs.MetadataValue.{metadata_of}
-use borrow.Author.Rules.{rules}
 use Rattle.metadata.proofs.ExportMetadata.write.Goals as goal
 
 pub returns : goal.returns

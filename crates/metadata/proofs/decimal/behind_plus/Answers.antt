@@ -3,7 +3,6 @@ use mathlib.Core.Path.{sym}
 use native.Mathlib.Omega.{arith}
 use Rattle.metadata.proofs.DecimalLaws.{unsigned-none, unsigned-plus, unsigned-other}
 use Prim.Native.Nat.{◌<◌}
-use borrow.Author.Rules.{rules}
 use Rattle.metadata.proofs.decimal.behind_plus.Goals as goal
 
 pub returns-then-from-end : goal.returns-then-from-end

@@ -1,13 +1,11 @@
 -- `number_at`: the invariant says that what is left, behind the number so far, gives what the whole text gives.
-use Prim.Native.Nat.{◌+◌, ◌*◌, ◌-◌, ◌≤◌, ◌<◌}
+use Prim.Native.Nat.{◌+◌, ◌*◌, ◌-◌, ◌<◌}
 use lib.ListN.{get_or}
-use mathlib.Core.Path.{◌≡◌, refl, sym, ap, ◌∙◌}
+use mathlib.Core.Path.{sym, ap, ◌∙◌}
 use native.Mathlib.Omega.{arith}
-use borrow.Author.Rules.{rules}
 use borrow.Author.Tests.{le-leb}
-use lib.Seq.{slice}
-use Rattle.metadata.specs.Decimal.{number_from, limited}
-use Rattle.metadata.proofs.DecimalLaws.{digit-is, number-more, number-other, number-end, too-large}
+use Rattle.metadata.specs.Decimal.{limited}
+use Rattle.metadata.proofs.DecimalLaws.{number-more, number-other, number-end, too-large}
 use Rattle.metadata.proofs.decimal.number_at.Goals as goal
 
 pub returns-then-not-is_digit : goal.returns-then-not-is_digit

@@ -1,13 +1,8 @@
 -- `number_at`: the invariant says that what is left, behind the number so far, gives what the whole text gives.
-use Prim.Native.Nat.{◌+◌, ◌*◌, ◌-◌, ◌≤◌, ◌<◌}
-use lib.ListN.{get_or}
-use mathlib.Core.Path.{◌≡◌, refl, sym, ap, ◌∙◌}
-use native.Mathlib.Omega.{arith}
-use borrow.Author.Rules.{rules}
-use borrow.Author.Tests.{not-true, not-false, le-leb}
+use Prim.Native.Nat.{◌-◌, ◌≤◌}
+use mathlib.Core.Path.{◌≡◌}
 use lib.Seq.{slice}
 use Rattle.metadata.specs.Decimal.{number_from, limited}
-use Rattle.metadata.proofs.DecimalLaws.{digit-is, number-more, number-other, number-end, too-large}
 use Rattle.metadata.proofs.decimal.number_at.Given as goal
 
 abbrev pub invariant-loop-at : goal.invariant-loop-at

@@ -6,7 +6,6 @@ use Rattle.metadata.specs.Decimal.{number, limited, parsed}
 use Rattle.metadata.proofs.DecimalLaws.{number-none, number-some}
 use mathlib.Core.List.{List}
 use Prim.Native.Nat.{ℕ, ◌<◌}
-use borrow.Author.Rules.{rules}
 use Rattle.metadata.proofs.decimal.parse.Goals as goal
 
 pub returns-then-start-end : goal.returns-then-start-end

@@ -1,19 +1,14 @@
 -- `put_below`, `put_bindings`, `put_left`: the measure is the number of bytes, one more for the fields of a row than for a field.
 -- The loop's invariant: with the ids of the fields from here on, those of all fields are written.
-use mathlib.Core.Path.{◌≡◌, refl, sym, ◌∙◌}
-use mathlib.Core.Logic.{inl, inr}
+use mathlib.Core.Path.{◌≡◌}
 use mathlib.Core.List.{List}
 use Prim.Native.Nat.{ℕ, ◌+◌, ◌-◌, ◌≤◌}
 use lib.ListN.{length}
-use native.Mathlib.Omega.{arith}
-use borrow.Author.Rules.{rules}
 use Rattle.tree.specs.Tree.{encodes}
 use Rattle.tree.specs.Standing.{row_at}
-use Rattle.tree.proofs.AccessLaws.{upto-in, extent-upto}
 use Rattle.writer.specs.Wrote.{Wrote}
 use Rattle.extraction_rules.specs.First.{bindings_all}
-use Rattle.records.proofs.PatternLaws.{bindings-short, bound-ends, bindings-bound, bindings-left, bindings-below, first-none, first-more, all-none, all-more}
-use Prim.Native.Nat.{ℕ, ◌<◌}
+use Prim.Native.Nat.{ℕ}
 use Rattle.records.proofs.bindings.+put_below_put_bindings_put_left.Given as goal
 
 abbrev pub decreases-put_below : goal.decreases-put_below

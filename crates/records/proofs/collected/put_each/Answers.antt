@@ -1,13 +1,8 @@
 -- `put_each`: the invariant says that with the records from i on all of them are written; `collected-more` splits off the record at i.
 -- The measure is n - i.
-use mathlib.Core.List.{map}
-use Prim.Native.Nat.{◌-◌, ◌≤◌}
 use lib.ListN.{drop}
 use native.Mathlib.Omega.{arith}
-use Rattle.tree.specs.Tree.{encodes}
-use Rattle.extraction_rules.specs.Records.{record_fields}
-use Rattle.records.specs.Model.{rebuilt}
-use Rattle.records.specs.Writes.{Placing, BothRead, Onward, items_in, retold}
+use Rattle.records.specs.Writes.{items_in}
 use Rattle.records.proofs.OnwardLaws.{onward-start, onward-end, drop-end}
 use Rattle.records.proofs.CollectedLaws.{onward-if, valued-by, collected-more, collected-none}
 use Rattle.records.proofs.collected.put_each.Goals as goal

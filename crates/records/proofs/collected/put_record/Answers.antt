@@ -2,7 +2,6 @@
 use native.Mathlib.Omega.{arith}
 use Rattle.records.specs.Writes.{literal_in}
 use Rattle.records.proofs.CollectedLaws.{record-written}
-use borrow.Author.Rules.{rules}
 use Rattle.records.proofs.collected.put_record.Goals as goal
 
 pub put_gathered-q-requires : goal.put_gathered-q-requires

@@ -1,13 +1,8 @@
 -- `put_forced`: the invariant says that with the sources from i on all of them are written; `forced-more` splits off the one at i.
 -- The measure is n - i.
-use Prim.Native.Nat.{◌-◌, ◌≤◌}
 use lib.ListN.{drop}
 use native.Mathlib.Omega.{arith}
-use borrow.Author.Rules.{rules}
-use Rattle.tree.specs.Tree.{encodes}
 use Rattle.writer.proofs.Wrote.{wrote-as, wrote-field}
-use Rattle.extraction_rules.specs.Records.{forced_fields}
-use Rattle.records.specs.Writes.{Onward}
 use Rattle.records.proofs.OnwardLaws.{onward-start, onward-step, onward-end, drop-end}
 use Rattle.records.proofs.LazyLaws.{forced-more, forced-none, forced-field}
 use Rattle.records.proofs.lazy.put_forced.Goals as goal

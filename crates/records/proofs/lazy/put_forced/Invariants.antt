@@ -2,14 +2,9 @@
 -- The measure is n - i.
 use Prim.Native.Nat.{◌-◌, ◌≤◌}
 use lib.ListN.{drop}
-use native.Mathlib.Omega.{arith}
-use borrow.Author.Rules.{rules}
 use Rattle.tree.specs.Tree.{encodes}
-use Rattle.writer.proofs.Wrote.{wrote-as, wrote-field}
 use Rattle.extraction_rules.specs.Records.{forced_fields}
 use Rattle.records.specs.Writes.{Onward}
-use Rattle.records.proofs.OnwardLaws.{onward-start, onward-step, onward-end, drop-end}
-use Rattle.records.proofs.LazyLaws.{forced-more, forced-none, forced-field}
 use Rattle.records.proofs.lazy.put_forced.Given as goal
 
 abbrev pub invariant-loop-i : goal.invariant-loop-i

@@ -2,13 +2,9 @@
 -- The measure is n - i.
 use Prim.Native.Nat.{◌-◌, ◌≤◌}
 use lib.ListN.{drop}
-use native.Mathlib.Omega.{arith}
-use borrow.Author.Rules.{rules}
 use Rattle.tree.specs.Tree.{encodes}
 use Rattle.extraction_rules.specs.Records.{record_fields}
 use Rattle.records.specs.Writes.{Placing, Onward}
-use Rattle.records.proofs.OnwardLaws.{onward-start, onward-step, onward-end, drop-end}
-use Rattle.records.proofs.LazyLaws.{lazy-more, record-none}
 use Rattle.records.proofs.lazy.put_lazies.Given as goal
 
 abbrev pub invariant-loop-i : goal.invariant-loop-i

@@ -1,7 +1,6 @@
 -- `put_lazy`: the writes follow one another (`wrote-then`), and opening and closing around them frames the field (`wrote-field`).
 use Rattle.writer.proofs.Wrote.{wrote-then, wrote-as, wrote-field}
 use Rattle.metadata.proofs.EncodeLaws.{framed-field}
-use borrow.Author.Rules.{rules}
 use Rattle.records.proofs.lazy.put_lazy.Goals as goal
 
 pub returns : goal.returns

@@ -3,7 +3,6 @@ use mathlib.Core.Path.{sym, ◌∙◌}
 use native.Mathlib.Omega.{arith}
 use Rattle.tree.proofs.AccessLaws.{extent-upto}
 use Rattle.records.proofs.LazyLaws.{pattern-past, pattern-none, pattern-here}
-use borrow.Author.Rules.{rules}
 use Rattle.records.proofs.lazy.put_pattern.Goals as goal
 
 pub returns-then-s-at : goal.returns-then-s-at

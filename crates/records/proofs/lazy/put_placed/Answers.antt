@@ -1,6 +1,5 @@
 -- `put_placed`: by the place: 0, in the lent tree, or in the tree after the first pass; each has its law of LazyLaws.
 use Rattle.records.proofs.LazyLaws.{placed-none, placed-tree, placed-work}
-use borrow.Author.Rules.{rules}
 use Rattle.records.proofs.lazy.put_placed.Goals as goal
 
 pub returns-then-place-eq0 : goal.returns-then-place-eq0

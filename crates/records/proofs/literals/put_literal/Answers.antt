@@ -2,7 +2,6 @@
 use mathlib.Core.Path.{sym}
 use Rattle.writer.proofs.Wrote.{wrote-as}
 use Rattle.records.proofs.LiteralLaws.{literal-tree, literal-work}
-use borrow.Author.Rules.{rules}
 use Rattle.records.proofs.literals.put_literal.Goals as goal
 
 pub returns-then-place-lt-IN_WORK : goal.returns-then-place-lt-IN_WORK

@@ -2,7 +2,6 @@
 use mathlib.Core.Path.{sym}
 use Rattle.writer.proofs.Wrote.{wrote-none, wrote-as}
 use Rattle.records.proofs.LiteralLaws.{literal-here, literal-past}
-use borrow.Author.Rules.{rules}
 use Rattle.records.proofs.literals.put_standing.Goals as goal
 
 pub returns-then-s-at : goal.returns-then-s-at

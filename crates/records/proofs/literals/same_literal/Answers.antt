@@ -2,7 +2,6 @@
 use mathlib.Core.Path.{sym, ap, ◌∙◌}
 use Rattle.tree.specs.Layout.{same, literal_at}
 use Rattle.records.proofs.LiteralLaws.{literal-tree, literal-work}
-use borrow.Author.Rules.{rules}
 use Rattle.records.proofs.literals.same_literal.Goals as goal
 
 pub returns-then-place-lt-IN_WORK : goal.returns-then-place-lt-IN_WORK

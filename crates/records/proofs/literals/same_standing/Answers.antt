@@ -2,7 +2,6 @@
 use mathlib.Core.Path.{sym, ap, ◌∙◌}
 use Rattle.tree.specs.Layout.{same, literal_at}
 use Rattle.records.proofs.LiteralLaws.{literal-here, literal-past, differs-past}
-use borrow.Author.Rules.{rules}
 use Rattle.records.proofs.literals.same_standing.Goals as goal
 
 pub returns-then-s-from : goal.returns-then-s-from

@@ -4,7 +4,6 @@ use mathlib.Core.Path.{sym, ◌∙◌}
 use native.Mathlib.Omega.{arith}
 use Rattle.records.specs.Writes.{literal_in}
 use Rattle.records.proofs.CollectedLaws.{whole-other, whole-is, whole-differs}
-use borrow.Author.Rules.{rules}
 use Rattle.records.proofs.namespaces.is_whole.Goals as goal
 
 pub returns-in_default : goal.returns-in_default

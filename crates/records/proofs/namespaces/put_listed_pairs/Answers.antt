@@ -1,11 +1,10 @@
 -- `put_listed_pairs`: the invariant says that with the places of the chain from i on all that are listed are written, since nothing is
 -- written of those off the chain (`pair-off`). `pairs-next` goes on along the chain. The measure is n - i: a chain goes on behind.
-use Prim.Native.Nat.{◌-◌, ◌<◌}
+use Prim.Native.Nat.{◌<◌}
 use native.Mathlib.Omega.{arith}
-use borrow.Author.Rules.{rules}
 use Rattle.records.specs.Writes.{literal_in}
 use Rattle.records.specs.Listing.{count_in}
-use Rattle.records.proofs.ChainLaws.{PairsOn, pairs-start, pairs-next, pairs-last, goes-later}
+use Rattle.records.proofs.ChainLaws.{pairs-start, pairs-next, pairs-last, goes-later}
 use Rattle.records.proofs.namespaces.put_listed_pairs.Goals as goal
 
 pub loop-i-init : goal.loop-i-init

@@ -7,7 +7,6 @@ use native.Mathlib.Omega.{arith}
 use Rattle.tree.proofs.AccessLaws.{upto-in, extent-upto}
 use Rattle.records.proofs.SpecifierLaws.{if-none, extent-past}
 use Rattle.records.proofs.CollectedLaws.{if-as, if-from, parts-read, named-nowhere, named-short, named-is, named-other}
-use borrow.Author.Rules.{rules}
 use Rattle.records.proofs.namespaces.put_named_parts.Goals as goal
 
 pub returns-then-out-at : goal.returns-then-out-at

@@ -3,7 +3,6 @@ use mathlib.Core.Path.{sym, ◌∙◌}
 use Rattle.records.specs.Writes.{literal_in, item_at}
 use Rattle.records.proofs.SpecifierLaws.{if-none}
 use Rattle.records.proofs.CollectedLaws.{if-as, pair-is, pair-other}
-use borrow.Author.Rules.{rules}
 use Rattle.records.proofs.namespaces.put_pair.Goals as goal
 
 pub returns-then-is_whole : goal.returns-then-is_whole

@@ -1,15 +1,10 @@
 -- `put_pairs`: the invariant says that with what is taken of the items from here on in both trees, what is taken of all is written.
 -- `taken-more` splits off one item of each; the loop ends where either row ends. The measure is the length of `work` less at.
 use mathlib.Core.Path.{sym, ◌∙◌}
-use Prim.Native.Nat.{◌-◌, ◌≤◌}
 use lib.ListN.{length}
 use native.Mathlib.Omega.{arith}
-use borrow.Author.Rules.{rules}
-use Rattle.tree.specs.Tree.{encodes}
-use Rattle.tree.specs.Standing.{row_at}
 use Rattle.tree.proofs.AccessLaws.{extent-upto}
-use Rattle.records.specs.Model.{taken}
-use Rattle.records.specs.Writes.{sieve, literal_in, RowOnward}
+use Rattle.records.specs.Writes.{literal_in}
 use Rattle.records.proofs.SpecifierLaws.{if-none, item-read, row-start, row-step, row-stop}
 use Rattle.records.proofs.CollectedLaws.{if-from, taken-past, taken-past-out, taken-none, taken-none-out, taken-more}
 use Rattle.records.proofs.namespaces.put_pairs.Goals as goal

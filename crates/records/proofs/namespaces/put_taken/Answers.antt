@@ -4,7 +4,6 @@ use Prim.Native.Nat.{ℕ}
 use Rattle.records.specs.Writes.{literal_in}
 use Rattle.records.specs.Listing.{Paired, imports_in}
 use Rattle.records.proofs.ListingLaws.{pairs-joined}
-use borrow.Author.Rules.{rules}
 use Rattle.records.proofs.namespaces.put_taken.Goals as goal
 
 pub returns : goal.returns

@@ -5,7 +5,6 @@ use lib.ListN.{length}
 use native.Mathlib.Omega.{arith}
 use Rattle.tree.proofs.AccessLaws.{extent-upto}
 use Rattle.records.proofs.SpecifierLaws.{extent-past, import-nowhere, import-other, import-here}
-use borrow.Author.Rules.{rules}
 use Rattle.records.proofs.parts.import_end.Goals as goal
 
 pub returns-then-s-at : goal.returns-then-s-at

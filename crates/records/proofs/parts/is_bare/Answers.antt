@@ -1,12 +1,8 @@
 -- `is_bare`: the invariant says that the fields from here on answer as those from `from` on do. The measure is end - at.
 -- `row-skips` passes over a 2F; `row-takes` says that any other field is a specifier.
-use mathlib.Core.Path.{◌≡◌, refl, sym, ◌∙◌}
-use Prim.Native.Nat.{◌-◌, ◌≤◌}
+use mathlib.Core.Path.{sym, ◌∙◌}
 use native.Mathlib.Omega.{arith}
-use borrow.Author.Rules.{rules}
-use Rattle.tree.specs.Standing.{row_at}
 use Rattle.tree.proofs.AccessLaws.{extent-upto}
-use Rattle.extraction_rules.specs.First.{specifiers_in}
 use Rattle.records.specs.Writes.{is_none}
 use Rattle.records.proofs.SpecifierLaws.{row-ends, row-skips, row-takes}
 use Rattle.records.proofs.parts.is_bare.Goals as goal

@@ -1,9 +1,7 @@
 -- `is_namespace`: the invariant says that the fields from here on answer as those from `from` on do. The measure is end - at.
 -- `row-skips` passes over a 2F; at the first specifier `namespace-then` and `namespace-no` give the answer.
-use mathlib.Core.Path.{◌≡◌, refl, sym, ◌∙◌}
-use Prim.Native.Nat.{◌-◌, ◌≤◌}
+use mathlib.Core.Path.{sym, ◌∙◌}
 use native.Mathlib.Omega.{arith}
-use borrow.Author.Rules.{rules}
 use Rattle.tree.specs.Tree.{Fields}
 use Rattle.tree.specs.Standing.{tree_at, row_at}
 use Rattle.tree.proofs.AccessLaws.{extent-upto}

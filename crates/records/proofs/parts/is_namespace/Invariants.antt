@@ -1,16 +1,11 @@
 -- `is_namespace`: the invariant says that the fields from here on answer as those from `from` on do. The measure is end - at.
 -- `row-skips` passes over a 2F; at the first specifier `namespace-then` and `namespace-no` give the answer.
-use mathlib.Core.Path.{◌≡◌, refl, sym, ◌∙◌}
+use mathlib.Core.Path.{◌≡◌}
 use Prim.Native.Nat.{◌-◌, ◌≤◌}
-use native.Mathlib.Omega.{arith}
-use borrow.Author.Rules.{rules}
-use Rattle.tree.specs.Tree.{Fields}
-use Rattle.tree.specs.Standing.{tree_at, row_at}
-use Rattle.tree.proofs.AccessLaws.{extent-upto}
+use Rattle.tree.specs.Standing.{row_at}
 use Rattle.inputs.specs.Fields.{sole}
 use Rattle.extraction_rules.specs.First.{specifiers_in}
 use Rattle.records.specs.Model.{is_namespace}
-use Rattle.records.proofs.SpecifierLaws.{row-ends, row-skips, row-takes, sole-none, namespace-then, namespace-no}
 use Rattle.records.proofs.parts.is_namespace.Given as goal
 
 abbrev pub invariant-loop-stop : goal.invariant-loop-stop

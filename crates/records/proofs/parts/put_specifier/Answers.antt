@@ -2,7 +2,6 @@
 use mathlib.Core.Path.{sym, ◌∙◌}
 use Rattle.tree.specs.Standing.{tree_at}
 use Rattle.records.proofs.SpecifierLaws.{if-none, if-copied, part-attributes, part-namespace, part-any, part-named}
-use borrow.Author.Rules.{rules}
 use Rattle.records.proofs.parts.put_specifier.Goals as goal
 
 pub returns-then-tag-eq47 : goal.returns-then-tag-eq47

@@ -1,14 +1,8 @@
 -- `put_specifiers`: the invariant says that with the specifiers from here on all of them are written; `bytes-more` splits off one part.
 -- The measure is end - at.
 use mathlib.Core.Path.{sym, ◌∙◌}
-use Prim.Native.Nat.{◌-◌, ◌≤◌}
 use native.Mathlib.Omega.{arith}
-use borrow.Author.Rules.{rules}
-use Rattle.tree.specs.Tree.{encodes}
-use Rattle.tree.specs.Standing.{row_at}
 use Rattle.tree.proofs.AccessLaws.{extent-upto}
-use Rattle.extraction_rules.specs.First.{specifiers_in}
-use Rattle.records.specs.Writes.{sieve, RowOnward}
 use Rattle.records.proofs.SpecifierLaws.{bytes-none, bytes-more, row-start, row-step, row-stop}
 use Rattle.records.proofs.parts.put_specifiers.Goals as goal
 

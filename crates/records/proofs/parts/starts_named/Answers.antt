@@ -1,13 +1,9 @@
 -- `starts_named`: the invariant says that the fields from here on answer as those from `from` on do. The measure is end - at.
 -- `row-skips` passes over a 2F; at the first specifier `row-takes` gives the answer.
-use mathlib.Core.Path.{◌≡◌, refl, sym, ◌∙◌}
-use Prim.Native.Nat.{◌-◌, ◌≤◌}
+use mathlib.Core.Path.{sym, ◌∙◌}
 use native.Mathlib.Omega.{arith}
-use borrow.Author.Rules.{rules}
 use borrow.Author.Tests.{eq-eqb, ne_eqb}
-use Rattle.tree.specs.Standing.{row_at}
 use Rattle.tree.proofs.AccessLaws.{extent-upto}
-use Rattle.extraction_rules.specs.First.{specifiers_in}
 use Rattle.records.specs.Model.{starts_named}
 use Rattle.records.proofs.SpecifierLaws.{row-ends, row-skips, row-takes}
 use Rattle.records.proofs.parts.starts_named.Goals as goal

@@ -1,7 +1,6 @@
 -- `tag_of`: by whether the fixed bytes are whole; `tag-upto` and `tag-short` say which tag the tree then has.
 use mathlib.Core.Path.{sym, ◌∙◌}
 use Rattle.records.proofs.SpecifierLaws.{tag-upto, tag-short}
-use borrow.Author.Rules.{rules}
 use Rattle.records.proofs.parts.tag_of.Goals as goal
 
 pub returns-in-Upto : goal.returns-in-Upto

@@ -4,7 +4,6 @@ use Prim.Native.Nat.{ℕ, ◌%◌}
 use native.Mathlib.Omega.{arith}
 use borrow.Author.Tests.{le-leb, lt-leb}
 use Rattle.records.specs.Listing.{chain_at}
-use borrow.Author.Rules.{rules}
 use Rattle.records.proofs.places.chain_of.Goals as goal
 
 pub returns-then-work-at : goal.returns-then-work-at

@@ -1,6 +1,5 @@
 -- `chart_imports`: one way. The imports are listed, then chained; `charted-all` says that the three cells behind are all that is left.
 use Rattle.records.proofs.ChainLaws.{charted-all}
-use borrow.Author.Rules.{rules}
 use Rattle.records.proofs.places.chart_imports.Goals as goal
 
 pub returns : goal.returns

@@ -2,7 +2,6 @@
 use mathlib.Core.Path.{◌≡◌}
 use native.Mathlib.Omega.{arith}
 use Prim.Native.Nat.{ℕ}
-use borrow.Author.Rules.{rules}
 use Rattle.records.proofs.places.has_places.Goals as goal
 
 pub returns-then-s-lt-ITEMS : goal.returns-then-s-lt-ITEMS

@@ -1,10 +1,8 @@
 -- `link_imports`: the invariant says that the places from i on are chained, and that no place has changed; `linked-step` puts the one in front of
 -- them at the start of its chain. The measure is i.
 use mathlib.Core.Path.{◌≡◌, refl, subst, ◌∙◌}
-use Prim.Native.Nat.{◌≤◌}
 use native.Mathlib.Omega.{arith}
-use borrow.Author.Rules.{rules}
-use Rattle.records.specs.Listing.{places_in, Linked}
+use Rattle.records.specs.Listing.{Linked}
 use Rattle.records.proofs.ChainLaws.{linked-start, linked-step}
 use Rattle.records.proofs.places.link_imports.Goals as goal
 

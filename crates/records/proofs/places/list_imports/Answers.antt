@@ -1,6 +1,5 @@
 -- `list_imports`: the sweep, and no place where a tree has none (`lists-start`).
 use Rattle.records.proofs.ListingLaws.{lists-start}
-use borrow.Author.Rules.{rules}
 use Rattle.records.proofs.places.list_imports.Goals as goal
 
 pub sweep-requires : goal.sweep-requires

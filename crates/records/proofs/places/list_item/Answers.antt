@@ -1,6 +1,5 @@
 -- `list_item`: by whether the tag is a 10.
 use mathlib.Core.Path.{refl}
-use borrow.Author.Rules.{rules}
 use Rattle.records.proofs.places.list_item.Goals as goal
 
 pub returns-then-tag-eq16 : goal.returns-then-tag-eq16

@@ -1,13 +1,8 @@
 -- `sweep`: the invariant says that the list is that of the items in front; `lists-step` passes one item of each tree, which is listed if it is
 -- an import. The loop ends where either tree does, or where the list is full. The measure is the length of `work` less at.
-use mathlib.Core.Path.{sym, ◌∙◌}
 use Prim.Native.Nat.{◌-◌, ◌≤◌}
 use lib.ListN.{length}
-use native.Mathlib.Omega.{arith}
-use borrow.Author.Rules.{rules}
-use Rattle.tree.proofs.AccessLaws.{extent-upto}
 use Rattle.records.specs.Listing.{Unchained, Lists}
-use Rattle.records.proofs.ListingLaws.{lists-start, lists-step}
 use Rattle.records.proofs.places.sweep.Given as goal
 
 abbrev pub invariant-loop-n : goal.invariant-loop-n

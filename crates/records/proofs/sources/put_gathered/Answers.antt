@@ -4,7 +4,6 @@ use Rattle.tree.specs.Layout.{two}
 use Rattle.records.specs.Listing.{Listed, imports_in}
 use mathlib.Core.Path.{sym}
 use Rattle.records.proofs.ListingLaws.{imports-joined}
-use borrow.Author.Rules.{rules}
 use Rattle.records.proofs.sources.put_gathered.Goals as goal
 
 pub returns : goal.returns

@@ -4,7 +4,6 @@ use mathlib.Core.Path.{sym, ◌∙◌}
 use native.Mathlib.Omega.{arith}
 use Rattle.records.proofs.SpecifierLaws.{if-none}
 use Rattle.records.proofs.CollectedLaws.{if-as, if-from, parts-read, gathered-none, gathered-is, gathered-differs}
-use borrow.Author.Rules.{rules}
 use Rattle.records.proofs.sources.put_import.Goals as goal
 
 pub returns-in_default : goal.returns-in_default

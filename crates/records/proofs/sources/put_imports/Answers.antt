@@ -1,16 +1,10 @@
 -- `put_imports`: the invariant says that with the imports from here on those of the whole row are written.
 -- `imports-more` splits off one item. The measure is the length of `work` less at.
 use mathlib.Core.Path.{sym, ◌∙◌}
-use Prim.Native.Nat.{◌-◌, ◌≤◌}
 use lib.ListN.{length}
 use native.Mathlib.Omega.{arith}
-use borrow.Author.Rules.{rules}
 use Rattle.tree.specs.Layout.{two}
-use Rattle.tree.specs.Tree.{encodes}
-use Rattle.tree.specs.Standing.{row_at}
 use Rattle.tree.proofs.AccessLaws.{extent-upto}
-use Rattle.records.specs.Model.{gathered}
-use Rattle.records.specs.Writes.{sieve, RowOnward}
 use Rattle.records.proofs.SpecifierLaws.{if-none, item-read, row-start, row-step, row-stop}
 use Rattle.records.proofs.CollectedLaws.{if-from, imports-past, imports-none, imports-more}
 use Rattle.records.proofs.sources.put_imports.Goals as goal

@@ -1,10 +1,7 @@
 -- `put_listed_imports`: the invariant says that with the places of the chain from i on all that are listed are written, since nothing is
 -- written of those off the chain (`import-off`). `imports-next` goes on along the chain. The measure is n - i: a chain goes on behind.
-use Prim.Native.Nat.{◌-◌, ◌<◌}
-use native.Mathlib.Omega.{arith}
-use borrow.Author.Rules.{rules}
-use Rattle.records.specs.Listing.{count_in}
-use Rattle.records.proofs.ChainLaws.{ImportsOn, imports-start, imports-next, imports-last, goes-later}
+use Prim.Native.Nat.{◌-◌}
+use Rattle.records.proofs.ChainLaws.{ImportsOn}
 use Rattle.records.proofs.sources.put_listed_imports.Given as goal
 
 abbrev pub invariant-loop-i : goal.invariant-loop-i

@@ -1,7 +1,5 @@
--- `replay::report::common`: the invariant: the place is within a.
-use Prim.Native.Nat.{◌-◌, ◌≤◌}
-use lib.ListN.{length}
-use native.Mathlib.Omega.{arith}
+-- `common`: the place is within a.
+use Rattle.std.proofs.Common.{◌-◌, ◌≤◌, length}
 use Rattle.replay.proofs.report.common.Given as goal
 
 abbrev pub invariant-loop-i : goal.invariant-loop-i

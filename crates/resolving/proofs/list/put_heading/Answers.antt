@@ -5,7 +5,6 @@ use lib.Seq.{slice}
 use Rattle.scope.specs.declared.id.SyntaxContext.{SyntaxContext}
 use Rattle.writer.proofs.Wrote.{wrote-as, wrote-then}
 use Rattle.resolving.proofs.ListLaws.{heading-bytes}
-use borrow.Author.Rules.{rules}
 use Rattle.resolving.proofs.list.put_heading.Goals as goal
 
 pub returns : goal.returns

@@ -1,7 +1,6 @@
 -- `put_list`: by whether `put_records` refused. `puts-field` frames the records as a 03; `puts-parts` passes the refusal on.
 use Rattle.writer.proofs.Wrote.{wrote-none}
 use Rattle.resolving.proofs.WritesLaws.{puts-field, puts-parts}
-use borrow.Author.Rules.{rules}
 use Rattle.resolving.proofs.list.put_list.Goals as goal
 
 pub returns-in-Done : goal.returns-in-Done

@@ -10,7 +10,6 @@ use Rattle.resolving_rules.specs.Resolve.{forced_in}
 use Rattle.resolving.specs.Records.{records_in}
 use Rattle.resolving.proofs.WritesLaws.{puts-refused, puts-as, puts-field, puts-parts}
 use Rattle.resolving.proofs.ListLaws.{module-again, source-file, record-nowhere, record-file}
-use borrow.Author.Rules.{rules}
 use Rattle.resolving.proofs.list.put_record.Goals as goal
 
 pub returns-in_default : goal.returns-in_default

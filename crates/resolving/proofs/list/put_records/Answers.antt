@@ -2,16 +2,10 @@
 -- sources have numbers.
 use mathlib.Core.Path.{sym, ◌∙◌}
 use native.Mathlib.Omega.{arith}
-use Prim.Native.Nat.{◌-◌}
-use lib.ListN.{length}
-use borrow.Author.Rules.{rules}
 use Rattle.inputs.specs.Table.{rows_in}
 use Rattle.scope.specs.ScopeValue.{modules_of}
-use Rattle.tree.specs.Standing.{row_at}
-use Rattle.resolving_rules.specs.Resolve.{sources_in, forced_in, resolved_all}
-use Rattle.resolving.specs.Records.{RecordsFrom, records_in}
-use Rattle.resolving.specs.Numbers.{NumbersAll}
-use Rattle.resolving.specs.Writes.{Onward}
+use Rattle.resolving_rules.specs.Resolve.{forced_in}
+use Rattle.resolving.specs.Records.{records_in}
 use Rattle.resolving.proofs.RecordsLaws.{source-stands}
 use Rattle.resolving.proofs.WritesLaws.{onward-all, onward-end, onward-more, onward-stop}
 use Rattle.resolving.proofs.ListLaws.{list-end, list-more, numbers-next}

@@ -1,10 +1,7 @@
 -- `resolving::list::put_records`: the invariant: with the records from here on, all of them are written; their
 -- sources have numbers.
-use mathlib.Core.Path.{sym, ◌∙◌}
-use native.Mathlib.Omega.{arith}
 use Prim.Native.Nat.{◌-◌}
 use lib.ListN.{length}
-use borrow.Author.Rules.{rules}
 use Rattle.inputs.specs.Table.{rows_in}
 use Rattle.scope.specs.ScopeValue.{modules_of}
 use Rattle.tree.specs.Standing.{row_at}
@@ -12,9 +9,6 @@ use Rattle.resolving_rules.specs.Resolve.{sources_in, forced_in, resolved_all}
 use Rattle.resolving.specs.Records.{RecordsFrom, records_in}
 use Rattle.resolving.specs.Numbers.{NumbersAll}
 use Rattle.resolving.specs.Writes.{Onward}
-use Rattle.resolving.proofs.RecordsLaws.{source-stands}
-use Rattle.resolving.proofs.WritesLaws.{onward-all, onward-end, onward-more, onward-stop}
-use Rattle.resolving.proofs.ListLaws.{list-end, list-more, numbers-next}
 use Rattle.resolving.proofs.list.put_records.Given as goal
 
 abbrev pub invariant-loop-stop : goal.invariant-loop-stop

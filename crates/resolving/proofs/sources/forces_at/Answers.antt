@@ -1,7 +1,6 @@
 -- `forces_at`: by whether the tag is an 83; the definition of `forces_at` then computes to the answer.
 use borrow.Author.Tests.{eq-eqb, ne_eqb}
 use Rattle.resolving.specs.Records.{forces_at}
-use borrow.Author.Rules.{rules}
 use Rattle.resolving.proofs.sources.forces_at.Goals as goal
 
 pub returns-then-records-at : goal.returns-then-records-at

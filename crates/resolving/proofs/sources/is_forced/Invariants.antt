@@ -1,17 +1,12 @@
 -- `resolving::sources::is_forced`: the invariant: whether the source is forced is what the records from here on say.
-use mathlib.Core.Path.{◌≡◌, refl, sym, ap, ◌∙◌}
-use mathlib.Core.Bool.{Bool, ◌||◌}
-use native.Mathlib.Omega.{arith}
+use mathlib.Core.Path.{◌≡◌}
 use Prim.Native.Nat.{◌-◌}
 use lib.ListN.{length}
-use borrow.Author.Rules.{rules}
 use Rattle.inputs.specs.Lists.{among}
 use Rattle.tree.specs.Layout.{two}
 use Rattle.tree.specs.Standing.{row_at}
-use Rattle.tree.proofs.AccessLaws.{extent-upto}
 use Rattle.resolving_rules.specs.Resolve.{forced_in}
 use Rattle.resolving.specs.Records.{RecordsFrom, records_in}
-use Rattle.resolving.proofs.RecordsLaws.{records-next, forced-end, forced-inside, forced-step}
 use Rattle.resolving.proofs.sources.is_forced.Given as goal
 
 abbrev pub invariant-loop-stop : goal.invariant-loop-stop

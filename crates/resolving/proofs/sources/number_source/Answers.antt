@@ -5,7 +5,6 @@ use Rattle.inputs.specs.ResolvedValue.{file_by}
 use Rattle.scope.specs.ScopeValue.{modules_of, file_refusal}
 use Rattle.tree.specs.Layout.{two}
 use Rattle.resolving.proofs.NumbersLaws.{number-nowhere, number-given, number-over}
-use borrow.Author.Rules.{rules}
 use Rattle.resolving.proofs.sources.number_source.Goals as goal
 
 pub returns-in-Given : goal.returns-in-Given

@@ -1,16 +1,10 @@
 -- `resolving::sources::number_sources`: the invariant: numbering from here on gives what numbering from the
 -- start gives.
-use mathlib.Core.Path.{◌≡◌, refl, sym, ap, ◌∙◌}
+use mathlib.Core.Path.{refl, sym, ap, ◌∙◌}
 use native.Mathlib.Omega.{arith}
-use Prim.Native.Nat.{◌-◌}
-use lib.ListN.{length}
-use borrow.Author.Rules.{rules}
 use Rattle.inputs.specs.Table.{rows_in}
 use Rattle.scope.specs.ScopeValue.{modules_of}
-use Rattle.tree.specs.Standing.{row_at}
-use Rattle.resolving_rules.specs.Resolve.{sources_in, number_all}
 use Rattle.resolving.specs.declared.sources.NumberAnswer.{NumberAnswer}
-use Rattle.resolving.specs.Records.{RecordsFrom, records_in}
 use Rattle.resolving.specs.Numbers.{on_number}
 use Rattle.resolving.proofs.RecordsLaws.{source-stands}
 use Rattle.resolving.proofs.NumbersLaws.{numbers-end, numbers-more, numbers-stop}

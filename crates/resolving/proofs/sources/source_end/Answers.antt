@@ -4,7 +4,6 @@ use mathlib.Core.Path.{sym, ◌∙◌}
 use borrow.Author.Tests.{eq-eqb, ne_eqb}
 use Rattle.tree.proofs.AccessLaws.{extent-upto}
 use Rattle.resolving.specs.Records.{source_on, source_end}
-use borrow.Author.Rules.{rules}
 use Rattle.resolving.proofs.sources.source_end.Goals as goal
 
 pub bounds-records-at : goal.bounds-records-at

@@ -2,7 +2,6 @@
 use mathlib.Core.Path.{sym, ap}
 use borrow.Author.Tests.{ne_eqb}
 use Rattle.resolving.specs.Specifiers.{outside_of}
-use borrow.Author.Rules.{rules}
 use Rattle.resolving.proofs.specifiers.outside_at.Goals as goal
 
 pub returns-in-0 : goal.returns-in-0

@@ -3,7 +3,6 @@
 use lib.Seq.{slice}
 use Rattle.resolving.proofs.SpecifiersLaws.{default-bytes}
 use Rattle.writer.proofs.Wrote.{wrote-as, wrote-then, wrote-field}
-use borrow.Author.Rules.{rules}
 use Rattle.resolving.proofs.specifiers.put_default.Goals as goal
 
 pub returns : goal.returns

@@ -4,7 +4,6 @@ use lib.Seq.{slice}
 use Rattle.resolving.specs.declared.specifiers.Outside.{Outside}
 use Rattle.resolving.specs.Specifiers.{named_by}
 use Rattle.resolving.proofs.WritesLaws.{puts-done, puts-refused}
-use borrow.Author.Rules.{rules}
 use Rattle.resolving.proofs.specifiers.put_named.Goals as goal
 
 pub returns-in-Nothing : goal.returns-in-Nothing

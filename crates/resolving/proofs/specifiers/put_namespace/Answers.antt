@@ -6,7 +6,6 @@ use lib.Seq.{slice}
 use Rattle.tree.specs.Tree.{field, none, encode}
 use Rattle.writer.proofs.Wrote.{wrote-as, wrote-then, wrote-field}
 use Rattle.resolving.proofs.WritesLaws.{framed-leaf}
-use borrow.Author.Rules.{rules}
 use Rattle.resolving.proofs.specifiers.put_namespace.Goals as goal
 
 pub returns : goal.returns

@@ -1,7 +1,6 @@
 -- `put_plain`: opening and closing around the copy frames the field (`wrote-field`).
 use Rattle.writer.proofs.Wrote.{wrote-as, wrote-field}
 use Rattle.resolving.proofs.WritesLaws.{framed-leaf}
-use borrow.Author.Rules.{rules}
 use Rattle.resolving.proofs.specifiers.put_plain.Goals as goal
 
 pub returns : goal.returns

@@ -6,7 +6,6 @@ use Prim.Native.Nat.{◌+◌}
 use Rattle.tree.proofs.AccessLaws.{upto-in}
 use Rattle.resolving.proofs.WritesLaws.{puts-done, puts-as}
 use Rattle.resolving.proofs.SpecifiersLaws.{read-short, named-inside, specifier-by}
-use borrow.Author.Rules.{rules}
 use Rattle.resolving.proofs.specifiers.put_specifier.Goals as goal
 
 pub returns-in_default : goal.returns-in_default

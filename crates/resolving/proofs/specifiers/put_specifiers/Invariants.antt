@@ -1,17 +1,10 @@
 -- `resolving::specifiers::put_specifiers`: the invariant: with the specifiers from here on, all of them are
 -- written.
-use borrow.Author.Rules.{rules}
-use mathlib.Core.Path.{sym, ◌∙◌}
-use native.Mathlib.Omega.{arith}
 use Prim.Native.Nat.{◌-◌}
 use Rattle.tree.specs.Standing.{row_at}
-use Rattle.tree.proofs.AccessLaws.{extent-upto}
 use Rattle.resolving_rules.specs.Resolve.{resolved_specifiers}
 use Rattle.resolving.specs.Records.{FieldsRead}
 use Rattle.resolving.specs.Writes.{Onward}
-use Rattle.resolving.proofs.RecordsLaws.{fields-next}
-use Rattle.resolving.proofs.WritesLaws.{onward-all, onward-end, onward-more, onward-stop}
-use Rattle.resolving.proofs.SpecifiersLaws.{specifiers-end, specifiers-more}
 use Rattle.resolving.proofs.specifiers.put_specifiers.Given as goal
 
 abbrev pub invariant-loop-stop : goal.invariant-loop-stop

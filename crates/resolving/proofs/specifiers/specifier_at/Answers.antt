@@ -2,7 +2,6 @@
 use native.Mathlib.Omega.{arith}
 use borrow.Author.Tests.{eq-eqb, ne_eqb}
 use Rattle.resolving.specs.Specifiers.{specifier_at}
-use borrow.Author.Rules.{rules}
 use Rattle.resolving.proofs.specifiers.specifier_at.Goals as goal
 
 pub outside_at-requires : goal.outside_at-requires

@@ -1,10 +1,9 @@
 -- `from_cells`: the invariant says that the first k modules of the arrays are the first k in the cells.
 -- `cells-taken` adds module k: its five stores touch no module before it. At the end k is n, which is at most 256.
 use mathlib.Core.Path.{◌≡◌, refl}
-use Prim.Native.Nat.{◌≤◌, ◌-◌, min}
+use Prim.Native.Nat.{min}
 use native.Mathlib.Omega.{arith}
-use borrow.Author.Rules.{rules}
-use lib.ListN.{length, length-set}
+use lib.ListN.{length-set}
 use Rattle.scope.specs.ScopeValue.{modules_from, modules_of, modules_in}
 use Rattle.scope.proofs.ScopeValueLaws.{cells-taken}
 use Rattle.scope.proofs.Scope.from_cells.Goals as goal

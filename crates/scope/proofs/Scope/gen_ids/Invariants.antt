@@ -1,13 +1,10 @@
 -- `gen_ids`: the invariant says that asking the scope so far for the files from i on gives what asking for the whole list gives.
 -- A file that is given is `list-goes-on`, one that is refused `list-stops`; with fewer than two bytes left it is `list-ends`.
-use mathlib.Core.Path.{◌≡◌, refl, sym, ◌∙◌}
-use Prim.Native.Nat.{◌≤◌, ◌-◌, ◌+◌, ◌*◌}
-use native.Mathlib.Omega.{arith}
-use borrow.Author.Rules.{rules}
+use mathlib.Core.Path.{◌≡◌}
+use Prim.Native.Nat.{◌≤◌, ◌-◌}
 use lib.ListN.{length, drop}
 use Rattle.scope.specs.Modules.{files_in, request_all}
 use Rattle.scope.specs.ScopeValue.{modules_of}
-use Rattle.scope.proofs.ScopeValueLaws.{list-goes-on, list-stops, list-ends}
 use Rattle.scope.proofs.Scope.gen_ids.Given as goal
 
 abbrev pub invariant-loop-i : goal.invariant-loop-i

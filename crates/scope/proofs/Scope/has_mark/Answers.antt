@@ -6,7 +6,6 @@ use Rattle.scope.specs.Modules.{done}
 use Rattle.scope.specs.ScopeValue.{modules_of}
 use Rattle.scope.proofs.Laws.{read-given, read-refused}
 use Rattle.scope.proofs.ScopeValueLaws.{modules-length, modules-marked}
-use borrow.Author.Rules.{rules}
 use Rattle.scope.proofs.Scope.has_mark.Goals as goal
 
 pub returns-then-n-counted : goal.returns-then-n-counted

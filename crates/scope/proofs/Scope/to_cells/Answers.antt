@@ -2,11 +2,8 @@
 -- base + 512 were written, files of two bytes and marks of four bits (`small-put`). `cells-put` adds module k, whose marks `four_bits` lets be
 -- read back; `rewrites-set` allows the two stores.
 use mathlib.Core.Path.{◌≡◌, refl, ◌∙◌}
-use Prim.Native.Nat.{ℕ, ◌≤◌, ◌<◌, ◌-◌, ◌+◌, ◌*◌}
 use native.Mathlib.Omega.{arith}
-use borrow.Author.Rules.{rules}
-use lib.ListN.{get_or, length-set}
-use Rattle.scope.specs.ScopeValue.{modules_from, modules_in, Rewrites}
+use Rattle.scope.specs.ScopeValue.{modules_from, modules_in}
 use Rattle.scope.proofs.Laws.{rewrites-none, rewrites-set, small-put}
 use Rattle.scope.proofs.ScopeValueLaws.{cells-put, modules-length, modules-first}
 use Rattle.scope.proofs.Scope.to_cells.Goals as goal

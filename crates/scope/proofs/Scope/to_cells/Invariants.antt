@@ -1,14 +1,10 @@
 -- `to_cells`: the invariant says that the first k modules in the cells are the first k of the scope, and that only cells from base up to
 -- base + 512 were written, files of two bytes and marks of four bits (`small-put`). `cells-put` adds module k, whose marks `four_bits` lets be
 -- read back; `rewrites-set` allows the two stores.
-use mathlib.Core.Path.{◌≡◌, refl, ◌∙◌}
+use mathlib.Core.Path.{◌≡◌}
 use Prim.Native.Nat.{ℕ, ◌≤◌, ◌<◌, ◌-◌, ◌+◌, ◌*◌}
-use native.Mathlib.Omega.{arith}
-use borrow.Author.Rules.{rules}
-use lib.ListN.{get_or, length-set}
+use lib.ListN.{get_or}
 use Rattle.scope.specs.ScopeValue.{modules_from, modules_in, Rewrites}
-use Rattle.scope.proofs.Laws.{rewrites-none, rewrites-set, small-put}
-use Rattle.scope.proofs.ScopeValueLaws.{cells-put, modules-length, modules-first}
 use Rattle.scope.proofs.Scope.to_cells.Given as goal
 
 abbrev pub invariant-loop-k : goal.invariant-loop-k

@@ -9,7 +9,6 @@ use Rattle.scope.specs.Id.{mod_atom, atom}
 use Rattle.scope.specs.Modules.{done, esm_id}
 use Rattle.scope.specs.ScopeValue.{modules_of, read_by}
 use Rattle.scope.proofs.Laws.{esm-read, esm-refused}
-use borrow.Author.Rules.{rules}
 use Rattle.scope.proofs.Scope.wrapped_esm_id.Goals as goal
 
 pub returns-in_default : goal.returns-in_default

@@ -6,7 +6,6 @@ use lib.ListN.{length}
 use Rattle.state.specs.Cells.{records, namespaces, id_by}
 use Rattle.state.proofs.FrameLaws.{room-for}
 use Rattle.state.proofs.ExtendLaws.{met-records, extended-again, extended-first, extended-full}
-use borrow.Author.Rules.{rules}
 use Rattle.state.proofs.collected.add_namespace.Goals as goal
 
 pub count_of-requires : goal.count_of-requires

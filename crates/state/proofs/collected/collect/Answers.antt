@@ -5,7 +5,6 @@ use mathlib.Core.Path.{◌∙◌, sym, ap}
 use Rattle.tables.specs.Rows.{place_by}
 use Rattle.state.specs.Cells.{records}
 use Rattle.state.proofs.CollectLaws.{collected-again, collected-new, collected-full}
-use borrow.Author.Rules.{rules}
 use Rattle.state.proofs.collected.collect.Goals as goal
 
 pub find_from-found-requires : goal.find_from-found-requires

@@ -8,7 +8,6 @@ use Rattle.extraction_rules.specs.First.{holds_namespace}
 use Rattle.state.specs.Cells.{records, id_by}
 use Rattle.state.specs.Does.{Tells, source_of}
 use Rattle.state.proofs.RecordLaws.{holder-past, holder-told}
-use borrow.Author.Rules.{rules}
 use Rattle.state.proofs.collected.holder.Goals as goal
 
 pub count_of-requires : goal.count_of-requires

@@ -10,7 +10,6 @@ use Rattle.inputs.specs.Lists.{mapped}
 use Rattle.state.specs.Cells.{records}
 use Rattle.state.specs.Does.{source_at}
 use Rattle.state.proofs.ListLaws.{below-row}
-use borrow.Author.Rules.{rules}
 use Rattle.state.proofs.collected.source_at.Goals as goal
 
 pub key_of-requires : goal.key_of-requires

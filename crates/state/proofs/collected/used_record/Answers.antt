@@ -10,7 +10,6 @@ use Rattle.state.specs.Cells.{records, table_of, id_by}
 use Rattle.state.specs.Does.{Tells, source_of}
 use Rattle.state.proofs.IndexLaws.{first-value-below}
 use Rattle.state.proofs.RecordLaws.{used-name, used-id, named-past, id-past}
-use borrow.Author.Rules.{rules}
 use Rattle.state.proofs.collected.used_record.Goals as goal
 
 pub find_value-found-requires : goal.find_value-found-requires

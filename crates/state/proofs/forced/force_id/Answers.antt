@@ -6,7 +6,6 @@ use Rattle.extraction_rules.specs.First.{holds_namespace}
 use Rattle.state.specs.Cells.{id_by}
 use Rattle.state.specs.Does.{Tells, source_of, source_by}
 use Rattle.state.proofs.ForcedLaws.{forced-none, forced-some, forced-nowhere}
-use borrow.Author.Rules.{rules}
 use Rattle.state.proofs.forced.force_id.Goals as goal
 
 pub returns-then-hint_of-eq0 : goal.returns-then-hint_of-eq0

@@ -7,7 +7,6 @@ use Rattle.inputs.specs.Lists.{among}
 use Rattle.state.specs.Cells.{forces}
 use Rattle.state.specs.Does.{Tells}
 use Rattle.state.proofs.ForcedLaws.{force-again, force-new, force-full}
-use borrow.Author.Rules.{rules}
 use Rattle.state.proofs.forced.force_source.Goals as goal
 
 pub returns-then-is_forced : goal.returns-then-is_forced

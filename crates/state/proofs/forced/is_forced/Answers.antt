@@ -4,7 +4,6 @@ use mathlib.Core.Path.{sym, ap, ◌∙◌}
 use Rattle.tables.specs.Rows.{place_by}
 use Rattle.state.specs.Cells.{forces}
 use Rattle.state.proofs.ForcedLaws.{forced-told}
-use borrow.Author.Rules.{rules}
 use Rattle.state.proofs.forced.is_forced.Goals as goal
 
 pub find-found-requires : goal.find-found-requires

@@ -4,7 +4,6 @@ use mathlib.Core.Path.{ap}
 use lib.ListN.{length}
 use Rattle.state.specs.Cells.{namespaces}
 use Rattle.state.proofs.ChangeLaws.{held-added}
-use borrow.Author.Rules.{rules}
 use Rattle.state.proofs.hints.add_held.Goals as goal
 
 pub push-requires : goal.push-requires

@@ -4,7 +4,6 @@ use mathlib.Core.Path.{ap}
 use lib.ListN.{length}
 use Rattle.state.specs.Cells.{imports}
 use Rattle.state.proofs.ChangeLaws.{import-added}
-use borrow.Author.Rules.{rules}
 use Rattle.state.proofs.hints.add_import.Goals as goal
 
 pub count_of-requires : goal.count_of-requires

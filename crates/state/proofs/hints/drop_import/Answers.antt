@@ -1,6 +1,5 @@
 -- `drop_import`: where no row has the key nothing is to be taken out (`absent`); else the row that is found is the only one, and the others
 -- keep their hints (`import-dropped`).
-use borrow.Author.Rules.{rules}
 use mathlib.Core.Path.{sym, ap, ◌∙◌}
 use Rattle.tables.specs.Rows.{place_by}
 use Rattle.state.specs.Cells.{imports}

@@ -3,7 +3,6 @@
 use mathlib.Core.Path.{sym, ◌∙◌}
 use Rattle.state.specs.Cells.{uses}
 use Rattle.state.proofs.ChangeLaws.{uses-dropped, absent, some-none}
-use borrow.Author.Rules.{rules}
 use Rattle.state.proofs.hints.drop_uses.Goals as goal
 
 pub drop_key-requires : goal.drop_key-requires

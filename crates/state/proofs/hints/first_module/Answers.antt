@@ -3,7 +3,6 @@ use Prim.Native.Nat.{ℕ, ◌%◌}
 use native.Mathlib.Omega.{arith}
 use Rattle.state.specs.Cells.{modules, module_hint}
 use Rattle.state.proofs.HintLaws.{reached-none}
-use borrow.Author.Rules.{rules}
 use Rattle.state.proofs.hints.first_module.Goals as goal
 
 pub returns-then-hint-ge256 : goal.returns-then-hint-ge256

@@ -3,7 +3,6 @@ use native.Mathlib.Omega.{arith}
 use mathlib.Core.Path.{ap}
 use Rattle.state.specs.Cells.{named_in}
 use Rattle.state.proofs.ChangeLaws.{starts}
-use borrow.Author.Rules.{rules}
 use Rattle.state.proofs.hints.first_named.Goals as goal
 
 pub returns-then-hint-ge256 : goal.returns-then-hint-ge256

@@ -3,7 +3,6 @@ use native.Mathlib.Omega.{arith}
 use mathlib.Core.Path.{ap}
 use Rattle.state.specs.Cells.{source_in}
 use Rattle.state.proofs.ChangeLaws.{opens}
-use borrow.Author.Rules.{rules}
 use Rattle.state.proofs.hints.first_of.Goals as goal
 
 pub returns-then-hint-ge256 : goal.returns-then-hint-ge256

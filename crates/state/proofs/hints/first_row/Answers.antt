@@ -3,7 +3,6 @@ use Prim.Native.Nat.{ℕ, ◌%◌}
 use Rattle.state.specs.Cells.{table, row_hint}
 use Rattle.state.proofs.HintLaws.{reached-none}
 use native.Mathlib.Omega.{arith}
-use borrow.Author.Rules.{rules}
 use Rattle.state.proofs.hints.first_row.Goals as goal
 
 pub returns-then-hint-ge1024 : goal.returns-then-hint-ge1024

@@ -1,11 +1,9 @@
 -- `hint_modules`: the invariant says that the files of the first i modules have hints, and that no cell but those of hints changed
 -- (`HintsModules`): a hint that is raised leaves out nothing that it named (`hints-more`).
-use mathlib.Core.Path.{◌≡◌, refl, subst}
-use Prim.Native.Nat.{ℕ, ◌-◌, ◌≤◌}
-use native.Mathlib.Omega.{arith}
+use mathlib.Core.Path.{◌≡◌}
+use Prim.Native.Nat.{◌-◌, ◌≤◌}
 use lib.ListN.{length}
 use Rattle.state.specs.Does.{HintsModules}
-use Rattle.state.proofs.ChangeLaws.{hints-none, hints-more}
 use Rattle.state.proofs.hints.hint_modules.Given as goal
 
 abbrev pub invariant-loop-i : goal.invariant-loop-i

@@ -4,7 +4,6 @@ use Prim.Native.Nat.{◌-◌}
 use mathlib.Core.Path.{ap}
 use Rattle.state.specs.Cells.{named_in}
 use Rattle.state.proofs.ChangeLaws.{cell-stays, named-grows}
-use borrow.Author.Rules.{rules}
 use Rattle.state.proofs.hints.hint_name.Goals as goal
 
 pub set_cell-requires : goal.set_cell-requires

@@ -1,6 +1,5 @@
 -- `hint_of`: by the tag: none (`hint-open`), the id's (`hint-own`), or another's (`hint-other`).
 use Rattle.state.proofs.HintLaws.{hint-open, hint-own, hint-other}
-use borrow.Author.Rules.{rules}
 use Rattle.state.proofs.hints.hint_of.Goals as goal
 
 pub returns-then-tag-eq0 : goal.returns-then-tag-eq0

@@ -4,7 +4,6 @@ use Prim.Native.Nat.{◌-◌}
 use mathlib.Core.Path.{ap}
 use Rattle.state.specs.Cells.{source_in}
 use Rattle.state.proofs.ChangeLaws.{cell-stays, source-grows}
-use borrow.Author.Rules.{rules}
 use Rattle.state.proofs.hints.hint_source.Goals as goal
 
 pub set_cell-requires : goal.set_cell-requires

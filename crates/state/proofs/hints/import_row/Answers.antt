@@ -7,7 +7,6 @@ use Rattle.tables.specs.Rows.{rows}
 use Rattle.state.specs.Cells.{imports, table_of, import_hint}
 use Rattle.state.proofs.HintLaws.{distinct-at}
 use Rattle.state.proofs.ChangeLaws.{not-imported}
-use borrow.Author.Rules.{rules}
 use Rattle.state.proofs.hints.import_row.Goals as goal
 
 pub returns-then-hint-eq0 : goal.returns-then-hint-eq0

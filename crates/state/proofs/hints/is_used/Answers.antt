@@ -9,7 +9,6 @@ use Rattle.inputs.specs.Lists.{is_some}
 use Rattle.state.specs.Cells.{uses, table_of, use_hint}
 use Rattle.state.proofs.HintLaws.{some-at}
 use Rattle.state.proofs.ChangeLaws.{not-used}
-use borrow.Author.Rules.{rules}
 use Rattle.state.proofs.hints.is_used.Goals as goal
 
 pub returns-then-hint-eq0 : goal.returns-then-hint-eq0

@@ -3,7 +3,6 @@ use mathlib.Core.Path.{sym, ap, ◌∙◌}
 use Rattle.state.specs.Cells.{namespaces, namespace_hint}
 use Rattle.state.proofs.HintLaws.{none-least}
 use Rattle.state.proofs.ChangeLaws.{not_held}
-use borrow.Author.Rules.{rules}
 use Rattle.state.proofs.hints.least_holder.Goals as goal
 
 pub returns-then-hint_of-eq0 : goal.returns-then-hint_of-eq0

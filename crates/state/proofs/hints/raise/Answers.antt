@@ -1,7 +1,6 @@
 -- `raise`: the cell grows, and stands beside the tables (`raise-set`), or it is as great already.
 use native.Mathlib.Omega.{arith}
 use Rattle.state.proofs.ChangeLaws.{cell-stays, behind-stays, raise-set}
-use borrow.Author.Rules.{rules}
 use Rattle.state.proofs.hints.raise.Goals as goal
 
 pub returns-then-t-h : goal.returns-then-t-h

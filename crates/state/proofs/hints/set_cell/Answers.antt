@@ -1,6 +1,5 @@
 -- `set_cell`: storing a cell that leaves out nothing changes what stands aside of the tables alone (`cell-set`).
 use Rattle.state.proofs.ChangeLaws.{cell-set}
-use borrow.Author.Rules.{rules}
 use Rattle.state.proofs.hints.set_cell.Goals as goal
 
 pub returns : goal.returns

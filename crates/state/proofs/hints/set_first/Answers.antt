@@ -5,7 +5,6 @@ use lib.ListN.{length}
 use Rattle.state.specs.Cells.{records}
 use Rattle.state.proofs.FrameLaws.{room-for}
 use Rattle.state.proofs.ChangeLaws.{first-set}
-use borrow.Author.Rules.{rules}
 use Rattle.state.proofs.hints.set_first.Goals as goal
 
 pub hint_name-requires : goal.hint_name-requires

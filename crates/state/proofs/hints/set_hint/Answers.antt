@@ -4,7 +4,6 @@ use mathlib.Core.Path.{ap, ◌∙◌}
 use Prim.Native.Nat.{ℕ}
 use Rattle.state.specs.Cells.{hint_in}
 use Rattle.state.proofs.HintLaws.{cell-grows, cell-hint}
-use borrow.Author.Rules.{rules}
 use Rattle.state.proofs.hints.set_hint.Goals as goal
 
 pub set_cell-requires : goal.set_cell-requires

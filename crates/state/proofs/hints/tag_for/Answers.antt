@@ -1,7 +1,6 @@
 -- `tag_for`: no id has entered (`tag-fresh`), this id has (`tag-own`), or another (`tag-several`).
 use native.Mathlib.Omega.{arith}
 use Rattle.state.proofs.HintLaws.{tag-fresh, tag-own, tag-several}
-use borrow.Author.Rules.{rules}
 use Rattle.state.proofs.hints.tag_for.Goals as goal
 
 pub returns-then-v-eq0 : goal.returns-then-v-eq0

@@ -4,7 +4,6 @@ use mathlib.Core.List.{◌++◌}
 use Prim.Native.Nat.{ℕ}
 use Rattle.tree.specs.Layout.{two, four}
 use Rattle.state.proofs.IdentLaws.{id-stands}
-use borrow.Author.Rules.{rules}
 use Rattle.state.proofs.ident.id_at.Goals as goal
 
 pub returns : goal.returns

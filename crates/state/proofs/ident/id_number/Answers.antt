@@ -1,7 +1,6 @@
 -- `id_number`: the context is below 2^32, so the number's quotient is the atom and its remainder the context (`id-made`).
 use native.Mathlib.Omega.{arith}
 use Rattle.state.proofs.IdentLaws.{id-made}
-use borrow.Author.Rules.{rules}
 use Rattle.state.proofs.ident.id_number.Goals as goal
 
 pub returns : goal.returns

@@ -2,7 +2,6 @@
 use mathlib.Core.Path.{sym, ap, refl, ◌∙◌}
 use Rattle.tree.specs.Layout.{two}
 use Rattle.state.proofs.IdentLaws.{value-stands}
-use borrow.Author.Rules.{rules}
 use Rattle.state.proofs.ident.literal_at.Goals as goal
 
 pub returns : goal.returns

@@ -2,7 +2,6 @@
 use native.Mathlib.Omega.{arith}
 use Rattle.writer.proofs.Wrote.{wrote-then, wrote-as}
 use Rattle.state.proofs.IdentLaws.{id-written}
-use borrow.Author.Rules.{rules}
 use Rattle.state.proofs.ident.put_id.Goals as goal
 
 pub returns : goal.returns

@@ -2,7 +2,6 @@
 -- (`framed-leaf`).
 use Rattle.writer.proofs.Wrote.{wrote-as, wrote-field}
 use Rattle.metadata.proofs.EncodeLaws.{framed-leaf}
-use borrow.Author.Rules.{rules}
 use Rattle.state.proofs.ident.put_ident.Goals as goal
 
 pub returns : goal.returns

@@ -2,7 +2,6 @@
 -- parts (`framed-leaf`).
 use Rattle.writer.proofs.Wrote.{wrote-then, wrote-as, wrote-field}
 use Rattle.metadata.proofs.EncodeLaws.{framed-leaf}
-use borrow.Author.Rules.{rules}
 use Rattle.state.proofs.ident.put_named.Goals as goal
 
 pub returns : goal.returns

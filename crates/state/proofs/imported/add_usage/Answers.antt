@@ -3,7 +3,6 @@
 use native.Mathlib.Omega.{arith}
 use Rattle.state.specs.Cells.{uses}
 use Rattle.state.proofs.UsageLaws.{usage-made, usage-full}
-use borrow.Author.Rules.{rules}
 use Rattle.state.proofs.imported.add_usage.Goals as goal
 
 pub count_of-requires : goal.count_of-requires

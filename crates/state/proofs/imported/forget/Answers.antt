@@ -1,6 +1,5 @@
 -- `forget`: `forgotten` says that both drops together drop the id's usages and its imported entry.
 use Rattle.state.proofs.UsageLaws.{forgotten}
-use borrow.Author.Rules.{rules}
 use Rattle.state.proofs.imported.forget.Goals as goal
 
 pub returns : goal.returns

@@ -1,6 +1,5 @@
 -- `has_usages`: `usages-told` says that a row with this key stands among the usages just where the id has some.
 use Rattle.state.proofs.UsageLaws.{usages-told}
-use borrow.Author.Rules.{rules}
 use Rattle.state.proofs.imported.has_usages.Goals as goal
 
 pub returns : goal.returns

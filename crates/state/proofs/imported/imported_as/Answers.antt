@@ -11,7 +11,6 @@ use Rattle.state.specs.Does.{Tells}
 use Rattle.extraction_rules.specs.First.{imported_as}
 use Rattle.state.proofs.ListLaws.{first-below, below-row}
 use Rattle.state.proofs.ImportedLaws.{context-told}
-use borrow.Author.Rules.{rules}
 use Rattle.state.proofs.imported.imported_as.Goals as goal
 
 pub value_of-requires : goal.value_of-requires

@@ -6,7 +6,6 @@ use Rattle.tables.specs.Rows.{place_by}
 use Rattle.state.specs.Cells.{imports}
 use Rattle.state.proofs.ListLaws.{first-below}
 use Rattle.state.proofs.ImportedLaws.{noted-again, noted-new, noted-full}
-use borrow.Author.Rules.{rules}
 use Rattle.state.proofs.imported.note_id.Goals as goal
 
 pub set_value-requires : goal.set_value-requires

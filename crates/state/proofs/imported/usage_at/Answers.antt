@@ -3,7 +3,6 @@
 use mathlib.Core.Path.{sym, ap, ◌∙◌}
 use Rattle.state.specs.Cells.{uses, id_of}
 use Rattle.state.proofs.UsageLaws.{listed-is, listed-other, property-small}
-use borrow.Author.Rules.{rules}
 use Rattle.state.proofs.imported.usage_at.Goals as goal
 
 pub key_of-requires : goal.key_of-requires

@@ -3,7 +3,6 @@
 use native.Mathlib.Omega.{arith}
 use lib.ListN.{length-set}
 use Rattle.state.proofs.ModulesLaws.{loading-good, modules-loaded}
-use borrow.Author.Rules.{rules}
 use Rattle.state.proofs.modules.load.Goals as goal
 
 pub to_cells-n-requires : goal.to_cells-n-requires

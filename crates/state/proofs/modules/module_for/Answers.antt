@@ -5,7 +5,6 @@ use Rattle.inputs.specs.Table.{file_of}
 use Rattle.inputs.specs.ResolvedValue.{file_by}
 use Rattle.state.specs.Does.{Says}
 use Rattle.state.proofs.ModulesLaws.{source-resolved, source-unresolved}
-use borrow.Author.Rules.{rules}
 use Rattle.state.proofs.modules.module_for.Goals as goal
 
 pub returns-in-File : goal.returns-in-File

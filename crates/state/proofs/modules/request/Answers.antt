@@ -9,7 +9,6 @@ use Rattle.state.proofs.FrameLaws.{room-for}
 use Rattle.state.proofs.ModulesLaws.{request-known, request-new, request-full}
 use lib.ListN.{length}
 use Rattle.state.proofs.ChangeLaws.{module-added}
-use borrow.Author.Rules.{rules}
 use Rattle.state.proofs.modules.request.Goals as goal
 
 pub find_from-found-requires : goal.find_from-found-requires

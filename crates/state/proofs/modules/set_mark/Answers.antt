@@ -4,7 +4,6 @@ use native.Mathlib.Omega.{arith}
 use Rattle.state.specs.Cells.{modules}
 use Rattle.state.proofs.ListLaws.{below-row}
 use Rattle.state.proofs.ModulesLaws.{marked-none, mark-there, mark-set, bit-small}
-use borrow.Author.Rules.{rules}
 use Rattle.state.proofs.modules.set_mark.Goals as goal
 
 -- UNTRANSLATED Need-nonzero-div-if2

@@ -3,7 +3,6 @@
 use Rattle.state.proofs.RestLaws.{lazy-made, lazy-full}
 use Rattle.state.specs.Cells.{lazies}
 use native.Mathlib.Omega.{arith}
-use borrow.Author.Rules.{rules}
 use Rattle.state.proofs.rest.add_lazy.Goals as goal
 
 pub count_of-requires : goal.count_of-requires

@@ -7,7 +7,6 @@ use lib.ListN.{set}
 use Rattle.extraction_rules.specs.State.{set_top}
 use Rattle.state.specs.Cells.{imports}
 use Rattle.state.specs.Does.{Turns}
-use borrow.Author.Rules.{rules}
 use Rattle.state.proofs.rest.set_top.Goals as goal
 
 pub bounds-t-7 : goal.bounds-t-7

@@ -11,7 +11,6 @@ use Rattle.state.specs.Cells.{table}
 use Rattle.state.specs.Does.{Says}
 use Rattle.state.proofs.ListLaws.{first-below}
 use Rattle.state.proofs.SettingLaws.{file-told, file-small}
-use borrow.Author.Rules.{rules}
 use Rattle.state.proofs.setting.file_for.Goals as goal
 
 pub find_from-requires : goal.find_from-requires

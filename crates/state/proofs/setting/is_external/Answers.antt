@@ -4,7 +4,6 @@ use mathlib.Core.Path.{◌∙◌, sym, ap}
 use Rattle.tables.specs.Rows.{place_by}
 use Rattle.state.specs.Cells.{externals}
 use Rattle.state.proofs.SettingLaws.{external-told}
-use borrow.Author.Rules.{rules}
 use Rattle.state.proofs.setting.is_external.Goals as goal
 
 pub find-requires : goal.find-requires

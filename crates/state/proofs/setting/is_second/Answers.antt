@@ -1,6 +1,5 @@
 -- `is_second`: the cell holds 1 just in the second pass (`pass-told`).
 use Rattle.state.proofs.SettingLaws.{pass-told}
-use borrow.Author.Rules.{rules}
 use Rattle.state.proofs.setting.is_second.Goals as goal
 
 pub returns : goal.returns

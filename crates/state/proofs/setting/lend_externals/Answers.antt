@@ -1,14 +1,12 @@
 -- `lend_externals`: the invariant says that the rows put so far, with the atoms from i on, are the atoms of the list (`Lending`), and that
 -- there is a row for two bytes each: so there is room. At the end less than two bytes are left, and no atom (`externals-lent`).
 use Rattle.tables.specs.Rows.{rows}
-use Rattle.state.specs.Cells.{externals as kind, held, table_of, atom_of}
-use mathlib.Core.Path.{◌≡◌, ap}
-use Prim.Native.Nat.{◌*◌, ◌-◌, ◌≤◌}
+use Rattle.state.specs.Cells.{externals as kind, table_of}
+use mathlib.Core.Path.{ap}
 use native.Mathlib.Omega.{arith}
 use lib.ListN.{length}
-use Rattle.inputs.specs.Table.{atoms_in}
 use Rattle.state.proofs.ListLaws.{length-more}
-use Rattle.state.proofs.SettingLaws.{Lending, lend-start, external-more, externals-lent}
+use Rattle.state.proofs.SettingLaws.{lend-start, external-more, externals-lent}
 use Rattle.state.proofs.setting.lend_externals.Goals as goal
 
 pub loop-i-init : goal.loop-i-init

@@ -1,14 +1,11 @@
 -- `lend_externals`: the invariant says that the rows put so far, with the atoms from i on, are the atoms of the list (`Lending`), and that
 -- there is a row for two bytes each: so there is room. At the end less than two bytes are left, and no atom (`externals-lent`).
-use Rattle.tables.specs.Rows.{rows}
-use Rattle.state.specs.Cells.{externals as kind, held, table_of, atom_of}
-use mathlib.Core.Path.{◌≡◌, ap}
+use Rattle.state.specs.Cells.{externals as kind, held, atom_of}
+use mathlib.Core.Path.{◌≡◌}
 use Prim.Native.Nat.{◌*◌, ◌-◌, ◌≤◌}
-use native.Mathlib.Omega.{arith}
 use lib.ListN.{length}
 use Rattle.inputs.specs.Table.{atoms_in}
-use Rattle.state.proofs.ListLaws.{length-more}
-use Rattle.state.proofs.SettingLaws.{Lending, lend-start, external-more, externals-lent}
+use Rattle.state.proofs.SettingLaws.{Lending}
 use Rattle.state.proofs.setting.lend_externals.Given as goal
 
 abbrev pub invariant-loop-i : goal.invariant-loop-i

@@ -1,15 +1,13 @@
 -- `lend_table`: the invariant says that the rows put so far, with the rows from i on, are the rows of the list (`Lending`), and that
 -- there is a row for four bytes each: so there is room, and the hint is that of the row that enters. At the end less than four bytes are left,
 -- and no row (`table-lent`).
-use mathlib.Core.Path.{◌≡◌, ap}
-use Prim.Native.Nat.{◌*◌, ◌-◌, ◌≤◌}
+use mathlib.Core.Path.{ap}
 use native.Mathlib.Omega.{arith}
 use lib.ListN.{length}
 use Rattle.tables.specs.Rows.{rows}
-use Rattle.inputs.specs.Table.{rows_in}
-use Rattle.state.specs.Cells.{table as kind, table_of, held, lent_of}
+use Rattle.state.specs.Cells.{table as kind, table_of}
 use Rattle.state.proofs.ListLaws.{length-more}
-use Rattle.state.proofs.SettingLaws.{Lending, lend-start, row-more, table-lent}
+use Rattle.state.proofs.SettingLaws.{lend-start, row-more, table-lent}
 use Rattle.state.proofs.setting.lend_table.Goals as goal
 
 pub loop-i-init : goal.loop-i-init

@@ -2,7 +2,6 @@
 use mathlib.Core.Path.{subst}
 use Rattle.state.specs.Does.{Says, is_second}
 use Rattle.state.proofs.SettingLaws.{place-second, place-first}
-use borrow.Author.Rules.{rules}
 use Rattle.state.proofs.setting.place_of.Goals as goal
 
 pub returns-then-is_second : goal.returns-then-is_second

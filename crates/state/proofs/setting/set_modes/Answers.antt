@@ -1,11 +1,10 @@
 -- `set_modes`: by the one mode there is; the cell then has its flag (`modes-set`).
-use mathlib.Core.Path.{sym, subst}
+use mathlib.Core.Path.{subst}
 use mathlib.Core.Bool.{Bool}
 use lib.ListN.{set}
 use Rattle.state.specs.Cells.{require_cell, flag}
 use Rattle.state.specs.Does.{Resets, with_modes}
 use Rattle.state.proofs.SettingLaws.{modes-set}
-use borrow.Author.Rules.{rules}
 use Rattle.state.proofs.setting.set_modes.Goals as goal
 
 pub returns-then-modes : goal.returns-then-modes

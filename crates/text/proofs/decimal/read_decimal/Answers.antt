@@ -1,7 +1,7 @@
 -- `text::decimal::read_decimal`: the invariant: the characters so far are the digits of the number so far.
 use mathlib.Core.Path.{subst}
 use native.Mathlib.Omega.{arith}
-use Rattle.text.proofs.DecimalLaws.{other-no-decimal, high-no-decimal, number-bad, number_more, number-grows, number_fits, number-none, number-all}
+use Rattle.text.proofs.DecimalLaws.{other-no-decimal, high-no-decimal, number-bad, number-more, number-grows, number-fits, number-none, number-all}
 use Rattle.text.specs.Hex.{DigitIs}
 use Rattle.text.proofs.decimal.read_decimal.Goals as goal
 
@@ -34,20 +34,20 @@ returns-then-v-gt-NINE c =
 pub overflow_mul-n : goal.overflow_mul-n
 overflow_mul-n c =
     let a = c.args in let l = c.loop-i in
-    let f = number_fits a.s.now a.from l.i (omega arith) l.invariant.1 in
+    let f = number-fits a.s.now a.from l.i (omega arith) l.invariant.1 in
     omega arith
 
 pub overflow_add-n : goal.overflow_add-n
 overflow_add-n c =
     let a = c.args in let l = c.loop-i in
-    let f = number_fits a.s.now a.from l.i (omega arith) l.invariant.1 in
+    let f = number-fits a.s.now a.from l.i (omega arith) l.invariant.1 in
     omega arith
 
 pub loop-i-preserved : goal.loop-i-preserved
 loop-i-preserved c =
     let a = c.args in let l = c.loop-i in
     let d = subst (DigitIs _) c.in-Value.is c.digit_of.ensures in (
-      number_more a.s.now a.from l.i l.n l.invariant.2 (omega arith) d (omega arith) l.invariant.0,
+      number-more a.s.now a.from l.i l.n l.invariant.2 (omega arith) d (omega arith) l.invariant.0,
       number-grows a.s.now a.from l.i l.invariant.2 (omega arith) l.invariant.1,
       omega arith,
       omega arith,

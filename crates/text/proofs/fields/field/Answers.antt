@@ -1,7 +1,7 @@
 -- `field`: the invariant says that the field number `left` from the place reached is the field number k from the start; `left` falls.
 use mathlib.Core.Path.{refl, sym, ◌∙◌}
 use native.Mathlib.Omega.{arith}
-use Rattle.text.proofs.FieldsLaws.{field_found, field-missing, field_next}
+use Rattle.text.proofs.FieldsLaws.{field-found, field-missing, field-next}
 use Rattle.text.proofs.fields.field.Goals as goal
 
 pub loop-left-init : goal.loop-left-init
@@ -16,7 +16,7 @@ pub returns-then-left-eq0 : goal.returns-then-left-eq0
 returns-then-left-eq0 c =
     let l = c.loop-left in let f = c.find-end in (
       sym (l.invariant.0
-          ∙ field_found c.args.s.now l.at c.args.to f.result
+          ∙ field-found c.args.s.now l.at c.args.to f.result
           f.ensures.0 l.left c.if-left-eq0.true),
       (omega arith, omega arith, omega arith),
     )
@@ -46,7 +46,7 @@ pub loop-left-preserved : goal.loop-left-preserved
 loop-left-preserved c =
     let l = c.loop-left in let f = c.find-end in (
       l.invariant.0
-          ∙ field_next c.args.s.now l.at c.args.to
+          ∙ field-next c.args.s.now l.at c.args.to
           f.result f.ensures.0 l.left c.if-left-eq0.false c.if-end-to.false,
       omega arith,
       omega arith,

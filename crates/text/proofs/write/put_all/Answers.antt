@@ -1,7 +1,7 @@
 -- `text::write::put_all`: the invariant: what writing the rest leaves is what writing all of s leaves.
 use mathlib.Core.Path.{refl}
 use native.Mathlib.Omega.{arith}
-use Rattle.text.proofs.WriteLaws.{written-end, written_byte, written-length}
+use Rattle.text.proofs.WriteLaws.{written-end, written-byte, written-length}
 use Rattle.text.proofs.WriteLaws.{written-length}
 use Rattle.text.proofs.write.put_all.Goals as goal
 
@@ -30,7 +30,7 @@ loop-i-preserved c =
     let l = c.loop-i in
     let p = c.put-o in
     let n = written-length p.ensures in (
-      λ k r w. l.invariant.0 k r (written_byte _ _ c.loop-i-test.true p.ensures w),
+      λ k r w. l.invariant.0 k r (written-byte _ _ c.loop-i-test.true p.ensures w),
       omega (arith, p.ensures.next),
       omega arith,
       omega arith,

@@ -4,7 +4,6 @@ use Rattle.tree.proofs.Table.{find-rest}
 use Rattle.tree.specs.Access.{choice_of, kinds}
 use Rattle.tree.specs.declared.access.Choice.TheVariants.{Bad}
 use Rattle.tree.specs.declared.grammar.Piece.TheVariants.{Source, Original, Outside, Spread}
-use borrow.Author.Rules.{rules}
 use Rattle.tree.proofs.access.choice_of.Goals as goal
 
 pub returns-in-0 : goal.returns-in-0

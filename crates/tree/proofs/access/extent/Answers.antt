@@ -1,11 +1,8 @@
 -- `extent`: two length bytes, each below 256, and the definition's test.
 use Rattle.tree.specs.Access.{extent_at, length_at}
 use mathlib.Core.Path.{sym}
-use Prim.Native.Nat.{◌+◌}
-use native.Mathlib.Omega.{arith}
 use borrow.Author.Tests.{le-leb, lt-leb}
 use Rattle.tree.specs.Access.{extent_at}
-use borrow.Author.Rules.{rules}
 use Rattle.tree.proofs.access.extent.Goals as goal
 
 pub returns-then-end-at-ge3 : goal.returns-then-end-at-ge3

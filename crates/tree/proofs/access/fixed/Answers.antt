@@ -3,7 +3,6 @@ use mathlib.Core.Path.{sym, ap, ◌∙◌, subst}
 use Prim.Native.Nat.{ℕ, ◌<◌}
 use Rattle.tree.specs.Layout.{skip_at}
 use Rattle.tree.proofs.TagWidthLaws.{fixed-skip}
-use borrow.Author.Rules.{rules}
 use Rattle.tree.proofs.access.fixed.Goals as goal
 
 pub returns-then-width-lt9 : goal.returns-then-width-lt9

@@ -3,7 +3,6 @@ use mathlib.Core.Path.{subst}
 use Prim.Native.Nat.{ℕ, ◌≤◌, ◌<◌, ◌-◌, ◌+◌}
 use borrow.Author.Tests.{le-leb, lt-leb, lt-ltb, le-ltb}
 use Rattle.tree.specs.Access.{key_at}
-use borrow.Author.Rules.{rules}
 use Rattle.tree.proofs.access.key_end.Goals as goal
 
 pub returns-then-stop-at-lt3 : goal.returns-then-stop-at-lt3

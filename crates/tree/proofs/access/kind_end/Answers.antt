@@ -2,7 +2,6 @@
 use mathlib.Core.Path.{sym, ◌∙◌}
 use borrow.Author.Tests.{lt-ltb, le-ltb}
 use Rattle.tree.specs.Access.{kind_at, on_choice}
-use borrow.Author.Rules.{rules}
 use Rattle.tree.proofs.access.kind_end.Goals as goal
 
 pub returns-in-Take : goal.returns-in-Take

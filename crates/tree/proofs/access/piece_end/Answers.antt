@@ -2,7 +2,6 @@
 use mathlib.Core.Path.{sym, ◌∙◌}
 use Rattle.tree.specs.Access.{piece_at}
 use Rattle.tree.proofs.AccessLaws.{kind-piece}
-use borrow.Author.Rules.{rules}
 use Rattle.tree.proofs.access.piece_end.Goals as goal
 
 pub returns-in-Plain : goal.returns-in-Plain

@@ -1,10 +1,8 @@
 -- `pieces_end`: a 75 has a spread byte alone; else the second piece starts where the first ends, which is inside.
-use mathlib.Core.Path.{sym, ap, ◌∙◌, subst}
-use Prim.Native.Nat.{ℕ}
+use mathlib.Core.Path.{sym, ◌∙◌, subst}
 use native.Mathlib.Omega.{arith}
 use Rattle.tree.specs.Access.{fixed_at, then_piece}
 use Rattle.tree.proofs.AccessLaws.{ReachIn, piece-in}
-use borrow.Author.Rules.{rules}
 use Rattle.tree.proofs.access.pieces_end.Goals as goal
 
 pub piece_end-requires-in-Upto : goal.piece_end-requires-in-Upto

@@ -1,7 +1,6 @@
 -- `spread_end`: the byte is there and 0 or 1, or it is none of these, or it is not there.
 use mathlib.Core.Path.{sym}
 use Rattle.tree.proofs.TagWidthLaws.{spread-upto, spread-bad, spread-cut}
-use borrow.Author.Rules.{rules}
 use Rattle.tree.proofs.access.spread_end.Goals as goal
 
 pub returns-then-s-at-lt2 : goal.returns-then-s-at-lt2

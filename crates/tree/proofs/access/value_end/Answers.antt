@@ -3,7 +3,6 @@ use mathlib.Core.Path.{sym, ap, ◌∙◌}
 use Prim.Native.Nat.{ℕ}
 use Rattle.tree.specs.Layout.{skip_at}
 use Rattle.tree.proofs.WidthLaws.{value-skips}
-use borrow.Author.Rules.{rules}
 use Rattle.tree.proofs.access.value_end.Goals as goal
 
 pub returns : goal.returns

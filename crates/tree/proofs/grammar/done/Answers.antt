@@ -1,9 +1,8 @@
 -- `done`: the loop's invariant: what is left of the rule lacks a part where the whole does. Each turn takes the lowest byte off, so the rule
 -- falls.
-use mathlib.Core.Path.{◌≡◌, refl, sym, ap, ◌∙◌}
-use Prim.Native.Nat.{ℕ, ◌<◌, ◌^◌}
+use mathlib.Core.Path.{sym, ap, ◌∙◌}
+use Prim.Native.Nat.{ℕ}
 use native.Mathlib.Omega.{arith}
-use borrow.Author.Rules.{rules}
 use Rattle.tree.specs.Grammar.{done_at}
 use Rattle.tree.specs.Packed.{unpack_rule}
 use Rattle.tree.proofs.PackedLaws.{done-nothing, done-lacks, done-over, done-end}

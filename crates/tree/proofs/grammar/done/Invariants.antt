@@ -1,12 +1,9 @@
 -- `done`: the loop's invariant: what is left of the rule lacks a part where the whole does. Each turn takes the lowest byte off, so the rule
 -- falls.
-use mathlib.Core.Path.{◌≡◌, refl, sym, ap, ◌∙◌}
-use Prim.Native.Nat.{ℕ, ◌<◌, ◌^◌}
-use native.Mathlib.Omega.{arith}
-use borrow.Author.Rules.{rules}
+use mathlib.Core.Path.{◌≡◌}
+use Prim.Native.Nat.{◌<◌, ◌^◌}
 use Rattle.tree.specs.Grammar.{done_at}
 use Rattle.tree.specs.Packed.{unpack_rule}
-use Rattle.tree.proofs.PackedLaws.{done-nothing, done-lacks, done-over, done-end}
 use Rattle.tree.proofs.grammar.done.Given as goal
 
 abbrev pub invariant-loop-rule : goal.invariant-loop-rule

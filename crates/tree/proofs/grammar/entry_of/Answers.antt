@@ -3,7 +3,6 @@ use borrow.Author.Tests.{lt-ltb, le-ltb}
 use mathlib.Core.Path.{refl}
 use Rattle.tree.specs.Packed.{low_entries, high_entries, entry_at}
 use Rattle.tree.proofs.RunLaws.{answer-is}
-use borrow.Author.Rules.{rules}
 use Rattle.tree.proofs.grammar.entry_of.Goals as goal
 
 pub returns-then-tag-lt128 : goal.returns-then-tag-lt128

@@ -1,6 +1,5 @@
 -- `sets_of`: the lower half of the entry.
 use Rattle.tree.specs.Packed.{sets_at}
-use borrow.Author.Rules.{rules}
 use Rattle.tree.proofs.grammar.sets_of.Goals as goal
 
 pub returns : goal.returns

@@ -1,12 +1,9 @@
 -- `step_by`: the loop's invariant: what is left of the rule says to the tag what the whole says. Each turn takes the lowest byte off, so the
 -- rule falls; the bit of the byte's set says whether the slot takes the tag.
-use borrow.Author.Rules.{rules}
-use mathlib.Core.Path.{◌≡◌, refl, sym, ap, ◌∙◌}
-use Prim.Native.Nat.{ℕ, ◌<◌, ◌^◌}
-use native.Mathlib.Omega.{arith}
+use mathlib.Core.Path.{◌≡◌}
+use Prim.Native.Nat.{◌<◌, ◌^◌}
 use Rattle.tree.specs.Grammar.{step_at}
 use Rattle.tree.specs.Packed.{unpack_rule}
-use Rattle.tree.proofs.PackedLaws.{step-nothing, step-used, step-stay, step-off, step-over, step-end}
 use Rattle.tree.proofs.grammar.step_by.Given as goal
 
 abbrev pub invariant-loop-rule : goal.invariant-loop-rule

@@ -1,9 +1,7 @@
 -- `same_run`: the loop's invariant: the runs are the same just where what is left of them is.
-use mathlib.Core.Path.{◌≡◌, sym, ◌∙◌, ap₂}
-use Prim.Native.Nat.{ℕ, ◌+◌, ◌-◌, ◌≤◌}
+use mathlib.Core.Path.{sym, ◌∙◌}
+use Prim.Native.Nat.{◌+◌}
 use native.Mathlib.Omega.{arith}
-use lib.Seq.{slice}
-use Rattle.tree.specs.Layout.{same}
 use Rattle.tree.proofs.LayoutLaws.{same-more, same-other, same-end}
 use Rattle.tree.proofs.layout.same_run.Goals as goal
 

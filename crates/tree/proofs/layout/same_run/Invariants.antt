@@ -1,10 +1,8 @@
 -- `same_run`: the loop's invariant: the runs are the same just where what is left of them is.
-use mathlib.Core.Path.{◌≡◌, sym, ◌∙◌, ap₂}
-use Prim.Native.Nat.{ℕ, ◌+◌, ◌-◌, ◌≤◌}
-use native.Mathlib.Omega.{arith}
+use mathlib.Core.Path.{◌≡◌}
+use Prim.Native.Nat.{◌+◌, ◌-◌, ◌≤◌}
 use lib.Seq.{slice}
 use Rattle.tree.specs.Layout.{same}
-use Rattle.tree.proofs.LayoutLaws.{same-more, same-other, same-end}
 use Rattle.tree.proofs.layout.same_run.Given as goal
 
 abbrev pub invariant-loop-i : goal.invariant-loop-i

@@ -1,7 +1,6 @@
 -- `skip`: the definition makes the same test.
 use borrow.Author.Tests.{le-leb, lt-leb}
 use Rattle.tree.specs.Layout.{skip_at}
-use borrow.Author.Rules.{rules}
 use Rattle.tree.proofs.layout.skip.Goals as goal
 
 pub returns-then-n-stop : goal.returns-then-n-stop

@@ -2,17 +2,14 @@
 -- The measure is a field's length, and a row's length and one more: a field is no longer than the row around it, and its parts start
 -- behind its head of three bytes. A field whose packed rule is 0 has no parts: it is good where its fixed bytes are all of it, and else
 -- what follows them is misplaced.
-use borrow.Author.Rules.{rules}
-use mathlib.Core.Path.{◌≡◌, refl, sym, ◌∙◌, ap}
-use Prim.Native.Nat.{◌+◌, ◌-◌, ◌≤◌}
+use mathlib.Core.Path.{sym, ◌∙◌, ap}
+use Prim.Native.Nat.{◌+◌}
 use native.Mathlib.Omega.{arith}
 use Rattle.tree.specs.declared.read.Head.TheVariants.{Done, Missing}
 use Rattle.tree.specs.Packed.{unpack_rule, unpack_head}
-use Rattle.tree.specs.Read.{verdict, children_at}
 use Rattle.tree.proofs.AccessLaws.{upto-in}
 use Rattle.tree.proofs.ReadLaws.{child-in, content-short, children-verdict, after-good, after-refused}
 use Rattle.tree.proofs.LeafLaws.{parts-read, leaf-good, leaf-bad}
-use Prim.Native.Nat.{ℕ, ◌<◌}
 use Rattle.tree.proofs.read.+children_content.Goals as goal
 
 pub children-returns-in-Done : goal.children-returns-in-Done

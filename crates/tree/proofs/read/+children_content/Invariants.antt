@@ -2,17 +2,10 @@
 -- The measure is a field's length, and a row's length and one more: a field is no longer than the row around it, and its parts start
 -- behind its head of three bytes. A field whose packed rule is 0 has no parts: it is good where its fixed bytes are all of it, and else
 -- what follows them is misplaced.
-use borrow.Author.Rules.{rules}
-use mathlib.Core.Path.{◌≡◌, refl, sym, ◌∙◌, ap}
+use mathlib.Core.Path.{◌≡◌}
 use Prim.Native.Nat.{◌+◌, ◌-◌, ◌≤◌}
-use native.Mathlib.Omega.{arith}
-use Rattle.tree.specs.declared.read.Head.TheVariants.{Done, Missing}
-use Rattle.tree.specs.Packed.{unpack_rule, unpack_head}
+use Rattle.tree.specs.Packed.{unpack_rule}
 use Rattle.tree.specs.Read.{verdict, children_at}
-use Rattle.tree.proofs.AccessLaws.{upto-in}
-use Rattle.tree.proofs.ReadLaws.{child-in, content-short, children-verdict, after-good, after-refused}
-use Rattle.tree.proofs.LeafLaws.{parts-read, leaf-good, leaf-bad}
-use Prim.Native.Nat.{ℕ, ◌<◌}
 use Rattle.tree.proofs.read.+children_content.Given as goal
 
 abbrev pub decreases-children : goal.decreases-children

@@ -3,7 +3,6 @@ use mathlib.Core.Path.{sym, ap, ◌∙◌}
 use borrow.Author.Tests.{lt-ltb, le-ltb, eq-eqb, ne_eqb}
 use Rattle.tree.specs.Packed.{unpack_step}
 use Rattle.tree.specs.Read.{head_at, on_step, on_extent}
-use borrow.Author.Rules.{rules}
 use Rattle.tree.proofs.read.head_of.Goals as goal
 
 pub returns-then-done : goal.returns-then-done

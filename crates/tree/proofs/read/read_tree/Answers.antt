@@ -5,7 +5,6 @@ use borrow.Author.Tests.{eq-eqb, ne_eqb}
 use Rattle.tree.specs.declared.grammar.Rule.{Rule}
 use Rattle.tree.specs.Read.{verdict, children_at, read}
 use Rattle.tree.proofs.PackedLaws.{root-is}
-use borrow.Author.Rules.{rules}
 use Rattle.tree.proofs.read.read_tree.Goals as goal
 
 pub returns-then-s-eq0 : goal.returns-then-s-eq0

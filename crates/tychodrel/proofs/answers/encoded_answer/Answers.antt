@@ -1,5 +1,4 @@
 -- `encoded_answer`: by the answer; the rule's number then computes to what `pack` and `number_of` give.
-use borrow.Author.Rules.{rules}
 use Rattle.tychodrel.proofs.answers.encoded_answer.Goals as goal
 
 pub returns-in-Done : goal.returns-in-Done

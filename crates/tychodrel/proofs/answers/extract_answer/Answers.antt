@@ -1,5 +1,4 @@
 -- `extract_answer`: by the answer; the rule's number then computes to what `pack`, `number_of` and `walk_number` give.
-use borrow.Author.Rules.{rules}
 use Rattle.tychodrel.proofs.answers.extract_answer.Goals as goal
 
 pub returns-in-Extracted : goal.returns-in-Extracted

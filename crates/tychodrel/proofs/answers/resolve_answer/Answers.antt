@@ -1,5 +1,4 @@
 -- `resolve_answer`: by the answer; the rule's number then computes to what `pack` and `list_number` give.
-use borrow.Author.Rules.{rules}
 use Rattle.tychodrel.proofs.answers.resolve_answer.Goals as goal
 
 pub returns-in-Unread : goal.returns-in-Unread

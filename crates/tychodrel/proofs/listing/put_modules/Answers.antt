@@ -1,14 +1,6 @@
 -- `put_modules`: the invariant says that with the modules from i on all n are written; `module-written` splits off the one at i.
 -- The measure is n - i.
-use Prim.Native.Nat.{ℕ, ◌-◌, ◌*◌}
-use mathlib.Core.Path.{◌≡◌, refl, ◌∙◌}
-use mathlib.Core.List.{List}
-use native.Mathlib.Omega.{arith}
-use lib.ListN.{length}
-use borrow.Author.Rules.{rules}
-use Rattle.scope.specs.ScopeValue.{modules_in}
-use Rattle.writer.specs.Wrote.{Wrote}
-use Rattle.tychodrel.specs.Answer.{modules_bytes}
+use mathlib.Core.Path.{refl, ◌∙◌}
 use Rattle.tychodrel.proofs.ListingLaws.{module-written, all-left, none-left}
 use Rattle.tychodrel.proofs.listing.put_modules.Goals as goal
 

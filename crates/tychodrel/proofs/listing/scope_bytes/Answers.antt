@@ -1,7 +1,6 @@
 -- `scope_bytes`: one way; `scope-written` says that the count and the modules, written over 770 zeros, are the scope's bytes.
 use Rattle.scope.specs.ScopeValue.{modules_of}
 use Rattle.tychodrel.proofs.ListingLaws.{scope-written}
-use borrow.Author.Rules.{rules}
 use Rattle.tychodrel.proofs.listing.scope_bytes.Goals as goal
 
 pub returns : goal.returns
