@@ -26,7 +26,6 @@ use Rattle.resolving.specs.declared.ResolveAnswer.TheVariants.{Listed, BadTable,
 use Rattle.resolving.specs.declared.Resolution.{Resolution}
 use Rattle.resolving.specs.Answer.{lent_as, answer_refusal as list_refusal, left as left_list}
 use Rattle.corollaries.specs.declared.PairAnswer.TheVariants.{Both, NotExtracted, NotListed}
-use Rattle.corollaries.specs.declared.Pair.{Pair}
 use Rattle.corollaries.specs.Functions.{Exact, Pairs}
 use Rattle.corollaries.proofs.FunctionsLaws.{answers-exactly, answers-none, functions-keep-or-part}
 

@@ -3,7 +3,6 @@
 use lib.ListN.{length}
 use Rattle.extraction.specs.Answer.{lent_as, room_in}
 use Rattle.corollaries.proofs.PairLaws.{pairs-both, pairs-unlisted, pairs-unextracted}
-use borrow.Author.Rules.{rules}
 use Rattle.corollaries.proofs.extract_and_resolve.Goals as goal
 
 pub returns-in-Listed : goal.returns-in-Listed

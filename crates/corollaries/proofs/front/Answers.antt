@@ -3,7 +3,6 @@
 use Prim.Native.Nat.{◌+◌, ◌*◌}
 use Rattle.corollaries.proofs.PairLaws.{front-cut, front-whole}
 use native.Mathlib.Omega.{arith}
-use borrow.Author.Rules.{rules}
 use Rattle.corollaries.proofs.front.Goals as goal
 
 pub returns-then-s-lt3 : goal.returns-then-s-lt3

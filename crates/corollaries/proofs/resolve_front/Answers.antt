@@ -2,7 +2,6 @@
 use Rattle.corollaries.proofs.PairLaws.{front-resolved}
 use lib.ListN.{length}
 use Rattle.scope.specs.ScopeValue.{modules_of}
-use borrow.Author.Rules.{rules}
 use Rattle.corollaries.proofs.resolve_front.Goals as goal
 
 pub returns : goal.returns

@@ -1,9 +1,8 @@
 -- `set_mark`: by the kind of mark; the contract of each call is `marking` of that kind.
-use mathlib.Core.Path.{◌≡◌, refl, sym, ap, ◌∙◌}
+use mathlib.Core.Path.{refl, sym, ap, ◌∙◌}
 use Rattle.scope.specs.declared.Mark.{Mark}
 use Rattle.scope.specs.Modules.{marking}
 use Rattle.scope.specs.ScopeValue.{modules_of}
-use borrow.Author.Rules.{rules}
 use Rattle.corollaries.proofs.set_mark.Goals as goal
 
 pub returns-in-Loaded : goal.returns-in-Loaded

@@ -1,6 +1,5 @@
 -- `wrapped_exactly`: one way; `exact` joins the contract of the call with the theorem on lists of calls from a fresh scope on.
 use Rattle.corollaries.proofs.PairLaws.{exact}
-use borrow.Author.Rules.{rules}
 use Rattle.corollaries.proofs.wrapped_exactly.Goals as goal
 
 pub returns : goal.returns

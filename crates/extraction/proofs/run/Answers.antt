@@ -4,26 +4,6 @@ use Rattle.extraction.specs.Answer.{room_in}
 use Rattle.extraction.proofs.TopLaws.{run-bad, run-twice, run-unread, run-full, run-turned, run-short, run-turned-again, run-short-again, run-accepted, run-unwritten}
 use Rattle.extraction.proofs.run.Goals as goal
 
--- UNTRANSLATED Need-slice-bounds-second-pass-end
--- part-second-pass-end : tie.Need-slice-bounds-second-pass-end
--- part-second-pass-end c =
---     let c8 = c.before.before.before.before.before.before.before.before in
---     let b = inside-fits c.before.before.n.given.1 c8.first-pass.ensures.inside in omega arith
-
--- UNTRANSLATED Need-slice-bounds-deliver-records-end
--- part-deliver-records-end : tie.Need-slice-bounds-deliver-records-end
--- part-deliver-records-end c =
---     let c14 = c.before.before.before.before.before.before.before.before.before.before.before.before.before.before in
---     let c20 = c14.before.before.before.before.before.before in
---     let b = inside-fits c14.n.given.1 c20.first-pass.ensures.inside in omega arith
-
--- UNTRANSLATED Need-slice-bounds-deliver-records-end-2
--- part-deliver-records-end-2 : tie.Need-slice-bounds-deliver-records-end-2
--- part-deliver-records-end-2 c =
---     let c4 = c.before.before.before.before in
---     let c10 = c4.before.before.before.before.before.before in
---     let b = inside-fits c4.m.given.1 c10.second-pass.ensures.inside in omega arith
-
 pub returns-in-Bad : goal.returns-in-Bad
 returns-in-Bad c =
     λ l ms q p. run-bad l ms q p (room_in c.args.work.now c.args.out.now c.args.records.now) c.in-Bad.is

@@ -5,7 +5,6 @@ use Rattle.modes.specs.Bits.{modes_of}
 use lib.ListN.{length}
 use Rattle.extraction.specs.Answer.{lent_as, room_in}
 use Rattle.corollaries.proofs.HostsLaws.{there-scope, leaves-unextracted, leaves-unlisted, leaves-both}
-use borrow.Author.Rules.{rules}
 use Rattle.corollaries.proofs.exported.extract_then_resolve.Goals as goal
 
 pub returns-then-a-ne0 : goal.returns-then-a-ne0

@@ -1,13 +1,8 @@
 -- `put_files`: the invariant says that with the files from module i on all of them are written; `file-written` splits off the one at i.
 -- The measure is n - i.
-use Prim.Native.Nat.{ℕ, ◌+◌, ◌-◌, ◌*◌, ◌≤◌}
-use mathlib.Core.Path.{◌≡◌, refl, ◌∙◌}
-use mathlib.Core.List.{List}
+use Prim.Native.Nat.{◌+◌, ◌*◌}
+use mathlib.Core.Path.{refl, ◌∙◌}
 use native.Mathlib.Omega.{arith}
-use lib.ListN.{length}
-use borrow.Author.Rules.{rules}
-use Rattle.writer.specs.Wrote.{Wrote}
-use Rattle.corollaries.specs.Hosts.{files_from, files_back}
 use Rattle.corollaries.proofs.FilesLaws.{file-written, all-files, no-files}
 use Rattle.corollaries.proofs.exported.put_files.Goals as goal
 

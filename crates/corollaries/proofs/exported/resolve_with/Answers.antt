@@ -4,7 +4,6 @@ use Rattle.modes.specs.Bits.{modes_of}
 use native.Mathlib.Omega.{arith}
 use lib.ListN.{length}
 use Rattle.corollaries.proofs.FilesLaws.{lent-fits, lent-part}
-use borrow.Author.Rules.{rules}
 use Rattle.corollaries.proofs.exported.resolve_with.Goals as goal
 
 pub slice_bounds-tychodrel_resolve-end : goal.slice_bounds-tychodrel_resolve-end

@@ -7,5 +7,3 @@ pub returns : goal.returns
 returns c =
     context-put c.args.n.0 (ap (λ c. c.0) c.export_ctxt.ensures) c.open_field-content.ensures c.put_attributes-old.ensures
     c.put_context-p.ensures c.close_field.ensures
-
--- WARN c.0 at After-slice_known5

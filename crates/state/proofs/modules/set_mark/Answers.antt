@@ -6,12 +6,6 @@ use Rattle.state.proofs.ListLaws.{below-row}
 use Rattle.state.proofs.ModulesLaws.{marked-none, mark-there, mark-set, bit-small}
 use Rattle.state.proofs.modules.set_mark.Goals as goal
 
--- UNTRANSLATED Need-nonzero-div-if2
--- div-if2 : tie.Need-nonzero-div-if2
--- div-if2 c =
---     let c8 = c.before.before.before.before.before.before.before.before in
---     let b = bit-small c8.args.kind c.before.before.bit-of.ensures in omega arith
-
 pub count_of-requires : goal.count_of-requires
 count_of-requires c =
     c.requires.lies modules
