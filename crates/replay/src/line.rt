@@ -1,5 +1,5 @@
 // One line: the request is answered, and the answer compared with the one that is given.
-use crate::report;
+use crate::verdicts;
 use answer_text::Answer;
 use requests::respond;
 use text::fields::find;
@@ -41,7 +41,7 @@ fn different(t: Tally) -> Tally {
 }
 
 fn malformed(rt: &impl Print, t: Tally, why: &[u8]) -> Tally {
-    report::malformed(rt, one_more(t.cases), why);
+    verdicts::malformed(rt, one_more(t.cases), why);
     different(t)
 }
 
@@ -49,7 +49,7 @@ fn compared(rt: &impl Print, t: Tally, expected: &[u8], got: &[u8]) -> Tally {
     if expected == got {
         return same(t);
     }
-    report::difference(rt, one_more(t.cases), expected, got);
+    verdicts::difference(rt, one_more(t.cases), expected, got);
     different(t)
 }
 

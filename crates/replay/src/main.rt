@@ -3,7 +3,7 @@
 #![tactic(auto)]
 
 mod line;
-mod report;
+mod verdicts;
 
 ghost use Rattle.std.specs.Prelude.{◌≤◌, ◌<◌, length};
 ghost use Rattle.replay.specs.Window.{Within, CameIn};
@@ -189,5 +189,5 @@ fn main(rt: HostRuntime) {
     let mut window = [0u8; 1048576];
     let mut answer = [0u8; 1048576];
     let t = run(&rt, &mut rt.stdin(), &mut window, &mut answer);
-    report::total(&rt, t.cases, t.skipped, t.differences);
+    verdicts::total(&rt, t.cases, t.skipped, t.differences);
 }

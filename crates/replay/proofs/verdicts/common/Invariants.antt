@@ -1,6 +1,6 @@
 -- `common`: the place is within a.
 use Rattle.std.proofs.Common.{◌-◌, ◌≤◌, length}
-use Rattle.replay.proofs.report.common.Given as goal
+use Rattle.replay.proofs.verdicts.common.Given as goal
 
 abbrev pub invariant-loop-i : goal.invariant-loop-i
 invariant-loop-i l = l.i ≤ length l.a
