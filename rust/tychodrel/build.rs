@@ -1,4 +1,4 @@
-//! Finds the archive: in TYCHODREL_LIB_DIR, else where `rt staticlib` puts it in this repository.
+//! Finds the archive: in TYCHODREL_LIB_DIR, else where `tools/staticlib` puts it in this repository.
 
 use std::env;
 use std::path::{Path, PathBuf};
@@ -17,7 +17,7 @@ fn main() {
     } else {
         println!("cargo::error={} is missing", archive.display());
         println!(
-            "cargo::error=run `rt staticlib tychodrel` in {}, or set TYCHODREL_LIB_DIR",
+            "cargo::error=run tools/staticlib in {}, or set TYCHODREL_LIB_DIR",
             repository.display()
         );
     }
