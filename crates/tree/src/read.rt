@@ -49,6 +49,9 @@ pub enum PackedHead {
     Child(u32, usize),
 }
 
+// 'the deepest 64'
+const DEEPEST: usize = 64;
+
 // Tag, length, and depth are tested in this order.
 fn head_of(s: &[u8], at: usize, end: usize, depth: usize, rule: u32) -> PackedHead
     requires { (at ≤ end) × (end ≤ length s.now) }
@@ -67,7 +70,7 @@ fn head_of(s: &[u8], at: usize, end: usize, depth: usize, rule: u32) -> PackedHe
     let Reach::Upto(stop) = extent(s, at, end) else {
         return PackedHead::Bad(Why::Cut);
     };
-    if depth < 64 {
+    if depth < DEEPEST {
         PackedHead::Child(next, stop)
     } else {
         PackedHead::Bad(Why::Deep)

@@ -25,12 +25,12 @@ unfolding head_at on_step on_extent
 returns-in_default-extent c =
     rw (ne_eqb _ _ c.if-at-end.false, sym c.step_by.ensures ∙ ap unpack_step c.in-Go.is, sym c.extent.ensures ∙ c.in_default-extent.is)
 
-pub returns-then-depth-lt64 : goal.returns-then-depth-lt64
+pub returns-then-depth-lt-DEEPEST : goal.returns-then-depth-lt-DEEPEST
 unfolding head_at on_step on_extent
-returns-then-depth-lt64 c =
-    rw (ne_eqb _ _ c.if-at-end.false, sym c.step_by.ensures ∙ ap unpack_step c.in-Go.is, sym c.extent.ensures ∙ c.in-Upto.is, lt-ltb _ _ c.if-depth-lt64.true)
+returns-then-depth-lt-DEEPEST c =
+    rw (ne_eqb _ _ c.if-at-end.false, sym c.step_by.ensures ∙ ap unpack_step c.in-Go.is, sym c.extent.ensures ∙ c.in-Upto.is, lt-ltb _ _ c.if-depth-lt-DEEPEST.true)
 
-pub returns-else-depth-lt64 : goal.returns-else-depth-lt64
+pub returns-else-depth-lt-DEEPEST : goal.returns-else-depth-lt-DEEPEST
 unfolding head_at on_step on_extent
-returns-else-depth-lt64 c =
-    rw (ne_eqb _ _ c.if-at-end.false, sym c.step_by.ensures ∙ ap unpack_step c.in-Go.is, sym c.extent.ensures ∙ c.in-Upto.is, le-ltb _ _ c.if-depth-lt64.false)
+returns-else-depth-lt-DEEPEST c =
+    rw (ne_eqb _ _ c.if-at-end.false, sym c.step_by.ensures ∙ ap unpack_step c.in-Go.is, sym c.extent.ensures ∙ c.in-Upto.is, le-ltb _ _ c.if-depth-lt-DEEPEST.false)
