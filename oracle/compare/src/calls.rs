@@ -56,7 +56,7 @@ pub fn make(request: &Request, rooms: &[usize]) -> Outcome {
             records,
         } => resolve(files, table, records, rooms[0]),
         Request::Detect { config, tree } => {
-            Outcome::without_scope(calls::detect(u32::from(*config), &copy(tree)), Vec::new())
+            Outcome::without_scope(calls::detect(modes(*config, tree), &copy(tree)), Vec::new())
         }
         Request::Encode {
             injected,
@@ -76,6 +76,11 @@ pub fn make(request: &Request, rooms: &[usize]) -> Outcome {
     }
 }
 
+/// The mode that a request asks for, and bits without a meaning, which change nothing: the tree's length tells them.
+fn modes(config: bool, tree: &[u8]) -> u32 {
+    u32::from(config) | (tree.len() as u32) << 1
+}
+
 fn extract(lent: &Lent, tree: &[u8], rooms: &[usize]) -> Outcome {
     let mut scope = Box::new([FILL; 770]);
     let mut report = Box::new([FILL; 32]);
@@ -83,7 +88,7 @@ fn extract(lent: &Lent, tree: &[u8], rooms: &[usize]) -> Outcome {
     let answer = calls::extract(
         &copy(&lent.files),
         lent.own,
-        u32::from(lent.config),
+        modes(lent.config, tree),
         &copy(&lent.externals),
         &copy(&lent.table),
         &copy(tree),
