@@ -540,7 +540,8 @@ module _ (l : Lent) (scope : Scope) {t work out records work2 out2 records2 : Li
         tt,
       )
 
-  pub left-refused : {work3 out3 records3 : List ℕ} {n : Report} → (a ≡ Accepted → ⊥) → n ≡ no_counts → work3 ≡ zeroed work2 → out3 ≡ zeroed out2 → records3 ≡ zeroed records2 →
+  pub left-refused : {work3 out3 records3 : List ℕ} {n : Report} → (a ≡ Accepted → ⊥) → n ≡ no_counts → work3 ≡ zeroed work2 → out3 ≡ zeroed out2 →
+      records3 ≡ zeroed records2 →
       length work2 ≡ length work → length out2 ≡ length out → length records2 ≡ length records →
       (left (record { scope = scope; report = n; answer = a }) work3 out3 records3 ≡ extraction l (room_in work out records) (modules_of scope)) × UnreadAs a (read Module l.tree)
   left-refused e h p q r i j k =

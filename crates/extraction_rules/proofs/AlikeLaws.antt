@@ -150,7 +150,8 @@ module _ (e : Setting) (one : e.pass ≡ first) where
   declarator-alike : (cs ds : Fields) (p : ℕ) (s : State) → AlikeAll cs ds → After (declarator e ds p s) (λ gs s. AlikeAll cs gs)
   declarator-alike cs ds p s h = declarator-value e (AlikeAll cs) ds p s h (λ q i rest n l w r. go cs q i rest n l r (subst (AlikeAll cs) w h))
     where
-      go : (cs : Fields) (q i : Field) (rest : Fields) (n : ℕ) (l : List ℕ) → required e i ≡ some l → AlikeAll cs (more q (more i rest)) → AlikeAll cs (more q (more (with_callee n i) rest))
+      go : (cs : Fields) (q i : Field) (rest : Fields) (n : ℕ) (l : List ℕ) → required e i ≡ some l → AlikeAll cs (more q (more i rest)) →
+          AlikeAll cs (more q (more (with_callee n i) rest))
       go none q i rest n l r h = alike-none q (more i rest) h
       go (more c none) q i rest n l r h = alike-none i rest (alike-more c none q (more i rest) h).1
       go (more c (more d fs)) q i rest n l r h =
@@ -272,7 +273,8 @@ first-byte [] = refl
 first-byte (a ∷ x) = refl
 
 -- a 23's original stays
-original-kind : (x y : List ℕ) → take 7 y ≡ take 7 x → ((get_or x 0 0 ≡ 1) × (7 ≤ length x)) ⊎ (get_or x 0 0 ≡ 2) → ((get_or y 0 0 ≡ 1) × (7 ≤ length y)) ⊎ (get_or y 0 0 ≡ 2)
+original-kind : (x y : List ℕ) → take 7 y ≡ take 7 x → ((get_or x 0 0 ≡ 1) × (7 ≤ length x)) ⊎ (get_or x 0 0 ≡ 2) →
+    ((get_or y 0 0 ≡ 1) × (7 ≤ length y)) ⊎ (get_or y 0 0 ≡ 2)
 original-kind x y q (inl k) =
     inl (first-byte y ∙ ap (λ (l : List ℕ). get_or l 0 0) q ∙ sym (first-byte x) ∙ k.0, let e = ap length q in let a = length-take-le 7 x k.1 in let b = length-take 7 y in omega arith)
 original-kind x y q (inr k) = inr (first-byte y ∙ ap (λ (l : List ℕ). get_or l 0 0) q ∙ sym (first-byte x) ∙ k)

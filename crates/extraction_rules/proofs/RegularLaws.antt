@@ -56,12 +56,14 @@ part-outer q q' t h e =
     (neither-or (eqb t 0x20) _ (no 0x20 (λ x w. (or-neither (holds_at x 0x20) _ (four x w)).0))
     (neither-or (eqb t 0x21) _ (no 0x21 (λ x w. (or-neither (holds_at x 0x21) _ (five x w)).0))
     (neither-or (eqb t 0x22) _ (no 0x22 (λ x w. (or-neither (holds_at x 0x22) _ (six x w)).0))
-    (neither-or (eqb t 0x80) _ (no 0x80 (λ x w. (or-neither (holds_at x 0x80) (holds_at x 0x81) (seven x w)).0)) (no 0x81 (λ x w. (or-neither (holds_at x 0x80) (holds_at x 0x81) (seven x w)).1))))))))
+    (neither-or (eqb t 0x80) _ (no 0x80 (λ x w. (or-neither (holds_at x 0x80) (holds_at x 0x81) (seven x w)).0)) (no 0x81 (λ x w. (or-neither (holds_at x 0x80)
+    (holds_at x 0x81) (seven x w)).1))))))))
   where
     no : (u : ℕ) → ((x : Set) → takes_outer x ≡ false → holds_at x u ≡ false) → eqb t u ≡ false
     no u k = is-false (eqb t u) (λ z. step-untaken takes_outer u k q q' h (ap (step_at q) (sym (eqb-true t u z)) ∙ e))
 
-    two : (x : Set) → takes_outer x ≡ false → holds_at x 0x02 || (holds_at x 0x10 || (holds_at x 0x20 || (holds_at x 0x21 || (holds_at x 0x22 || (holds_at x 0x80 || holds_at x 0x81))))) ≡ false
+    two : (x : Set) → takes_outer x ≡ false →
+        holds_at x 0x02 || (holds_at x 0x10 || (holds_at x 0x20 || (holds_at x 0x21 || (holds_at x 0x22 || (holds_at x 0x80 || holds_at x 0x81))))) ≡ false
     two x w = (or-neither (holds_at x 0x01) _ w).1
 
     three : (x : Set) → takes_outer x ≡ false → holds_at x 0x10 || (holds_at x 0x20 || (holds_at x 0x21 || (holds_at x 0x22 || (holds_at x 0x80 || holds_at x 0x81)))) ≡ false
@@ -142,8 +144,16 @@ target-tag (more g gs) h f fs q = go (target-step (tag_of g) h.0 h.1).0
     e = cc
 
     go : (tag_of g ≡ 0x50) ⊎ (tag_of g ≡ 0x63) → (tag_of f ≡ 0x60 → ⊥) × (tag_of f ≡ 0x23 → ⊥)
-    go (inl k) = ((λ z. let v : ◌≡◌ {A = ℕ} 0x50 0x60 = sym k ∙ ap tag_of e ∙ z in omega arith), (λ z. let v : ◌≡◌ {A = ℕ} 0x50 0x23 = sym k ∙ ap tag_of e ∙ z in omega arith))
-    go (inr k) = ((λ z. let v : ◌≡◌ {A = ℕ} 0x63 0x60 = sym k ∙ ap tag_of e ∙ z in omega arith), (λ z. let v : ◌≡◌ {A = ℕ} 0x63 0x23 = sym k ∙ ap tag_of e ∙ z in omega arith))
+    go (inl k) = (
+      (λ z. let v : ◌≡◌ {A = ℕ} 0x50 0x60 = sym k ∙ ap tag_of e ∙ z in omega arith),
+      (λ z. let v : ◌≡◌ {A = ℕ} 0x50 0x23 = sym k ∙ ap tag_of e
+          ∙ z in omega arith),
+    )
+    go (inr k) = (
+      (λ z. let v : ◌≡◌ {A = ℕ} 0x63 0x60 = sym k ∙ ap tag_of e ∙ z in omega arith),
+      (λ z. let v : ◌≡◌ {A = ℕ} 0x63 0x23 = sym k ∙ ap tag_of e
+          ∙ z in omega arith),
+    )
 
 regular-at : (t : ℕ) (x : List ℕ) (cs : Fields) → outer t ≡ false → Exact t x → ShapedAll cs (rule_of t) → RegularAt t x cs
 regular-at t x cs o h k =

@@ -120,7 +120,8 @@ unfolding append find_field
 holds-left j none fs h = refl
 holds-left j (more f gs) fs h = go (has 0x22 f && same (fixed_of f) j) h (holds-left j gs fs)
   where
-    go : (b : Bool) → is_some (cond b (some f) (find_field (λ f. has 0x22 f && same (fixed_of f) j) (append gs fs))) ≡ false → (holds_in j (append gs fs) ≡ false → holds_in j gs ≡ false) →
+    go : (b : Bool) → is_some (cond b (some f) (find_field (λ f. has 0x22 f && same (fixed_of f) j) (append gs fs))) ≡ false → (holds_in j (append gs fs) ≡ false →
+        holds_in j gs ≡ false) →
         is_some (cond b (some f) (find_field (λ f. has 0x22 f && same (fixed_of f) j) gs)) ≡ false
     go true h k = absurd (true≢false h)
     go false h k = k h

@@ -55,7 +55,8 @@ unfolding count_namespaces
 count-keep none = sym (ap count_namespaces (keep-none (has 0x22)))
 count-keep (more f fs) = by (has 0x22 f) refl (count-keep fs)
   where
-    by : (b : Bool) → has 0x22 f ≡ b → count_namespaces fs ≡ count_namespaces (keep (has 0x22) fs) → flag (has 0x22 f) + count_namespaces fs ≡ count_namespaces (keep (has 0x22) (more f fs))
+    by : (b : Bool) → has 0x22 f ≡ b → count_namespaces fs ≡ count_namespaces (keep (has 0x22) fs) →
+        flag (has 0x22 f) + count_namespaces fs ≡ count_namespaces (keep (has 0x22) (more f fs))
     by true e h = ap (λ (n : ℕ). flag (has 0x22 f) + n) h ∙ sym (count-more f (keep (has 0x22) fs)) ∙ ap count_namespaces (sym (keep-yes (has 0x22) f fs e))
     by false e h = let z : flag (has 0x22 f) ≡ 0 = ap flag e in let k = ap count_namespaces (keep-no (has 0x22) f fs e) in omega arith
 

@@ -33,7 +33,8 @@ abbrev pub NotedAll : ℕ → List ℕ → ℕ → ℕ → List ℕ → List ℕ
 NotedAll n s at end t out to r t' out' =
     Steps encodes (λ x u. Row s at end (rule_of 0x10)) (λ _. note_all n (specifiers_in (row_at s at end)) at) t out to t' out' r
 
-noted-none : (n : ℕ) {P : Type 0} (fs : Fields) (at : ℕ) {t out : List ℕ} {to : ℕ} → Good t → (P → fs ≡ none) → Steps encodes (λ x u. P) (λ _. note_all n fs at) t out to t out (Done to)
+noted-none : (n : ℕ) {P : Type 0} (fs : Fields) (at : ℕ) {t out : List ℕ} {to : ℕ} → Good t → (P → fs ≡ none) →
+    Steps encodes (λ x u. P) (λ _. note_all n fs at) t out to t out (Done to)
 unfolding note_all encode
 noted-none n fs at g e = steps-done g refl (λ x s k a. record { value = none; state = s; is = ap (λ (z : Fields). note_all n z at s) (e a); wrote = wrote-none; shows = k })
 
@@ -51,9 +52,11 @@ module _ (n : ℕ) (s : List ℕ) (at end : ℕ) {t out : List ℕ} {to : ℕ} (
     pub notes-attributes : Good t → get_or s at 0 ≡ 0x2F → NotedAll n s at end t out to (Done to) t out
     notes-attributes g k = noted-none n (specifiers_in (row_at s at end)) at g (λ w. last-specifiers (part-last bytes le fits e w k))
 
-    module _ {t' out' : List ℕ} {k : Step} (no : get_or s at 0 ≡ 0x2F → ⊥) (v : Steps encode (λ x u. Specified s at stop) (λ _. note_specifier n (tree_at s at stop) at) t out to t' out' k) where
+    module _ {t' out' : List ℕ} {k : Step} (no : get_or s at 0 ≡ 0x2F → ⊥) (v : Steps encode (λ x u. Specified s at stop)
+        (λ _. note_specifier n (tree_at s at stop) at) t out to t' out' k) where
       step-is : (u : State) → Row s at end (rule_of 0x10) →
-          note_all n (specifiers_in (row_at s at end)) at u ≡ (note_specifier n (tree_at s at stop) at >>= (λ g. note_all n (specifiers_in (row_at s stop end)) stop >>= (λ gs. give (more g gs)))) u
+          note_all n (specifiers_in (row_at s at end)) at u ≡
+          (note_specifier n (tree_at s at stop) at >>= (λ g. note_all n (specifiers_in (row_at s stop end)) stop >>= (λ gs. give (more g gs)))) u
       step-is u w =
           let f = part-first bytes le fits e w no in
           let i = extent-upto s at end le e in

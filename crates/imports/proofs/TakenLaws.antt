@@ -142,7 +142,8 @@ module _ (s : List ℕ) (at stop : ℕ) (bytes : Bytes s) (room : at + 3 ≤ sto
 
   abbrev Apart : Id → List ℕ → List ℕ → ℕ → List ℕ → List ℕ → ℕ → Type 0
   Apart id t out o t' out' p =
-      Steps encode (λ x u. ReadAt s at stop × (among (value_of Literal) (sources_in u.collected) ≡ true)) (λ _ u. take_apart (usages_of (id_by id) u.usages) Literal Parts u) t out o t' out' (Done p)
+      Steps encode (λ x u. ReadAt s at stop × (among (value_of Literal) (sources_in u.collected) ≡ true))
+      (λ _ u. take_apart (usages_of (id_by id) u.usages) Literal Parts u) t out o t' out' (Done p)
 
   pub apart-some : (id : Id) {t out out' : List ℕ} {o p : ℕ} {b : Bool} → Good t → length out' ≡ length out → Tells (λ u. any (usages_of (id_by id) u.usages)) t b → b ≡ true →
       (ReadAt s at stop → Writes (λ u. encode (field 0x10 Literal (append (specifiers_from (usages_of (id_by id) u.usages)) (attributes_in Parts)))) t out o out' p) → Apart id t out o t out' p

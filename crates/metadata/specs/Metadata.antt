@@ -13,7 +13,8 @@ injected_key =
 -- `__swc_bundler__export_ctxt__`
 abbrev pub context_key : List ℕ
 context_key =
-    95 ∷ 95 ∷ 115 ∷ 119 ∷ 99 ∷ 95 ∷ 98 ∷ 117 ∷ 110 ∷ 100 ∷ 108 ∷ 101 ∷ 114 ∷ 95 ∷ 95 ∷ 101 ∷ 120 ∷ 112 ∷ 111 ∷ 114 ∷ 116 ∷ 95 ∷ 99 ∷ 116 ∷ 120 ∷ 116 ∷
+    95 ∷ 95 ∷ 115 ∷ 119 ∷ 99 ∷ 95 ∷ 98 ∷ 117 ∷ 110 ∷ 100 ∷ 108 ∷ 101 ∷ 114 ∷ 95 ∷ 95 ∷ 101 ∷ 120 ∷ 112 ∷ 111 ∷ 114 ∷
+    116 ∷ 95 ∷ 99 ∷ 116 ∷ 120 ∷ 116 ∷
     95 ∷ 95 ∷ []
 
 -- '30: key kind (1 identifier, 0 other), value kind (1 string, 0 other), key length byte, key, value': what stands before the value

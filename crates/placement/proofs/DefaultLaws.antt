@@ -57,7 +57,8 @@ sole-one (more f none) zero s h e = let q : f ≡ s = cc in ap (λ (g : Field). 
 sole-one (more f none) (suc m) s h e = absurd (let z : ◌≡◌ {A = ℕ} 0 1 = cc in omega arith)
 sole-one (more f (more g gs)) m s h e = absurd (true≢false (sym h))
 
-namespace-sole : (f : Field) (m : ℕ) (s : Field) → sole_namespace f ≡ true → item_at m (specifiers_in (parts_of f)) ≡ some s → has 0x22 s ≡ true → specifiers_in (parts_of f) ≡ more s none
+namespace-sole : (f : Field) (m : ℕ) (s : Field) → sole_namespace f ≡ true → item_at m (specifiers_in (parts_of f)) ≡ some s → has 0x22 s ≡ true →
+    specifiers_in (parts_of f) ≡ more s none
 unfolding sole_namespace
 namespace-sole f m s h e q = sole-one (specifiers_in (parts_of f)) m s (go (is_some (find_field (has 0x22) (parts_of f))) (kept-found (parts_of f) m s e q) h) e
   where
@@ -126,4 +127,5 @@ module _ (own : ℕ) (items : Fields) (shape : Each Shaped items) (share : share
       EachImport (λ f. Each (OfImport (SpaceIn own items) own (space-local own items)) (specifiers_in (parts_of f))) items
   imports-of h w =
       each-from (λ f. tag_of f ≡ 0x10 → Each (OfImport (SpaceIn own items) own (space-local own items)) (specifiers_in (parts_of f))) items
-      (λ k f e t. of-import k f e t (each-at (λ f. tag_of f ≡ 0x10 → own_locals own f ≡ true) k items f h e t) (each-at (λ f. tag_of f ≡ 0x10 → sole_namespace f ≡ true) k items f w e t))
+      (λ k f e t. of-import k f e t (each-at (λ f. tag_of f ≡ 0x10 → own_locals own f ≡ true) k items f h e t) (each-at (λ f. tag_of f ≡ 0x10 →
+      sole_namespace f ≡ true) k items f w e t))

@@ -181,7 +181,8 @@ module _ (b : Bool) (l : List ℕ) (s : List ℕ) (at end : ℕ) (r : List ℕ) 
   taken-past-out h = sieve-nothing b (taken l (row_at s at end) (row_at r at' end')) (ap (taken l (row_at s at end)) (row-past r at' end' h) ∙ taken-end l (row_at s at end))
 
   pub taken-none : at ≤ end → extent_at s at end ≡ Short → encodes (sieve b (taken l (row_at s at end) (row_at r at' end'))) ≡ []
-  taken-none le e = sieve-nothing b (taken l (row_at s at end) (row_at r at' end')) (ap (λ (ws : Fields). taken l ws (row_at r at' end')) (row-none s at end le e) ∙ taken-start l (row_at r at' end'))
+  taken-none le e = sieve-nothing b (taken l (row_at s at end) (row_at r at' end')) (ap (λ (ws : Fields). taken l ws (row_at r at' end')) (row-none s at end le e)
+      ∙ taken-start l (row_at r at' end'))
 
   pub taken-none-out : at' ≤ end' → extent_at r at' end' ≡ Short → encodes (sieve b (taken l (row_at s at end) (row_at r at' end'))) ≡ []
   taken-none-out le e = sieve-nothing b (taken l (row_at s at end) (row_at r at' end')) (ap (taken l (row_at s at end)) (row-none r at' end' le e) ∙ taken-end l (row_at s at end))

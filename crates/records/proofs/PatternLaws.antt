@@ -72,7 +72,8 @@ module _ (s : List ℕ) (at stop : ℕ) where
         is (inr k) = ap binding_of k ∙ bound-54
 
     -- the left pattern
-    pub bindings-left : {l l' : List ℕ} {o p : ℕ} → get_or s at 0 ≡ 0x55 → Wrote l o (encodes (bindings_first (row_at s b stop))) l' p → Wrote l o (encodes (bindings (tree_at s at stop))) l' p
+    pub bindings-left : {l l' : List ℕ} {o p : ℕ} → get_or s at 0 ≡ 0x55 → Wrote l o (encodes (bindings_first (row_at s b stop))) l' p →
+        Wrote l o (encodes (bindings (tree_at s at stop))) l' p
     bindings-left h v = wrote-as v (ap encodes (sym (by-tag left (ap binding_of h ∙ left-55))))
 
     -- all parts
@@ -100,4 +101,5 @@ module _ (s : List ℕ) (at end : ℕ) (le : at ≤ end) where
       Wrote l' p (encodes (bindings_all (row_at s stop end))) l'' q → Wrote l o (encodes (bindings_all (row_at s at end))) l'' q
   unfolding bindings_all
   all-more {stop = stop} e v w =
-      wrote-as (wrote-then v w) (sym (ap (λ (fs : Fields). encodes (bindings_all fs)) (row-more s at end stop le e) ∙ encodes-append (bindings (tree_at s at stop)) (bindings_all (row_at s stop end))))
+      wrote-as (wrote-then v w) (sym (ap (λ (fs : Fields). encodes (bindings_all fs)) (row-more s at end stop le e) ∙ encodes-append (bindings (tree_at s at stop))
+      (bindings_all (row_at s stop end))))

@@ -102,7 +102,8 @@ module _ (rows : List Row) (forced : List (List ℕ)) (ms : Modules) {s : List �
         record {
           is =
               ap (λ (fs : Fields). resolved_all rows forced ms fs at) w.row
-              ∙ ap (λ (p : ℕ). consed (resolved_record (file_of (source_of f) rows) forced ms f at) (resolved_all rows forced ms (sources_in (row_at s stop (length s))) p)) (source-after w.source);
+              ∙ ap (λ (p : ℕ). consed (resolved_record (file_of (source_of f) rows) forced ms f at)
+              (resolved_all rows forced ms (sources_in (row_at s stop (length s))) p)) (source-after w.source);
         }
 
     pub numbers-next : NumbersAll rows ms (sources_in (row_at s at (length s))) → Numbers rows ms (tree_at s at stop) × NumbersAll rows ms (sources_in (row_at s stop (length s)))

@@ -89,7 +89,8 @@ behind-stays t = record { same = λ i d. refl; grown = λ h d. omega arith }
 pub hints-none : {t : List ℕ} → Good t → HintsModules 0 t t
 hints-none g = record { aside = cell-stays g; behind = behind-stays _; hinted = λ i h. absurd (omega arith) }
 
-pub hints-more : {i file : ℕ} {t m t' : List ℕ} → HintsModules i t m → i < 256 → file ≡ get_or m (15482 + 2 * i) 0 → Aside m t' → Behind m t' → 256 ≤ i + module_hint t' (file % 256) →
+pub hints-more : {i file : ℕ} {t m t' : List ℕ} → HintsModules i t m → i < 256 → file ≡ get_or m (15482 + 2 * i) 0 → Aside m t' → Behind m t' →
+    256 ≤ i + module_hint t' (file % 256) →
     HintsModules (i + 1) t t'
 hints-more {i} {file} {t} {m} {t'} w b e a d h =
     record {

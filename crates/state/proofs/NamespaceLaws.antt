@@ -194,7 +194,8 @@ brief-other f r e =
     ∙ ap (λ (o : Option (List ℕ)). record { value = value_of r.literal; literal = r.literal; namespace = o }) (either-nothing (brief r).namespace)
 
 -- a namespace is seen where it is the first
-brief-first : (y : Env) (f : Field) (k : ℕ) (r : Row) (q : Record) → has 0x22 f ≡ true → fixed_of f ≡ id_of k → brief_of y r ≡ brief q → r.1 ≡ 0 → brief_of y (r.0, k + 1) ≡ brief (with f q)
+brief-first : (y : Env) (f : Field) (k : ℕ) (r : Row) (q : Record) → has 0x22 f ≡ true → fixed_of f ≡ id_of k → brief_of y r ≡ brief q → r.1 ≡ 0 →
+    brief_of y (r.0, k + 1) ≡ brief (with f q)
 unfolding brief brief_of either
 brief-first y f k r q tag x e z =
     let n : (brief q).namespace ≡ nothing = sym (ap (λ (b : Brief). b.namespace) e) ∙ ap namespace_of z in
@@ -215,7 +216,8 @@ brief-again y f r q e z =
     ∙ ap (λ (o : Option (List ℕ)). record { value = value_of q.literal; literal = q.literal; namespace = o })
     (ap (λ (o : Option (List ℕ)). either o (mapped fixed_of (cond (has 0x22 f) (some f) nothing))) (sym n) ∙ either-some r.1 _ z ∙ n)
 
-pub briefs-first : (y : Env) (i k : ℕ) (f : Field) (R : List Row) (l : List Record) → has 0x22 f ≡ true → fixed_of f ≡ id_of k → map (brief_of y) R ≡ map brief l → (row_of R i).1 ≡ 0 →
+pub briefs-first : (y : Env) (i k : ℕ) (f : Field) (R : List Row) (l : List Record) → has 0x22 f ≡ true → fixed_of f ≡ id_of k → map (brief_of y) R ≡ map brief l →
+    (row_of R i).1 ≡ 0 →
     map (brief_of y) (with_value i (k + 1) R) ≡ map brief (extend_at i (more f none) l)
 unfolding with_value extend_at
 briefs-first y i k f [] [] tag x e z = refl

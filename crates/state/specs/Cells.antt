@@ -1,6 +1,7 @@
 -- What the walk keeps, in one lent array of numbers: where each table lies, and which state of the rules the array shows.
 -- Document 01, 'Vec, maps, atomics, panics': "hash maps become arrays in insertion order".
-use Rattle.std.specs.Prelude.{ℕ, zero, suc, ◌+◌, ◌*◌, ◌/◌, ◌%◌, ◌<◌, ◌≤◌, ◌≡◌, Bool, true, false, cond, ◌||◌, List, [], ◌∷◌, ◌++◌, map, eqb, length, get_or}
+use Rattle.std.specs.Prelude.{ℕ, zero, suc, ◌+◌, ◌*◌, ◌/◌, ◌%◌, ◌<◌, ◌≤◌, ◌≡◌, Bool, true, false, cond, ◌||◌}
+use Rattle.std.specs.Prelude.{List, [], ◌∷◌, ◌++◌, map, eqb, length, get_or}
 use Rattle.std.proofs.Math.Option.{Option, none as nothing, some}
 use Rattle.tables.specs.Rows.{Row, rows, Lies, next, first_in, least_of}
 use Rattle.tables.specs.declared.Table.{Table}

@@ -46,7 +46,8 @@ turned-as {w = w} {v} {p} {q} e f =
 -- ---- One step
 
 -- it is done, or refused
-module _ {A : Type 0} {bytes : A → List ℕ} {P : Env → State → Type 0} {act : Env → Act A} {t out : List ℕ} {o : ℕ} {t' out' : List ℕ} (g : Good t') (z : length out' ≡ length out) where
+module _ {A : Type 0} {bytes : A → List ℕ} {P : Env → State → Type 0} {act : Env → Act A} {t out : List ℕ} {o : ℕ} {t' out' : List ℕ} (g : Good t')
+    (z : length out' ≡ length out) where
   pub steps-done : {p : ℕ} → ((x : Env) (s : State) → Shows x t s → P x s → Made bytes x (act x s) out o t' out' p) → Steps bytes P act t out o t' out' (Done p)
   steps-done h =
       record {
@@ -93,7 +94,8 @@ steps-as rule m h = steps-by rule m (λ x s w c. h x s c)
 -- a value made of the step's value, with the same bytes
 pub steps-map : {A B : Type 0} (b_a : A → List ℕ) (b_b : B → List ℕ) (h : A → B) {P : Env → State → Type 0} (R : Env → State → Type 0) {m : Env → Act A}
     {t out t' out' : List ℕ} {o : ℕ} {k : Step} →
-    Steps b_a P m t out o t' out' k → ((x : Env) (s : State) → R x s → P x s) → ((x : Env) (s : State) → R x s → (a : A) (s1 : State) → m x s ≡ done (a, s1) → b_b (h a) ≡ b_a a) →
+    Steps b_a P m t out o t' out' k → ((x : Env) (s : State) → R x s → P x s) → ((x : Env) (s : State) → R x s → (a : A) (s1 : State) → m x s ≡ done (a, s1) →
+    b_b (h a) ≡ b_a a) →
     Steps b_b R (λ x s. onto (m x s) (λ r. done (h r.0, r.1))) t out o t' out' k
 steps-map {A} {B} b_a b_b h R m before bytes =
     record {
@@ -229,7 +231,8 @@ steps-field {x = x} {n = n} (Refused v p) b m e =
 
 -- ---- Steps that write nothing
 
-pub steps-did : {P : Env → State → Type 0} {act : Env → Act (Unit {0})} {t t' out : List ℕ} {o : ℕ} → Good t' → ((x : Env) (s : State) → Shows x t s → P x s → Did x (act x s) t') →
+pub steps-did : {P : Env → State → Type 0} {act : Env → Act (Unit {0})} {t t' out : List ℕ} {o : ℕ} → Good t' → ((x : Env) (s : State) → Shows x t s → P x s →
+    Did x (act x s) t') →
     Steps (λ _. []) P act t out o t' out (Done o)
 steps-did g h = steps-done g refl (λ x s w c. let d = h x s w c in record { value = tt; state = d.state; is = d.is; wrote = wrote-none; shows = d.shows })
 

@@ -143,7 +143,8 @@ module _ (taken : Bool) (i c : List ℕ) (own : ℕ) where
       two-front (x ∷ (y ∷ [])) c q = refl
       two-front (x ∷ (y ∷ (z ∷ p))) c q = absurd (omega arith)
 
-  callee-out : (f g : Field) (n : ℕ) → tag_of g ≡ 0x60 → name_of (fixed_of g) ≡ two require_atom → Out f g → Out f (field (tag_of g) (id_from (name_of (fixed_of g)) (export n)) (parts_of g))
+  callee-out : (f g : Field) (n : ℕ) → tag_of g ≡ 0x60 → name_of (fixed_of g) ≡ two require_atom → Out f g →
+      Out f (field (tag_of g) (id_from (name_of (fixed_of g)) (export n)) (parts_of g))
   callee-out (field m z ds) g n q w (inl h) = inl (h.0, callee-bytes m z (fixed_of g) n h.1 (sym h.0 ∙ q) w, h.2, h.3)
   callee-out (field m z ds) g n q w (inr h) = inr (turned-callee m ds g n w q h)
 

@@ -124,7 +124,8 @@ module _ (plain taken : Bool) (less : taken ≡ true → plain ≡ true) (i lit 
     behind-name (x ∷ (y ∷ (z ∷ p))) d q = absurd (omega arith)
 
     -- a walked 60: the same id, or one in another context
-    walked-ident : (o w : Field) → O o w → tag_of w ≡ 0x60 → ((tag_of o ≡ 0x60) × (fixed_of w ≡ fixed_of o)) ⊎ ((fixed_of o ≡ i → tag_of o ≡ 0x60 → ⊥) × Foreign own (fixed_of w))
+    walked-ident : (o w : Field) → O o w → tag_of w ≡ 0x60 → ((tag_of o ≡ 0x60) × (fixed_of w ≡ fixed_of o)) ⊎ ((fixed_of o ≡ i → tag_of o ≡ 0x60 →
+        ⊥) × Foreign own (fixed_of w))
     walked-ident (field k z os) w (inr h) t = inr ((λ _ q. let v : ◌≡◌ {A = ℕ} 0x63 0x60 = sym h.tag ∙ q in omega arith), h.foreign)
     walked-ident (field k z os) w (inl h) t = go h.1
       where

@@ -221,7 +221,8 @@ module _ (i lit : List ℕ) (own file n : ℕ) (us : List How) (context : contex
         (walk-out plain taken taken-plain i lit own file n ps J carried taken-used named context e two-pass g false p s (regular-alike f g w.1 w.0)
         (subst (Fine plain) (sym (ways-alike i named f g false w.1)) fine) at)
 
-    behind-again : (fs gs : Fields) (p : ℕ) (s : State) → Each (Beside i lit own file) fs → PairedAll (WorkedItem i lit own file context) fs gs → Fine plain (ways_all fs i false) → Holding Late s →
+    behind-again : (fs gs : Fields) (p : ℕ) (s : State) → Each (Beside i lit own file) fs → PairedAll (WorkedItem i lit own file context) fs gs →
+        Fine plain (ways_all fs i false) → Holding Late s →
         After (walk_all gs e false p s) (λ hs t. Holding Late t × PairedAll OutItem fs hs)
     unfolding walk ways
     behind-again none gs p s b w fine at = rw w (at, refl)
@@ -260,7 +261,8 @@ module _ (i lit : List ℕ) (own file n : ℕ) (us : List How) (context : contex
         (after-both (import_second e lit es s) (λ h t. Settled taken i lit c ps t × Declared i lit own file taken c ps es h) (λ h t. Same s t)
         (second-own i lit own file n us e es s inner (rw w refl) h.0) (second-same e lit es s)))
 
-    around-again : (k : ℕ) (fs gs : Fields) (p : ℕ) (s : State) → Around i lit own file k fs → Worked i lit own file context k fs gs → Fine plain (ways_all fs i false) → Holding Early s →
+    around-again : (k : ℕ) (fs gs : Fields) (p : ℕ) (s : State) → Around i lit own file k fs → Worked i lit own file context k fs gs →
+        Fine plain (ways_all fs i false) → Holding Early s →
         After (walk_all gs e false p s) (λ hs t. Holding Late t × Outs k fs hs)
     unfolding walk ways
     around-again k none gs p s b w fine h = absurd w

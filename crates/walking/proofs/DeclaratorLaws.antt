@@ -250,7 +250,8 @@ declarator-more e q (more i rest) p u = go (require_lazily (required e i) e q i 
     go (refused n k) = refl
 
 module _ (object : Bool) (s : List ℕ) (bytes : Bytes s) (at end p : ℕ) (le : at ≤ end) where
-  pub declared-over : {t out : List ℕ} {o : ℕ} → extent_at s at end ≡ Short → Good t → Steps encodes (λ y u. Declares s at end y) (λ y. declared y.setting object s at end p) t out o t out (Done o)
+  pub declared-over : {t out : List ℕ} {o : ℕ} → extent_at s at end ≡ Short → Good t → Steps encodes (λ y u. Declares s at end y)
+      (λ y. declared y.setting object s at end p) t out o t out (Done o)
   unfolding declarator encode
   declared-over x g =
       steps-give encodes _ (λ y. declared y.setting object s at end p) none g refl

@@ -114,7 +114,8 @@ sole-behind {s} {at} {stop} w q x h m e n f =
     subst (λ (k : ℕ). extent_at s n k ≡ Short) z (none-left s n)
 
 -- a 42, once its parts are declared
-pub node-42 : (object : Bool) (s : List ℕ) (at stop : ℕ) → at + 3 ≤ stop → stop ≤ length s → get_or s at 0 ≡ 0x42 → {t t' out out1 out2 out3 : List ℕ} {o c : ℕ} (r : Step) {k : Step} →
+pub node-42 : (object : Bool) (s : List ℕ) (at stop : ℕ) → at + 3 ≤ stop → stop ≤ length s → get_or s at 0 ≡ 0x42 →
+    {t t' out out1 out2 out3 : List ℕ} {o c : ℕ} (r : Step) {k : Step} →
     Begun out o (get_or s at 0) (slice (at + 3) (at + 3) s) out1 c → Steps encodes (λ y u. Declares s (at + 3) stop y) (λ y. declared y.setting object s (at + 3) stop at) t out1 c t' out2 r →
     Ended o r out2 out3 k → FieldSteps s at stop (λ y. walk (tree_at s at stop) y.setting object at) t out o t' out3 k
 node-42 object s at stop h len q r b m e =

@@ -58,7 +58,8 @@ by-parts e t x cs object p s v q h =
 -- ---- Each tag
 
 module _ (e : Setting) (x : List ℕ) (cs : Fields) (object : Bool) (p : ℕ) (s : State) where
-  pub walk-plain : (t : ℕ) → (t ≡ 0x10 → ⊥) → (t ≡ 0x23 → ⊥) → (t ≡ 0x42 → ⊥) → (t ≡ 0x45 → ⊥) → (t ≡ 0x60 → ⊥) → (t ≡ 0x63 → ⊥) → (t ≡ 0x64 → ⊥) →
+  pub walk-plain : (t : ℕ) → (t ≡ 0x10 → ⊥) → (t ≡ 0x23 → ⊥) → (t ≡ 0x42 → ⊥) → (t ≡ 0x45 → ⊥) → (t ≡ 0x60 → ⊥) → (t ≡ 0x63 → ⊥) → (t ≡ 0x64 →
+      ⊥) →
       (t ≡ 0x65 → ⊥) → (t ≡ 0x66 → ⊥) →
       walk (field t x cs) e object p s ≡ around t x (walk_all cs e object (inside p x)) s
   walk-plain t i j k b a m u c g =
@@ -134,7 +135,8 @@ second-65 e x ds object p s = rw (no-member 0x65 x ds (λ z. omega arith)) refl
 -- ---- By a field's tag: what its parts make of it, and the rule behind them
 
 module _ (e : Setting) (object : Bool) (p : ℕ) (s : State) where
-  pub plain-by : (f : Field) → (tag_of f ≡ 0x10 → ⊥) → (tag_of f ≡ 0x23 → ⊥) → (tag_of f ≡ 0x42 → ⊥) → (tag_of f ≡ 0x45 → ⊥) → (tag_of f ≡ 0x60 → ⊥) → (tag_of f ≡ 0x63 → ⊥) →
+  pub plain-by : (f : Field) → (tag_of f ≡ 0x10 → ⊥) → (tag_of f ≡ 0x23 → ⊥) → (tag_of f ≡ 0x42 → ⊥) → (tag_of f ≡ 0x45 → ⊥) → (tag_of f ≡ 0x60 → ⊥) →
+      (tag_of f ≡ 0x63 → ⊥) →
       (tag_of f ≡ 0x64 → ⊥) → (tag_of f ≡ 0x65 → ⊥) → (tag_of f ≡ 0x66 → ⊥) → walk f e object p s ≡ node_by (Children object) f e p s
   unfolding node_by row_by
   plain-by (field t x cs) i j k b a m u c g = walk-plain e x cs object p s t i j k b a m u c g
