@@ -1,13 +1,4 @@
 -- `exported`: the fixed bytes of a 23 that was read are whole; `node-23` says that its rule is that of `export_specifier`.
--- src/lib.rt:201:44
--- src/lib.rt:201:29
--- src/lib.rt:201:21
--- src/lib.rt:202:9
--- src/lib.rt:202:9
--- src/lib.rt:204:5
--- src/lib.rt:187:1
--- src/lib.rt:187:1
--- src/lib.rt:187:1
 use mathlib.Core.Path.{sym, ap, ◌∙◌}
 use Prim.Native.Nat.{ℕ, ◌+◌}
 use Rattle.tree.specs.Access.{fixed_at}

@@ -1,11 +1,4 @@
 -- `force_first`: by *object* and by the pass; `forced-object`, `forced-again` and `forced-first` say what the rule does then.
--- src/lib.rt:372:9
--- src/lib.rt:374:8
--- src/lib.rt:375:9
--- src/lib.rt:375:9
--- src/lib.rt:377:5
--- src/lib.rt:367:1
--- src/lib.rt:367:1
 use Rattle.state.specs.Cells.{id_by}
 use Rattle.walking.proofs.ExpressionLaws.{pass-second, pass-first, forced-object, forced-again, forced-first}
 use Rattle.walking.proofs.force_first.Goals as goal

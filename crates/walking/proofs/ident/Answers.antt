@@ -1,13 +1,4 @@
 -- `ident`: a 60 that was read has nine bytes (`ident-short`); what is forced and written is what the walk makes of it (`ident-written`).
--- src/lib.rt:223:15
--- src/lib.rt:224:9
--- src/lib.rt:226:23
--- src/lib.rt:226:9
--- src/lib.rt:227:5
--- src/lib.rt:228:16
--- src/lib.rt:208:1
--- src/lib.rt:208:1
--- src/lib.rt:208:1
 use Rattle.walking.proofs.ExpressionLaws.{ident-short, ident-written}
 use Rattle.walking.proofs.ident.Goals as goal
 

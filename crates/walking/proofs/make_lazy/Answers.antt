@@ -1,11 +1,4 @@
 -- `make_lazy`: by whether `add_lazy` had room (`lazy-made`, `lazy-full`).
--- src/lib.rt:424:11
--- src/lib.rt:425:23
--- src/lib.rt:426:37
--- src/lib.rt:418:1
--- src/lib.rt:418:1
--- src/lib.rt:418:1
--- src/lib.rt:418:1
 use Rattle.walking.proofs.AmendLaws.{lazy-made, lazy-full}
 use Rattle.walking.proofs.make_lazy.Goals as goal
 

@@ -1,15 +1,4 @@
 -- `make_record`: by *top*: if it is clear, the rule is that of `make_lazy` (`record-lazy`); if it is set, by whether `collect` had room.
--- src/lib.rt:408:9
--- src/lib.rt:409:9
--- src/lib.rt:409:9
--- src/lib.rt:409:9
--- src/lib.rt:411:11
--- src/lib.rt:412:28
--- src/lib.rt:413:40
--- src/lib.rt:404:1
--- src/lib.rt:404:1
--- src/lib.rt:404:1
--- src/lib.rt:404:1
 use Rattle.walking.proofs.AmendLaws.{record-lazy, record-collected, record-full}
 use Rattle.walking.proofs.make_record.Goals as goal
 

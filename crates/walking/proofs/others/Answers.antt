@@ -1,10 +1,4 @@
 -- `others`: by the way.
--- src/lib.rt:157:23
--- src/lib.rt:158:24
--- src/lib.rt:159:25
--- src/lib.rt:153:1
--- src/lib.rt:153:1
--- src/lib.rt:153:1
 use mathlib.Core.Path.{sym, ap}
 use Rattle.walking.specs.Walking.{others_by}
 use Rattle.walking.proofs.others.Goals as goal

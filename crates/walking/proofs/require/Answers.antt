@@ -1,19 +1,5 @@
 -- `require`: by what `mark_required` gave; each answer has its law of AmendLaws: the module is marked, then the record is made.
 -- `require-marked` also has the callee set in what was written.
--- src/lib.rt:393:11
--- src/lib.rt:394:26
--- src/lib.rt:395:13
--- src/lib.rt:396:13
--- src/lib.rt:398:58
--- src/lib.rt:398:33
--- src/lib.rt:399:44
--- src/lib.rt:380:1
--- src/lib.rt:380:1
--- src/lib.rt:380:1
--- src/lib.rt:380:1
--- src/lib.rt:380:1
--- src/lib.rt:380:1
--- src/lib.rt:380:1
 use Rattle.walking.proofs.AmendLaws.{require-marked, require-unresolved, require-full}
 use Rattle.walking.proofs.require.Goals as goal
 

@@ -1,20 +1,5 @@
 -- `require_lazily`: by what `mark_required` gave; each answer has its law of AmendLaws: the module is marked, then the lazy record is made.
 -- `lazily-marked` also has the callee set in what was written.
--- src/lib.rt:446:9
--- src/lib.rt:447:11
--- src/lib.rt:448:26
--- src/lib.rt:449:13
--- src/lib.rt:450:13
--- src/lib.rt:452:63
--- src/lib.rt:452:33
--- src/lib.rt:453:44
--- src/lib.rt:431:1
--- src/lib.rt:431:1
--- src/lib.rt:431:1
--- src/lib.rt:431:1
--- src/lib.rt:431:1
--- src/lib.rt:431:1
--- src/lib.rt:431:1
 use Rattle.walking.proofs.AmendLaws.{lazily-marked, lazily-unresolved, lazily-full}
 use Rattle.walking.proofs.require_lazily.Goals as goal
 

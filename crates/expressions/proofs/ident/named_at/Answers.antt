@@ -1,18 +1,5 @@
 -- `named_at`: each return has its law of AfterLaws: no field, fixed bytes not whole, a 70, another tag.
 -- `extent-upto` and `plain-ends` say that the field and the atom of a 70 lie within end; so the reads are in bounds.
--- src/ident.rt:70:29
--- src/ident.rt:70:21
--- src/ident.rt:71:9
--- src/ident.rt:71:9
--- src/ident.rt:73:15
--- src/ident.rt:74:40
--- src/ident.rt:74:26
--- src/ident.rt:75:9
--- src/ident.rt:75:9
--- src/ident.rt:78:38
--- src/ident.rt:78:27
--- src/ident.rt:66:1
--- src/ident.rt:66:1
 use Prim.Native.Nat.{◌+◌}
 use mathlib.Core.Path.{sym, ◌∙◌, refl}
 use native.Mathlib.Omega.{arith}

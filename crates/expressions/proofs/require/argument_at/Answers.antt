@@ -1,19 +1,5 @@
 -- `argument_at`: each return has its law of LiteralLaws: no 75, fixed bytes not whole, not one byte, a spread, or the plain argument.
 -- `upto-in` (the fixed bytes end within the field) gives the bounds.
--- src/require.rt:107:15
--- src/require.rt:109:9
--- src/require.rt:111:43
--- src/require.rt:111:29
--- src/require.rt:111:21
--- src/require.rt:112:9
--- src/require.rt:112:9
--- src/require.rt:114:16
--- src/require.rt:115:9
--- src/require.rt:117:10
--- src/require.rt:117:8
--- src/require.rt:118:9
--- src/require.rt:120:5
--- src/require.rt:103:1
 use Prim.Native.Nat.{◌+◌}
 use mathlib.Core.Path.{sym, ◌∙◌}
 use native.Mathlib.Omega.{arith}

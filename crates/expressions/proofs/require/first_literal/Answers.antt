@@ -1,17 +1,5 @@
 -- `first_literal`: each return has its law of LiteralLaws: no field, fixed bytes not whole, a 61, another tag.
 -- `extent-upto` and `plain-ends` say that the field and the literal of a 61 lie within end.
--- src/require.rt:128:29
--- src/require.rt:128:21
--- src/require.rt:129:9
--- src/require.rt:129:9
--- src/require.rt:131:15
--- src/require.rt:132:40
--- src/require.rt:132:26
--- src/require.rt:133:9
--- src/require.rt:133:9
--- src/require.rt:136:22
--- src/require.rt:124:1
--- src/require.rt:124:1
 use Prim.Native.Nat.{◌+◌}
 use mathlib.Core.Path.{sym, ◌∙◌, refl}
 use native.Mathlib.Omega.{arith}

@@ -1,16 +1,5 @@
 -- `mark_required`: by what `module_for` gave; each answer has its law of MarkLaws.
 -- The laws split the rule into finding the module and marking it.
--- src/require.rt:147:11
--- src/require.rt:148:20
--- src/require.rt:149:13
--- src/require.rt:152:31
--- src/require.rt:153:28
--- src/require.rt:143:1
--- src/require.rt:143:1
--- src/require.rt:143:1
--- src/require.rt:143:1
--- src/require.rt:143:1
--- src/require.rt:143:1
 use Rattle.expressions.proofs.MarkLaws.{mark-marked, mark-unresolved, mark-full}
 use Rattle.expressions.proofs.require.mark_required.Goals as goal
 

@@ -1,23 +1,5 @@
 -- `required_at`: five laws of RequiredAtLaws name the condition of a require call that fails first; the sixth leaves the rest to `source_at`.
 -- `extent-upto` (a callee that is found ends within stop) gives the bounds.
--- src/require.rt:53:9
--- src/require.rt:54:9
--- src/require.rt:56:8
--- src/require.rt:57:9
--- src/require.rt:59:41
--- src/require.rt:59:31
--- src/require.rt:59:21
--- src/require.rt:60:9
--- src/require.rt:60:9
--- src/require.rt:62:40
--- src/require.rt:62:56
--- src/require.rt:62:25
--- src/require.rt:62:19
--- src/require.rt:63:9
--- src/require.rt:63:9
--- src/require.rt:67:9
--- src/require.rt:69:5
--- src/require.rt:49:1
 use Prim.Native.Nat.{◌+◌}
 use mathlib.Core.Path.{sym, ◌∙◌}
 use native.Mathlib.Omega.{arith}

@@ -1,14 +1,5 @@
 -- `source_at`: each return has its law of RequiredAtLaws: no literal stands there, it is external, or it is the source. By `Reads` the
 -- place that `place_of` gives stands for the literal's bytes; `found-fits` says that they lie within the tree.
--- src/require.rt:77:28
--- src/require.rt:77:22
--- src/require.rt:78:9
--- src/require.rt:78:9
--- src/require.rt:80:37
--- src/require.rt:80:9
--- src/require.rt:81:8
--- src/require.rt:73:1
--- src/require.rt:73:1
 use Rattle.expressions.proofs.RequiredAtLaws.{source-none, source-external, source-is}
 use Rattle.expressions.proofs.require.source_at.Goals as goal
 

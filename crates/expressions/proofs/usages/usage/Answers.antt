@@ -1,32 +1,5 @@
 -- `usage`: each return has its law of UsageLaws: the rule passes over a 63 without object, id, member or import, forces the id
 -- under a computed member, and otherwise is the rule of `use_from`. `extent-upto` places the object and the member within stop.
--- src/usages.rt:40:41
--- src/usages.rt:40:31
--- src/usages.rt:40:21
--- src/usages.rt:41:9
--- src/usages.rt:41:9
--- src/usages.rt:43:40
--- src/usages.rt:43:25
--- src/usages.rt:43:19
--- src/usages.rt:44:9
--- src/usages.rt:44:9
--- src/usages.rt:44:9
--- src/usages.rt:46:28
--- src/usages.rt:46:21
--- src/usages.rt:47:9
--- src/usages.rt:47:9
--- src/usages.rt:47:9
--- src/usages.rt:49:26
--- src/usages.rt:50:9
--- src/usages.rt:50:9
--- src/usages.rt:50:9
--- src/usages.rt:52:8
--- src/usages.rt:53:9
--- src/usages.rt:54:9
--- src/usages.rt:54:9
--- src/usages.rt:56:5
--- src/usages.rt:34:1
--- src/usages.rt:34:1
 use Prim.Native.Nat.{◌+◌}
 use mathlib.Core.Path.{sym, ◌∙◌}
 use native.Mathlib.Omega.{arith}

@@ -1,21 +1,4 @@
 -- `use_from`: by whether a record is found, and then by what `module_for` gave; each of the four ways has its law of PropertyLaws.
--- src/usages.rt:74:47
--- src/usages.rt:74:32
--- src/usages.rt:74:22
--- src/usages.rt:75:9
--- src/usages.rt:75:9
--- src/usages.rt:75:9
--- src/usages.rt:77:11
--- src/usages.rt:78:20
--- src/usages.rt:78:26
--- src/usages.rt:79:31
--- src/usages.rt:80:44
--- src/usages.rt:60:1
--- src/usages.rt:60:1
--- src/usages.rt:60:1
--- src/usages.rt:60:1
--- src/usages.rt:60:1
--- src/usages.rt:60:1
 use Rattle.tree.specs.Standing.{tree_at}
 use Rattle.expressions.proofs.PropertyLaws.{from-none, from-number, from-unresolved, from-full}
 use Rattle.expressions.proofs.usages.use_from.Goals as goal

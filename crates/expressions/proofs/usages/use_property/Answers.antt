@@ -1,22 +1,5 @@
 -- `use_property`: by the member's tag; the contract's premise, that it is a 70 or a 72, rules out the two ways that pass it over.
 -- For a 70 `property-made` and `property-full` say that the rule is `add_usage` with the name in the export context.
--- src/usages.rt:99:15
--- src/usages.rt:100:40
--- src/usages.rt:100:26
--- src/usages.rt:101:9
--- src/usages.rt:101:9
--- src/usages.rt:104:9
--- src/usages.rt:107:9
--- src/usages.rt:109:39
--- src/usages.rt:109:28
--- src/usages.rt:109:53
--- src/usages.rt:110:11
--- src/usages.rt:111:23
--- src/usages.rt:112:39
--- src/usages.rt:85:1
--- src/usages.rt:85:1
--- src/usages.rt:85:1
--- src/usages.rt:85:1
 use Prim.Native.Nat.{◌+◌}
 use mathlib.Core.Path.{sym, ◌∙◌, refl}
 use native.Mathlib.Omega.{arith}
