@@ -79,6 +79,9 @@ fn kind_end(s: &[u8], p: Piece, at: usize, stop: usize) -> Reach
     }
 }
 
+// The kinds of a key and of its value are 0 and 1.
+const LAST_KIND: u8 = 1;
+
 fn key_end(s: &[u8], at: usize, stop: usize) -> Reach
     requires { (at ≤ stop) × (stop ≤ length s.now) }
     ensures { result ≡ key_at s.now at stop }
@@ -86,10 +89,10 @@ fn key_end(s: &[u8], at: usize, stop: usize) -> Reach
     if stop - at < 3 {
         return Reach::Short;
     }
-    if s[at] > 1 {
+    if s[at] > LAST_KIND {
         return Reach::Short;
     }
-    if s[at + 1] > 1 {
+    if s[at + 1] > LAST_KIND {
         return Reach::Short;
     }
     if wide(s[at + 2]) <= stop - (at + 3) {

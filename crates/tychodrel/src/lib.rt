@@ -41,8 +41,7 @@ fn bit_of(on: bool) -> u8
 }
 
 // Whether a module is an ES module: 1 or 0.
-#[unsafe(no_mangle)]
-pub extern "C" fn tychodrel_detect(modes: u32, tree: &[u8]) -> u64
+pub fn tychodrel_detect(modes: u32, tree: &[u8]) -> u64
     ensures { result ≡ detect_answer (detect (modes_of modes) tree.now) }
 {
     match is_es6(modes_of(modes), tree) {
@@ -69,8 +68,7 @@ fn metadata_given(injected: bool, has_context: bool, context: u32) -> ExportMeta
 }
 
 // Adds metadata to lent attributes (a 2F, or empty bytes for none); `out` then holds the 2F, with zeros behind.
-#[unsafe(no_mangle)]
-pub extern "C" fn tychodrel_encode_metadata(
+pub fn tychodrel_encode_metadata(
     injected: bool,
     has_context: bool,
     context: u32,
@@ -106,8 +104,7 @@ fn bytes_of(m: ExportMetadata) -> [u8; 6]
 }
 
 // The metadata in lent attributes: whether it is injected, whether there is a context, and the context in four bytes.
-#[unsafe(no_mangle)]
-pub extern "C" fn tychodrel_decode_metadata(attributes: &[u8], metadata: &mut [u8; 6]) -> u64
+pub fn tychodrel_decode_metadata(attributes: &[u8], metadata: &mut [u8; 6]) -> u64
     ensures { (result ≡ decode_answer_of (decode_call attributes.now)) × (metadata.new ≡ metadata_bytes (decode_call attributes.now)) }
 {
     match ExportMetadata::decode(attributes) {
@@ -140,8 +137,7 @@ fn refuse_files(entry: Scope, scope: &mut [u8; 770], report: &mut [u8; 32]) -> u
 
 // Extracts what a module imports, in a fresh scope in which the files are requested first; `scope` then holds the scope as bytes,
 // `report` the counts.
-#[unsafe(no_mangle)]
-pub extern "C" fn tychodrel_extract(
+pub fn tychodrel_extract(
     files: &[u8],
     file: u16,
     modes: u32,
@@ -225,8 +221,7 @@ fn extract_in(
 
 // Resolves records, in a fresh scope in which the files are requested first; `scope` then holds the scope as bytes,
 // `report` the counts.
-#[unsafe(no_mangle)]
-pub extern "C" fn tychodrel_resolve(
+pub fn tychodrel_resolve(
     files: &[u8],
     modes: u32,
     table: &[u8],
