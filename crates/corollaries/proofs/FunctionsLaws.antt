@@ -8,6 +8,7 @@ use mathlib.Core.Option.{none as nothing}
 use lib.Dec.{ltb}
 use lib.ListN.{length}
 use borrow.Author.Tests.{ltb-false, le-ltb}
+use Rattle.modes.specs.declared.Modes.{Modes}
 use Rattle.scope.specs.declared.Mark.TheVariants.{Wrapping}
 use Rattle.scope.specs.declared.Scope.{Scope}
 use Rattle.scope.specs.declared.id.ModuleId.{ModuleId}
@@ -144,16 +145,16 @@ Sentence l items t u =
     Ends (takes (rows_in l.table) x (stands items i)) i x k (stands items i) items l t u
 
 -- of what accepted calls leave, where the sentence holds of what the rules gave; resolving has the modules c
-pub keep-or-part : (l : Lent) (room : Lengths) (ms : Modules) (x : Left) (n : ℕ) (c : Modules) (y : LeftList) (items : Fields) →
-    x ≡ extraction l room ms → x.refusal ≡ nothing → y ≡ resolving (lent_as l.modes l.table (field_in x.records)) n c → y.refusal ≡ nothing → Bytes l.tree →
-    ((t : Extracted) (u : Resolved) → extracted l room ms ≡ done t → x.modules ≡ t.modules → resolved (handed_on l t) n c ≡ done u → Sentence l items t u) →
-    KeepOrPart l room n items ms x.modules c y.modules x.out x.records y.list
-keep-or-part l room ms x n c y items e a f b bs sentence =
+pub keep-or-part : (l : Lent) (room : Lengths) (ms : Modules) (x : Left) (m : Modes) (n : ℕ) (c : Modules) (y : LeftList) (items : Fields) →
+    x ≡ extraction l room ms → x.refusal ≡ nothing → y ≡ resolving (lent_as m l.table (field_in x.records)) n c → y.refusal ≡ nothing → Bytes l.tree →
+    ((t : Extracted) (u : Resolved) → extracted l room ms ≡ done t → x.modules ≡ t.modules → resolved (handed_on m l t) n c ≡ done u → Sentence l items t u) →
+    KeepOrPart l m room n items ms x.modules c y.modules x.out x.records y.list
+keep-or-part l room ms x m n c y items e a f b bs sentence =
     let v = extraction-accepted l room ms e a in
     let t = v.0 in
     let records = extraction-records l room ms t e v.1 in
     let modules = extraction-modules l room ms t e v.1 in
-    let given = lent_as l.modes l.table (field_in x.records) in
+    let given = lent_as m l.table (field_in x.records) in
     let w = resolving-accepted given n c f b in
     let u = w.0 in (
       t,
@@ -167,24 +168,24 @@ keep-or-part l room ms x n c y items e a f b bs sentence =
         extracted = modules;
         resolved = resolving-modules given n c f u w.1;
       },
-      sentence t u v.1 modules (sym (ap (λ (z : List ℕ). resolved (lent_as l.modes l.table z) n c) records) ∙ w.1),
+      sentence t u v.1 modules (sym (ap (λ (z : List ℕ). resolved (lent_as m l.table z) n c) records) ∙ w.1),
     )
 
 -- resolving in the scope that extraction handed back
 pub functions-keep-or-part : FunctionsKeepOrPart
-functions-keep-or-part l room s r w o k n q g e a f b bs items p =
-    keep-or-part l room (modules_of s) (left r w o k) n (modules_of r.scope) (left_list q g) items e (ap answer_refusal a) f (ap list_refusal b) bs
+functions-keep-or-part l room s r w o k m n q g e a f b bs items p =
+    keep-or-part l room (modules_of s) (left r w o k) m n (modules_of r.scope) (left_list q g) items e (ap answer_refusal a) f (ap list_refusal b) bs
     (λ t u d modules v k x i h inside.
-    kept-whole-or-apart l room (modules_of s) t n u items p.own d (sym (ap (λ (ms : Modules). resolved (handed_on l t) n ms) modules) ∙ v) bs
+    kept-whole-or-apart l room (modules_of s) t m n u items p.own d (sym (ap (λ (ms : Modules). resolved (handed_on m l t) n ms) modules) ∙ v) bs
     p.reading p.requesting p.placed k x i h inside)
 
 -- resolving in a scope with its files, without marks
-pub keep-or-part-unmarked : (l : Lent) (room : Lengths) (ms : Modules) (x : Left) (n : ℕ) (y : LeftList) (items : Fields) →
-    x ≡ extraction l room ms → x.refusal ≡ nothing → y ≡ resolving (lent_as l.modes l.table (field_in x.records)) n (without_marks x.modules) →
+pub keep-or-part-unmarked : (l : Lent) (room : Lengths) (ms : Modules) (x : Left) (m : Modes) (n : ℕ) (y : LeftList) (items : Fields) →
+    x ≡ extraction l room ms → x.refusal ≡ nothing → y ≡ resolving (lent_as m l.table (field_in x.records)) n (without_marks x.modules) →
     y.refusal ≡ nothing → Bytes l.tree → WellPlaced l ms items →
-    KeepOrPart l room n items ms x.modules (without_marks x.modules) y.modules x.out x.records y.list
-keep-or-part-unmarked l room ms x n y items e a f b bs p =
-    keep-or-part l room ms x n (without_marks x.modules) y items e a f b bs
+    KeepOrPart l m room n items ms x.modules (without_marks x.modules) y.modules x.out x.records y.list
+keep-or-part-unmarked l room ms x m n y items e a f b bs p =
+    keep-or-part l room ms x m n (without_marks x.modules) y items e a f b bs
     (λ t u d modules v k i h inside.
-    kept-or-apart-unmarked l room ms t n u items p.own d (sym (ap (λ (ms : Modules). resolved (handed_on l t) n (without_marks ms)) modules) ∙ v) bs
+    kept-or-apart-unmarked l room ms t m n u items p.own d (sym (ap (λ (ms : Modules). resolved (handed_on m l t) n (without_marks ms)) modules) ∙ v) bs
     p.reading p.requesting p.placed k i h inside)

@@ -197,7 +197,7 @@ module _ (files : List ℕ) (l : Lent) (room : Lengths) (n : ℕ) {a : ℕ} {s c
           resolved = λ d. here;
           records = x.records;
           both =
-              λ q items p. keep-or-part-unmarked l room (started files) left_there n given items (left_there-is ∙ call-started files l room refusal) refusal
+              λ q items p. keep-or-part-unmarked l room (started files) left_there l.modes n given items (left_there-is ∙ call-started files l room refusal) refusal
               (f ∙ again) (accepts v.refusal b y.tells.answer y.tells.numbered i) bs p;
           unextracted = λ q. absurd (let z : ◌≡◌ {A = ℕ} 0 1 = cc in omega arith);
           unlisted = λ q. absurd (let z : ◌≡◌ {A = ℕ} 0 1 = cc in omega arith);

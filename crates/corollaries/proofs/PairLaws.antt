@@ -77,7 +77,7 @@ module _ (l : Lent) (room : Lengths) (n : ℕ) (s : Scope) (r : Extraction) {w o
       q.answer ≡ Listed → Bytes l.tree → Pairs l room n s o k g (record { extracted = r.scope; resolved = q.scope; answer = Both })
   pairs-both q {g} a f b bs =
       record {
-        both = λ _ items p. functions-keep-or-part l room s r w o k n q g e a f b bs items p;
+        both = λ _ items p. functions-keep-or-part l room s r w o k l.modes n q g e a f b bs items p;
         unextracted = λ z. absurd (let z : ◌≡◌ {A = ℕ} 0 1 = cc in omega arith);
         unlisted = λ z. absurd (let z : ◌≡◌ {A = ℕ} 0 1 = cc in omega arith);
         records = pair-records;

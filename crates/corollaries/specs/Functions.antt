@@ -2,6 +2,7 @@
 -- rules is the contract of the function that is called. Document 01, 'Demand 3's words'.
 use Rattle.std.specs.Prelude.{ℕ, ◌≡◌, Bool, true, false, List, [], ◌∷◌}
 use Rattle.std.proofs.Math.Option.{none as nothing, some}
+use Rattle.modes.specs.declared.Modes.{Modes}
 use Rattle.scope.specs.declared.Gen.{Gen}
 use Rattle.scope.specs.declared.Requested.{Requested}
 use Rattle.scope.specs.declared.Mark.TheVariants.{Wrapping}
@@ -75,19 +76,19 @@ pub record Holds (a b : Modules) (o k g : List ℕ) (t : Extracted) (u : Resolve
   pub extracted : a ≡ t.modules
   pub resolved : b ≡ u.modules
 
--- the rules gave t with the modules ms, and with the modules c they gave u of the records that stand in their buffer; the buffers hold
--- both; and every namespace import with a non-external source is taken apart or kept as demand 3 says
-abbrev pub KeepOrPart : Lent → Lengths → ℕ → Fields → Modules → Modules → Modules → Modules → List ℕ → List ℕ → List ℕ → Type 0
-KeepOrPart l room n items ms a c b o k g =
+-- the rules gave t with the modules ms, and with the modules c and the modes m they gave u of the records that stand in their buffer; the
+-- buffers hold both; and every namespace import with a non-external source is taken apart or kept as demand 3 says
+abbrev pub KeepOrPart : Lent → Modes → Lengths → ℕ → Fields → Modules → Modules → Modules → Modules → List ℕ → List ℕ → List ℕ → Type 0
+KeepOrPart l m room n items ms a c b o k g =
     (t : Extracted) × (u : Resolved) × (extracted l room ms ≡ done t)
-    × (resolved (lent_as l.modes l.table (field_in k)) n c ≡ done u)
+    × (resolved (lent_as m l.table (field_in k)) n c ≡ done u)
     × Holds a b o k g t u
     × ((k : ℕ) (x i : List ℕ) → Declares items k x (more (field 0x22 i none) none) → among (value_of x) (atoms_in l.externals) ≡ false →
     Ends (takes (rows_in l.table) x (stands items i)) i x k (stands items i) items l t u)
 
 -- the same of scopes: s before both calls, a and b after extraction, in whose scope resolving goes on, and after resolving
-abbrev pub InScopes : Lent → Lengths → ℕ → Fields → Scope → Scope → Scope → List ℕ → List ℕ → List ℕ → Type 0
-InScopes l room n items s a b o k g = KeepOrPart l room n items (modules_of s) (modules_of a) (modules_of a) (modules_of b) o k g
+abbrev pub InScopes : Lent → Modes → Lengths → ℕ → Fields → Scope → Scope → Scope → List ℕ → List ℕ → List ℕ → Type 0
+InScopes l m room n items s a b o k g = KeepOrPart l m room n items (modules_of s) (modules_of a) (modules_of a) (modules_of b) o k g
 
 -- the items of a well placed tree, with the modules ms
 pub record WellPlaced (l : Lent) (ms : Modules) (items : Fields) : Type 0 where
@@ -96,20 +97,21 @@ pub record WellPlaced (l : Lent) (ms : Modules) (items : Fields) : Type 0 where
   pub requesting : request l.file ms ≡ some own
   pub placed : well_placed own.0 items ≡ true
 
--- `extract_import_info` accepted a well placed tree, and `resolve_imports` the records that it left, with the same table and its scope:
+-- `extract_import_info` accepted a well placed tree, and `resolve_imports` the records that it left, with the same table, its scope and
+-- any modes:
 -- of what the buffers then hold, every namespace import with a non-external source is taken apart or kept as demand 3 says.
 abbrev pub FunctionsKeepOrPart : Type 0
 FunctionsKeepOrPart =
-    (l : Lent) (room : Lengths) (s : Scope) (r : Extraction) (w o k : List ℕ) (n : ℕ) (q : Resolution) (g : List ℕ) →
+    (l : Lent) (room : Lengths) (s : Scope) (r : Extraction) (w o k : List ℕ) (m : Modes) (n : ℕ) (q : Resolution) (g : List ℕ) →
     left r w o k ≡ extraction l room (modules_of s) → r.answer ≡ Accepted →
-    left_list q g ≡ resolving (lent_as l.modes l.table (field_in k)) n (modules_of r.scope) → q.answer ≡ Listed →
+    left_list q g ≡ resolving (lent_as m l.table (field_in k)) n (modules_of r.scope) → q.answer ≡ Listed →
     Bytes l.tree → (items : Fields) → WellPlaced l (modules_of s) items →
-    InScopes l room n items s r.scope q.scope o k g
+    InScopes l m room n items s r.scope q.scope o k g
 
 -- The same of `extract_and_resolve`, which makes both calls: o, k and g are what it leaves in *out*, the records and the list, n the
 -- list's room. It says that a call is refused only where the rules refuse it.
 pub record Pairs (l : Lent) (room : Lengths) (n : ℕ) (s : Scope) (o k g : List ℕ) (p : Pair) : Type 0 where
-  pub both : p.answer ≡ Both → (items : Fields) → WellPlaced l (modules_of s) items → InScopes l room n items s p.extracted p.resolved o k g
+  pub both : p.answer ≡ Both → (items : Fields) → WellPlaced l (modules_of s) items → InScopes l l.modes room n items s p.extracted p.resolved o k g
   pub unextracted : p.answer ≡ NotExtracted → (extraction l room (modules_of s)).refusal ≡ nothing → ⊥
   pub unlisted : p.answer ≡ NotListed → (resolving (lent_as l.modes l.table (field_in k)) n (modules_of p.extracted)).refusal ≡ nothing → ⊥
   pub records : k ≡ (extraction l room (modules_of s)).records

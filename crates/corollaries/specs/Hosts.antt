@@ -50,7 +50,7 @@ pub record LeavesBoth (files : List ℕ) (l : Lent) (room : Lengths) (n : ℕ) (
   pub records : k ≡ (extract_call files l room).records
   -- both calls accepted: every namespace import is kept whole or taken apart completely
   pub both : p ≡ Both → (items : Fields) → WellPlaced l (started files) items →
-      KeepOrPart l room n items (started files) (extracted_to files l room) (without_marks (extracted_to files l room)) (resolved_to s l k n) o k g
+      KeepOrPart l l.modes room n items (started files) (extracted_to files l room) (without_marks (extracted_to files l room)) (resolved_to s l k n) o k g
   -- a call is refused only where it would be in one scope that is handed on
   pub unextracted : p ≡ NotExtracted → (extract_call files l room).refusal ≡ none → ⊥
   pub unlisted : p ≡ NotListed → (resolving (lent_as l.modes l.table (field_in k)) n (extracted_to files l room)).refusal ≡ none → ⊥

@@ -127,7 +127,7 @@ pub specifiers-same : (o : Option ℕ) (fs : Fields) (p : ℕ) (s : State) → A
 specifiers-same nothing fs p s = (refl, refl)
 specifiers-same (some n) fs p s = note_all-same n fs p s
 
-module-collects : (o : Option ℕ) (p : ℕ) (s : State) → After (module_of o p s) (λ _ s'. s'.collected ≡ s.collected)
+pub module-collects : (o : Option ℕ) (p : ℕ) (s : State) → After (module_of o p s) (λ _ s'. s'.collected ≡ s.collected)
 module-collects nothing p s = refl
 module-collects (some f) p s = by (request f s.modules)
   where

@@ -113,7 +113,7 @@ each-at f s (p ∷ ps) (suc i) h a = each-at f s ps i (omega arith) a.1
 -- nothing is written of a place off the chain
 module _ (P : Type 0) (g : Place → ℕ) (k : ℕ) (f : Place → List ℕ) (off : P → (p : Place) → (g p ≡ k → ⊥) → f p ≡ []) where
   module _ (ps : List Place) where
-    along-start : {l : List ℕ} {o : ℕ} (i : ℕ) → drop i ps ≡ chained g k ps → Along P g k f ps l o i l o
+    pub along-start : {l : List ℕ} {o : ℕ} (i : ℕ) → drop i ps ≡ chained g k ps → Along P g k f ps l o i l o
     along-start i e = record { size = refl; first = on-chain g k ps ps i e; is = λ r w. wrote-as w (ap (spread f) e ∙ chained-spread g k f (off r) ps) }
 
     along-step : {Q : Type 0} {l l' l'' : List ℕ} {o p q : ℕ} (i j : ℕ) → i < length ps → drop j ps ≡ chained g (g (get_or ps i nowhere)) (drop (i + 1) ps) → (P → Q) →
@@ -137,7 +137,7 @@ module _ (P : Type 0) (g : Place → ℕ) (k : ℕ) (f : Place → List ℕ) (of
 
   -- the same by the first n places of an array
   module _ (a : List ℕ) (n : ℕ) where
-    along-next : (m : Place → ℕ) (s : List ℕ) → (P → EachRead m s (places_in a n)) → {l l' l'' : List ℕ} {o p q : ℕ} (i j : ℕ) → i < n →
+    pub along-next : (m : Place → ℕ) (s : List ℕ) → (P → EachRead m s (places_in a n)) → {l l' l'' : List ℕ} {o p q : ℕ} (i j : ℕ) → i < n →
         drop j (places_in a n) ≡ chained g (g (place_in a i)) (drop (i + 1) (places_in a n)) → Along P g k f (places_in a n) l o i l' p →
         WroteIf (ItemRead s (m (place_in a i))) (f (place_in a i)) l' p l'' q → Along P g k f (places_in a n) l o j l'' q
     along-next m s r {l' = l'} {l'' = l''} {p = p} {q = q} i j h e b w =
@@ -146,7 +146,7 @@ module _ (P : Type 0) (g : Place → ℕ) (k : ℕ) (f : Place → List ℕ) (of
         along-step (places_in a n) i j lt (e ∙ ap (λ (x : Place). chained g (g x) (drop (i + 1) (places_in a n))) here) (λ u. each-at m s (places_in a n) i lt (r u)) b
         (subst (λ (x : Place). WroteIf (ItemRead s (m x)) (f x) l' p l'' q) here w)
 
-    along-last : {l l' : List ℕ} {o p : ℕ} (i : ℕ) → n ≤ i → Along P g k f (places_in a n) l o i l' p → WroteIf P (spread f (places_in a n)) l o l' p
+    pub along-last : {l l' : List ℕ} {o p : ℕ} (i : ℕ) → n ≤ i → Along P g k f (places_in a n) l o i l' p → WroteIf P (spread f (places_in a n)) l o l' p
     along-last i h b = along-end (places_in a n) i (let z = places-length a n in omega arith) b
 
 -- the chain of the place i goes on behind it

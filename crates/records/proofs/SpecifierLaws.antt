@@ -106,7 +106,7 @@ tag-import s at stop h = by (fixed_at s (get_or s at 0) (at + 3) stop) refl
     by (Upto b) e = tag-upto s at stop b e ∙ h
     by Short e = absurd (let z : 0 ≡ 0x10 = tag-short s at stop e ∙ h in omega arith)
 
-import-ends : (s : List ℕ) (at stop b : ℕ) → at + 3 ≤ stop → fixed_at s (get_or s at 0) (at + 3) stop ≡ Upto b → get_or s at 0 ≡ 0x10 → (b ≡ at + 9) × (at + 9 ≤ stop)
+pub import-ends : (s : List ℕ) (at stop b : ℕ) → at + 3 ≤ stop → fixed_at s (get_or s at 0) (at + 3) stop ≡ Upto b → get_or s at 0 ≡ 0x10 → (b ≡ at + 9) × (at + 9 ≤ stop)
 import-ends s at stop b le e h =
     let i = upto-in s (get_or s at 0) (at + 3) stop le e in
     let j = plain-ends 0x10 Literal refl s (get_or s at 0) (at + 3) stop b h e in

@@ -10,9 +10,9 @@ use borrow.Author.Tests.{leb-true, ltb-true, eqb-true}
 use Rattle.tree.proofs.Table.{both-true}
 use Rattle.scope.specs.Modules.{Modules}
 use Rattle.tables.specs.declared.Table.{Table}
-use Rattle.tables.specs.Rows.{Row, rows, Lies, least_of}
+use Rattle.tables.specs.Rows.{Row, rows, rows_from, Lies, least_of}
 use Rattle.tables.specs.Only.{Outside, Only, Apart}
-use Rattle.tables.proofs.RowLaws.{rows-length}
+use Rattle.tables.proofs.RowLaws.{rows-length, from-agree}
 use Rattle.tables.proofs.OnlyLaws.{apart-rows, apart-lies, store-count}
 use Rattle.extraction_rules.specs.State.{Record, Imported, Usage, State, Setting, set_imported, set_usages, set_collected, set_lazy, set_forced, set_modules, set_top}
 use Rattle.inputs.specs.Lists.{among}
@@ -27,7 +27,7 @@ use Rattle.state.proofs.HintLaws.{Agrees, hinted-agree, grows-stays}
 -- ---- Tables apart
 
 -- no cell from lo to hi is one of the table
-unfoldable clear? : Table → ℕ → ℕ → Bool
+unfoldable pub clear? : Table → ℕ → ℕ → Bool
 clear? b lo hi = (ltb b.count lo || leb hi b.count) && (leb (b.base + 2 * b.room) lo || leb hi b.base)
 
 either : {A : Type 0} (x y : Bool) → (x || y) ≡ true → (x ≡ true → A) → (y ≡ true → A) → A
@@ -45,10 +45,10 @@ clear b lo hi e i p q =
           (λ u. let w = leb-true hi b.base u in omega arith);
     }
 
-unfoldable apart? : Table → Table → Bool
+unfoldable pub apart? : Table → Table → Bool
 apart? b c = clear? b c.count (c.count + 1) && clear? b c.base (c.base + 2 * c.room)
 
-apart-by : (b c : Table) → apart? b c ≡ true → Apart b c
+pub apart-by : (b c : Table) → apart? b c ≡ true → Apart b c
 unfolding apart?
 apart-by b c e =
     let h = both-true _ _ e in
@@ -83,7 +83,7 @@ or-true : (x y : Bool) → (x || y) ≡ true → x ≡ false → y ≡ true
 or-true true y e f = absurd (let z : ◌≡◌ {A = ℕ} 0 1 = cc in omega arith)
 or-true false y e f = e
 
-kinds-apart : (k m : Kind) → one? k m ≡ false → Apart (table_of k) (table_of m)
+pub kinds-apart : (k m : Kind) → one? k m ≡ false → Apart (table_of k) (table_of m)
 kinds-apart k m e = apart-by (table_of k) (table_of m) (or-true _ _ (laid-out k m) e)
 
 kind_at : ℕ → Kind
@@ -212,19 +212,52 @@ lone-apart c i o =
       row = λ j p q. record { cell = λ e. o.row (omega arith) (omega arith); row = λ m n. omega arith };
     }
 
-module _ {t : List ℕ} (i v : ℕ) (g : Good t) (f : Beside i) where
-  pub beside-rows : (k : Kind) → rows (table_of k) (set t i v) ≡ rows (table_of k) t
-  beside-rows k = apart-rows (lone-apart (table_of k) i (f k)) (store-count (lone i) t v) (g.lies k)
+-- only cells beside the tables changed
+pub record Aside (t t' : List ℕ) : Type 0 where
+  pub size : length t' ≡ length t
+  pub counts : (k : Kind) → get_or t' (table_of k).count 0 ≡ get_or t (table_of k).count 0
+  pub in_rows : (k : Kind) (j : ℕ) → (table_of k).base ≤ j → j < (table_of k).base + 2 * (table_of k).room → get_or t' j 0 ≡ get_or t j 0
 
-  pub beside-good : Agrees t (set t i v) → get_or (set t i v) own_cell 0 < 65536 → Good (set t i v)
-  beside-good a b =
+module _ {t t' : List ℕ} (g : Good t) (o : Aside t t') where
+  pub aside-rows : (k : Kind) → rows (table_of k) t' ≡ rows (table_of k) t
+  unfolding rows
+  aside-rows k =
+      let b = table_of k in
+      let held = (g.lies k).held in
+      ap (λ (n : ℕ). rows_from n b.base t') (o.counts k) ∙ from-agree (get_or t b.count 0) b.base t t' (λ j p q. o.in_rows k j p (omega arith))
+
+  aside-lies : (k : Kind) → Lies (table_of k) t'
+  aside-lies k =
+      let l = g.lies k in
+      let n = o.counts k in
+      let s = o.size in
+      record { ends = let e = l.ends in omega arith; cell = l.cell; held = let h = l.held in omega arith }
+
+  pub aside-good : Agrees t t' → get_or t' own_cell 0 < 65536 → Good t'
+  aside-good a b =
       record {
-        size = let z = g.size in let s = (store-count (lone i) t v).size in omega arith;
-        lies = λ k. apart-lies (lone-apart (table_of k) i (f k)) (store-count (lone i) t v) (g.lies k);
-        below = λ k. subst (InLimits k) (sym (beside-rows k)) (g.below k);
-        hinted = λ k. subst (Hinted k (set t i v)) (sym (beside-rows k)) (hinted-agree t (set t i v) a k (rows (table_of k) t) (g.hinted k));
+        size = let z = g.size in let s = o.size in omega arith;
+        lies = aside-lies;
+        below = λ k. subst (InLimits k) (sym (aside-rows k)) (g.below k);
+        hinted = λ k. subst (Hinted k t') (sym (aside-rows k)) (hinted-agree t t' a k (rows (table_of k) t) (g.hinted k));
         own_below = b;
       }
+
+module _ {t : List ℕ} (i v : ℕ) (g : Good t) (f : Beside i) where
+  stored : Aside t (set t i v)
+  stored =
+      let o = store-count (lone i) t v in
+      record {
+        size = o.size;
+        counts = λ k. o.same (table_of k).count (lone-apart (table_of k) i (f k)).cell;
+        in_rows = λ k. λ j p q. o.same j ((lone-apart (table_of k) i (f k)).row j p q);
+      }
+
+  pub beside-rows : (k : Kind) → rows (table_of k) (set t i v) ≡ rows (table_of k) t
+  beside-rows = aside-rows g stored
+
+  pub beside-good : Agrees t (set t i v) → get_or (set t i v) own_cell 0 < 65536 → Good (set t i v)
+  beside-good = aside-good g stored
 
 -- ---- What is shown
 

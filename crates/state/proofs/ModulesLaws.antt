@@ -252,11 +252,11 @@ module _ (k : Mark) (i : ℕ) {t : List ℕ} (g : Good t) where
   marked-none h = let n = length-map (rows (table_of modules) t) module_of in unchanged (mark-past k i (map module_of (rows (table_of modules) t)) (omega arith))
 
   -- a module that has the mark
-  marked-again : module_of (row_of (rows (table_of modules) t) i) ≡ with_mark k (module_of (row_of (rows (table_of modules) t) i)) →
+  pub marked-again : module_of (row_of (rows (table_of modules) t) i) ≡ with_mark k (module_of (row_of (rows (table_of modules) t) i)) →
       Turns (λ s. set_modules (set_mark k i s.modules) s) t t
   marked-again e = unchanged (mark-kept k i (rows (table_of modules) t) e)
 
-  marked-new : {t' : List ℕ} {v : ℕ} → module_by (row_of (rows (table_of modules) t) i).0 v ≡ with_mark k (module_of (row_of (rows (table_of modules) t) i)) → v < 16 →
+  pub marked-new : {t' : List ℕ} {v : ℕ} → module_by (row_of (rows (table_of modules) t) i).0 v ≡ with_mark k (module_of (row_of (rows (table_of modules) t) i)) → v < 16 →
       rows (table_of modules) t' ≡ with_value i v (rows (table_of modules) t) → Only (table_of modules) t t' → Turns (λ s. set_modules (set_mark k i s.modules) s) t t'
   marked-new {t'} {v} e h f o =
       let l = rows (table_of modules) t in

@@ -8,7 +8,7 @@ use lib.ListN.{length, length-map, drop}
 use Rattle.tables.specs.Rows.{Row, rows}
 use Rattle.tree.specs.Layout.{two, value_of}
 use Rattle.extraction_rules.specs.State.{Record}
-use Rattle.state.specs.Cells.{Env, records, lazies, forces, id_limit, table_of, held, Good, literal_by, Brief, brief, brief_of, lazy_of, atom_of}
+use Rattle.state.specs.Cells.{Env, records, lazies, forces, id_limit, place_limit, table_of, held, Good, literal_by, Brief, brief, brief_of, lazy_of, atom_of}
 use Rattle.state.specs.declared.Literal.{Literal}
 use Rattle.state.specs.Does.{Tells, Holds}
 use Rattle.state.proofs.ListLaws.{below-row, row_of}
@@ -81,7 +81,7 @@ pub lazies-counted : {t : List ℕ} {n : ℕ} → n ≡ held lazies t → Tells 
 lazies-counted {t} e = record { is = λ {x} s w. e ∙ sym (length-map (rows (table_of lazies) t) (lazy_of x)) ∙ ap length w.lazy }
 
 -- numbers of its row
-pub lazy-small : {t : List ℕ} {i : ℕ} → Good t → i < held lazies t → ((row_of (rows (table_of lazies) t) i).0 < id_limit) × ((row_of (rows (table_of lazies) t) i).1 < 4294967296)
+pub lazy-small : {t : List ℕ} {i : ℕ} → Good t → i < held lazies t → ((row_of (rows (table_of lazies) t) i).0 < id_limit) × ((row_of (rows (table_of lazies) t) i).1 < place_limit)
 lazy-small {t} {i} g h = below-row _ _ (rows (table_of lazies) t) i (g.below lazies) h
 
 pub lazy-place-at : {t : List ℕ} {i r : ℕ} → i < held lazies t → r ≡ (row_of (rows (table_of lazies) t) i).1 → Holds (λ s. s.lazy) (λ q. q.specifiers) i t (λ x. x.bound r)

@@ -88,7 +88,7 @@ bools true b f g = sym (f refl)
 bools false true f g = g refl
 bools false false f g = refl
 
-same-name : (m n : ℕ) → m < id_limit → n < id_limit → same (name_of (id_of m)) (name_of (id_of n)) ≡ eqb (m / 4294967296) (n / 4294967296)
+pub same-name : (m n : ℕ) → m < id_limit → n < id_limit → same (name_of (id_of m)) (name_of (id_of n)) ≡ eqb (m / 4294967296) (n / 4294967296)
 same-name m n a b = ap₂ same (id-name m) (id-name n) ∙ same-two (m / 4294967296) (n / 4294967296) (omega arith) (omega arith)
 
 same-context : (m n : ℕ) → n < 4294967296 → same (context_of (id_of m)) (four n) ≡ eqb (m % 4294967296) n

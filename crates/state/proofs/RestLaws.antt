@@ -14,7 +14,7 @@ use Rattle.tree.specs.Tree.{Fields}
 use Rattle.inputs.specs.Outcome.{refused}
 use Rattle.extraction_rules.specs.State.{Record, State, first, Act, start, set_lazy, set_top}
 use Rattle.extraction_rules.specs.First.{add_lazy}
-use Rattle.state.specs.Cells.{Env, id_limit, Kind, imports, uses, records, namespaces, lazies, forces, modules, externals, table, table_of}
+use Rattle.state.specs.Cells.{Env, id_limit, place_limit, Kind, imports, uses, records, namespaces, lazies, forces, modules, externals, table, table_of}
 use Rattle.state.specs.Cells.{top_cell, pass_cell, own_cell, require_cell}
 use Rattle.state.specs.Cells.{cells, InLimits, Below, held, Good, literal_by, imported_of, usage_of, brief_of, lazy_of, atom_of, lent_of, module_of, index_of, flag}
 use Rattle.state.specs.Cells.{namespaces_in, Shows, Covered, Distinct, Named, Reached, Hinted}
@@ -56,7 +56,7 @@ module _ (x : ℕ) (a : Literal) (q : ℕ) (v : x % 4294967296 ≡ a.place) {t :
             (ap (map (lazy_of y)) e ∙ map-append (lazy_of y) (rows (table_of lazies) t) ((x, q) ∷ []) ∙ ap (λ (m : List Record). m ++ (r ∷ [])) w.lazy);
       }
 
-  pub lazy-made : {t' : List ℕ} → x < id_limit → q < 4294967296 → rows (table_of lazies) t' ≡ rows (table_of lazies) t ++ ((x, q) ∷ []) →
+  pub lazy-made : {t' : List ℕ} → x < id_limit → q < place_limit → rows (table_of lazies) t' ≡ rows (table_of lazies) t ++ ((x, q) ∷ []) →
       held lazies t < 1024 → Only (table_of lazies) t t' → Acts Anyhow (lazily a q) t t' Made
   lazy-made {t'} h b e n o =
       let m = length-more (rows (table_of lazies) t) (x, q) in

@@ -56,6 +56,10 @@ cells = 22354
 abbrev pub id_limit : ℕ
 id_limit = 281474976710656
 
+-- a place in the tree, or 2^16 and a place in *work*
+abbrev pub place_limit : ℕ
+place_limit = 131072
+
 unfoldable pub Below : ℕ → ℕ → List Row → Type 0
 Below k v [] = Unit
 Below k v (r ∷ l) = (r.0 < k) × (r.1 < v) × Below k v l
@@ -66,7 +70,7 @@ InLimits imports l = Below id_limit 4294967296 l
 InLimits uses l = Below id_limit id_limit l
 InLimits records l = Below id_limit 281474976710657 l
 InLimits namespaces l = Below id_limit 256 l
-InLimits lazies l = Below id_limit 4294967296 l
+InLimits lazies l = Below id_limit place_limit l
 InLimits forces l = Below 65536 1 l
 InLimits modules l = Below 65536 16 l
 InLimits externals l = Below 65536 1 l

@@ -2,7 +2,7 @@
 ghost use Rattle.std.specs.Prelude.{◌≡◌, ◌<◌, length};
 ghost use Rattle.extraction_rules.specs.State.{set_top};
 ghost use Rattle.extraction_rules.specs.First.{add_lazy};
-ghost use Rattle.state.specs.Cells.{Good, literal_by, lazies, held};
+ghost use Rattle.state.specs.Cells.{place_limit, Good, literal_by, lazies, held};
 ghost use Rattle.state.specs.Does.{Tells, Holds, Turns, Anyhow, Acts};
 
 use crate::ident::{literal_number, numbered_literal};
@@ -10,7 +10,7 @@ use crate::{LAZIES, Literal, Room};
 
 // A lazy record is appended; its specifiers are read off its place at the end.
 pub fn add_lazy(t: &mut [u64], literal: Literal, place: u32) -> Room
-    requires { Good t.old }
+    requires { Good t.old × (place < place_limit) }
     ensures { Acts Anyhow (λ x. add_lazy (record { literal = literal_by x literal; specifiers = x.bound place })) t.old t.new result }
 {
     if tables::count_of(t, LAZIES) < 1024 {
@@ -40,7 +40,7 @@ pub fn lazy_literal(t: &[u64], i: usize) -> Literal
 // Where its pattern stands: 0 for none, p in the lent tree, 65536 + p in the tree after the first pass.
 pub fn lazy_place(t: &[u64], i: usize) -> u32
     requires { Good t.now × (i < held lazies t.now) }
-    ensures { Holds (λ s. s.lazy) (λ q. q.specifiers) i t.now (λ x. x.bound result) }
+    ensures { (result < place_limit) × Holds (λ s. s.lazy) (λ q. q.specifiers) i t.now (λ x. x.bound result) }
 {
     tables::value_of(t, LAZIES, i) as u32
 }

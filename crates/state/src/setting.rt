@@ -1,11 +1,11 @@
 // What a pass is set to, and the lent lists: in cells behind the others, so that no function of the walk carries them.
-ghost use Rattle.std.specs.Prelude.{◌≡◌, [], ◌≤◌, length};
+ghost use Rattle.std.specs.Prelude.{◌≡◌, [], ◌≤◌, ◌<◌, length};
 ghost use Rattle.tables.specs.Rows.{rows};
 ghost use Rattle.tree.specs.Layout.{two};
 ghost use Rattle.inputs.specs.Lists.{among};
 ghost use Rattle.inputs.specs.Table.{atoms_in, rows_in, file_of};
 ghost use Rattle.inputs.specs.ResolvedValue.{file_by};
-ghost use Rattle.state.specs.Cells.{externals as externals-kind, table as table-kind, table_of, Good};
+ghost use Rattle.state.specs.Cells.{externals as externals-kind, table as table-kind, table_of, place_limit, Good};
 ghost use Rattle.state.specs.Does.{Says, Resets, is_second, place_in, with_externals, with_table, with_second, with_own, with_modes};
 
 use crate::hints::{first_row, hint_row};
@@ -124,7 +124,7 @@ pub fn set_modes(t: &mut [u64], modes: Modes)
 // The place by which is known what stands at `at` of the tree that the pass walks, in 16 bits: no tree that is walked is longer.
 pub fn place_of(t: &[u64], at: usize) -> u32
     requires { Good t.now }
-    ensures { Says (λ e. place_in e.pass at) t.now result }
+    ensures { Says (λ e. place_in e.pass at) t.now result × (result < place_limit) }
 {
     let place = (at % 65536) as u32;
     if is_second(t) {

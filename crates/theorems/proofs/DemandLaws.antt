@@ -11,6 +11,6 @@ use Rattle.theorems.specs.Demand.{KeptOrApart}
 use Rattle.theorems.proofs.TopLaws.{kept-or-apart}
 
 pub kept-whole-or-apart : KeptOrApart
-kept-whole-or-apart l room ms r n q items own e v bs reading requesting placed k x i d inside =
-    kept-or-apart l room ms r n q items own e v reading requesting placed k x i d inside
+kept-whole-or-apart l room ms r m n q items own e v bs reading requesting placed k x i d inside =
+    kept-or-apart l room ms r m n q items own e v reading requesting placed k x i d inside
     (of-done (items_read (read Module l.tree)) Items items reading (read-items l.tree bs)) (ap records_read (call-records l room ms bs r e))

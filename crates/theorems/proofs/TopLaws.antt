@@ -4,6 +4,7 @@ use mathlib.Core.Path.{◌≡◌, refl, sym, subst}
 use mathlib.Core.Bool.{Bool, true, false, true≢false}
 use mathlib.Core.List.{List}
 use mathlib.Core.Option.{Option, none as nothing, some}
+use Rattle.modes.specs.declared.Modes.{Modes}
 use Rattle.scope.specs.Id.{require_atom, local}
 use Rattle.scope.specs.Modules.{Modules, request}
 use Rattle.tree.specs.declared.grammar.Set.TheVariants.{Module, Records}
@@ -55,30 +56,30 @@ unfolding takes
 takes-is rows x file hs q = rw q
 
 -- of a source that resolves
-resolving-ends : (l : Lent) (room : Lengths) (ms : Modules) (r : Extracted) (n : ℕ) (q : Resolved) (items : Fields) (own : ℕ × Modules) →
-    extracted l room ms ≡ done r → resolved (handed_on l r) n r.modules ≡ done q →
+resolving-ends : (l : Lent) (room : Lengths) (ms : Modules) (r : Extracted) (m : Modes) (n : ℕ) (q : Resolved) (items : Fields) (own : ℕ × Modules) →
+    extracted l room ms ≡ done r → resolved (handed_on m l r) n r.modules ≡ done q →
     items_read (read Module l.tree) ≡ done items → request l.file ms ≡ some own → well_placed own.0 items ≡ true →
     (k : ℕ) (x i : List ℕ) → Declares items k x (more (field 0x22 i none) none) → among (value_of x) (atoms_in l.externals) ≡ false →
     Items items → records_read (read Records (encode r.records)) ≡ done (parts_of r.records) → (file : ℕ) → file_of (value_of x) (rows_in l.table) ≡ some file →
     Ends (takes (rows_in l.table) x (stands items i)) i x k (stands items i) items l r q
 unfolding external
-resolving-ends l room ms r n q items own accepted resolving reading requesting placed k x i declares inside shape readable file res =
+resolving-ends l room ms r m n q items own accepted resolving reading requesting placed k x i declares inside shape readable file res =
     let w = well-of own.0 items placed in
-    let m = mine-of own.0 items k x i declares.0 shape.shaped w declares.1 declares.2 in
-    let f = fine-placed items i m.fit in
+    let mine = mine-of own.0 items k x i declares.0 shape.shaped w declares.1 declares.2 in
+    let f = fine-placed items i mine.fit in
     let items-shaped = shaped-each items (rule_of 0x01) shape.shaped in
-    let a = around-well i x own.0 file m.context k items declares.0 shape.shaped w.share w.locals (fits-placed items i m.fit) m.whole declares.1 declares.2
+    let a = around-well i x own.0 file mine.context k items declares.0 shape.shaped w.share w.locals (fits-placed items i mine.fit) mine.whole declares.1 declares.2
     (shaped-parts (field 0x10 x declares.0) 0x10 (each-at Shaped k items (field 0x10 x declares.0) items-shaped declares.1) refl) in
     let front = front-imports k items x declares.0 w.precede declares.1 in
     let rows = rows_in l.table in
     let Space = SpaceIn own.0 items in
     let locals = space-local own.0 items in
-    let ready = ready-placed i x own.0 file m.context Space locals items shape.shaped
+    let ready = ready-placed i x own.0 file mine.context Space locals items shape.shaped
     (imports-of own.0 items items-shaped w.share (imports-all (own_locals own.0) items w.locals) (imports-all sole_namespace items w.soles)) in
-    let u = call-listed (handed_on l r) n r.modules q (parts_of r.records) resolving readable in
+    let u = call-listed (handed_on m l r) n r.modules q (parts_of r.records) resolving readable in
     subst (λ (b : Bool). Ends b i x k (stands items i) items l r q) (sym (takes-is rows x file (stands items i) res))
-    (ends-from (takes_apart (stands items i)) i x k file (stands items i) items l r q own.0 m.context f.0 Space locals res inside inside
-    (core i x own.0 file m.context f.0 Space locals l rows res inside inside k items own.1 q.modules r (parts_of q.list) shape
+    (ends-from (takes_apart (stands items i)) i x k file (stands items i) items l r q own.0 mine.context f.0 Space locals res inside inside
+    (core i x own.0 file mine.context f.0 Space locals l rows res inside inside k items own.1 q.modules r (parts_of q.list) shape
     (record { around = a.0; front = front; place = place-front k items (field 0x10 x declares.0) declares.1 front; clean = a.1; ready = ready; fine = f.1 })
     (call-run l room ms r items own accepted reading requesting) u.numbers u.lists))
 
@@ -107,13 +108,13 @@ source-resolves l r q items own k x cs u w d h =
     (subst (λ (z : Fields). resolved_all rows (forced_in (parts_of (records_of u.end))) q.modules z 3 ≡ done (parts_of q.list)) (sources-of u.end) c))
 
 -- Demand 3, first part, where the lent items are within the grammar and the records read back
-pub kept-or-apart : (l : Lent) (room : Lengths) (ms : Modules) (r : Extracted) (n : ℕ) (q : Resolved) (items : Fields) (own : ℕ × Modules) →
-    extracted l room ms ≡ done r → resolved (handed_on l r) n r.modules ≡ done q →
+pub kept-or-apart : (l : Lent) (room : Lengths) (ms : Modules) (r : Extracted) (m : Modes) (n : ℕ) (q : Resolved) (items : Fields) (own : ℕ × Modules) →
+    extracted l room ms ≡ done r → resolved (handed_on m l r) n r.modules ≡ done q →
     items_read (read Module l.tree) ≡ done items → request l.file ms ≡ some own → well_placed own.0 items ≡ true →
     (k : ℕ) (x i : List ℕ) → Declares items k x (more (field 0x22 i none) none) → among (value_of x) (atoms_in l.externals) ≡ false →
     Items items → records_read (read Records (encode r.records)) ≡ done (parts_of r.records) → Ends (takes (rows_in l.table) x (stands items i)) i x k (stands items i) items l r q
-kept-or-apart l room ms r n q items own accepted resolving reading requesting placed k x i declares inside shape readable =
+kept-or-apart l room ms r m n q items own accepted resolving reading requesting placed k x i declares inside shape readable =
     let f =
     source-resolves l r q items own k x declares.0 (call-run l room ms r items own accepted reading requesting) declares.1 inside
-    (call-listed (handed_on l r) n r.modules q (parts_of r.records) resolving readable) in
-    resolving-ends l room ms r n q items own accepted resolving reading requesting placed k x i declares inside shape readable f.0 f.1
+    (call-listed (handed_on m l r) n r.modules q (parts_of r.records) resolving readable) in
+    resolving-ends l room ms r m n q items own accepted resolving reading requesting placed k x i declares inside shape readable f.0 f.1

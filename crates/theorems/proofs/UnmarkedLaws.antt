@@ -7,6 +7,7 @@ use mathlib.Core.List.{List, [], ◌∷◌, ◌++◌}
 use mathlib.Core.Option.{Option, none as nothing, some, get_or}
 use lib.Dec.{ltb}
 use lib.ListN.{length}
+use Rattle.modes.specs.declared.Modes.{Modes}
 use Rattle.report.specs.Counts.{no_counts}
 use Rattle.scope.specs.Modules.{Modules, number_of, unmarked, request_by, request}
 use Rattle.tree.specs.declared.grammar.Set.TheVariants.{Module, Records}
@@ -160,14 +161,14 @@ ends-unmarked true i x k hs items l r q h = (h.0, (h.1.0, h.1.1, unmarked-number
 ends-unmarked false i x k hs items l r q h = h
 
 -- `KeptOrApart`, with the files of the extraction's scope in place of that scope
-pub kept-or-apart-unmarked : (l : Lent) (room : Lengths) (ms : Modules) (r : Extracted) (n : ℕ) (q : Resolved) (items : Fields) (own : ℕ × Modules) →
-    extracted l room ms ≡ done r → resolved (handed_on l r) n (without_marks r.modules) ≡ done q →
+pub kept-or-apart-unmarked : (l : Lent) (room : Lengths) (ms : Modules) (r : Extracted) (m : Modes) (n : ℕ) (q : Resolved) (items : Fields) (own : ℕ × Modules) →
+    extracted l room ms ≡ done r → resolved (handed_on m l r) n (without_marks r.modules) ≡ done q →
     Bytes l.tree → items_read (read Module l.tree) ≡ done items → request l.file ms ≡ some own → well_placed own.0 items ≡ true →
     (k : ℕ) (x i : List ℕ) → Declares items k x (more (field 0x22 i none) none) → among (value_of x) (atoms_in l.externals) ≡ false →
     Ends (takes (rows_in l.table) x (stands items i)) i x k (stands items i) items l r q
-kept-or-apart-unmarked l room ms r n q items own e v bs reading requesting placed k x i d inside =
+kept-or-apart-unmarked l room ms r m n q items own e v bs reading requesting placed k x i d inside =
     let b = takes (rows_in l.table) x (stands items i) in
-    let w = onto-done (resolved (handed_on l r) n r.modules) _ q (sym (resolved-unmarked (handed_on l r) n r.modules) ∙ v) in
+    let w = onto-done (resolved (handed_on m l r) n r.modules) _ q (sym (resolved-unmarked (handed_on m l r) n r.modules) ∙ v) in
     subst (λ (u : Resolved). Ends b i x k (stands items i) items l r u) (done-inj w.2)
     (ends-unmarked b i x k (stands items i) items l r w.0
-    (kept-whole-or-apart l room ms r n w.0 items own e w.1 bs reading requesting placed k x i d inside))
+    (kept-whole-or-apart l room ms r m n w.0 items own e w.1 bs reading requesting placed k x i d inside))

@@ -2,6 +2,7 @@
 -- Document 01, 'Demand 3's words'.
 use Rattle.std.specs.Prelude.{ℕ, ◌≡◌, Bool, true, false, cond, ◌&&◌, List, [], ◌∷◌, ◌++◌, eqb, take, drop, get_or}
 use Rattle.std.proofs.Math.Option.{Option, none as nothing, some}
+use Rattle.modes.specs.declared.Modes.{Modes}
 use Rattle.scope.specs.Id.{export}
 use Rattle.scope.specs.Modules.{Modules, number_of, request}
 use Rattle.tree.specs.declared.grammar.Set.TheVariants.{Module}
@@ -107,17 +108,17 @@ Ends true i x k hs items l r q =
     (n : ℕ) × ResolvesTo (rows_in l.table) q.modules x n × TakenApart i (four (export n)) x k (properties hs) items (parts_of r.out) (parts_of q.list)
 Ends false i x k hs items l r q = Kept i x k items (parts_of r.out) (parts_of q.list)
 
--- resolving of an extraction's records 'with the same table and the scope handed on'
-abbrev pub handed_on : Lent → Extracted → LentRecords
-handed_on l r = record { modes = l.modes; table = l.table; records = encode r.records }
+-- resolving of an extraction's records 'with the same table and the scope handed on', with any modes
+abbrev pub handed_on : Modes → Lent → Extracted → LentRecords
+handed_on m l r = record { modes = m; table = l.table; records = encode r.records }
 
 -- For an accepted extraction of a well placed tree and an accepted resolving of its records, every namespace import with a
 -- non-external source is taken apart exactly when its source resolves, it is used and every use is a plain property; else it is kept.
 -- What is lent is bytes.
 abbrev pub KeptOrApart : Type 0
 KeptOrApart =
-    (l : Lent) (room : Lengths) (ms : Modules) (r : Extracted) (n : ℕ) (q : Resolved) (items : Fields) (own : ℕ × Modules) →
-    extracted l room ms ≡ done r → resolved (handed_on l r) n r.modules ≡ done q →
+    (l : Lent) (room : Lengths) (ms : Modules) (r : Extracted) (m : Modes) (n : ℕ) (q : Resolved) (items : Fields) (own : ℕ × Modules) →
+    extracted l room ms ≡ done r → resolved (handed_on m l r) n r.modules ≡ done q →
     Bytes l.tree → items_read (read Module l.tree) ≡ done items → request l.file ms ≡ some own → well_placed own.0 items ≡ true →
     (k : ℕ) (x i : List ℕ) → Declares items k x (more (field 0x22 i none) none) → among (value_of x) (atoms_in l.externals) ≡ false →
     Ends (takes (rows_in l.table) x (stands items i)) i x k (stands items i) items l r q

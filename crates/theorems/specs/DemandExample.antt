@@ -69,7 +69,7 @@ lent items = record { file = 9; modes = modes_of 1; externals = []; table = tabl
 abbrev after : Fields → Outcome (Extracted × Resolved)
 after items = do
   r ← extracted (lent items) rooms []
-  t ← resolved (handed_on (lent items) r) room r.modules
+  t ← resolved (handed_on (modes_of 0) (lent items) r) room r.modules
   done (r, t)
 
 -- both are accepted, and what they give has P

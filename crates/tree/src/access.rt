@@ -79,8 +79,10 @@ fn kind_end(s: &[u8], p: Piece, at: usize, stop: usize) -> Reach
     }
 }
 
-// The kinds of a key and of its value are 0 and 1.
-const LAST_KIND: u8 = 1;
+// Of a key there are two kinds, 0 and 1, and of its value.
+const LAST_KEY_KIND: u8 = 1;
+
+const LAST_VALUE_KIND: u8 = 1;
 
 fn key_end(s: &[u8], at: usize, stop: usize) -> Reach
     requires { (at ≤ stop) × (stop ≤ length s.now) }
@@ -89,10 +91,10 @@ fn key_end(s: &[u8], at: usize, stop: usize) -> Reach
     if stop - at < 3 {
         return Reach::Short;
     }
-    if s[at] > LAST_KIND {
+    if s[at] > LAST_KEY_KIND {
         return Reach::Short;
     }
-    if s[at + 1] > LAST_KIND {
+    if s[at + 1] > LAST_VALUE_KIND {
         return Reach::Short;
     }
     if wide(s[at + 2]) <= stop - (at + 3) {

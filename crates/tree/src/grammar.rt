@@ -2,6 +2,7 @@
 ghost use Rattle.std.specs.Prelude.{◌≡◌, ◌-◌, ◌≤◌, ◌<◌};
 ghost use Rattle.tree.specs.Packed.{unpack_rule, unpack_step, set_numbers, low_entries, high_entries, entry_at, sets_at};
 ghost use Rattle.tree.specs.Grammar.{find, step_at, done_at, rule_of, pieces_of};
+ghost use Rattle.tree.specs.Read.{top};
 ghost use Rattle.tree.specs.declared.grammar.Set.TheVariants.{Module};
 ghost use Rattle.tree.specs.Runs.{Answers, nibble_in};
 ghost use Rattle.tree.specs.PackedPieces.{fixed_rows, first_pieces, second_pieces, piece_number};
@@ -323,8 +324,8 @@ pub fn done(whole: u32) -> bool
     true
 }
 
-// The rule of one field of a set.
-pub fn root_rule(set: Set) -> u32
+// 32 and the number of a set.
+fn set_number(set: Set) -> u32
     ensures { (set ≡ find (result - 32) set_numbers Module) × (32 ≤ result) × (result < 64) }
 {
     match set {
@@ -354,4 +355,11 @@ pub fn root_rule(set: Set) -> u32
         Set::Dynamic => 55,
         Set::Forced => 56,
     }
+}
+
+// The rule of one field of a set.
+pub fn root_rule(set: Set) -> u32
+    ensures { unpack_rule result ≡ top set }
+{
+    set_number(set)
 }

@@ -2,7 +2,7 @@
 // Where a field is not whole, which cannot be in a tree that was read, nothing is written.
 #![tactic(auto)]
 
-ghost use Rattle.std.specs.Prelude.{◌≡◌, Bool, true, false, List, [], ℕ, ◌+◌, ◌≤◌, length, get_or};
+ghost use Rattle.std.specs.Prelude.{◌<◌, ◌≡◌, Bool, true, false, List, [], ℕ, ◌+◌, ◌≤◌, length, get_or};
 ghost use Rattle.std.proofs.Math.Option.{some};
 ghost use Rattle.tree.specs.Access.{extent_at};
 ghost use Rattle.tree.specs.Tree.{Field, Fields, encodes};
@@ -10,7 +10,7 @@ ghost use Rattle.tree.specs.Standing.{tree_at, row_at};
 ghost use Rattle.tree.specs.declared.layout.Reach.TheVariants.{Upto};
 ghost use Rattle.extraction_rules.specs.First.{add_lazy, require as require-rule, require_lazily, bindings};
 ghost use Rattle.extraction_rules.specs.Walk.{walk as walk-rule};
-ghost use Rattle.state.specs.Cells.{Good, id_by, literal_by, Valued};
+ghost use Rattle.state.specs.Cells.{place_limit, Good, id_by, literal_by, Valued};
 ghost use Rattle.state.specs.Does.{place_in};
 ghost use Rattle.steps.specs.Step.{Steps};
 ghost use Rattle.walking.specs.declared.Way.TheVariants.{Member as member-way};
@@ -439,7 +439,7 @@ fn make_record(literal: Literal, at: usize, t: &mut [u64], p: usize) -> Step
 
 // A lazy record whose pattern stands at a place.
 fn make_lazy(literal: Literal, place: u32, at: usize, t: &mut [u64], p: usize) -> Step
-    requires { Good t.old }
+    requires { Good t.old × (place < place_limit) }
     ensures { (out : List ℕ) →
         Steps (λ _. []) (λ x u. Unit {0}) (λ x. add_lazy (record { literal = literal_by x literal; specifiers = x.bound place }) at) t.old out p
         t.new out result }

@@ -10,9 +10,9 @@ returns-in_default c =
 pub returns-then-is_external : goal.returns-then-is_external
 returns-then-is_external c =
     source-external c.sole_literal.ensures c.literal_at-literal.result c.in-At.is
-    c.place_of.ensures c.literal_at-literal.ensures c.is_external.ensures c.if-is_external.true
+    c.place_of.ensures.0 c.literal_at-literal.ensures c.is_external.ensures c.if-is_external.true
 
 pub returns-else-is_external : goal.returns-else-is_external
 returns-else-is_external c =
     source-is c.sole_literal.ensures c.literal_at-literal.result c.in-At.is
-    c.place_of.ensures c.literal_at-literal.ensures c.is_external.ensures c.if-is_external.false
+    c.place_of.ensures.0 c.literal_at-literal.ensures c.is_external.ensures c.if-is_external.false

@@ -26,7 +26,7 @@ pub loop-i-preserved : goal.loop-i-preserved
 loop-i-preserved c = (
   onward-step c.loop-i.invariant.0
       (lazy-more c.args.tree.now c.args.work.now c.lazy_literal-literal.result c.lazy_place-place.result c.lazy_literal-literal.ensures
-      c.lazy_place-place.ensures) c.put_lazy-to.ensures,
+      c.lazy_place-place.ensures.1) c.put_lazy-to.ensures,
   omega arith,
 )
 

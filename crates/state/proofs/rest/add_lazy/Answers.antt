@@ -7,17 +7,17 @@ use Rattle.state.proofs.rest.add_lazy.Goals as goal
 
 pub count_of-requires : goal.count_of-requires
 count_of-requires c =
-    c.requires.lies lazies
+    c.requires.0.lies lazies
 
 pub push-requires : goal.push-requires
 push-requires c =
-    (c.requires.lies lazies, omega arith)
+    (c.requires.0.lies lazies, omega arith)
 
 pub returns-then-count_of-lt1024 : goal.returns-then-count_of-lt1024
 returns-then-count_of-lt1024 c =
-    lazy-made c.literal_number.result c.args.literal c.args.place c.literal_number.ensures.1 c.requires c.literal_number.ensures.2 (omega arith)
+    lazy-made c.literal_number.result c.args.literal c.args.place c.literal_number.ensures.1 c.requires.0 c.literal_number.ensures.2 c.requires.1
     c.push.ensures.0 (omega arith) c.push.ensures.1
 
 pub returns-else-count_of-lt1024 : goal.returns-else-count_of-lt1024
 returns-else-count_of-lt1024 c =
-    lazy-full c.args.literal c.args.place c.requires (omega arith)
+    lazy-full c.args.literal c.args.place c.requires.0 (omega arith)

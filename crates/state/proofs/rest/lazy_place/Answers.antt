@@ -14,4 +14,6 @@ overflow_cast-result c =
 
 pub returns : goal.returns
 returns c =
-    lazy-place-at c.requires.1 c.value_of.ensures
+    let b = (lazy-small c.requires.0 c.requires.1).1 in
+    let e = c.value_of.ensures in
+    (omega arith, lazy-place-at c.requires.1 c.value_of.ensures)

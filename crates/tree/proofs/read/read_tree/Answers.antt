@@ -4,7 +4,6 @@ use lib.ListN.{length}
 use borrow.Author.Tests.{eq-eqb, ne_eqb}
 use Rattle.tree.specs.declared.grammar.Rule.{Rule}
 use Rattle.tree.specs.Read.{verdict, children_at, read}
-use Rattle.tree.proofs.PackedLaws.{root-is}
 use Rattle.tree.proofs.read.read_tree.Goals as goal
 
 pub returns-then-s-eq0 : goal.returns-then-s-eq0
@@ -16,6 +15,5 @@ pub returns : goal.returns
 unfolding read
 returns c =
     let s = c.args.s.now in
-    let e = c.root_rule.ensures in
-    let q = ap (λ (q : Rule). verdict (children_at s 0 (length s) 0 q 0)) (root-is _ _ e.1 e.2 e.0) in
+    let q = ap (λ (q : Rule). verdict (children_at s 0 (length s) 0 q 0)) c.root_rule.ensures in
     rw (ne_eqb _ _ c.if-s-eq0.false) (c.children.ensures ∙ q)
