@@ -331,20 +331,21 @@ charted-by work out b n at made c e f few l p w =
     }
 
 pub charted-all : (work out a a' : List ℕ) (n at made : ℕ) → Lists work out a n at made → Linked work a' n 0 → places_in a' n ≡ places_in a n →
-    ChartedBoth work out (set (set (set a' 12971 n) 12972 at) 12973 made)
+    ChartedBoth work out (set (set (set a' 12971 n) 12972 (at - 3)) 12973 (made - 3))
 charted-all work out a a' n at made i w e =
     let b1 = set a' 12971 n in
-    let b2 = set b1 12972 at in
-    let b = set b2 12973 made in
+    let b2 = set b1 12972 (at - 3) in
+    let b = set b2 12973 (made - 3) in
     let z0 = w.cells in
     let z1 = length-set a' 12971 n in
-    let z2 = length-set b1 12972 at in
-    let z3 = length-set b2 12973 made in
+    let z2 = length-set b1 12972 (at - 3) in
+    let z3 = length-set b2 12973 (made - 3) in
     let same : (c : ℕ) → c < 12971 → get_or b c 0 ≡ get_or a' c 0 =
-    (λ c h. get_or-set_other b2 12973 c made 0 (λ q. omega arith) ∙ get_or-set_other b1 12972 c at 0 (λ q. omega arith) ∙ get_or-set_other a' 12971 c n 0 (λ q. omega arith)) in
+    (λ c h. get_or-set_other b2 12973 c (made - 3) 0 (λ q. omega arith) ∙ get_or-set_other b1 12972 c (at - 3) 0 (λ q. omega arith) ∙ get_or-set_other a' 12971 c n 0 (λ q. omega arith)) in
     let ps : places_in b n ≡ places_in a n = same-places work a' b n i.few (z3 ∙ z2 ∙ z1 ∙ z0) same ∙ e in
     charted-by work out b n at made
-    (get_or-set_other b2 12973 12971 made 0 (λ q. omega arith) ∙ get_or-set_other b1 12972 12971 at 0 (λ q. omega arith) ∙ get_or-set_same a' 12971 n 0 (omega arith))
-    (get_or-set_other b2 12973 12972 made 0 (λ q. omega arith) ∙ get_or-set_same b1 12972 at 0 (omega arith)) (get_or-set_same b2 12973 made 0 (omega arith)) i.few
+    (get_or-set_other b2 12973 12971 (made - 3) 0 (λ q. omega arith) ∙ get_or-set_other b1 12972 12971 (at - 3) 0 (λ q. omega arith) ∙ get_or-set_same a' 12971 n 0 (omega arith))
+    (let q = get_or-set_other b2 12973 12972 (made - 3) 0 (λ q. omega arith) ∙ get_or-set_same b1 12972 (at - 3) 0 (omega arith) in let low = i.low.0 in omega arith)
+    (let q = get_or-set_same b2 12973 (made - 3) 0 (omega arith) in let low = i.low_out.0 in omega arith) i.few
     (subst (λ (ps : List Place). Listed work ps at) (sym ps) i.listed) (subst (λ (ps : List Place). Paired work out ps at made) (sym ps) i.paired)
     (same-linked work a' b n i.few (z3 ∙ z2 ∙ z1 ∙ z0) same w)

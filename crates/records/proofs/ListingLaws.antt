@@ -14,6 +14,7 @@ use Rattle.tree.specs.Layout.{same, two, value_of, literal_value, same_literal}
 use Rattle.tree.specs.Tree.{Field, none, tag_of, fixed_of, parts_of, encodes}
 use Rattle.tree.specs.Access.{extent_at}
 use Rattle.tree.specs.Standing.{row_at}
+use Rattle.tree.proofs.AccessLaws.{extent-upto}
 use Rattle.tree.proofs.FixedLaws.{no-upto}
 use Rattle.tree.proofs.LayoutLaws.{same-equal}
 use Rattle.inputs.specs.Fields.{has, sole}
@@ -263,11 +264,17 @@ module _ (work : List ℕ) (at stop : ℕ) (le : at ≤ length work) (e : extent
           (get_or-set_other put1 (2050 + 3 * n) (2049 + 3 * n) made 0 (λ e. omega arith) ∙ get_or-set_same a (2049 + 3 * n) at 0 (omega arith))
           (get_or-set_same put1 (2050 + 3 * n) made 0 (omega arith)))
 
-    pub lists-step : (a a' : List ℕ) (n n' : ℕ) → n < 3641 → stop < 65536 → until < 65536 → Unchained a → Lists work out a n at made →
+    pub lists-step : (a a' : List ℕ) (n n' : ℕ) → n < 3641 → stop ≤ 65536 → until ≤ 65536 → Unchained a → Lists work out a n at made →
         (get_or work at 0 ≡ 0x10 → (n' ≡ n + 1) × (a' ≡ set (set a (2049 + 3 * n) at) (2050 + 3 * n) made)) ×
         ((get_or work at 0 ≡ 0x10 → ⊥) → (n' ≡ n) × (a' ≡ a)) → Lists work out a' n' stop until × Unchained a'
     lists-step a a' n n' few low low' u i w = by (eqb (get_or work at 0) 0x10) refl
       where
+        reached : Lists work out a n at made → (3 ≤ stop) × (stop ≤ 65536)
+        reached l = let x = extent-upto work at (length work) le e in let y = l.low.0 in let z = x.0 in (omega arith, low)
+
+        reached_out : Lists work out a n at made → (3 ≤ until) × (until ≤ 65536)
+        reached_out l = let x = extent-upto out made (length out) le' e' in let y = l.low_out.0 in let z = x.0 in (omega arith, low')
+
         by : (c : Bool) → eqb (get_or work at 0) 0x10 ≡ c → Lists work out a' n' stop until × Unchained a'
         by true q =
             let k = w.0 (eqb-true (get_or work at 0) 0x10 q) in
@@ -275,8 +282,8 @@ module _ (work : List ℕ) (at stop : ℕ) (le : at ≤ length work) (e : extent
             (subst (λ (l : List ℕ). Lists work out l (n + 1) stop until × Unchained l) (sym k.1) (
               record {
                 few = omega arith;
-                low = low;
-                low_out = low';
+                low = reached i;
+                low_out = reached_out i;
                 listed = subst (λ (ps : List Place). Listed work ps stop) (sym (put-places a n few u)) (listed-more (places_in a n) made i.listed);
                 paired = subst (λ (ps : List Place). Paired work out ps stop until) (sym (put-places a n few u)) (paired-more (places_in a n) i.paired);
               },
@@ -289,8 +296,8 @@ module _ (work : List ℕ) (at stop : ℕ) (le : at ≤ length work) (e : extent
             (subst (λ (l : List ℕ). Lists work out l n stop until × Unchained l) (sym k.1) (
               record {
                 few = i.few;
-                low = low;
-                low_out = low';
+                low = reached i;
+                low_out = reached_out i;
                 listed = listed-pass (places_in a n) h i.listed;
                 paired = paired-pass (places_in a n) h i.paired;
               },
@@ -299,7 +306,7 @@ module _ (work : List ℕ) (at stop : ℕ) (le : at ≤ length work) (e : extent
 
 pub lists-start : (work out a : List ℕ) → Lists work out a 0 3 3
 unfolding places_in
-lists-start work out a = record { few = omega arith; low = omega arith; low_out = omega arith; listed = listed-start work; paired = paired-start work out }
+lists-start work out a = record { few = omega arith; low = (omega arith, omega arith); low_out = (omega arith, omega arith); listed = listed-start work; paired = paired-start work out }
 
 pub unchained-start : Unchained (replicate 12974 3641)
 unchained-start = record { cells = length-replicate {A = ℕ} 12974 3641; ends = λ k h. get_or-replicate 12974 k 3641 0 (omega arith) }

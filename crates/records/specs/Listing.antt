@@ -69,7 +69,7 @@ chained g k (p ∷ ps) = cond (eqb (g p) k) (p ∷ ps) (chained g k ps)
 -- ---- The array
 
 -- the first import of each of 2,048 chains; then three cells for each import: the next of its chain, and its place; and then how many there
--- are, and where the items behind them start
+-- are, and where the items behind them start, counted from the first item
 abbrev pub next_in : List ℕ → ℕ → ℕ
 next_in a i = get_or a (2048 + 3 * i) 0
 
@@ -80,10 +80,10 @@ abbrev pub count_in : List ℕ → ℕ
 count_in a = get_or a 12971 0
 
 abbrev pub behind_in : List ℕ → ℕ
-behind_in a = get_or a 12972 0
+behind_in a = 3 + get_or a 12972 0
 
 abbrev pub behind_out : List ℕ → ℕ
-behind_out a = get_or a 12973 0
+behind_out a = 3 + get_or a 12973 0
 
 -- the first n places
 unfoldable pub places_in : List ℕ → ℕ → List Place
@@ -101,8 +101,8 @@ pub record Unchained (a : List ℕ) : Type 0 where
 -- the first n places are those of the imports in front of `at` and `made`
 pub record Lists (work out a : List ℕ) (n at made : ℕ) : Type 0 where
   pub few : n ≤ 3641
-  pub low : at < 65536
-  pub low_out : made < 65536
+  pub low : (3 ≤ at) × (at ≤ 65536)
+  pub low_out : (3 ≤ made) × (made ≤ 65536)
   pub listed : Listed work (places_in a n) at
   pub paired : Paired work out (places_in a n) at made
 

@@ -21,7 +21,8 @@ const AT: usize = 2049;
 
 const MADE: usize = 2050;
 
-// The cells behind all imports: how many are listed, and where the items behind them start in both trees.
+// The cells behind all imports: how many are listed, and where the items behind them start in both trees, counted from the first item, so
+// that the end of a tree of 65,536 bytes has room.
 const COUNT: usize = 12971;
 
 const BEHIND: usize = 12972;
@@ -51,8 +52,8 @@ pub fn chart_imports(work: &[u8], out: &[u8], imports: &mut [u16; 12974])
     let swept = list_imports(work, out, imports);
     link_imports(work, imports, swept.count);
     imports[COUNT] = swept.count as u16;
-    imports[BEHIND] = swept.at as u16;
-    imports[BEHIND_OUT] = swept.made as u16;
+    imports[BEHIND] = (swept.at - ITEMS) as u16;
+    imports[BEHIND_OUT] = (swept.made - ITEMS) as u16;
 }
 
 // Lists them. Ends where either tree does, or where the list is full.
@@ -74,18 +75,18 @@ fn list_imports(work: &[u8], out: &[u8], imports: &mut [u16; 12974]) -> Swept
 
 // Whether a tree has items, and all of them at places below 65536.
 fn has_places(s: &[u8]) -> bool
-    ensures { result ≡ true → (3 ≤ length s.now) × (length s.now < 65536) }
+    ensures { result ≡ true → (3 ≤ length s.now) × (length s.now ≤ 65536) }
 {
     if s.len() < ITEMS {
         return false;
     }
-    s.len() < 65536
+    s.len() <= 65536
 }
 
 // The sweep over trees that have places.
 fn sweep(work: &[u8], out: &[u8], imports: &mut [u16; 12974]) -> Swept
-    requires { Unchained imports.old × (3 ≤ length work.now) × (length work.now < 65536)
-        × (3 ≤ length out.now) × (length out.now < 65536) }
+    requires { Unchained imports.old × (3 ≤ length work.now) × (length work.now ≤ 65536)
+        × (3 ≤ length out.now) × (length out.now ≤ 65536) }
     ensures { Lists work.now out.now imports.new result.count result.at result.made × Unchained imports.new }
 {
     let mut at = ITEMS;
@@ -190,7 +191,7 @@ pub fn behind(imports: &[u16; 12974]) -> Pair
     ensures { (result.at ≡ behind_in imports.now) × (result.made ≡ behind_out imports.now) }
 {
     Pair {
-        at: wide(imports[BEHIND]),
-        made: wide(imports[BEHIND_OUT]),
+        at: ITEMS + wide(imports[BEHIND]),
+        made: ITEMS + wide(imports[BEHIND_OUT]),
     }
 }
