@@ -213,12 +213,12 @@ lone-apart c i o =
     }
 
 -- only cells beside the tables changed
-pub record Aside (t t' : List ℕ) : Type 0 where
+pub record TablesKept (t t' : List ℕ) : Type 0 where
   pub size : length t' ≡ length t
   pub counts : (k : Kind) → get_or t' (table_of k).count 0 ≡ get_or t (table_of k).count 0
   pub in_rows : (k : Kind) (j : ℕ) → (table_of k).base ≤ j → j < (table_of k).base + 2 * (table_of k).room → get_or t' j 0 ≡ get_or t j 0
 
-module _ {t t' : List ℕ} (g : Good t) (o : Aside t t') where
+module _ {t t' : List ℕ} (g : Good t) (o : TablesKept t t') where
   pub aside-rows : (k : Kind) → rows (table_of k) t' ≡ rows (table_of k) t
   unfolding rows
   aside-rows k =
@@ -244,7 +244,7 @@ module _ {t t' : List ℕ} (g : Good t) (o : Aside t t') where
       }
 
 module _ {t : List ℕ} (i v : ℕ) (g : Good t) (f : Beside i) where
-  stored : Aside t (set t i v)
+  stored : TablesKept t (set t i v)
   stored =
       let o = store-count (lone i) t v in
       record {

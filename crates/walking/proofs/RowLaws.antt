@@ -75,7 +75,7 @@ rest_by way s stop end = λ v. row_by (Children (others_by way)) (row_at s stop 
 
 module _ (way : Way) {s : List ℕ} (bytes : Bytes s) {at end : ℕ} (le : at ≤ end) where
   -- no field is left
-  row-over : extent_at s at end ≡ Short → {t out : List ℕ} {o : ℕ} → Good t → RowSteps s at end (λ y. row_by way (row_at s at end) y.setting at) t out o t out (Done o)
+  pub row-over : extent_at s at end ≡ Short → {t out : List ℕ} {o : ℕ} → Good t → RowSteps s at end (λ y. row_by way (row_at s at end) y.setting at) t out o t out (Done o)
   row-over x g =
       steps-give encodes (λ y u. SoundAll s at end × Reads y s) (λ y. row_by way (row_at s at end) y.setting at) none g encodes-none
       (λ y u w. ap (λ (fs : Fields). row_by way fs y.setting at u) (row-none s at end le x) ∙ by-none way y.setting at u)
@@ -91,7 +91,7 @@ module _ (way : Way) {s : List ℕ} (bytes : Bytes s) {at end : ℕ} (le : at �
         ∙ ap (λ (p : ℕ). pair_of more (λ v. first_by way (tree_at s at stop) v.setting at) (λ _ v. row_by (Children (others_by way)) (row_at s stop end) v.setting p) y u) z
 
     -- the first field, then the rest
-    row-then : {t out t1 out1 t2 out2 : List ℕ} {o p : ℕ} {k : Step} → FieldSteps s at stop (λ y. first_by way (tree_at s at stop) y.setting at) t out o t1 out1 (Done p) →
+    pub row-then : {t out t1 out1 t2 out2 : List ℕ} {o p : ℕ} {k : Step} → FieldSteps s at stop (λ y. first_by way (tree_at s at stop) y.setting at) t out o t1 out1 (Done p) →
         RowSteps s stop end (rest_by way s stop end) t1 out1 p t2 out2 k → RowSteps s at end (λ y. row_by way (row_at s at end) y.setting at) t out o t2 out2 k
     row-then first others =
         steps-as (λ y. row_by way (row_at s at end) y.setting at)
@@ -99,7 +99,7 @@ module _ (way : Way) {s : List ℕ} (bytes : Bytes s) {at end : ℕ} (le : at �
         (λ y u w. (sound_all-first le w.0 x, w.1)) (λ y u w f v q. (sound_all-rest le w.0 x, w.1)))
         (λ y u w. (w, split-here w.0 y u))
 
-    row-turned : {t out t1 out1 : List ℕ} {o q : ℕ} {v : Why} → FieldSteps s at stop (λ y. first_by way (tree_at s at stop) y.setting at) t out o t1 out1 (Refused v q) →
+    pub row-turned : {t out t1 out1 : List ℕ} {o q : ℕ} {v : Why} → FieldSteps s at stop (λ y. first_by way (tree_at s at stop) y.setting at) t out o t1 out1 (Refused v q) →
         RowSteps s at end (λ y. row_by way (row_at s at end) y.setting at) t out o t1 out1 (Refused v q)
     row-turned first =
         steps-as (λ y. row_by way (row_at s at end) y.setting at)
