@@ -38,7 +38,7 @@ pub struct Pair {
 
 // A sweep over the items of both trees: how many imports it listed, and where the items behind them start.
 #[derive(Drop)]
-struct Swept {
+pub struct Swept {
     count: usize,
     at: usize,
     made: usize,
@@ -57,7 +57,7 @@ pub fn chart_imports(work: &[u8], out: &[u8], imports: &mut [u16; 12974])
 }
 
 // Lists them. Ends where either tree does, or where the list is full.
-fn list_imports(work: &[u8], out: &[u8], imports: &mut [u16; 12974]) -> Swept
+pub fn list_imports(work: &[u8], out: &[u8], imports: &mut [u16; 12974]) -> Swept
     requires { Unchained imports.old }
     ensures { Lists work.now out.now imports.new result.count result.at result.made × Unchained imports.new }
 {
@@ -122,7 +122,7 @@ fn list_item(tag: u8, at: usize, made: usize, imports: &mut [u16; 12974], n: usi
 }
 
 // Chains the n listed imports, the last first. What is not below n ends a chain.
-fn link_imports(work: &[u8], imports: &mut [u16; 12974], n: usize)
+pub fn link_imports(work: &[u8], imports: &mut [u16; 12974], n: usize)
     requires { (n ≤ 3641) × Unchained imports.old }
     ensures { Linked work.now imports.new n 0 × (places_in imports.new n ≡ places_in imports.old n) }
 {
@@ -147,7 +147,7 @@ fn chain_of(work: &[u8], place: u16) -> usize
 }
 
 // A cell as a place.
-fn wide(cell: u16) -> usize
+pub fn wide(cell: u16) -> usize
     ensures { result ≡ cell }
 {
     cell as usize

@@ -1,7 +1,7 @@
 // Atoms, contexts, ids and literals in bytes: where they end, their numbers, and whether two are equal.
 ghost use Rattle.std.specs.Prelude.{◌≡◌, ◌+◌, ◌≤◌, length};
 ghost use Rattle.std.proofs.Math.Seq.{slice};
-ghost use Rattle.tree.specs.Layout.{skip_at, two_at, four_at, same, literal_width, literal_value};
+ghost use Rattle.tree.specs.Layout.{skip_at, literal_end, two_at, four_at, same, literal_width, literal_value};
 
 // How far something reaches: up to a place, or past the bytes that there are.
 #[derive(Drop)]
@@ -33,6 +33,14 @@ pub fn skip(at: usize, n: usize, stop: usize) -> Reach
     } else {
         Reach::Short
     }
+}
+
+// Where the literal at `at` ends.
+pub fn literal_end(at: usize, stop: usize) -> Reach
+    requires { at ≤ stop }
+    ensures { result ≡ literal_end at stop }
+{
+    skip(at, LITERAL, stop)
 }
 
 // The atom at `at`, as a number.
