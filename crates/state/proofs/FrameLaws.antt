@@ -10,10 +10,10 @@ use borrow.Author.Tests.{leb-true, ltb-true, eqb-true}
 use Rattle.tree.proofs.Table.{both-true}
 use Rattle.scope.specs.Modules.{Modules}
 use Rattle.tables.specs.declared.Table.{Table}
-use Rattle.tables.specs.Rows.{Row, rows, rows_from, Lies, least_of}
+use Rattle.tables.specs.Rows.{Row, rows, Lies, least_of}
 use Rattle.tables.specs.Only.{Outside, Only, Apart}
-use Rattle.tables.proofs.RowLaws.{rows-length, from-agree}
-use Rattle.tables.proofs.OnlyLaws.{apart-rows, apart-lies, store-count}
+use Rattle.tables.proofs.RowLaws.{rows-length}
+use Rattle.tables.proofs.OnlyLaws.{SameCells, same-rows, same-lies, apart-same, apart-rows, apart-lies, store-count}
 use Rattle.extraction_rules.specs.State.{Record, Imported, Usage, State, Setting, set_imported, set_usages, set_collected, set_lazy, set_forced, set_modules, set_top}
 use Rattle.inputs.specs.Lists.{among}
 use Rattle.extraction_rules.specs.First.{holds_namespace}
@@ -213,31 +213,18 @@ lone-apart c i o =
     }
 
 -- only cells beside the tables changed
-pub record TablesKept (t t' : List ℕ) : Type 0 where
-  pub size : length t' ≡ length t
-  pub counts : (k : Kind) → get_or t' (table_of k).count 0 ≡ get_or t (table_of k).count 0
-  pub in_rows : (k : Kind) (j : ℕ) → (table_of k).base ≤ j → j < (table_of k).base + 2 * (table_of k).room → get_or t' j 0 ≡ get_or t j 0
+abbrev pub TablesKept : List ℕ → List ℕ → Type 0
+TablesKept t t' = (k : Kind) → SameCells (table_of k) t t'
 
 module _ {t t' : List ℕ} (g : Good t) (o : TablesKept t t') where
   pub aside-rows : (k : Kind) → rows (table_of k) t' ≡ rows (table_of k) t
-  unfolding rows
-  aside-rows k =
-      let b = table_of k in
-      let held = (g.lies k).held in
-      ap (λ (n : ℕ). rows_from n b.base t') (o.counts k) ∙ from-agree (get_or t b.count 0) b.base t t' (λ j p q. o.in_rows k j p (omega arith))
-
-  aside-lies : (k : Kind) → Lies (table_of k) t'
-  aside-lies k =
-      let l = g.lies k in
-      let n = o.counts k in
-      let s = o.size in
-      record { ends = let e = l.ends in omega arith; cell = l.cell; held = let h = l.held in omega arith }
+  aside-rows k = same-rows (o k) (g.lies k)
 
   pub aside-good : Agrees t t' → get_or t' own_cell 0 < 65536 → Good t'
   aside-good a b =
       record {
-        size = let z = g.size in let s = o.size in omega arith;
-        lies = aside-lies;
+        size = let z = g.size in let s = (o imports).size in omega arith;
+        lies = λ k. same-lies (o k) (g.lies k);
         below = λ k. subst (InLimits k) (sym (aside-rows k)) (g.below k);
         hinted = λ k. subst (Hinted k t') (sym (aside-rows k)) (hinted-agree t t' a k (rows (table_of k) t) (g.hinted k));
         own_below = b;
@@ -245,13 +232,7 @@ module _ {t t' : List ℕ} (g : Good t) (o : TablesKept t t') where
 
 module _ {t : List ℕ} (i v : ℕ) (g : Good t) (f : Beside i) where
   stored : TablesKept t (set t i v)
-  stored =
-      let o = store-count (lone i) t v in
-      record {
-        size = o.size;
-        counts = λ k. o.same (table_of k).count (lone-apart (table_of k) i (f k)).cell;
-        in_rows = λ k. λ j p q. o.same j ((lone-apart (table_of k) i (f k)).row j p q);
-      }
+  stored k = apart-same (lone-apart (table_of k) i (f k)) (store-count (lone i) t v)
 
   pub beside-rows : (k : Kind) → rows (table_of k) (set t i v) ≡ rows (table_of k) t
   beside-rows = aside-rows g stored

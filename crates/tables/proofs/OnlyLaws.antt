@@ -13,19 +13,35 @@ use Rattle.tables.proofs.RowLaws.{from-agree, rows-length, Dropping, Closing}
 pub only-then : {b : Table} {t m k : List ℕ} → Only b t m → Only b m k → Only b t k
 only-then p q = record { size = q.size ∙ p.size; same = λ i o. q.same i o ∙ p.same i o }
 
--- a table apart from the one that changed holds the same rows
-pub apart-rows : {b c : Table} {t t' : List ℕ} → Apart b c → Only b t t' → Lies c t → rows c t' ≡ rows c t
-unfolding rows
-apart-rows {b} {c} {t} {t'} a o l =
-    let n = o.same c.count a.cell in
-    let held = l.held in
-    ap (λ (k : ℕ). rows_from k c.base t') n ∙ from-agree (get_or t c.count 0) c.base t t' (λ i p q. o.same i (a.row i p (omega arith)))
+-- the cells of a table are as they were
+pub record SameCells (c : Table) (t t' : List ℕ) : Type 0 where
+  pub size : length t' ≡ length t
+  pub count : get_or t' c.count 0 ≡ get_or t c.count 0
+  pub in_rows : (i : ℕ) → c.base ≤ i → i < c.base + 2 * c.room → get_or t' i 0 ≡ get_or t i 0
 
-pub apart-lies : {b c : Table} {t t' : List ℕ} → Apart b c → Only b t t' → Lies c t → Lies c t'
-apart-lies {b} {c} {t} {t'} a o l =
-    let n = o.same c.count a.cell in
+-- so it holds the same rows
+pub same-rows : {c : Table} {t t' : List ℕ} → SameCells c t t' → Lies c t → rows c t' ≡ rows c t
+unfolding rows
+same-rows {c} {t} {t'} o l =
+    let n = o.count in
+    let held = l.held in
+    ap (λ (k : ℕ). rows_from k c.base t') n ∙ from-agree (get_or t c.count 0) c.base t t' (λ i p q. o.in_rows i p (omega arith))
+
+pub same-lies : {c : Table} {t t' : List ℕ} → SameCells c t t' → Lies c t → Lies c t'
+same-lies {c} {t} {t'} o l =
+    let n = o.count in
     let s = o.size in
     record { ends = let e = l.ends in omega arith; cell = l.cell; held = let h = l.held in omega arith }
+
+-- a table apart from the one that changed
+pub apart-same : {b c : Table} {t t' : List ℕ} → Apart b c → Only b t t' → SameCells c t t'
+apart-same {b} {c} a o = record { size = o.size; count = o.same c.count a.cell; in_rows = λ i p q. o.same i (a.row i p q) }
+
+pub apart-rows : {b c : Table} {t t' : List ℕ} → Apart b c → Only b t t' → Lies c t → rows c t' ≡ rows c t
+apart-rows a o l = same-rows (apart-same a o) l
+
+pub apart-lies : {b c : Table} {t t' : List ℕ} → Apart b c → Only b t t' → Lies c t → Lies c t'
+apart-lies a o l = same-lies (apart-same a o) l
 
 -- ---- One store
 

@@ -12,6 +12,12 @@ use Rattle.state.proofs.IndexLaws.{first-value-below}
 use Rattle.state.proofs.RecordLaws.{used-name, used-id, named-past, id-past}
 use Rattle.state.proofs.collected.used_record.Goals as goal
 
+pub returns-else-context-local : goal.returns-else-context-local
+returns-else-context-local c =
+    subst (Tells (λ s. source_of (used_record c.args.own.0 (id_by c.args.id) s.collected)) c.args.t.now) (sym c.source_at-else-context-local.ensures)
+    (used-id c.args.own.0 c.id_number-n.result c.requires (omega arith) c.id_number-n.ensures.0 c.id_number-n.ensures.1
+    (λ e. c.if-context-local.false (e ∙ sym (ap (λ (x : SyntaxContext). x.0) c.local_ctxt-local.ensures))) c.find_value-found-else-context-local.ensures)
+
 pub find_value-found-requires : goal.find_value-found-requires
 find_value-found-requires c =
     (c.requires.lies records, let e = c.requires.size in omega arith, named-past c.first_named-from.ensures)
@@ -33,9 +39,3 @@ returns-then-context-local c =
     subst (Tells (λ s. source_of (used_record c.args.own.0 (id_by c.args.id) s.collected)) c.args.t.now) (sym c.source_at.ensures)
     (used-name c.args.own.0 c.id_number-n.result c.requires c.id_number-n.ensures.0 c.id_number-n.ensures.1
     (c.if-context-local.true ∙ ap (λ (x : SyntaxContext). x.0) c.local_ctxt-local.ensures) c.find_value-found.ensures)
-
-pub returns-else-context-local : goal.returns-else-context-local
-returns-else-context-local c =
-    subst (Tells (λ s. source_of (used_record c.args.own.0 (id_by c.args.id) s.collected)) c.args.t.now) (sym c.source_at-else-context-local.ensures)
-    (used-id c.args.own.0 c.id_number-n.result c.requires (omega arith) c.id_number-n.ensures.0 c.id_number-n.ensures.1
-    (λ e. c.if-context-local.false (e ∙ sym (ap (λ (x : SyntaxContext). x.0) c.local_ctxt-local.ensures))) c.find_value-found-else-context-local.ensures)
