@@ -1,218 +1,169 @@
 // What is printed of a call: what goes in, whether it is accepted, and what it left.
-ghost use Rattle.std.specs.Prelude.{◌+◌, ◌≤◌, ◌<◌, length};
+use crate::request::{Extraction, Resolution};
+use show::buffer::{Front, is_zero};
+use show::fields::Fields;
+use std::{fmt, io};
+use text::hex::Bytes;
 
-use show::buffer::{is_zero, show_front};
-use show::fields::show;
-use show::line::wide;
-use show::print::{say, say_number};
-use text::hex::put_bytes;
-
-pub fn malformed(rt: &impl Print) {
-    say(rt, b"not a request that can be read\n");
+// A refusal's number and place.
+#[derive(Clone, Copy)]
+struct Refusal {
+    number: u64,
+    place: u64,
 }
 
-fn number(rt: &impl Print, word: &[u8], n: u64) {
-    say(rt, word);
-    say_number(rt, n);
-}
-
-// Bytes in hexadecimal behind a word.
-fn bytes(rt: &impl Print, word: &[u8], s: &[u8]) {
-    let mut line = [0u8; 8192];
-    let n = put_bytes(&mut line, 0, s);
-    say(rt, word);
-    say(rt, &line[0..n]);
-}
-
-// The number in two bytes at `at`.
-fn two(s: &[u8], at: usize) -> u64
-    requires { at + 2 ≤ length s.now }
-    ensures { result < 65536 }
-{
-    (wide(s[at]) * 256 + wide(s[at + 1])) as u64
-}
-
-// The numbers and lists of an extraction, but for its table.
-pub fn lent(rt: &impl Print, own: u16, modes: u32, files: &[u8], externals: &[u8]) {
-    number(rt, b"own file ", own as u64);
-    if modes == 1 {
-        say(rt, b", config on");
-    } else {
-        say(rt, b", config off");
+impl fmt::Display for Refusal {
+    fn fmt<W: fmt::Write>(&self, f: &mut fmt::Formatter<W>) -> fmt::Result {
+        write!(f, "refused {} at {}", self.number, self.place)
     }
-    bytes(rt, b", files ", files);
-    bytes(rt, b", externals ", externals);
-    say(rt, b"\n");
 }
 
-// The files of a resolving.
-pub fn handed_on(rt: &impl Print, files: &[u8]) {
-    bytes(rt, b"files ", files);
-    say(rt, b"\n");
+// The refusal in a call's answer: its number times 2^32 and its place. A zero upper half is acceptance.
+fn refusal_in(r: u64) -> Option<Refusal> {
+    match r >> 32 {
+        0 => None,
+        number => Some(Refusal {
+            number,
+            place: r & 0xFFFF_FFFF,
+        }),
+    }
+}
+
+// What goes into an extraction.
+pub fn asked(rt: &impl Print, e: &Extraction) -> io::Result<()> {
+    let config = if e.config { "on" } else { "off" };
+    let own = e.own;
+    let files = Bytes(&e.files);
+    let externals = Bytes(&e.externals);
+    println!(rt; "own file {own}, config {config}, files {files}, externals {externals}")?;
+    rows(rt, &e.table)?;
+    module(rt, &e.tree)
+}
+
+// What goes into a resolving.
+pub fn handed_on(rt: &impl Print, asked: &Resolution) -> io::Result<()> {
+    println!(rt; "files {}", Bytes(&asked.files))?;
+    rows(rt, &asked.table)?;
+    print!(rt; "records:\n{}", Fields(&asked.records))
+}
+
+// What goes into a decoding.
+pub fn attributes(rt: &impl Print, s: &[u8]) -> io::Result<()> {
+    print!(rt; "attributes:\n{}", Fields(s))
 }
 
 // The table, a row a line.
-pub fn rows(rt: &impl Print, table: &[u8]) {
-    let len = table.len();
-    let mut at = 0;
-    while 4 <= len - at {
-        let file = at + 2;
-        bytes(rt, b"table: source ", &table[at..file]);
-        number(rt, b" is file ", two(table, file));
-        say(rt, b"\n");
-        at += 4;
+fn rows(rt: &impl Print, table: &[u8]) -> io::Result<()> {
+    for row in table.chunks(4) {
+        match row {
+            [a, b, c, d] => {
+                let file = u16::from_be_bytes([*c, *d]);
+                println!(rt; "table: source {} is file {file}", Bytes(&[*a, *b]))?;
+            }
+            _ => println!(rt; "table: bytes left over")?,
+        }
     }
-    if at < len {
-        say(rt, b"table: bytes left over\n");
-    }
-}
-
-// The refusal in an answer.
-fn refusal(rt: &impl Print, r: u64) {
-    number(rt, b"refused ", r / 4294967296);
-    number(rt, b" at ", r % 4294967296);
-    say(rt, b"\n");
+    Ok(())
 }
 
 // A tree, after what reading says of it: detection reads a module, and without require no more than that.
-pub fn module(rt: &impl Print, tree: &[u8]) {
-    let r = tychodrel::tychodrel_detect(0, tree);
-    number(rt, b"tree of ", tree.len() as u64);
-    say(rt, b" bytes, its reading: ");
-    if r < 4294967296 {
-        say(rt, b"accepted\n");
-    } else {
-        refusal(rt, r);
+fn module(rt: &impl Print, tree: &[u8]) -> io::Result<()> {
+    print!(rt; "tree of {} bytes, its reading: ", tree.len())?;
+    match refusal_in(tychodrel::tychodrel_detect(0, tree)) {
+        None => println!(rt; "accepted")?,
+        Some(refusal) => println!(rt; "{refusal}")?,
     }
-    show(rt, tree);
+    print!(rt; "{}", Fields(tree))
 }
 
 // What an extraction answers and leaves in its buffers.
-pub fn extraction(rt: &impl Print, r: u64, tree: &[u8], work: &[u8], out: &[u8], records: &[u8]) {
-    if r != 0 {
-        refusal(rt, r);
-        left(rt, work, out, records);
-        return;
+pub fn extraction(
+    rt: &impl Print,
+    r: u64,
+    tree: &[u8],
+    work: &[u8],
+    out: &[u8],
+    records: &[u8],
+) -> io::Result<()> {
+    if let Some(refusal) = refusal_in(r) {
+        let clear = is_zero(work) && is_zero(out) && is_zero(records);
+        let left = if clear { "all zero" } else { "not all zero" };
+        return println!(rt; "{refusal}\nwork, out, records: {left}");
     }
-    say(rt, b"accepted\n");
-    if holds(work, tree) {
-        say(rt, b"work: the tree as it went in\n");
+    println!(rt; "accepted")?;
+    if work.strip_prefix(tree).is_some_and(is_zero) {
+        println!(rt; "work: the tree as it went in")?;
     } else {
-        say(rt, b"work:\n");
-        show_front(rt, work);
+        print!(rt; "work:\n{}", Front(work))?;
     }
     if work == out {
-        say(rt, b"out: the same as work\n");
+        println!(rt; "out: the same as work")?;
     } else {
-        say(rt, b"out:\n");
-        show_front(rt, out);
+        print!(rt; "out:\n{}", Front(out))?;
     }
-    say(rt, b"records:\n");
-    show_front(rt, records);
-}
-
-// Whether a buffer holds just these bytes, and zeros behind.
-fn holds(buffer: &[u8], s: &[u8]) -> bool {
-    let n = s.len();
-    if buffer.len() < n {
-        return false;
-    }
-    if is_zero(buffer, n) {
-        &buffer[0..n] == s
-    } else {
-        false
-    }
-}
-
-// Says whether the buffers of a refused extraction are zero.
-fn left(rt: &impl Print, work: &[u8], out: &[u8], records: &[u8]) {
-    if is_zero(work, 0) {
-        if is_zero(out, 0) {
-            if is_zero(records, 0) {
-                say(rt, b"work, out, records: all zero\n");
-                return;
-            }
-        }
-    }
-    say(rt, b"work, out, records: not all zero\n");
+    print!(rt; "records:\n{}", Front(records))
 }
 
 // What a resolving answers and leaves in its buffer.
-pub fn resolving(rt: &impl Print, r: u64, list: &[u8]) {
-    if r == 0 {
-        say(rt, b"accepted\nlist:\n");
-        show_front(rt, list);
-        return;
-    }
-    refusal(rt, r);
-    if is_zero(list, 0) {
-        say(rt, b"list: all zero\n");
-    } else {
-        say(rt, b"list: not all zero\n");
+pub fn resolving(rt: &impl Print, r: u64, list: &[u8]) -> io::Result<()> {
+    match refusal_in(r) {
+        None => print!(rt; "accepted\nlist:\n{}", Front(list)),
+        Some(refusal) => {
+            let left = if is_zero(list) {
+                "all zero"
+            } else {
+                "not all zero"
+            };
+            println!(rt; "{refusal}\nlist: {left}")
+        }
     }
 }
 
 // The modules of a scope, a line each.
-pub fn modules(rt: &impl Print, scope: [u8; 770]) {
-    let count = wide(scope[0]) * 256 + wide(scope[1]);
+pub fn modules(rt: &impl Print, scope: &[u8; 770]) -> io::Result<()> {
+    let count = usize::from(u16::from_be_bytes([scope[0], scope[1]]));
+    let Some((modules, behind)) = scope[2..].split_at_checked(3 * count) else {
+        return println!(rt; "scope: more than 256 modules");
+    };
     if count == 0 {
-        say(rt, b"scope: no modules\n");
+        println!(rt; "scope: no modules")?;
     }
-    if 256 < count {
-        say(rt, b"scope: more than 256 modules\n");
-        return;
+    for (i, module) in modules.chunks(3).enumerate() {
+        if let [high, low, marks] = module {
+            module_line(rt, i, u16::from_be_bytes([*high, *low]), *marks)?;
+        }
     }
-    for i in 0..count {
-        module_at(rt, scope, i);
+    if !is_zero(behind) {
+        println!(rt; "scope: other bytes than zeros behind the modules")?;
     }
-    if !is_zero(&scope, 2 + 3 * count) {
-        say(rt, b"scope: other bytes than zeros behind the modules\n");
-    }
+    Ok(())
 }
 
-// The module number i.
-fn module_at(rt: &impl Print, scope: [u8; 770], i: usize)
-    requires { i < 256 }
-{
-    let from = 2 + 3 * i;
-    let marks = scope[from + 2];
-    number(rt, b"scope: module ", i as u64);
-    number(rt, b" is file ", two(&scope, from));
-    mark(rt, marks % 2, b", loaded");
-    mark(rt, marks / 2 % 2, b", stored");
-    mark(rt, marks / 4 % 2, b", cjs");
-    mark(rt, marks / 8 % 2, b", wrapping");
-    if marks == 0 {
-        say(rt, b", no marks");
+fn module_line(rt: &impl Print, i: usize, file: u16, marks: u8) -> io::Result<()> {
+    print!(rt; "scope: module {i} is file {file}")?;
+    for (bit, word) in ["loaded", "stored", "cjs", "wrapping"].iter().enumerate() {
+        if marks >> bit & 1 == 1 {
+            print!(rt; ", {word}")?;
+        }
     }
-    say(rt, b"\n");
-}
-
-fn mark(rt: &impl Print, bit: u8, word: &[u8]) {
-    if bit == 1 {
-        say(rt, word);
-    }
+    println!(rt; "{}", if marks == 0 { ", no marks" } else { "" })
 }
 
 // What a decoding answers and leaves.
-pub fn decoding(rt: &impl Print, r: u64, metadata: [u8; 6]) {
-    if r != 0 {
-        refusal(rt, r);
-        return;
+pub fn decoding(rt: &impl Print, r: u64, metadata: [u8; 6]) -> io::Result<()> {
+    if let Some(refusal) = refusal_in(r) {
+        return println!(rt; "{refusal}");
     }
-    if metadata[0] == 1 {
-        say(rt, b"accepted: injected");
+    let [injected, has_context, a, b, c, d] = metadata;
+    let injected = if injected == 1 {
+        "injected"
     } else {
-        say(rt, b"accepted: not injected");
-    }
-    if metadata[1] == 1 {
-        number(
-            rt,
-            b", context ",
-            two(&metadata, 2) * 65536 + two(&metadata, 4),
-        );
+        "not injected"
+    };
+    if has_context == 1 {
+        let context = u32::from_be_bytes([a, b, c, d]);
+        println!(rt; "accepted: {injected}, context {context}")
     } else {
-        say(rt, b", no context");
+        println!(rt; "accepted: {injected}, no context")
     }
-    say(rt, b"\n");
 }

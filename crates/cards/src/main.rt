@@ -6,43 +6,36 @@ mod answer;
 mod calls;
 mod request;
 
-use show::input::read_full;
-use show::print::say;
-use text::fields::{Span, field, find};
+use request::Request;
+use std::io;
+use std::io::Read;
+use text::hex::BytesError;
 
 // Answers or prints one line.
-fn take(rt: &impl Print, s: &[u8]) {
-    let Span::At(a, e) = field(s, 0, s.len(), 0) else {
-        return;
-    };
-    match &s[a..e] {
-        b"extract" => calls::extract(rt, s),
-        b"decode" => calls::decode(rt, s),
-        b"resolve" => calls::resolve(rt, s),
-        _ => {
-            say(rt, s);
-            say(rt, b"\n");
+fn take<R: Print + AllocGlobal>(rt: &R, line: &[u8]) -> io::Result<()> {
+    match Request::read(rt.alloc(), line) {
+        Ok(Some(Request::Extract(extraction))) => calls::extract(rt, &extraction),
+        Ok(Some(Request::Decode(attributes))) => calls::decode(rt, &attributes),
+        Ok(Some(Request::Resolve(resolution))) => calls::resolve(rt, &resolution),
+        Ok(None) => {
+            rt.write_all(line)?;
+            println!(rt; "")
         }
+        Err(BytesError::Malformed) => println!(rt; "not a request that can be read"),
+        Err(BytesError::OutOfMemory) => println!(rt; "no memory for the request"),
     }
 }
 
 // Takes the lines one by one.
-fn run(rt: &impl Print, s: &[u8]) {
-    let len = s.len();
-    let mut at = 0;
-    while at < len {
-        let stop = find(s, at, len, 10);
-        take(rt, &s[at..stop]);
-        at = stop + 1;
+fn run<R: Print + AllocGlobal>(rt: &R, text: &[u8]) -> io::Result<()> {
+    for line in text.split_inclusive(|b| *b == b'\n') {
+        take(rt, line.strip_suffix(b"\n").unwrap_or(line))?;
     }
+    Ok(())
 }
 
-fn main(rt: HostRuntime) {
-    let mut text = [0u8; 32768];
-    let n = read_full(&mut rt.stdin(), &mut text);
-    if n == 32768 {
-        say(&rt, b"longer than 32767 bytes\n");
-        return;
-    }
-    run(&rt, &text[..n]);
+fn main(rt: HostRuntime) -> io::Result<()> {
+    let mut text = Vec::new(rt.alloc());
+    rt.stdin().read_to_end(&mut text)?;
+    run(&rt, &text)
 }

@@ -1,10 +1,10 @@
 -- Demand 3 of the functions, by their contracts: both sentences.
+use Rattle.std.specs.Prelude.{None}
 use Prim.Native.Nat.{ℕ, zero, suc}
 use native.Mathlib.Omega.{arith}
 use mathlib.Core.Path.{◌≡◌, refl, sym, ap, ◌∙◌}
 use mathlib.Core.Bool.{Bool, true, false, cond}
 use mathlib.Core.List.{List, [], ◌∷◌}
-use mathlib.Core.Option.{none as nothing}
 use lib.Dec.{ltb}
 use lib.ListN.{length}
 use borrow.Author.Tests.{ltb-false, le-ltb}
@@ -105,7 +105,7 @@ held : {A : Type 0} (f : A → Field) (m : Outcome A) (a : A) (room : ℕ) {s : 
 held f m a room e h q = ap field_in (q ∙ ap (λ (o : Outcome _). buffer_of f o room) e) ∙ delivered-holds (f a) room h
 
 module _ (l : Lent) (room : Lengths) (ms : Modules) where
-  extraction-accepted : {x : Left} → x ≡ extraction l room ms → x.refusal ≡ nothing → (t : Extracted) × (extracted l room ms ≡ done t)
+  extraction-accepted : {x : Left} → x ≡ extraction l room ms → x.refusal ≡ None → (t : Extracted) × (extracted l room ms ≡ done t)
   unfolding extraction
   extraction-accepted e a = refusal-none (extracted l room ms) (sym (ap (λ (z : Left). z.refusal) e) ∙ a)
 
@@ -123,7 +123,7 @@ module _ (l : Lent) (room : Lengths) (ms : Modules) where
     extraction-modules = ap (λ (z : Left). z.modules) e ∙ ap (λ (o : Outcome Extracted). modules_after o ms) d
 
 module _ (l : LentRecords) (room : ℕ) (ms : Modules) {x : LeftList} (e : x ≡ resolving l room ms) where
-  resolving-accepted : x.refusal ≡ nothing → (u : Resolved) × (resolved l room ms ≡ done u)
+  resolving-accepted : x.refusal ≡ None → (u : Resolved) × (resolved l room ms ≡ done u)
   unfolding resolving
   resolving-accepted a = refusal-none (resolved l room ms) (sym (ap (λ (z : LeftList). z.refusal) e) ∙ a)
 
@@ -146,7 +146,7 @@ Sentence l items t u =
 
 -- of what accepted calls leave, where the sentence holds of what the rules gave; resolving has the modules c
 pub keep-or-part : (l : Lent) (room : Lengths) (ms : Modules) (x : Left) (m : Modes) (n : ℕ) (c : Modules) (y : LeftList) (items : Fields) →
-    x ≡ extraction l room ms → x.refusal ≡ nothing → y ≡ resolving (lent_as m l.table (field_in x.records)) n c → y.refusal ≡ nothing → Bytes l.tree →
+    x ≡ extraction l room ms → x.refusal ≡ None → y ≡ resolving (lent_as m l.table (field_in x.records)) n c → y.refusal ≡ None → Bytes l.tree →
     ((t : Extracted) (u : Resolved) → extracted l room ms ≡ done t → x.modules ≡ t.modules → resolved (handed_on m l t) n c ≡ done u → Sentence l items t u) →
     KeepOrPart l m room n items ms x.modules c y.modules x.out x.records y.list
 keep-or-part l room ms x m n c y items e a f b bs sentence =
@@ -181,8 +181,8 @@ functions-keep-or-part l room s r w o k m n q g e a f b bs items p =
 
 -- resolving in a scope with its files, without marks
 pub keep-or-part-unmarked : (l : Lent) (room : Lengths) (ms : Modules) (x : Left) (m : Modes) (n : ℕ) (y : LeftList) (items : Fields) →
-    x ≡ extraction l room ms → x.refusal ≡ nothing → y ≡ resolving (lent_as m l.table (field_in x.records)) n (without_marks x.modules) →
-    y.refusal ≡ nothing → Bytes l.tree → WellPlaced l ms items →
+    x ≡ extraction l room ms → x.refusal ≡ None → y ≡ resolving (lent_as m l.table (field_in x.records)) n (without_marks x.modules) →
+    y.refusal ≡ None → Bytes l.tree → WellPlaced l ms items →
     KeepOrPart l m room n items ms x.modules (without_marks x.modules) y.modules x.out x.records y.list
 keep-or-part-unmarked l room ms x m n y items e a f b bs p =
     keep-or-part l room ms x m n (without_marks x.modules) y items e a f b bs

@@ -1,11 +1,11 @@
 -- What the two exported calls of a host leave. A scope's bytes hold its files, so that the files read from them are those of its modules
 -- (`files-back`); an exported extraction leaves modules whose files get the same numbers again (`call-lendable`); so resolving, lent these
 -- files, is resolving with the extraction's modules without their marks (`resolved-again`), and of that the sentence holds.
+use Rattle.std.specs.Prelude.{Option, None, Some, Ok, Err}
 use Prim.Native.Nat.{ℕ, zero, suc, ◌+◌, ◌-◌, ◌*◌, ◌/◌, ◌%◌, ◌≤◌}
 use native.Mathlib.Omega.{arith}
 use mathlib.Core.Path.{◌≡◌, refl, ap, ◌∙◌}
 use mathlib.Core.List.{List, [], ◌∷◌, ◌++◌}
-use mathlib.Core.Option.{Option, none as nothing, some}
 use lib.ListN.{length, length-append, length-replicate, get_or, replicate}
 use Rattle.scope.specs.Modules.{Modules, Refusal, Left as Requesting, files_in, request_all}
 use Rattle.tree.specs.Layout.{two_at, field_in, Bytes}
@@ -17,7 +17,7 @@ use Rattle.theorems.proofs.RelendingLaws.{Lendable, lendable-fresh, request_all-
 use Rattle.theorems.proofs.UnmarkedLaws.{resolves-by-files}
 use Rattle.tychodrel.specs.Answer.{packed_in, marks_of, modules_bytes, listed, scope_bytes}
 use Rattle.tychodrel.specs.Calls.{on_files, with_files, extract_none, extract_call, resolve_none, resolve_call, Numbered, Leaves, LeavesList}
-use Rattle.corollaries.specs.declared.PairAnswer.TheVariants.{Both, NotExtracted, NotListed}
+use Rattle.corollaries.specs.declared.PairError.TheVariants.{NotExtracted, NotListed}
 use Rattle.corollaries.specs.Hosts.{files_from, files_back, Relends, started, extracted_to, resolved_to, LeavesBoth}
 use Rattle.corollaries.proofs.FunctionsLaws.{keep-or-part-unmarked}
 
@@ -78,18 +78,18 @@ module _ (files : List ℕ) (l : Lent) (room : Lengths) where
   call-lendable = go (request_all (files_in files) []).refusal (started files) (request_all-lendable (files_in files) [] lendable-fresh)
     where
       go : (o : Refusal) (ms : Modules) → Lendable ms → Lendable (on_files o ms (extraction l room) (extract_none room)).modules
-      go nothing ms h = extraction-lendable l room ms h
-      go (some r) ms h = h
+      go None ms h = extraction-lendable l room ms h
+      go (Some r) ms h = h
 
   -- an accepted call is an extraction with the files' modules
-  call-started : (extract_call files l room).refusal ≡ nothing → extract_call files l room ≡ extraction l room (started files)
+  call-started : (extract_call files l room).refusal ≡ None → extract_call files l room ≡ extraction l room (started files)
   unfolding with_files
   call-started e = go (request_all (files_in files) []).refusal (started files) e
     where
-      go : (o : Refusal) (ms : Modules) → (on_files o ms (extraction l room) (extract_none room)).refusal ≡ nothing →
+      go : (o : Refusal) (ms : Modules) → (on_files o ms (extraction l room) (extract_none room)).refusal ≡ None →
           on_files o ms (extraction l room) (extract_none room) ≡ extraction l room ms
-      go nothing ms e = refl
-      go (some r) ms e = absurd (let z : ◌≡◌ {A = ℕ} 0 1 = cc in omega arith)
+      go None ms e = refl
+      go (Some r) ms e = absurd (let z : ◌≡◌ {A = ℕ} 0 1 = cc in omega arith)
 
 -- a resolving leaves such modules, too
 again-lendable : (files : List ℕ) (l : LentRecords) (n : ℕ) → Lendable (resolve_call files l n).modules
@@ -97,8 +97,8 @@ unfolding with_files
 again-lendable files l n = go (request_all (files_in files) []).refusal (started files) (request_all-lendable (files_in files) [] lendable-fresh)
   where
     go : (o : Refusal) (ms : Modules) → Lendable ms → Lendable (on_files o ms (resolving l n) (resolve_none n)).modules
-    go nothing ms h = resolving-lendable l n ms h
-    go (some r) ms h = h
+    go None ms h = resolving-lendable l n ms h
+    go (Some r) ms h = h
 
 -- the files that came back get the same numbers
 relends : (ms : Modules) (s : List ℕ) → Lendable ms → s ≡ scope_bytes ms → Relends s ms
@@ -114,13 +114,13 @@ resolved-again ms s l n h = ap (λ (r : Requesting). on_files r.refusal r.module
 
 -- ---- A zero answer is acceptance
 
-accepts : (o : Option (ℕ × ℕ)) (a : ℕ) → a ≡ packed_in o → Numbered o → a ≡ 0 → o ≡ nothing
-accepts nothing a e h z = refl
-accepts (some r) a e h z = absurd (omega arith)
+accepts : (o : Option (ℕ × ℕ)) (a : ℕ) → a ≡ packed_in o → Numbered o → a ≡ 0 → o ≡ None
+accepts None a e h z = refl
+accepts (Some r) a e h z = absurd (omega arith)
 
-refuses : (o : Option (ℕ × ℕ)) (a : ℕ) → a ≡ packed_in o → (a ≡ 0 → ⊥) → o ≡ nothing → ⊥
-refuses nothing a e h z = h e
-refuses (some r) a e h z = let y : ◌≡◌ {A = ℕ} 0 1 = cc in omega arith
+refuses : (o : Option (ℕ × ℕ)) (a : ℕ) → a ≡ packed_in o → (a ≡ 0 → ⊥) → o ≡ None → ⊥
+refuses None a e h z = h e
+refuses (Some r) a e h z = let y : ◌≡◌ {A = ℕ} 0 1 = cc in omega arith
 
 -- ---- Both calls
 
@@ -154,7 +154,7 @@ module _ (files : List ℕ) (l : Lent) (room : Lengths) (n : ℕ) {a : ℕ} {s c
       let e = ap (λ (b : List ℕ). two_at b 0) x.tells.scope ∙ count-back ms in
       (omega arith, ap length x.tells.scope ∙ scope-size ms h)
 
-  pub leaves-unextracted : {z g : List ℕ} → (a ≡ 0 → ⊥) → LeavesBoth files l room n s o k z g NotExtracted
+  pub leaves-unextracted : {z g : List ℕ} → (a ≡ 0 → ⊥) → LeavesBoth files l room n s o k z g (Err NotExtracted)
   leaves-unextracted h =
       record {
         extracted = there;
@@ -172,7 +172,7 @@ module _ (files : List ℕ) (l : Lent) (room : Lengths) (n : ℕ) {a : ℕ} {s c
     here : Relends z (resolved_to s l k n)
     here = relends (resolved_to s l k n) z (again-lendable (files_back s) (lent_as l.modes l.table (field_in k)) n) y.tells.scope
 
-    pub leaves-unlisted : (b ≡ 0 → ⊥) → LeavesBoth files l room n s o k z g NotListed
+    pub leaves-unlisted : (b ≡ 0 → ⊥) → LeavesBoth files l room n s o k z g (Err NotListed)
     leaves-unlisted h =
         let e = resolves-by-files (lent_as l.modes l.table (field_in k)) n (extracted_to files l room) in
         record {
@@ -186,7 +186,7 @@ module _ (files : List ℕ) (l : Lent) (room : Lengths) (n : ℕ) {a : ℕ} {s c
               (ap (λ (v : LeftList). v.refusal) (again ∙ e) ∙ r);
         }
 
-    pub leaves-both : a ≡ 0 → b ≡ 0 → Bytes l.tree → LeavesBoth files l room n s o k z g Both
+    pub leaves-both : a ≡ 0 → b ≡ 0 → Bytes l.tree → LeavesBoth files l room n s o k z g (Ok tt)
     leaves-both h i bs =
         let refusal = accepts (extract_call files l room).refusal a x.tells.answer x.tells.numbered h in
         let v = resolve_call (files_back s) (lent_as l.modes l.table (field_in k)) n in

@@ -1,14 +1,13 @@
 -- Demand 3 of the functions: both sentences, of what the functions answer and leave. Each equation below that ends in a definition of the
 -- rules is the contract of the function that is called. Document 01, 'Demand 3's words'.
+use Rattle.std.specs.Prelude.{None, Some, Result, Ok, Err}
 use Rattle.std.specs.Prelude.{ℕ, ◌≡◌, Bool, true, false, List, [], ◌∷◌}
-use Rattle.std.proofs.Math.Option.{none as nothing, some}
 use Rattle.modes.specs.declared.Modes.{Modes}
 use Rattle.scope.specs.declared.Gen.{Gen}
+use Rattle.scope.specs.declared.NoSuchModule.{NoSuchModule}
 use Rattle.scope.specs.declared.Requested.{Requested}
 use Rattle.scope.specs.declared.Mark.TheVariants.{Wrapping}
 use Rattle.scope.specs.declared.Marked.{Marked}
-use Rattle.scope.specs.declared.ReadAnswer.{ReadAnswer}
-use Rattle.scope.specs.declared.ReadAnswer.TheVariants.{Is, NoSuchModule}
 use Rattle.scope.specs.declared.Scope.{Scope}
 use Rattle.scope.specs.declared.id.ModuleId.{ModuleId}
 use Rattle.scope.specs.Modules.{Modules, gen, files_in, request_all, marking, read_mark, request}
@@ -22,17 +21,15 @@ use Rattle.inputs.specs.Lists.{among}
 use Rattle.inputs.specs.Table.{rows_in, atoms_in}
 use Rattle.tree.specs.Layout.{field_in}
 use Rattle.extraction_rules.specs.Call.{Lent, Lengths, Extracted, items_read, extracted, extraction}
-use Rattle.extraction.specs.declared.ExtractAnswer.TheVariants.{Extracted as Accepted}
 use Rattle.extraction.specs.declared.Extraction.{Extraction}
 use Rattle.extraction.specs.Answer.{left}
 use Rattle.resolving_rules.specs.Call.{Resolved, resolved, resolving}
-use Rattle.resolving.specs.declared.ResolveAnswer.TheVariants.{Listed}
 use Rattle.resolving.specs.declared.Resolution.{Resolution}
 use Rattle.resolving.specs.Answer.{lent_as, left as left_list}
+use Rattle.corollaries.specs.declared.PairError.TheVariants.{NotExtracted, NotListed}
 use Rattle.placement.specs.Stands.{stands}
 use Rattle.placement.specs.Placed.{well_placed}
 use Rattle.theorems.specs.Demand.{Declares, takes, Ends}
-use Rattle.corollaries.specs.declared.PairAnswer.TheVariants.{Both, NotExtracted, NotListed}
 use Rattle.corollaries.specs.declared.Pair.{Pair}
 use Rattle.theorems.specs.Lists.{Call, requests, requests_all, sets, reads, reads_esm, extracts, resolves, wraps_any}
 
@@ -58,12 +55,12 @@ HandOn (c ∷ calls) s t = (u : Scope) × HandsBack c s u × HandOn calls u t
 abbrev pub AnswersExactly : Type 0
 AnswersExactly =
     (calls : List Call) (s t : Scope) → modules_of s ≡ [] → HandOn calls s t →
-    (m : ModuleId) (b : Bool) → read_by (Is b) ≡ read_mark Wrapping m (modules_of t) → b ≡ wraps_any m.0 calls []
+    (m : ModuleId) (b : Bool) → read_by (Ok b) ≡ read_mark Wrapping m (modules_of t) → b ≡ wraps_any m.0 calls []
 
 -- the same of an answer in the scope t; a module whose number no call gave was wrapped by none
-pub record Exact (m : ModuleId) (t : Scope) (r : ReadAnswer) : Type 0 where
-  pub is : (calls : List Call) (s : Scope) → modules_of s ≡ [] → HandOn calls s t → (b : Bool) → r ≡ Is b → b ≡ wraps_any m.0 calls []
-  pub never : (calls : List Call) (s : Scope) → modules_of s ≡ [] → HandOn calls s t → r ≡ NoSuchModule → wraps_any m.0 calls [] ≡ false
+pub record Exact (m : ModuleId) (t : Scope) (r : Result Bool NoSuchModule) : Type 0 where
+  pub is : (calls : List Call) (s : Scope) → modules_of s ≡ [] → HandOn calls s t → (b : Bool) → r ≡ Ok b → b ≡ wraps_any m.0 calls []
+  pub never : (calls : List Call) (s : Scope) → modules_of s ≡ [] → HandOn calls s t → (e : NoSuchModule) → r ≡ Err e → wraps_any m.0 calls [] ≡ false
 
 -- ---- Kept whole or taken apart
 
@@ -94,7 +91,7 @@ InScopes l m room n items s a b o k g = KeepOrPart l m room n items (modules_of 
 pub record WellPlaced (l : Lent) (ms : Modules) (items : Fields) : Type 0 where
   pub own : ℕ × Modules
   pub reading : items_read (read Module l.tree) ≡ done items
-  pub requesting : request l.file ms ≡ some own
+  pub requesting : request l.file ms ≡ Some own
   pub placed : well_placed own.0 items ≡ true
 
 -- `extract_import_info` accepted a well placed tree, and `resolve_imports` the records that it left, with the same table, its scope and
@@ -103,16 +100,16 @@ pub record WellPlaced (l : Lent) (ms : Modules) (items : Fields) : Type 0 where
 abbrev pub FunctionsKeepOrPart : Type 0
 FunctionsKeepOrPart =
     (l : Lent) (room : Lengths) (s : Scope) (r : Extraction) (w o k : List ℕ) (m : Modes) (n : ℕ) (q : Resolution) (g : List ℕ) →
-    left r w o k ≡ extraction l room (modules_of s) → r.answer ≡ Accepted →
-    left_list q g ≡ resolving (lent_as m l.table (field_in k)) n (modules_of r.scope) → q.answer ≡ Listed →
+    left r w o k ≡ extraction l room (modules_of s) → r.answer ≡ Ok tt →
+    left_list q g ≡ resolving (lent_as m l.table (field_in k)) n (modules_of r.scope) → q.answer ≡ Ok tt →
     Bytes l.tree → (items : Fields) → WellPlaced l (modules_of s) items →
     InScopes l m room n items s r.scope q.scope o k g
 
 -- The same of `extract_and_resolve`, which makes both calls: o, k and g are what it leaves in *out*, the records and the list, n the
 -- list's room. It says that a call is refused only where the rules refuse it.
 pub record Pairs (l : Lent) (room : Lengths) (n : ℕ) (s : Scope) (o k g : List ℕ) (p : Pair) : Type 0 where
-  pub both : p.answer ≡ Both → (items : Fields) → WellPlaced l (modules_of s) items → InScopes l l.modes room n items s p.extracted p.resolved o k g
-  pub unextracted : p.answer ≡ NotExtracted → (extraction l room (modules_of s)).refusal ≡ nothing → ⊥
-  pub unlisted : p.answer ≡ NotListed → (resolving (lent_as l.modes l.table (field_in k)) n (modules_of p.extracted)).refusal ≡ nothing → ⊥
+  pub both : p.answer ≡ Ok tt → (items : Fields) → WellPlaced l (modules_of s) items → InScopes l l.modes room n items s p.extracted p.resolved o k g
+  pub unextracted : p.answer ≡ Err NotExtracted → (extraction l room (modules_of s)).refusal ≡ None → ⊥
+  pub unlisted : p.answer ≡ Err NotListed → (resolving (lent_as l.modes l.table (field_in k)) n (modules_of p.extracted)).refusal ≡ None → ⊥
   pub records : k ≡ (extraction l room (modules_of s)).records
   pub modules : modules_of p.extracted ≡ (extraction l room (modules_of s)).modules

@@ -8,7 +8,7 @@ ghost use Rattle.resolving.specs.Answer.{lent_as as records_as};
 ghost use Rattle.tychodrel.specs.Calls.{resolve_call, LeavesList};
 ghost use Rattle.corollaries.specs.Hosts.{files_back, LeavesBoth};
 
-use crate::{PairAnswer, front, wide};
+use crate::{PairError, front, wide};
 use tychodrel::{tychodrel_extract, tychodrel_resolve};
 use writer::put;
 
@@ -27,7 +27,7 @@ pub fn extract_then_resolve(
     records: &mut [u8],
     after: &mut [u8; 770],
     list: &mut [u8],
-) -> PairAnswer
+) -> Result<(), PairError>
     ensures { LeavesBoth files.now (lent_as file (modes_of modes) externals.now table.now tree.now)
         (room_in work.old out.old records.old) (length list.old) scope.new out.new
         records.new after.new list.new result }
@@ -47,13 +47,13 @@ pub fn extract_then_resolve(
         records,
     );
     if a != 0 {
-        return PairAnswer::NotExtracted;
+        return Err(PairError::NotExtracted);
     }
     let b = resolve_with(scope, modes, table, records, after, &mut report, list);
     if b != 0 {
-        return PairAnswer::NotListed;
+        return Err(PairError::NotListed);
     }
-    PairAnswer::Both
+    Ok(())
 }
 
 // Resolves the records at the front of a buffer, lent the files in a scope's bytes.
@@ -92,11 +92,9 @@ fn put_files(scope: &[u8], files: &mut [u8]) -> usize
 {
     let n = wide(scope[0]) * 256 + wide(scope[1]);
     let mut to = 0;
-    let mut i = 0;
-    while i < n {
+    for i in 0..n {
         to = put(files, to, scope[2 + 3 * i]);
         to = put(files, to, scope[3 + 3 * i]);
-        i += 1;
     }
     to
 }

@@ -13,16 +13,15 @@ ghost use Rattle.resolving.specs.Answer.{lent_as as records_as, left as left_lis
 ghost use Rattle.theorems.specs.Lists.{requests, requests_all, sets, reads, reads_esm, extracts, resolves};
 ghost use Rattle.corollaries.specs.Functions.{HandsBack, Exact, Pairs};
 
-use extraction::{ExtractAnswer, extract_import_info};
+use extraction::extract_import_info;
 use modes::Modes;
-use resolving::{Resolution, ResolveAnswer, resolve_imports};
+use resolving::{Resolution, resolve_imports};
 use scope::id::{FileName, ModuleId};
-use scope::{Mark, ReadAnswer, Scope};
+use scope::{Mark, NoSuchModule, Scope};
 
-// Did both calls accept?
-#[derive(Drop)]
-pub enum PairAnswer {
-    Both,
+// Which of two calls refused.
+#[derive(Clone, Copy, PartialEq, Eq)]
+pub enum PairError {
     NotExtracted,
     NotListed,
 }
@@ -32,7 +31,7 @@ pub enum PairAnswer {
 pub struct Pair {
     pub extracted: Scope,
     pub resolved: Scope,
-    pub answer: PairAnswer,
+    pub answer: Result<(), PairError>,
 }
 
 // Extracts what a module imports, and resolves the records that stand in their buffer, with the same modes and table and in the scope handed on.
@@ -56,29 +55,27 @@ pub fn extract_and_resolve(
         scope, file, modes, externals, table, tree, work, out, records,
     );
     let extracted = r.scope;
-    let answer = r.answer;
-    match answer {
-        ExtractAnswer::Extracted => {
+    match r.answer {
+        Ok(()) => {
             let q = resolve_front(extracted, modes, table, records, list);
             let resolved = q.scope;
-            let listed = q.answer;
-            match listed {
-                ResolveAnswer::Listed => Pair {
+            match q.answer {
+                Ok(()) => Pair {
                     extracted,
                     resolved,
-                    answer: PairAnswer::Both,
+                    answer: Ok(()),
                 },
-                _ => Pair {
+                Err(_) => Pair {
                     extracted,
                     resolved,
-                    answer: PairAnswer::NotListed,
+                    answer: Err(PairError::NotListed),
                 },
             }
         },
-        _ => Pair {
+        Err(_) => Pair {
             extracted,
             resolved: extracted,
-            answer: PairAnswer::NotExtracted,
+            answer: Err(PairError::NotExtracted),
         },
     }
 }
@@ -220,7 +217,7 @@ pub fn fresh() -> Scope
 }
 
 // Whether a module is to be wrapped: exact after any calls from a fresh scope on.
-pub fn wrapped_exactly(scope: Scope, id: ModuleId) -> ReadAnswer
+pub fn wrapped_exactly(scope: Scope, id: ModuleId) -> Result<bool, NoSuchModule>
     ensures { Exact id scope result }
 {
     scope.should_be_wrapped_with_a_fn(id)

@@ -1,7 +1,8 @@
 -- Detection (document 01, 'Metadata and detection', last sentence): whether a module is an ES module, and the whole call with its refusals.
-use Rattle.std.specs.Prelude.{ℕ, ◌≡◌, Bool, true, false, not, ◌||◌, cond, List, [], ◌∷◌, ltb, eqb, length}
+use Rattle.std.specs.Prelude.{ℕ, ◌≡◌, Bool, true, false, not, ◌||◌, cond, List, [], ◌∷◌, ltb, eqb, length, Option, None, Some, Result, Ok, Err}
 use Rattle.modes.specs.declared.Modes.{Modes}
 use Rattle.scope.specs.Id.{atom, module_atom, exports_atom}
+use Rattle.scope.specs.declared.id.Atom.{Atom}
 use Rattle.tree.specs.declared.grammar.Set.TheVariants.{Module}
 use Rattle.tree.specs.declared.grammar.Rule.{Rule}
 use Rattle.tree.specs.Layout.{two_at}
@@ -9,25 +10,23 @@ use Rattle.tree.specs.Tree.{Field, field, Fields, none, more, tag_of, fixed_of, 
 use Rattle.tree.specs.Grammar.{find, within}
 use Rattle.tree.specs.Read.{Reading, fine, refused, refusal_of, read}
 use Rattle.tree.specs.Standing.{Row}
-use Rattle.detection.specs.declared.Ident.{Ident}
-use Rattle.detection.specs.declared.Ident.TheVariants.{Name, Other}
-use Rattle.detection.specs.declared.DetectAnswer.{DetectAnswer}
-use Rattle.detection.specs.declared.DetectAnswer.TheVariants.{Es6, TooLong, Unread}
+use Rattle.detection.specs.declared.DetectError.{DetectError}
+use Rattle.detection.specs.declared.DetectError.TheVariants.{TooLong, Unread}
 
 -- the first of the parts, a call's callee or a member's object: its name, if it is a plain 60
-unfoldable pub first_ident : Fields → Ident
-first_ident none = Other
-first_ident (more f fs) = cond (eqb (tag_of f) 0x60) (Name (atom (two_at (fixed_of f) 0))) Other
+unfoldable pub first_ident : Fields → Option Atom
+first_ident none = None
+first_ident (more f fs) = cond (eqb (tag_of f) 0x60) (Some (atom (two_at (fixed_of f) 0))) None
 
 -- 'ANY plain 60'
-abbrev pub any_name : Ident → Bool
-any_name Other = false
-any_name (Name a) = true
+abbrev pub any_name : Option Atom → Bool
+any_name None = false
+any_name (Some a) = true
 
 -- 'module or exports', in any context
-abbrev pub module_or_exports : Ident → Bool
-module_or_exports Other = false
-module_or_exports (Name a) = eqb a.0 module_atom || eqb a.0 exports_atom
+abbrev pub module_or_exports : Option Atom → Bool
+module_or_exports None = false
+module_or_exports (Some a) = eqb a.0 module_atom || eqb a.0 exports_atom
 
 -- a field with this tag and these parts is 'a call on ANY plain 60' or 'a member of module or exports'; 'super excepted': a 64 is no 63
 unfoldable pub other_here : ℕ → Fields → Bool
@@ -70,16 +69,16 @@ pub data Outcome : Type 0 where
   refuses : ℕ → ℕ → Outcome
 
 -- the number and the values of each answer
-abbrev pub outcome_of : DetectAnswer → Outcome
-outcome_of (Es6 b) = answers b
-outcome_of TooLong = refuses 1 0
-outcome_of (Unread w p) = refuses (refusal_of w) p
+abbrev pub outcome_of : Result Bool DetectError → Outcome
+outcome_of (Ok b) = answers b
+outcome_of (Err TooLong) = refuses 1 0
+outcome_of (Err (Unread u)) = refuses (refusal_of u.why) u.place
 
 -- an unread tree: why and where are those of its reading
-abbrev pub UnreadAs : DetectAnswer → Reading Fields → Type 0
-UnreadAs (Es6 b) r = Unit {0}
-UnreadAs TooLong r = Unit {0}
-UnreadAs (Unread w p) r = r ≡ refused w p
+abbrev pub UnreadAs : Result Bool DetectError → Reading Fields → Type 0
+UnreadAs (Ok b) r = Unit {0}
+UnreadAs (Err TooLong) r = Unit {0}
+UnreadAs (Err (Unread u)) r = r ≡ refused u.why u.place
 
 abbrev pub on_reading : Reading Fields → Modes → Outcome
 on_reading (fine fs) modes = answers (es6 modes (items_of fs))

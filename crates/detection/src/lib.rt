@@ -5,14 +5,15 @@ ghost use Rattle.std.specs.Prelude.{◌≡◌, ◌+◌, ◌≤◌, length};
 ghost use Rattle.tree.specs.declared.grammar.Set.TheVariants.{Module as module-set};
 ghost use Rattle.tree.specs.Read.{read};
 ghost use Rattle.tree.specs.Standing.{tree_at, row_at};
+ghost use Rattle.detection.specs.declared.DetectError.TheVariants.{Unread as unread};
 ghost use Rattle.detection.specs.Detection.{first_ident, module_or_exports, other_here, found_other, found_other_in, forced_es6, es6, outcome_of, UnreadAs, detect, Accepted};
 
 use modes::Modes;
 use scope::id::Atom;
 use tree::access::{extent, fixed};
 use tree::grammar::Set;
-use tree::layout::{Reach, atom_at};
-use tree::read::{Verdict, Why, read_tree};
+use tree::layout::atom_at;
+use tree::read::{Unread, read_tree};
 
 // The most bytes of a tree.
 const MOST: usize = 65538;
@@ -20,50 +21,42 @@ const MOST: usize = 65538;
 // Where a module's items start: it has no fixed bytes.
 const ITEMS: usize = 3;
 
-#[derive(Drop)]
-pub enum DetectAnswer {
-    // whether it is an ES module
-    Es6(bool),
+// Why nothing is detected.
+#[derive(Clone, Copy, PartialEq, Eq)]
+pub enum DetectError {
     // over 65,538 bytes
     TooLong,
-    // no tree: why, and where
-    Unread(Why, usize),
+    // no tree
+    Unread(Unread),
 }
 
-// An identifier, by its name, or anything else.
-#[derive(Drop)]
-enum Ident {
-    Name(Atom),
-    Other,
+impl From<Unread> for DetectError {
+    ghost from_gives = { λ u e. e ≡ unread u };
+
+    fn from(unread: Unread) -> DetectError {
+        DetectError::Unread(unread)
+    }
 }
 
-// The first of the fields from `from` up to end: a call's callee, a member's object.
-fn first_ident(s: &[u8], from: usize, end: usize) -> Ident
+// The name of the first of the fields from `from` up to end, if it is an identifier: a call's callee, a member's object.
+fn first_ident(s: &[u8], from: usize, end: usize) -> Option<Atom>
     requires { (from ≤ end) × (end ≤ length s.now) }
     ensures { result ≡ first_ident (row_at s.now from end) }
 {
-    let Reach::Upto(stop) = extent(s, from, end) else {
-        return Ident::Other;
-    };
+    let stop = extent(s, from, end)?;
     let tag = s[from];
-    let Reach::Upto(_) = fixed(s, tag, from + 3, stop) else {
-        return Ident::Other;
-    };
+    fixed(s, tag, from + 3, stop)?;
     if tag == 0x60 {
-        Ident::Name(Atom(atom_at(s, from + 3)))
+        Some(Atom(atom_at(s, from + 3)))
     } else {
-        Ident::Other
+        None
     }
 }
 
 fn is_module_or_exports(name: Atom) -> bool
-    ensures { result ≡ module_or_exports (Ident.Name name) }
+    ensures { result ≡ module_or_exports (Some name) }
 {
-    if name.0 == Atom::MODULE.0 {
-        true
-    } else {
-        name.0 == Atom::EXPORTS.0
-    }
+    name == Atom::MODULE || name == Atom::EXPORTS
 }
 
 // Whether a field with this tag and the parts from `from` up to end belongs to another module system, as `visit_member_expr` and
@@ -74,15 +67,9 @@ fn other_here(s: &[u8], tag: u8, from: usize, end: usize) -> bool
 {
     match tag {
         // a member, in any context
-        0x63 => match first_ident(s, from, end) {
-            Ident::Name(name) => is_module_or_exports(name),
-            Ident::Other => false,
-        },
+        0x63 => first_ident(s, from, end).is_some_and(is_module_or_exports),
         // a call, whatever the name
-        0x65 => match first_ident(s, from, end) {
-            Ident::Name(_) => true,
-            Ident::Other => false,
-        },
+        0x65 => first_ident(s, from, end).is_some(),
         _ => false,
     }
 }
@@ -94,14 +81,10 @@ fn found_other(s: &[u8], at: usize, stop: usize) -> bool
     ensures { result ≡ found_other (tree_at s.now at stop) }
 {
     let tag = s[at];
-    let Reach::Upto(from) = fixed(s, tag, at + 3, stop) else {
+    let Some(from) = fixed(s, tag, at + 3, stop) else {
         return false;
     };
-    if other_here(s, tag, from, stop) {
-        true
-    } else {
-        found_other_in(s, from, stop)
-    }
+    other_here(s, tag, from, stop) || found_other_in(s, from, stop)
 }
 
 // The same for the fields from `from` up to end.
@@ -111,15 +94,13 @@ fn found_other_in(s: &[u8], from: usize, end: usize) -> bool
     ensures { result ≡ found_other_in (row_at s.now from end) }
 {
     let mut at = from;
-    loop {
-        let Reach::Upto(stop) = extent(s, at, end) else {
-            return false;
-        };
+    while let Some(stop) = extent(s, at, end) {
         if found_other(s, at, stop) {
             return true;
         }
         at = stop;
     }
+    false
 }
 
 // Whether an import or an export is among the items from `from` up to end, as `visit_module_decl` has it.
@@ -128,15 +109,13 @@ fn forced_es6(s: &[u8], from: usize, end: usize) -> bool
     ensures { result ≡ forced_es6 (row_at s.now from end) }
 {
     let mut at = from;
-    loop {
-        let Reach::Upto(stop) = extent(s, at, end) else {
-            return false;
-        };
+    while let Some(stop) = extent(s, at, end) {
         match s[at] {
             0x10..=0x14 => return true,
             _ => at = stop,
         }
     }
+    false
 }
 
 // The `is_es6` expression, for a module's items from `from` up to end.
@@ -144,24 +123,16 @@ fn items_es6(modes: Modes, s: &[u8], from: usize, end: usize) -> bool
     requires { (from ≤ end) × (end ≤ length s.now) × Accepted s.now from end }
     ensures { result ≡ es6 modes (row_at s.now from end) }
 {
-    if !modes.require {
-        return true;
-    }
-    if forced_es6(s, from, end) {
-        return true;
-    }
-    !found_other_in(s, from, end)
+    !modes.require || forced_es6(s, from, end) || !found_other_in(s, from, end)
 }
 
 // Whether a tree is an ES module. It is read first, also with require off.
-pub fn is_es6(modes: Modes, tree: &[u8]) -> DetectAnswer
+pub fn is_es6(modes: Modes, tree: &[u8]) -> Result<bool, DetectError>
     ensures { (outcome_of result ≡ detect modes tree.now) × UnreadAs result (read module-set tree.now) }
 {
     if tree.len() > MOST {
-        return DetectAnswer::TooLong;
+        return Err(DetectError::TooLong);
     }
-    match read_tree(tree, Set::Module) {
-        Verdict::Good => DetectAnswer::Es6(items_es6(modes, tree, ITEMS, tree.len())),
-        Verdict::Refused(why, place) => DetectAnswer::Unread(why, place),
-    }
+    read_tree(tree, Set::Module)?;
+    Ok(items_es6(modes, tree, ITEMS, tree.len()))
 }

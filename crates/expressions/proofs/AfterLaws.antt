@@ -1,15 +1,14 @@
 -- Which id a walked expression has, read off the bytes: one law for each way through the functions of `ident`.
+use Rattle.std.specs.Prelude.{Option, None, Some}
 use Prim.Native.Nat.{ℕ, ◌+◌, ◌≤◌}
 use mathlib.Core.Path.{◌≡◌, refl, sym, ap, ◌∙◌}
 use mathlib.Core.Bool.{Bool, true, false, cond}
 use mathlib.Core.List.{List, [], ◌∷◌, ◌++◌}
-use mathlib.Core.Option.{Option, none as nothing, some}
 use native.Mathlib.Omega.{arith}
 use lib.Dec.{eqb}
 use lib.ListN.{length, get_or}
 use lib.Seq.{slice}
 use borrow.Author.Tests.{eq-eqb, ne_eqb}
-use Rattle.tree.specs.declared.layout.Reach.TheVariants.{Upto, Short}
 use Rattle.tree.specs.Layout.{Bytes, two, four, two_at, id_at}
 use Rattle.tree.specs.Tree.{Field, Fields, none, more, fixed_of}
 use Rattle.tree.specs.Access.{fixed_at, extent_at}
@@ -24,97 +23,93 @@ use Rattle.extraction_rules.specs.First.{imported_as}
 use Rattle.extraction_rules.specs.Second.{usages_of}
 use Rattle.state.specs.Cells.{Env, id_by, Shows}
 use Rattle.state.specs.Does.{Tells, context_by, any}
-use Rattle.state.specs.declared.Context.{Context}
-use Rattle.state.specs.declared.Context.TheVariants.{Of, Nowhere}
 use Rattle.scope.specs.declared.id.SyntaxContext.{SyntaxContext}
 use Rattle.scope.specs.declared.id.Id.{Id}
 use Rattle.steps.specs.Step.{ident_by}
-use Rattle.steps.specs.declared.Ident.{Ident}
-use Rattle.steps.specs.declared.Ident.TheVariants.{Is, Other}
 use Rattle.expressions.specs.After.{pass_of, as_ident, becomes, ident_after, member_after, named_first}
 
 -- ---- A field
 
-pub first-none : (cs : Fields) (u : State) → member_after cs first u ≡ nothing
+pub first-none : (cs : Fields) (u : State) → member_after cs first u ≡ None
 unfolding ident_after becomes
 first-none none u = refl
 first-none (more o none) u = refl
 first-none (more o (more q qs)) u = refl
 
 module _ (s : List ℕ) (at stop : ℕ) where
-  pub after-short : (k : Pass) {t : List ℕ} → fixed_at s (get_or s at 0) (at + 3) stop ≡ Short → Tells (ident_after (tree_at s at stop) k) t nothing
+  pub after-short : (k : Pass) {t : List ℕ} → fixed_at s (get_or s at 0) (at + 3) stop ≡ None → Tells (ident_after (tree_at s at stop) k) t None
   unfolding ident_after
   after-short k e = record { is = λ u _. sym (ap (λ (f : Field). ident_after f k u) (tree-short s at stop e)) }
 
-  is-tree : (k : Pass) (u : State) (b : ℕ) → fixed_at s (get_or s at 0) (at + 3) stop ≡ Upto b →
-      ident_after (tree_at s at stop) k u ≡ cond (eqb (get_or s at 0) 0x63) (member_after (row_at s b stop) k u) (cond (eqb (get_or s at 0) 0x60) (some (slice (at + 3) b s)) nothing)
+  is-tree : (k : Pass) (u : State) (b : ℕ) → fixed_at s (get_or s at 0) (at + 3) stop ≡ Some b →
+      ident_after (tree_at s at stop) k u ≡ cond (eqb (get_or s at 0) 0x63) (member_after (row_at s b stop) k u) (cond (eqb (get_or s at 0) 0x60) (Some (slice (at + 3) b s)) None)
   unfolding ident_after
   is-tree k u b e = ap (λ (f : Field). ident_after f k u) (tree-upto s at stop b e)
 
-  pub after-60 : (k : Pass) (n : Id) {b : ℕ} {t : List ℕ} → fixed_at s (get_or s at 0) (at + 3) stop ≡ Upto b → get_or s at 0 ≡ 0x60 → id_by n ≡ id_at s (at + 3) →
-      Tells (ident_after (tree_at s at stop) k) t (some (id_by n))
+  pub after-60 : (k : Pass) (n : Id) {b : ℕ} {t : List ℕ} → fixed_at s (get_or s at 0) (at + 3) stop ≡ Some b → get_or s at 0 ≡ 0x60 → id_by n ≡ id_at s (at + 3) →
+      Tells (ident_after (tree_at s at stop) k) t (Some (id_by n))
   after-60 k n {b} e h i =
       let w = plain-ends 0x60 SixBytes refl s (get_or s at 0) (at + 3) stop b h e in
       let x : id_by n ≡ slice (at + 3) b s = i ∙ ap (λ (c : ℕ). slice (at + 3) c s) (sym w) in
-      record { is = λ u _. sym (is-tree k u b e ∙ rw (ne_eqb (get_or s at 0) 0x63 (λ z. omega arith), eq-eqb (get_or s at 0) 0x60 h) (ap some (sym x))) }
+      record { is = λ u _. sym (is-tree k u b e ∙ rw (ne_eqb (get_or s at 0) 0x63 (λ z. omega arith), eq-eqb (get_or s at 0) 0x60 h) (ap Some (sym x))) }
 
-  pub after-rest : (k : Pass) {b : ℕ} {t : List ℕ} → fixed_at s (get_or s at 0) (at + 3) stop ≡ Upto b → (get_or s at 0 ≡ 0x60 → ⊥) → (get_or s at 0 ≡ 0x63 → ⊥) →
-      Tells (ident_after (tree_at s at stop) k) t nothing
+  pub after-rest : (k : Pass) {b : ℕ} {t : List ℕ} → fixed_at s (get_or s at 0) (at + 3) stop ≡ Some b → (get_or s at 0 ≡ 0x60 → ⊥) → (get_or s at 0 ≡ 0x63 → ⊥) →
+      Tells (ident_after (tree_at s at stop) k) t None
   after-rest k {b} e h m = record { is = λ u _. sym (is-tree k u b e ∙ rw (ne_eqb (get_or s at 0) 0x63 m, ne_eqb (get_or s at 0) 0x60 h)) }
 
   -- in the second pass a 63 is what its parts become
-  pub after-63 : {b : ℕ} {c : Bool} (r : Ident) {t : List ℕ} → fixed_at s (get_or s at 0) (at + 3) stop ≡ Upto b → get_or s at 0 ≡ 0x63 → c ≡ true →
+  pub after-63 : {b : ℕ} {c : Bool} (r : Option Id) {t : List ℕ} → fixed_at s (get_or s at 0) (at + 3) stop ≡ Some b → get_or s at 0 ≡ 0x63 → c ≡ true →
       Tells (member_after (row_at s b stop) second) t (ident_by r) → Tells (ident_after (tree_at s at stop) (pass_of c)) t (ident_by r)
   after-63 {b} {c} r e h z w =
       record { is = λ u v. w.is u v ∙ sym (ap (λ (p : Bool). ident_after (tree_at s at stop) (pass_of p) u) z ∙ is-tree second u b e ∙ rw (eq-eqb (get_or s at 0) 0x63 h)) }
 
   -- in the first it is no id
-  pub after-first : {b : ℕ} {c : Bool} {t : List ℕ} → fixed_at s (get_or s at 0) (at + 3) stop ≡ Upto b → get_or s at 0 ≡ 0x63 → c ≡ false →
-      Tells (ident_after (tree_at s at stop) (pass_of c)) t nothing
+  pub after-first : {b : ℕ} {c : Bool} {t : List ℕ} → fixed_at s (get_or s at 0) (at + 3) stop ≡ Some b → get_or s at 0 ≡ 0x63 → c ≡ false →
+      Tells (ident_after (tree_at s at stop) (pass_of c)) t None
   after-first {b} {c} e h z =
       record { is = λ u v. sym (ap (λ (p : Bool). ident_after (tree_at s at stop) (pass_of p) u) z ∙ is-tree first u b e ∙ rw (eq-eqb (get_or s at 0) 0x63 h) (first-none (row_at s b stop) u)) }
 
 -- ---- The parts of a 63, in the second pass
 
 -- the object is no id
-no-object : (o : Field) (r : Fields) (u : State) → ident_after o second u ≡ nothing → member_after (more o r) second u ≡ nothing
+no-object : (o : Field) (r : Fields) (u : State) → ident_after o second u ≡ None → member_after (more o r) second u ≡ None
 unfolding ident_after becomes
 no-object o none u h = refl
 no-object o (more q qs) u h = ap (λ (i : Option (List ℕ)). becomes second i q u) h
 
 -- it has no usages, or it is not imported, or the member names the id
-no_usages : (us : List Usage) (c : Option (List ℕ)) (q : Field) → any us ≡ false → as_ident us c q ≡ nothing
+no_usages : (us : List Usage) (c : Option (List ℕ)) (q : Field) → any us ≡ false → as_ident us c q ≡ None
 unfolding as_ident
 no_usages [] c q h = refl
 no_usages (x ∷ us) c q h = absurd (let z : ◌≡◌ {A = ℕ} 0 1 = cc in omega arith)
 
-no-context : (us : List Usage) (q : Field) → as_ident us nothing q ≡ nothing
+no-context : (us : List Usage) (q : Field) → as_ident us None q ≡ None
 unfolding as_ident
 no-context [] q = refl
 no-context (x ∷ us) q = refl
 
-with-both : (us : List Usage) (c : List ℕ) (q : Field) → any us ≡ true → as_ident us (some c) q ≡ cond (has 0x70 q) (some (fixed_of q ++ c)) nothing
+with-both : (us : List Usage) (c : List ℕ) (q : Field) → any us ≡ true → as_ident us (Some c) q ≡ cond (has 0x70 q) (Some (fixed_of q ++ c)) None
 unfolding as_ident
 with-both [] c q h = absurd (let z : ◌≡◌ {A = ℕ} 0 1 = cc in omega arith)
 with-both (x ∷ us) c q h = refl
 
-on-object : (o : Field) (q : Field) (qs : Fields) (u : State) (i : List ℕ) → some i ≡ ident_after o second u →
+on-object : (o : Field) (q : Field) (qs : Fields) (u : State) (i : List ℕ) → Some i ≡ ident_after o second u →
     member_after (more o (more q qs)) second u ≡ as_ident (usages_of i u.usages) (imported_as i u.imported) q
 unfolding ident_after becomes
 on-object o q qs u i h = ap (λ (j : Option (List ℕ)). becomes second j q u) (sym h)
 
-object-unused : (o : Field) (r : Fields) (u : State) (i : List ℕ) → some i ≡ ident_after o second u → false ≡ any (usages_of i u.usages) → member_after (more o r) second u ≡ nothing
+object-unused : (o : Field) (r : Fields) (u : State) (i : List ℕ) → Some i ≡ ident_after o second u → false ≡ any (usages_of i u.usages) → member_after (more o r) second u ≡ None
 unfolding ident_after
 object-unused o none u i h k = refl
 object-unused o (more q qs) u i h k = on-object o q qs u i h ∙ no_usages (usages_of i u.usages) (imported_as i u.imported) q (sym k)
 
-object-nowhere : (o : Field) (r : Fields) (u : State) (i : List ℕ) → some i ≡ ident_after o second u → nothing ≡ imported_as i u.imported → member_after (more o r) second u ≡ nothing
+object-nowhere : (o : Field) (r : Fields) (u : State) (i : List ℕ) → Some i ≡ ident_after o second u → None ≡ imported_as i u.imported → member_after (more o r) second u ≡ None
 unfolding ident_after
 object-nowhere o none u i h k = refl
 object-nowhere o (more q qs) u i h k =
     on-object o q qs u i h ∙ ap (λ (c : Option (List ℕ)). as_ident (usages_of i u.usages) c q) (sym k) ∙ no-context (usages_of i u.usages) q
 
-object-named : (o : Field) (r : Fields) (u : State) (i c : List ℕ) → some i ≡ ident_after o second u → true ≡ any (usages_of i u.usages) → some c ≡ imported_as i u.imported →
+object-named : (o : Field) (r : Fields) (u : State) (i c : List ℕ) → Some i ≡ ident_after o second u → true ≡ any (usages_of i u.usages) → Some c ≡ imported_as i u.imported →
     member_after (more o r) second u ≡ named_first r c
 unfolding ident_after named_first
 object-named o none u i c h k m = refl
@@ -122,32 +117,32 @@ object-named o (more q qs) u i c h k m =
     on-object o q qs u i h ∙ ap (λ (d : Option (List ℕ)). as_ident (usages_of i u.usages) d q) (sym m) ∙ with-both (usages_of i u.usages) c q (sym k)
 
 module _ (s : List ℕ) (at end : ℕ) (le : at ≤ end) where
-  pub member-none : {t : List ℕ} → extent_at s at end ≡ Short → Tells (member_after (row_at s at end) second) t nothing
+  pub member-none : {t : List ℕ} → extent_at s at end ≡ None → Tells (member_after (row_at s at end) second) t None
   unfolding ident_after
   member-none e = record { is = λ u _. sym (ap (λ (f : Fields). member_after f second u) (row-none s at end le e)) }
 
-  module _ {stop : ℕ} (e : extent_at s at end ≡ Upto stop) where
+  module _ {stop : ℕ} (e : extent_at s at end ≡ Some stop) where
     row-is : (u : State) → member_after (row_at s at end) second u ≡ member_after (more (tree_at s at stop) (row_at s stop end)) second u
     row-is u = ap (λ (f : Fields). member_after f second u) (row-more s at end stop le e)
 
-    pub member-other : {r : Ident} {t : List ℕ} → r ≡ Other → Tells (ident_after (tree_at s at stop) second) t (ident_by r) →
-        Tells (member_after (row_at s at end) second) t nothing
+    pub member-other : {r : Option Id} {t : List ℕ} → r ≡ None → Tells (ident_after (tree_at s at stop) second) t (ident_by r) →
+        Tells (member_after (row_at s at end) second) t None
     member-other h w =
         record { is = λ u v. sym (row-is u ∙ no-object (tree_at s at stop) (row_at s stop end) u (sym (w.is u v) ∙ ap ident_by h)) }
 
-    module _ {n : Id} {r : Ident} {t : List ℕ} (h : r ≡ Is n) (w : Tells (ident_after (tree_at s at stop) second) t (ident_by r)) where
-      object_is : {x : Env} (u : State) → Shows x t u → some (id_by n) ≡ ident_after (tree_at s at stop) second u
+    module _ {n : Id} {r : Option Id} {t : List ℕ} (h : r ≡ Some n) (w : Tells (ident_after (tree_at s at stop) second) t (ident_by r)) where
+      object_is : {x : Env} (u : State) → Shows x t u → Some (id_by n) ≡ ident_after (tree_at s at stop) second u
       object_is u v = ap ident_by (sym h) ∙ w.is u v
 
-      pub member-unused : {b : Bool} → b ≡ false → Tells (λ u. any (usages_of (id_by n) u.usages)) t b → Tells (member_after (row_at s at end) second) t nothing
+      pub member-unused : {b : Bool} → b ≡ false → Tells (λ u. any (usages_of (id_by n) u.usages)) t b → Tells (member_after (row_at s at end) second) t None
       member-unused k p =
           record { is = λ u v. sym (row-is u ∙ object-unused (tree_at s at stop) (row_at s stop end) u (id_by n) (object_is u v) (sym k ∙ p.is u v)) }
 
-      pub member-nowhere : {c : Context} → c ≡ Nowhere → Tells (λ u. imported_as (id_by n) u.imported) t (context_by c) →
-          Tells (member_after (row_at s at end) second) t nothing
+      pub member-nowhere : {c : Option SyntaxContext} → c ≡ None → Tells (λ u. imported_as (id_by n) u.imported) t (context_by c) →
+          Tells (member_after (row_at s at end) second) t None
       member-nowhere k p = record { is = λ u v. sym (row-is u ∙ object-nowhere (tree_at s at stop) (row_at s stop end) u (id_by n) (object_is u v) (ap context_by (sym k) ∙ p.is u v)) }
 
-      pub member-named : {b : Bool} {c : Context} {d : SyntaxContext} (q : Ident) → b ≡ true → Tells (λ u. any (usages_of (id_by n) u.usages)) t b → c ≡ Of d →
+      pub member-named : {b : Bool} {c : Option SyntaxContext} {d : SyntaxContext} (q : Option Id) → b ≡ true → Tells (λ u. any (usages_of (id_by n) u.usages)) t b → c ≡ Some d →
           Tells (λ u. imported_as (id_by n) u.imported) t (context_by c) → ident_by q ≡ named_first (row_at s stop end) (four d.0) →
           Tells (member_after (row_at s at end) second) t (ident_by q)
       member-named {d = d} q k p m o f =
@@ -163,26 +158,26 @@ module _ (s : List ℕ) (at end : ℕ) (le : at ≤ end) where
 -- ---- The member
 
 module _ (s : List ℕ) (at end : ℕ) (c : List ℕ) (le : at ≤ end) where
-  pub named-none : extent_at s at end ≡ Short → nothing ≡ named_first (row_at s at end) c
+  pub named-none : extent_at s at end ≡ None → None ≡ named_first (row_at s at end) c
   unfolding named_first
   named-none e = sym (ap (λ (f : Fields). named_first f c) (row-none s at end le e))
 
-  module _ {stop : ℕ} (e : extent_at s at end ≡ Upto stop) where
-    pub named-short : fixed_at s (get_or s at 0) (at + 3) stop ≡ Short → nothing ≡ named_first (row_at s at end) c
+  module _ {stop : ℕ} (e : extent_at s at end ≡ Some stop) where
+    pub named-short : fixed_at s (get_or s at 0) (at + 3) stop ≡ None → None ≡ named_first (row_at s at end) c
     unfolding named_first
     named-short x = sym (ap (λ (f : Fields). named_first f c) (row-more s at end stop le e ∙ ap (λ (f : Field). more f (row_at s stop end)) (tree-short s at stop x)))
 
-    named-is : (b : ℕ) → fixed_at s (get_or s at 0) (at + 3) stop ≡ Upto b →
-        named_first (row_at s at end) c ≡ cond (eqb (get_or s at 0) 0x70) (some (slice (at + 3) b s ++ c)) nothing
+    named-is : (b : ℕ) → fixed_at s (get_or s at 0) (at + 3) stop ≡ Some b →
+        named_first (row_at s at end) c ≡ cond (eqb (get_or s at 0) 0x70) (Some (slice (at + 3) b s ++ c)) None
     unfolding named_first
     named-is b x = ap (λ (f : Fields). named_first f c) (row-more s at end stop le e ∙ ap (λ (f : Field). more f (row_at s stop end)) (tree-upto s at stop b x))
 
-    pub named-70 : {b a : ℕ} → Bytes s → at + 5 ≤ length s → fixed_at s (get_or s at 0) (at + 3) stop ≡ Upto b → get_or s at 0 ≡ 0x70 → a ≡ two_at s (at + 3) →
-        some (two a ++ c) ≡ named_first (row_at s at end) c
+    pub named-70 : {b a : ℕ} → Bytes s → at + 5 ≤ length s → fixed_at s (get_or s at 0) (at + 3) stop ≡ Some b → get_or s at 0 ≡ 0x70 → a ≡ two_at s (at + 3) →
+        Some (two a ++ c) ≡ named_first (row_at s at end) c
     named-70 {b} {a} bs fits x h z =
         let w = plain-ends 0x70 Atom refl s (get_or s at 0) (at + 3) stop b h x in
         let y : two a ≡ slice (at + 3) b s = ap two z ∙ two_at-is s (at + 3) bs (omega arith) ∙ ap (λ (k : ℕ). slice (at + 3) k s) (sym w) in
-        sym (named-is b x ∙ rw (eq-eqb (get_or s at 0) 0x70 h) (ap some (sym (ap (λ (l : List ℕ). l ++ c) y))))
+        sym (named-is b x ∙ rw (eq-eqb (get_or s at 0) 0x70 h) (ap Some (sym (ap (λ (l : List ℕ). l ++ c) y))))
 
-    pub named-rest : {b : ℕ} → fixed_at s (get_or s at 0) (at + 3) stop ≡ Upto b → (get_or s at 0 ≡ 0x70 → ⊥) → nothing ≡ named_first (row_at s at end) c
+    pub named-rest : {b : ℕ} → fixed_at s (get_or s at 0) (at + 3) stop ≡ Some b → (get_or s at 0 ≡ 0x70 → ⊥) → None ≡ named_first (row_at s at end) c
     named-rest {b} x h = sym (named-is b x ∙ rw (ne_eqb (get_or s at 0) 0x70 h))

@@ -1,10 +1,10 @@
 -- A walked pattern binds the ids that it bound.
+use Rattle.std.specs.Prelude.{Option, None, Some}
 use Prim.Native.Nat.{ℕ, ◌+◌}
 use mathlib.Core.Path.{◌≡◌, refl, sym, ap, ap₂, subst, ◌∙◌}
 use mathlib.Core.Logic.{◌⊎◌}
 use mathlib.Core.Bool.{Bool, true, false, cond, ◌||◌}
 use mathlib.Core.List.{List, [], ◌∷◌, ◌++◌}
-use mathlib.Core.Option.{Option, none as nothing, some}
 use native.Mathlib.Omega.{arith}
 use lib.Dec.{eqb}
 use lib.ListN.{get_or}
@@ -59,7 +59,7 @@ unfolding binding_of
 ident-below = refl
 
 -- another callee
-callee-binds : (e : Setting) (n : ℕ) (t : ℕ) (x : List ℕ) (ds : Fields) (l : List ℕ) → required e (field t x ds) ≡ some l →
+callee-binds : (e : Setting) (n : ℕ) (t : ℕ) (x : List ℕ) (ds : Fields) (l : List ℕ) → required e (field t x ds) ≡ Some l →
     bindings (with_callee n (field t x ds)) ≡ bindings (field t x ds)
 unfolding with_callee
 callee-binds e n t x none l q = refl
@@ -97,13 +97,13 @@ member-way = refl
 module _ (e : Setting) where
   -- a 63 that becomes a 60 binds nothing
   abbrev Unbound : ℕ → List ℕ → Fields → Type 0
-  Unbound t x ds = (o q : Field) → on_ident (field t x ds) ≡ some (o, q) → has 0x70 q ≡ true → bindings (field t x ds) ≡ none
+  Unbound t x ds = (o q : Field) → on_ident (field t x ds) ≡ Some (o, q) → has 0x70 q ≡ true → bindings (field t x ds) ≡ none
 
   property-binds : (us : List Usage) (c : Option (List ℕ)) (q f : Field) → (has 0x70 q ≡ true → bindings f ≡ none) → bindings (as_property us c q f) ≡ bindings f
   unfolding as_property
   property-binds [] c q f h = refl
-  property-binds (u ∷ us) nothing q f h = refl
-  property-binds (u ∷ us) (some c) q f h = go (has 0x70 q) h
+  property-binds (u ∷ us) None q f h = refl
+  property-binds (u ∷ us) (Some c) q f h = go (has 0x70 q) h
     where
       go : (b : Bool) → (b ≡ true → bindings f ≡ none) → bindings (cond b (field 0x60 (fixed_of q ++ c) none) f) ≡ bindings f
       go true h = below-binds 0x60 (fixed_of q ++ c) none ident-below ∙ bare ∙ sym (h refl)
@@ -117,15 +117,15 @@ module _ (e : Setting) where
   expression-binds second t x ds object p s h = go (on_ident (field t x ds)) refl
     where
       go : (o : Option (Field × Field)) → on_ident (field t x ds) ≡ o → bindings (rewritten o (field t x ds) s) ≡ bindings (field t x ds)
-      go nothing q = refl
-      go (some m) q = property-binds (usages_of (fixed_of m.0) s.usages) (imported_as (fixed_of m.0) s.imported) m.1 (field t x ds) (h refl m.0 m.1 q)
+      go None q = refl
+      go (Some m) q = property-binds (usages_of (fixed_of m.0) s.usages) (imported_as (fixed_of m.0) s.imported) m.1 (field t x ds) (h refl m.0 m.1 q)
 
   declarator-binds : (ds : Fields) (p : ℕ) (s : State) → After (declarator e ds p s) (λ gs s'. Binds ds gs)
   declarator-binds ds p s =
       declarator-value e (Binds ds) ds p s (refl, refl)
       (λ q i rest n l w r. subst (λ (l : Fields). Binds l (more q (more (with_callee n i) rest))) (sym w) (changed q i rest n l r))
     where
-      changed : (q i : Field) (rest : Fields) (n : ℕ) (l : List ℕ) → required e i ≡ some l → Binds (more q (more i rest)) (more q (more (with_callee n i) rest))
+      changed : (q i : Field) (rest : Fields) (n : ℕ) (l : List ℕ) → required e i ≡ Some l → Binds (more q (more i rest)) (more q (more (with_callee n i) rest))
       changed q (field t x cs) rest n l r = binds-more q q (more (field t x cs) rest) (more (with_callee n (field t x cs)) rest) refl
           (binds-more (field t x cs) (with_callee n (field t x cs)) rest rest (callee-binds e n t x cs l r) (refl, refl))
 
@@ -175,13 +175,13 @@ module _ (e : Setting) where
   unfolding on_ident ident_of
   unbound x o q (field t y cs) q' s s1 s2 two w b v oo qq i h = go (eqb t 0x60) refl i
     where
-      go : (c : Bool) → eqb t 0x60 ≡ c → cond {A = Option (Field × Field)} c (some (field t y cs, q')) nothing ≡ some (oo, qq) →
+      go : (c : Bool) → eqb t 0x60 ≡ c → cond {A = Option (Field × Field)} c (Some (field t y cs, q')) None ≡ Some (oo, qq) →
           bindings (field 0x63 x (more (field t y cs) (more q' none))) ≡ none
       go true k i =
           let pair : ◌≡◌ {A = Field × Field} (field t y cs, q') (oo, qq) = cc in
           let z : q' ≡ qq = ap (λ (m : Field × Field). m.1) pair in
           let tag : tag_of q ≡ 0x70 = sym v.0 ∙ ap tag_of z ∙ eqb-true (tag_of qq) 0x70 h in
-          let ident = (b.1 two y (ap (λ (c : Bool). cond c (some y) nothing) k)).0 in
+          let ident = (b.1 two y (ap (λ (c : Bool). cond c (Some y) None) k)).0 in
           pair-binds x (field t y cs) q' (ap bindings ident ∙ below-binds 0x60 y none ident-below ∙ bare) (ap bindings (v.1 tag).0 ∙ name-binds q w tag)
       go false k i = absurd (let z : ◌≡◌ {A = ℕ} 0 1 = cc in omega arith)
 

@@ -1,10 +1,10 @@
 -- Which id a walked expression has is told before it is walked, and in the second pass walking such an expression leaves the state alone.
+use Rattle.std.specs.Prelude.{Option, None, Some}
 use Prim.Native.Nat.{ℕ, ◌+◌}
 use mathlib.Core.Path.{◌≡◌, refl, sym, ap, subst, ◌∙◌}
 use mathlib.Core.Logic.{◌⊎◌, inl, inr}
 use mathlib.Core.Bool.{Bool, true, false, cond}
 use mathlib.Core.List.{List, [], ◌∷◌, ◌++◌}
-use mathlib.Core.Option.{Option, none as nothing, some}
 use native.Mathlib.Omega.{arith}
 use lib.Dec.{eqb}
 use borrow.Author.Tests.{eqb-true, eqb-false, ne_eqb}
@@ -45,26 +45,26 @@ walk-70 e x object p s = refl
 module _ (e : Setting) where
   -- the id that f is to have is that of g; in the second pass g is then no more than this id, and the state is as it was
   abbrev pub Became : Field → State → Field → State → Type 0
-  Became f s g s' = (ident_after f e.pass s ≡ ident_of g) × (e.pass ≡ second → (i : List ℕ) → ident_of g ≡ some i → (g ≡ field 0x60 i none) × (s' ≡ s))
+  Became f s g s' = (ident_after f e.pass s ≡ ident_of g) × (e.pass ≡ second → (i : List ℕ) → ident_of g ≡ Some i → (g ≡ field 0x60 i none) × (s' ≡ s))
 
-  other-ident : (g : Field) → (tag_of g ≡ 0x60 → ⊥) → ident_of g ≡ nothing
+  other-ident : (g : Field) → (tag_of g ≡ 0x60 → ⊥) → ident_of g ≡ None
   unfolding ident_of
-  other-ident (field t x cs) h = ap (λ (b : Bool). cond b (some x) nothing) (ne_eqb t 0x60 h)
+  other-ident (field t x cs) h = ap (λ (b : Bool). cond b (Some x) None) (ne_eqb t 0x60 h)
 
   -- neither 63 nor 60
   became-other : (t : ℕ) (x : List ℕ) (cs : Fields) (g : Field) (s s' : State) → (t ≡ 0x63 → ⊥) → (t ≡ 0x60 → ⊥) → tag_of g ≡ t → Became (field t x cs) s g s'
   unfolding ident_after
   became-other t x cs g s s' h k q =
       let n = other-ident g (λ z. k (sym q ∙ z)) in (
-        ap (λ (b : Bool). cond b (member_after cs e.pass s) (cond (eqb t 0x60) (some x) nothing)) (ne_eqb t 0x63 h)
-            ∙ ap (λ (b : Bool). cond b (some x) nothing) (ne_eqb t 0x60 k) ∙ sym n,
+        ap (λ (b : Bool). cond b (member_after cs e.pass s) (cond (eqb t 0x60) (Some x) None)) (ne_eqb t 0x63 h)
+            ∙ ap (λ (b : Bool). cond b (Some x) None) (ne_eqb t 0x60 k) ∙ sym n,
         λ _ i w. none-some (sym n ∙ w),
       )
 
   became-60 : (x : List ℕ) (g : Field) (s s' : State) → (g ≡ field 0x60 x none) × (e.pass ≡ second → s' ≡ s) → Became (field 0x60 x none) s g s'
   unfolding ident_after ident_of
   became-60 x g s s' h =
-      (ap ident_of (sym h.0), λ two i w. (h.0 ∙ ap (λ (y : List ℕ). field 0x60 y none) (let v : some x ≡ some i = ap ident_of (sym h.0) ∙ w in cc), h.1 two))
+      (ap ident_of (sym h.0), λ two i w. (h.0 ∙ ap (λ (y : List ℕ). field 0x60 y none) (let v : Some x ≡ Some i = ap ident_of (sym h.0) ∙ w in cc), h.1 two))
 
   other-walk : (t : ℕ) (x : List ℕ) (cs : Fields) (object : Bool) (p : ℕ) (s : State) → eqb t 0x63 ≡ false → RegularAt t x cs →
       After (walk (field t x cs) e object p s) (Became (field t x cs) s)
@@ -103,43 +103,43 @@ module _ (e : Setting) where
 
   -- rewriting a 63 with this member
   pub as-ident : (us : List Usage) (c : Option (List ℕ)) (q f : Field) → tag_of f ≡ 0x63 →
-      (as_ident us c q ≡ ident_of (as_property us c q f)) × ((i : List ℕ) → ident_of (as_property us c q f) ≡ some i → as_property us c q f ≡ field 0x60 i none)
+      (as_ident us c q ≡ ident_of (as_property us c q f)) × ((i : List ℕ) → ident_of (as_property us c q f) ≡ Some i → as_property us c q f ≡ field 0x60 i none)
   unfolding as_ident as_property ident_of
   as-ident [] c q f t = let n = other-ident f (λ z. let v : ◌≡◌ {A = ℕ} 0x63 0x60 = sym t ∙ z in omega arith) in (sym n, λ i w. none-some (sym n ∙ w))
-  as-ident (u ∷ us) nothing q f t = let n = other-ident f (λ z. let v : ◌≡◌ {A = ℕ} 0x63 0x60 = sym t ∙ z in omega arith) in (sym n, λ i w. none-some (sym n ∙ w))
-  as-ident (u ∷ us) (some c) q f t = go (has 0x70 q)
+  as-ident (u ∷ us) None q f t = let n = other-ident f (λ z. let v : ◌≡◌ {A = ℕ} 0x63 0x60 = sym t ∙ z in omega arith) in (sym n, λ i w. none-some (sym n ∙ w))
+  as-ident (u ∷ us) (Some c) q f t = go (has 0x70 q)
     where
-      rewrote : (i : List ℕ) → ident_of (field 0x60 (fixed_of q ++ c) none) ≡ some i → field 0x60 (fixed_of q ++ c) none ≡ field 0x60 i none
+      rewrote : (i : List ℕ) → ident_of (field 0x60 (fixed_of q ++ c) none) ≡ Some i → field 0x60 (fixed_of q ++ c) none ≡ field 0x60 i none
       rewrote i w = let v : fixed_of q ++ c ≡ i = cc in ap (λ (y : List ℕ). field 0x60 y none) v
 
-      went : some (fixed_of q ++ c) ≡ ident_of (field 0x60 (fixed_of q ++ c) none)
+      went : Some (fixed_of q ++ c) ≡ ident_of (field 0x60 (fixed_of q ++ c) none)
       went = refl
 
-      go : (b : Bool) → (cond b (some (fixed_of q ++ c)) nothing ≡ ident_of (cond b (field 0x60 (fixed_of q ++ c) none) f)) ×
-          ((i : List ℕ) → ident_of (cond b (field 0x60 (fixed_of q ++ c) none) f) ≡ some i → cond b (field 0x60 (fixed_of q ++ c) none) f ≡ field 0x60 i none)
+      go : (b : Bool) → (cond b (Some (fixed_of q ++ c)) None ≡ ident_of (cond b (field 0x60 (fixed_of q ++ c) none) f)) ×
+          ((i : List ℕ) → ident_of (cond b (field 0x60 (fixed_of q ++ c) none) f) ≡ Some i → cond b (field 0x60 (fixed_of q ++ c) none) f ≡ field 0x60 i none)
       go true = (went, rewrote)
       go false = let n = other-ident f (λ z. let v : ◌≡◌ {A = ℕ} 0x63 0x60 = sym t ∙ z in omega arith) in (sym n, λ i w. none-some (sym n ∙ w))
 
   -- a property of what has become an id, in the state in which it has: other members are no property
   as-member : (us : List Usage) (c : Option (List ℕ)) (q r f : Field) → tag_of f ≡ 0x63 → tag_of r ≡ tag_of q → (tag_of q ≡ 0x70 → ⊥) →
-      (as_ident us c q ≡ nothing) × (as_property us c r f ≡ f)
+      (as_ident us c q ≡ None) × (as_property us c r f ≡ f)
   unfolding as_ident as_property
   as-member [] c q r f t h k = (refl, refl)
-  as-member (u ∷ us) nothing q r f t h k = (refl, refl)
-  as-member (u ∷ us) (some c) q r f t h k = (
-    ap (λ (b : Bool). cond b (some (fixed_of q ++ c)) nothing) (ne_eqb (tag_of q) 0x70 k),
+  as-member (u ∷ us) None q r f t h k = (refl, refl)
+  as-member (u ∷ us) (Some c) q r f t h k = (
+    ap (λ (b : Bool). cond b (Some (fixed_of q ++ c)) None) (ne_eqb (tag_of q) 0x70 k),
     ap (λ (b : Bool). cond b (field 0x60 (fixed_of r ++ c) none) f) (ne_eqb (tag_of r) 0x70 (λ z. k (sym h ∙ z))),
   )
 
-  first-never : (i : Option (List ℕ)) (q : Field) (s : State) → becomes first i q s ≡ nothing
+  first-never : (i : Option (List ℕ)) (q : Field) (s : State) → becomes first i q s ≡ None
   unfolding becomes
   first-never i q s = refl
 
   abbrev Rewrote : Pass → Field → Field → State → Field → State → Type 0
-  Rewrote k o q s g s' = (becomes k (ident_after o k s) q s ≡ ident_of g) × (k ≡ second → (i : List ℕ) → ident_of g ≡ some i → (g ≡ field 0x60 i none) × (s' ≡ s))
+  Rewrote k o q s g s' = (becomes k (ident_after o k s) q s ≡ ident_of g) × (k ≡ second → (i : List ℕ) → ident_of g ≡ Some i → (g ≡ field 0x60 i none) × (s' ≡ s))
 
   -- the walked object is no id
-  rewrote-other : (k : Pass) (o q f : Field) (s s' : State) → tag_of f ≡ 0x63 → ident_after o k s ≡ nothing → Rewrote k o q s f s'
+  rewrote-other : (k : Pass) (o q f : Field) (s s' : State) → tag_of f ≡ 0x63 → ident_after o k s ≡ None → Rewrote k o q s f s'
   unfolding becomes
   rewrote-other first o q f s s' t h = let n = other-ident f (λ z. let v : ◌≡◌ {A = ℕ} 0x63 0x60 = sym t ∙ z in omega arith) in (sym n, λ _ i w. none-some (sym n ∙ w))
   rewrote-other second o q f s s' t h =
@@ -147,7 +147,7 @@ module _ (e : Setting) where
       (ap (λ (i : Option (List ℕ)). becomes second i q s) h ∙ sym n, λ _ i w. none-some (sym n ∙ w))
 
   -- it is the id i
-  rewrote-ident : (o q r f : Field) (i : List ℕ) (s s1 s2 : State) → tag_of f ≡ 0x63 → ident_after o second s ≡ some i → s1 ≡ s → Membered q s1 r s2 →
+  rewrote-ident : (o q r f : Field) (i : List ℕ) (s s1 s2 : State) → tag_of f ≡ 0x63 → ident_after o second s ≡ Some i → s1 ≡ s → Membered q s1 r s2 →
       Rewrote second o q s (as_property (usages_of i s2.usages) (imported_as i s2.imported) r f) s2
   unfolding becomes
   rewrote-ident o q r f i s s1 s2 t h same m = go (eqb (tag_of q) 0x70) refl
@@ -178,7 +178,7 @@ module _ (e : Setting) where
       in-first g s' t = let n = other-ident g (λ z. let v : ◌≡◌ {A = ℕ} 0x63 0x60 = sym t ∙ z in omega arith) in
           (nothing-first (ident_after o first s) ∙ sym n, λ z i w. none-some (sym n ∙ w))
         where
-          nothing-first : (i : Option (List ℕ)) → becomes first i q s ≡ nothing
+          nothing-first : (i : Option (List ℕ)) → becomes first i q s ≡ None
           nothing-first i = first-never i q s
   expression-63 second two x o q (field t y ds) q' object p s s1 s2 b m = go (eqb t 0x60) refl
     where
@@ -186,13 +186,13 @@ module _ (e : Setting) where
       here = ap (λ (k : Pass). ident_after o k s) (sym two)
 
       go : (c : Bool) → eqb t 0x60 ≡ c →
-          Rewrote second o q s (rewritten (cond c (some (field t y ds, q')) nothing) (field 0x63 x (more (field t y ds) (more q' none))) s2) s2
+          Rewrote second o q s (rewritten (cond c (Some (field t y ds, q')) None) (field 0x63 x (more (field t y ds) (more q' none))) s2) s2
       go true k =
-          let i : cond (eqb t 0x60) (some y) nothing ≡ some y = ap (λ (c : Bool). cond c (some y) nothing) k in
+          let i : cond (eqb t 0x60) (Some y) None ≡ Some y = ap (λ (c : Bool). cond c (Some y) None) k in
           rewrote-ident o q q' (field 0x63 x (more (field t y ds) (more q' none))) y s s1 s2 refl (here ∙ b.0 ∙ i) (b.1 two y i).1 m
       go false k =
           rewrote-other second o q (field 0x63 x (more (field t y ds) (more q' none))) s s2 refl
-          (here ∙ b.0 ∙ ap (λ (c : Bool). cond c (some y) nothing) k)
+          (here ∙ b.0 ∙ ap (λ (c : Bool). cond c (Some y) None) k)
 
   no-two : {A : Type 0} (x : Fields) → ((o q : Field) → x ≡ more o (more q none) → ⊥) → Two x → A
   no-two x h w = absurd (h w.0 w.1 w.2)

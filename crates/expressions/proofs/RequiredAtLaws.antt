@@ -1,16 +1,14 @@
 -- The literal of a call that is a require call once it is walked, read off the bytes: one law for each way through source_at and required_at.
+use Rattle.std.specs.Prelude.{Option, None, Some}
 use Prim.Native.Nat.{ℕ, ◌+◌, ◌≤◌, ◌<◌}
 use mathlib.Core.Path.{◌≡◌, refl, sym, ap, ◌∙◌}
 use mathlib.Core.Bool.{Bool, true, false, cond, ◌&&◌, and-false}
 use mathlib.Core.List.{List, []}
-use mathlib.Core.Option.{Option, none as nothing, some}
 use native.Mathlib.Omega.{arith}
 use lib.Dec.{eqb}
 use lib.ListN.{length, get_or}
 use lib.Seq.{slice}
 use borrow.Author.Tests.{eq-eqb, ne_eqb}
-use Rattle.tree.specs.declared.layout.Reach.{Reach}
-use Rattle.tree.specs.declared.layout.Reach.TheVariants.{Upto, Short}
 use Rattle.tree.specs.Layout.{two, id_at, value_of}
 use Rattle.tree.specs.Tree.{Field, field, Fields, none, more}
 use Rattle.tree.specs.Access.{fixed_at, extent_at}
@@ -27,40 +25,34 @@ use Rattle.state.specs.Cells.{Env, literal_by, Valued, Shows}
 use Rattle.state.specs.Does.{Tells, Says, is_second, place_in}
 use Rattle.state.specs.declared.Literal.{Literal}
 use Rattle.steps.specs.Step.{ident_by, Reads}
-use Rattle.steps.specs.declared.Ident.{Ident}
-use Rattle.steps.specs.declared.Ident.TheVariants.{Is, Other}
 use Rattle.expressions.specs.After.{pass_of, ident_after, if_require, required_after}
 use Rattle.expressions.specs.Require.{FoundIs, Found, RequiredIs}
-use Rattle.expressions.specs.declared.require.Standing.{Standing}
-use Rattle.expressions.specs.declared.require.Standing.TheVariants.{At, Nowhere}
-use Rattle.expressions.specs.declared.require.Source.{Source}
-use Rattle.expressions.specs.declared.require.Source.TheVariants.{Is as Lit, Other as NoLit}
 
 -- ---- Fields
 
-not-on : (e : Setting) (f : Field) (u : State) → e.config.require ≡ false → required_after e f u ≡ nothing
+not-on : (e : Setting) (f : Field) (u : State) → e.config.require ≡ false → required_after e f u ≡ None
 unfolding required_after
 not-on e (field t x none) u h = refl
 not-on e (field t x (more c gs)) u h =
-    ap (λ (b : Bool). cond (b && eqb t 0x65) (if_require (ident_after c e.pass u) (not_external e (argument (sole gs)))) nothing) h
+    ap (λ (b : Bool). cond (b && eqb t 0x65) (if_require (ident_after c e.pass u) (not_external e (argument (sole gs)))) None) h
 
-not-call : (e : Setting) (t : ℕ) (x : List ℕ) (cs : Fields) (u : State) → (t ≡ 0x65 → ⊥) → required_after e (field t x cs) u ≡ nothing
+not-call : (e : Setting) (t : ℕ) (x : List ℕ) (cs : Fields) (u : State) → (t ≡ 0x65 → ⊥) → required_after e (field t x cs) u ≡ None
 unfolding required_after
 not-call e t x none u h = refl
 not-call e t x (more c gs) u h =
-    ap (λ (b : Bool). cond b (if_require (ident_after c e.pass u) (not_external e (argument (sole gs)))) nothing)
+    ap (λ (b : Bool). cond b (if_require (ident_after c e.pass u) (not_external e (argument (sole gs)))) None)
     (ap (λ (b : Bool). e.config.require && b) (ne_eqb t 0x65 h) ∙ and-false e.config.require)
 
 is-call : (e : Setting) (c : Field) (gs : Fields) (u : State) → e.config.require ≡ true →
     required_after e (field 0x65 [] (more c gs)) u ≡ if_require (ident_after c e.pass u) (not_external e (argument (sole gs)))
 unfolding required_after
-is-call e c gs u h = ap (λ (b : Bool). cond (b && eqb 0x65 0x65) (if_require (ident_after c e.pass u) (not_external e (argument (sole gs)))) nothing) h
+is-call e c gs u h = ap (λ (b : Bool). cond (b && eqb 0x65 0x65) (if_require (ident_after c e.pass u) (not_external e (argument (sole gs)))) None) h
 
-not-external : (e : Setting) (o : Option (List ℕ)) (l : List ℕ) (b : Bool) → o ≡ some l → external e l ≡ b → not_external e o ≡ cond b nothing (some l)
+not-external : (e : Setting) (o : Option (List ℕ)) (l : List ℕ) (b : Bool) → o ≡ Some l → external e l ≡ b → not_external e o ≡ cond b None (Some l)
 unfolding not_external
-not-external e o l b h k = ap (not_external e) h ∙ ap (λ (c : Bool). cond c nothing (some l)) k
+not-external e o l b h k = ap (not_external e) h ∙ ap (λ (c : Bool). cond c None (Some l)) k
 
-no-argument : (e : Setting) (o : Option (List ℕ)) → o ≡ nothing → not_external e o ≡ nothing
+no-argument : (e : Setting) (o : Option (List ℕ)) → o ≡ None → not_external e o ≡ None
 unfolding not_external
 no-argument e o h = ap (not_external e) h
 
@@ -71,22 +63,22 @@ outside e l v h = ap (λ (w : List ℕ). among w e.externals) h
 -- ---- The source of the one argument
 
 -- what f gives is told otherwise
-required-as : {f g : Setting → State → Option (List ℕ)} {s t : List ℕ} (r : Source) → RequiredIs f s t r → ((x : Env) (u : State) → Shows x t u → g x.setting u ≡ f x.setting u) →
+required-as : {f g : Setting → State → Option (List ℕ)} {s t : List ℕ} (r : Option Literal) → RequiredIs f s t r → ((x : Env) (u : State) → Shows x t u → g x.setting u ≡ f x.setting u) →
     RequiredIs g s t r
-required-as (Lit l) w h = record { is = λ {x} u v n. let y = w.is u v n in (h x u v ∙ y.0, y.1) }
-required-as NoLit w h = record { is = λ {x} u v n. h x u v ∙ w.is u v n }
+required-as (Some l) w h = record { is = λ {x} u v n. let y = w.is u v n in (h x u v ∙ y.0, y.1) }
+required-as None w h = record { is = λ {x} u v n. h x u v ∙ w.is u v n }
 
 -- six bytes stand where a literal does
-pub found-fits : {s : List ℕ} {o : Option (List ℕ)} {r : Standing} {at : ℕ} → Found s o r → r ≡ At at → at + 6 ≤ length s
-found-fits {s} {o} {at = at} f h = let w : FoundIs s o (At at) = rw h at f.is in w.1
+pub found-fits : {s : List ℕ} {o : Option (List ℕ)} {r : Option ℕ} {at : ℕ} → Found s o r → r ≡ Some at → at + 6 ≤ length s
+found-fits {s} {o} {at = at} f h = let w : FoundIs s o (Some at) = rw h at f.is in w.1
 
-module _ {s t : List ℕ} {o : Option (List ℕ)} {r : Standing} (f : Found s o r) where
-  pub source-none : r ≡ Nowhere → RequiredIs (λ e _. not_external e o) s t NoLit
+module _ {s t : List ℕ} {o : Option (List ℕ)} {r : Option ℕ} (f : Found s o r) where
+  pub source-none : r ≡ None → RequiredIs (λ e _. not_external e o) s t None
   source-none h = record { is = λ {x} u v n. no-argument x.setting o (rw h at f.is) }
 
-  module _ (l : Literal) {at p : ℕ} {b : Bool} (h : r ≡ At at) (k : Says (λ e. place_in e.pass at) t p) (z : (value_of (id_at s at) ≡ two l.value.0) × (l.place ≡ p))
+  module _ (l : Literal) {at p : ℕ} {b : Bool} (h : r ≡ Some at) (k : Says (λ e. place_in e.pass at) t p) (z : (value_of (id_at s at) ≡ two l.value.0) × (l.place ≡ p))
       (y : Says (λ e. among (two l.value.0) e.externals) t b) where
-    stands : FoundIs s o (At at)
+    stands : FoundIs s o (Some at)
     stands = rw h at f.is
 
     -- the bytes that its place stands for
@@ -96,15 +88,15 @@ module _ {s t : List ℕ} {o : Option (List ℕ)} {r : Standing} (f : Found s o 
     valued-is : {x : Env} (u : State) → Shows x t u → Reads x s → Valued x l
     valued-is u v n = ap value_of (bytes-are u v n) ∙ z.0
 
-    literal-is : {x : Env} (u : State) → Shows x t u → Reads x s → not_external x.setting o ≡ cond b nothing (some (literal_by x l))
+    literal-is : {x : Env} (u : State) → Shows x t u → Reads x s → not_external x.setting o ≡ cond b None (Some (literal_by x l))
     literal-is {x} u v n =
-        not-external x.setting o (literal_by x l) b (stands.0 ∙ ap some (sym (bytes-are u v n)))
+        not-external x.setting o (literal_by x l) b (stands.0 ∙ ap Some (sym (bytes-are u v n)))
         (outside x.setting (literal_by x l) (two l.value.0) (valued-is u v n) ∙ sym (y.is u v))
 
-    pub source-external : b ≡ true → RequiredIs (λ e _. not_external e o) s t NoLit
+    pub source-external : b ≡ true → RequiredIs (λ e _. not_external e o) s t None
     source-external i = record { is = λ {x} u v n. literal-is u v n ∙ rw i }
 
-    pub source-is : b ≡ false → RequiredIs (λ e _. not_external e o) s t (Lit l)
+    pub source-is : b ≡ false → RequiredIs (λ e _. not_external e o) s t (Some l)
     source-is i = record { is = λ {x} u v n. (literal-is u v n ∙ rw i, valued-is u v n) }
 
 -- ---- The call
@@ -115,22 +107,22 @@ pass-is first = refl
 pass-is second = refl
 
 module _ (s : List ℕ) (at stop : ℕ) where
-  abbrev Answers : List ℕ → Source → Type 0
+  abbrev Answers : List ℕ → (Option Literal) → Type 0
   Answers t r = RequiredIs (λ e. required_after e (tree_at s at stop)) s t r
 
-  pub call-other : {t : List ℕ} → (get_or s at 0 ≡ 0x65 → ⊥) → Answers t NoLit
+  pub call-other : {t : List ℕ} → (get_or s at 0 ≡ 0x65 → ⊥) → Answers t None
   call-other h = record { is = λ {x} u v n. go x.setting u (fixed_at s (get_or s at 0) (at + 3) stop) refl }
     where
-      go : (e : Setting) (u : State) (r : Reach) → fixed_at s (get_or s at 0) (at + 3) stop ≡ r → required_after e (tree_at s at stop) u ≡ nothing
-      go e u Short x = ap (λ (f : Field). required_after e f u) (tree-short s at stop x) ∙ not-call e 0 [] none u (λ z. omega arith)
-      go e u (Upto b) x = ap (λ (f : Field). required_after e f u) (tree-upto s at stop b x) ∙ not-call e (get_or s at 0) (slice (at + 3) b s) (row_at s b stop) u h
+      go : (e : Setting) (u : State) (r : Option ℕ) → fixed_at s (get_or s at 0) (at + 3) stop ≡ r → required_after e (tree_at s at stop) u ≡ None
+      go e u None x = ap (λ (f : Field). required_after e f u) (tree-short s at stop x) ∙ not-call e 0 [] none u (λ z. omega arith)
+      go e u (Some b) x = ap (λ (f : Field). required_after e f u) (tree-upto s at stop b x) ∙ not-call e (get_or s at 0) (slice (at + 3) b s) (row_at s b stop) u h
 
   module _ {t : List ℕ} {on : Bool} (o : Says (λ e. e.config.require) t on) where
-    pub call-off : on ≡ false → Answers t NoLit
+    pub call-off : on ≡ false → Answers t None
     call-off h = record { is = λ {x} u v n. not-on x.setting (tree_at s at stop) u (sym (o.is u v) ∙ h) }
 
     module _ (h : on ≡ true) (le : at + 3 ≤ stop) (tag : get_or s at 0 ≡ 0x65) where
-      pub call-bare : extent_at s (at + 3) stop ≡ Short → Answers t NoLit
+      pub call-bare : extent_at s (at + 3) stop ≡ None → Answers t None
       unfolding required_after
       call-bare x =
           record {
@@ -138,7 +130,7 @@ module _ (s : List ℕ) (at stop : ℕ) where
                 ap (λ (f : Field). required_after y.setting f u) (tree-bare 0x65 refl s at stop le tag ∙ ap (field 0x65 []) (row-none s (at + 3) stop le x));
           }
 
-      module _ {callee : ℕ} {pass : Bool} (r : Ident) (x : extent_at s (at + 3) stop ≡ Upto callee) (p : Says (λ e. is_second e.pass) t pass)
+      module _ {callee : ℕ} {pass : Bool} (r : Option Id) (x : extent_at s (at + 3) stop ≡ Some callee) (p : Says (λ e. is_second e.pass) t pass)
           (w : Tells (ident_after (tree_at s (at + 3) callee) (pass_of pass)) t (ident_by r)) where
         -- by the id of its callee
         call-is : {y : Env} (u : State) → Shows y t u →
@@ -149,19 +141,19 @@ module _ (s : List ℕ) (at stop : ℕ) where
             ∙ ap (λ (i : Option (List ℕ)). if_require i (not_external y.setting (argument (sole (row_at s callee stop)))))
             (sym (w.is u v ∙ ap (λ (k : Pass). ident_after (tree_at s (at + 3) callee) k u) (ap pass_of (p.is u v) ∙ pass-is y.setting.pass)))
 
-        pub call-nameless : r ≡ Other → Answers t NoLit
-        call-nameless i = record { is = λ {x = y} u v n. call-is u v ∙ ap (λ (r : Ident). if_require (ident_by r) (not_external y.setting (argument (sole (row_at s callee stop))))) i }
+        pub call-nameless : r ≡ None → Answers t None
+        call-nameless i = record { is = λ {x = y} u v n. call-is u v ∙ ap (λ (r : Option Id). if_require (ident_by r) (not_external y.setting (argument (sole (row_at s callee stop))))) i }
 
-        module _ {id : Id} (i : r ≡ Is id) (small : id.0.0 < 65536) where
+        module _ {id : Id} (i : r ≡ Some id) (small : id.0.0 < 65536) where
           callee-is : {y : Env} (u : State) → Shows y t u →
-              required_after y.setting (tree_at s at stop) u ≡ cond (eqb id.0.0 0) (not_external y.setting (argument (sole (row_at s callee stop)))) nothing
+              required_after y.setting (tree_at s at stop) u ≡ cond (eqb id.0.0 0) (not_external y.setting (argument (sole (row_at s callee stop)))) None
           callee-is {y} u v =
               call-is u v
-              ∙ ap (λ (r : Ident). if_require (ident_by r) (not_external y.setting (argument (sole (row_at s callee stop))))) i
-              ∙ ap (λ (b : Bool). cond b (not_external y.setting (argument (sole (row_at s callee stop)))) nothing) (same-two id.0.0 0 small (omega arith))
+              ∙ ap (λ (r : Option Id). if_require (ident_by r) (not_external y.setting (argument (sole (row_at s callee stop))))) i
+              ∙ ap (λ (b : Bool). cond b (not_external y.setting (argument (sole (row_at s callee stop)))) None) (same-two id.0.0 0 small (omega arith))
 
-          pub call-misnamed : (id.0.0 ≡ 0 → ⊥) → Answers t NoLit
+          pub call-misnamed : (id.0.0 ≡ 0 → ⊥) → Answers t None
           call-misnamed m = record { is = λ {x = y} u v n. callee-is u v ∙ rw (ne_eqb id.0.0 0 m) }
 
-          pub call-named : (q : Source) → id.0.0 ≡ 0 → RequiredIs (λ e _. not_external e (argument (sole (row_at s callee stop)))) s t q → Answers t q
+          pub call-named : (q : Option Literal) → id.0.0 ≡ 0 → RequiredIs (λ e _. not_external e (argument (sole (row_at s callee stop)))) s t q → Answers t q
           call-named q m f = required-as q f (λ y u v. callee-is u v ∙ rw (eq-eqb id.0.0 0 m))

@@ -1,6 +1,5 @@
 // The rule 'usage' of the first pass: 63 on a 60 whose id is imported.
 ghost use Rattle.std.specs.Prelude.{◌+◌, ◌≤◌, ◌≡◌, length, get_or};
-ghost use Rattle.std.proofs.Math.Option.{some};
 ghost use Rattle.tree.specs.Standing.{tree_at};
 ghost use Rattle.extraction_rules.specs.First.{on_ident, usage as usage-rule, used_record, use_from, use_property};
 ghost use Rattle.state.specs.Cells.{Good, id_by};
@@ -14,10 +13,9 @@ use state::forced::force_id;
 use state::imported::{add_usage, imported_as};
 use state::modules::module_for;
 use state::setting::own_module;
-use state::{Context, Module, Room, Source};
-use steps::{Effect, Ident, Why};
+use steps::{Effect, Refusal, Why};
 use tree::access::{extent, fixed};
-use tree::layout::{Reach, atom_at};
+use tree::layout::atom_at;
 
 // The usage of the 63 at `at` up to stop, whose parts are walked.
 pub fn usage(s: &[u8], at: usize, stop: usize, t: &mut [u64]) -> Effect
@@ -25,21 +23,21 @@ pub fn usage(s: &[u8], at: usize, stop: usize, t: &mut [u64]) -> Effect
     ensures { Effects (λ x u. Sound s.now at stop) (λ x. usage-rule (on_ident (tree_at s.now at stop)) x.setting at)
         t.old t.new result }
 {
-    let Reach::Upto(member) = extent(s, at + 3, stop) else {
-        return Effect::Fine;
+    let Some(member) = extent(s, at + 3, stop) else {
+        return Ok(());
     };
-    let Ident::Is(id) = ident_after(s, at + 3, member, false, t) else {
-        return Effect::Fine;
+    let Some(id) = ident_after(s, at + 3, member, false, t) else {
+        return Ok(());
     };
-    let Reach::Upto(end) = extent(s, member, stop) else {
-        return Effect::Fine;
+    let Some(end) = extent(s, member, stop) else {
+        return Ok(());
     };
-    let Context::Of(_) = imported_as(t, id) else {
-        return Effect::Fine;
+    let Some(_) = imported_as(t, id) else {
+        return Ok(());
     };
     if s[member] == 0x71 {
         force_id(t, id);
-        return Effect::Fine;
+        return Ok(());
     }
     use_from(s, at, member, end, id, t)
 }
@@ -51,13 +49,16 @@ fn use_from(s: &[u8], at: usize, member: usize, end: usize, id: Id, t: &mut [u64
         (λ x u. use_from (used_record x.setting.own (id_by id) u.collected) x.setting (id_by id)
         (tree_at s.now member end) member at u) t.old t.new result }
 {
-    let Source::From(source) = used_record(t, own_module(t), id) else {
-        return Effect::Fine;
+    let Some(source) = used_record(t, own_module(t), id) else {
+        return Ok(());
     };
-    match module_for(t, source) {
-        Module::Is(n) => use_property(s, at, member, end, id, n, t),
-        Module::Unresolved => Effect::Fine,
-        Module::TooMany => Effect::Refused(Why::TooManyFiles, at),
+    let module = module_for(t, source).map_err(|_| Refusal {
+        why: Why::TooManyFiles,
+        place: at,
+    })?;
+    match module {
+        Some(n) => use_property(s, at, member, end, id, n, t),
+        None => Ok(()),
     }
 }
 
@@ -73,21 +74,24 @@ fn use_property(
 ) -> Effect
     requires { (member + 3 ≤ end) × (end ≤ length s.now) × Good t.old }
     ensures { Effects (λ x u. Named (tree_at s.now member end))
-        (λ _. use_property (some n.0) (id_by id) (tree_at s.now member end) member at) t.old t.new result }
+        (λ _. use_property (Some n.0) (id_by id) (tree_at s.now member end) member at) t.old t.new result }
 {
     let tag = s[member];
-    let Reach::Upto(_) = fixed(s, tag, member + 3, end) else {
-        return Effect::Fine;
+    let Some(_) = fixed(s, tag, member + 3, end) else {
+        return Ok(());
     };
     if tag == 0x72 {
-        return Effect::Refused(Why::PrivateName, member);
+        return Err(Refusal {
+            why: Why::PrivateName,
+            place: member,
+        });
     }
     if tag != 0x70 {
-        return Effect::Fine;
+        return Ok(());
     }
     let property = Id(Atom(atom_at(s, member + 3)), n.export_ctxt());
-    match add_usage(t, id, property) {
-        Room::Made => Effect::Fine,
-        Room::Full => Effect::Refused(Why::TableFull, at),
-    }
+    add_usage(t, id, property).map_err(|_| Refusal {
+        why: Why::TableFull,
+        place: at,
+    })
 }

@@ -1,17 +1,20 @@
 -- The second pass: the walk, then the wrapping marks; and what the rules make of both.
+use Rattle.std.specs.Prelude.{Ok, Err}
+use Rattle.std.specs.Bool.{then_some}
+use Rattle.std.specs.Option.{ok_or}
 use Prim.Native.Nat.{ℕ, ◌≤◌}
 use native.Mathlib.Omega.{arith}
 use mathlib.Core.Path.{◌≡◌, refl, sym, ap, ap₂, subst, ◌∙◌}
 use mathlib.Core.Bool.{Bool, true, false}
 use mathlib.Core.List.{List, [], ◌∷◌, map}
-use lib.ListN.{length}
+use lib.ListN.{length, drop}
 use Rattle.tree.specs.declared.grammar.Set.TheVariants.{Module}
 use Rattle.tree.specs.Tree.{field, Fields, none, more, encode}
 use Rattle.tree.specs.Read.{fine, read}
 use Rattle.metadata.specs.Metadata.{append}
 use Rattle.writer.specs.Finished.{Finished}
 use Rattle.tree.proofs.WidthLaws.{read-module}
-use Rattle.inputs.specs.Outcome.{Outcome, done, refused, onto}
+use Rattle.inputs.specs.Outcome.{Outcome, done, refused, onto, placeless}
 use Rattle.extraction_rules.specs.State.{Record, State, Setting, set_collected}
 use Rattle.extraction_rules.specs.Second.{wrap_all, lose_namespaces, finish}
 use Rattle.extraction_rules.specs.Walk.{walk_module, walk_again}
@@ -22,20 +25,17 @@ use Rattle.extraction_rules.proofs.WalkLaws.{ImportsAll}
 use Rattle.extraction_rules.proofs.SanityLaws.{Known}
 use Rattle.state.specs.Cells.{Env, Shows, sources_in}
 use Rattle.state.specs.Does.{Resets, with_second}
-use Rattle.steps.specs.declared.Why.{Why}
-use Rattle.steps.specs.declared.Step.{Step}
-use Rattle.steps.specs.declared.Step.TheVariants.{Done, Refused}
-use Rattle.steps.specs.declared.Effect.{Effect}
-use Rattle.steps.specs.declared.Effect.TheVariants.{Fine, Refused as Unmarked}
-use Rattle.steps.specs.Step.{Steps, Effects}
-use Rattle.steps.specs.Refusal.{refusal_of}
+use Rattle.steps.specs.declared.Refusal.{Refusal}
+use Rattle.steps.specs.Step.{Step, Steps, Effect, Effects}
+use Rattle.steps.specs.Refusal.{refusal, refusal_of}
+use Rattle.extraction.specs.declared.ExtractError.TheVariants.{Refused, NoRoom}
 use Rattle.records.specs.Model.{specifiers_of, rebuilt}
 use Rattle.records.specs.Writes.{Placing, items_in, records_in}
 use Rattle.records.proofs.ToldLaws.{items-read, records-are}
-use Rattle.extraction.specs.declared.Passed.TheVariants.{Fits, Refused as Turned, NoRoom}
 use Rattle.extraction.specs.Passes.{ItemsRead, pass_act}
 use Rattle.extraction.specs.Stages.{Anywhere, wrap_from, marking, Seconds}
-use Rattle.extraction.proofs.HeldLaws.{Walked, walked, walked-refused, pass-inside, pass-held, pass-long}
+use Rattle.extraction.proofs.HeldLaws.{refused-place, Walked, walked, walked-refused, pass-inside, pass-held, pass-long}
+use Rattle.extraction.proofs.WrapLaws.{wrap-placeless}
 use Rattle.extraction.proofs.ReadLaws.{reads-work}
 
 -- ---- What the rules make of the walk and the marks
@@ -50,7 +50,7 @@ lose u = done (tt, lost u.1)
 abbrev giving : Fields → Unit {0} × State → Outcome (Fields × State)
 giving gs v = done (gs, v.1)
 
-abbrev losing : Fields × State → Outcome (Fields × State)
+abbrev pub losing : Fields × State → Outcome (Fields × State)
 losing r = done (r.0, lost r.1)
 
 module _ (e : Setting) (works : Fields) (s : State) where
@@ -95,18 +95,18 @@ ready {x} s tree work works p r n b =
 
 module _ {t t0 t1 work out out1 : List ℕ} {k : Step} (z : Resets with_second t t0)
     (m : Steps encode (ItemsRead work 3 (length work)) (λ x. pass_act x.setting work) t0 out 0 t1 out1 k) where
-  pub again-refused : {v : Why} {q : ℕ} → k ≡ Refused v q → Seconds t work out t1 out1 (Turned v q)
-  again-refused {v} {q} h =
+  pub again-refused : {v : Refusal} → k ≡ Err v → Seconds t work out t1 out1 (Err (Refused (refusal v.why 0)))
+  again-refused {v} h =
       record {
         good = m.good;
         inside = tt;
         is = λ {x = x} s w tree p works r n b.
             let e = again x in
-            let y = walked-refused e work s (refusal_of v) q (m.turned v q h s (z.shows s w) (ready s tree work works p r n b)) in
-            marking-by e works s (refused (refusal_of v) q) (ap (λ (fs : Fields). walk_module e fs s) (sym (items-read work works r).0) ∙ y);
+            let y = walked-refused e work s (refusal_of v.why) v.place (m.turned v h s (z.shows s w) (ready s tree work works p r n b)) in
+            ap placeless (marking-by e works s (refused (refusal_of v.why) v.place) (ap (λ (fs : Fields). walk_module e fs s) (sym (items-read work works r).0) ∙ y));
       }
 
-  module _ {n : ℕ} (h : k ≡ Done n) where
+  module _ {n : ℕ} (h : k ≡ Ok n) where
     -- the walk was done
     went : {x : Env} (s : State) → Shows x t s → (tree : List ℕ) → Placing tree work x → (works : Fields) → read Module work ≡ fine (more (module_with works) none) →
         length work ≤ 65538 → ImportsAll works (Known x.setting.externals (sources_in s.collected)) →
@@ -116,45 +116,47 @@ module _ {t t0 t1 work out out1 : List ℕ} {k : Step} (z : Resets with_second t
         subst (λ (fs : Fields). Walked (with_second x) (walk_module (again x) fs s) out t1 out1 n) (items-read work works r).0 y
 
     module _ {t2 : List ℕ} {j : Effect} (u : Effects Anywhere (λ x. wrap_from 0 x.setting) t1 t2 j) where
-      pub again-unmarked : {q : ℕ} {v : Why} → j ≡ Unmarked v q → Seconds t work out t2 out1 (Turned v q)
-      again-unmarked {q} {v} e =
+      pub again-unmarked : {v : Refusal} → j ≡ Err v → Seconds t work out t2 out1 (Err (Refused v))
+      again-unmarked {v} e =
           record {
             good = u.good;
             inside = tt;
             is = λ {x = x} s w tree p works r l b.
                 let d = went s w tree p works r l b in
-                let y = u.turned v q e d.state d.shows tt in
-                marking-by (again x) works s (done (d.items, d.state)) d.is ∙ ap (λ (o : Outcome (Unit {0} × State)). onto o (giving d.items)) y;
+                let y = u.turned v e d.state d.shows tt in
+                ap placeless (marking-by (again x) works s (done (d.items, d.state)) d.is ∙ ap (λ (o : Outcome (Unit {0} × State)). onto o (giving d.items)) y)
+                ∙ ap (refused (refusal_of v.why))
+                (refused-place (sym (ap placeless y) ∙ wrap-placeless (again x) (drop 0 d.state.forced) d.state ∙ y));
           }
 
       -- and the marks were set
-      marked : j ≡ Fine → (x : Env) (s : State) (works : Fields) → Walked (with_second x) (walk_module (again x) works s) out t1 out1 n →
-          Walked (with_second x) (marking (again x) works s) out t2 out1 n
+      marked : j ≡ Ok tt → (x : Env) (s : State) (works : Fields) → Walked (with_second x) (walk_module (again x) works s) out t1 out1 n →
+          Walked (with_second x) (placeless (marking (again x) works s)) out t2 out1 n
       marked e x s works d =
           let v = u.fine e d.state d.shows tt in
           record {
             items = d.items;
             state = v.state;
-            is = marking-by (again x) works s (done (d.items, d.state)) d.is ∙ ap (λ (o : Outcome (Unit {0} × State)). onto o (giving d.items)) v.is;
+            is = ap placeless
+                (marking-by (again x) works s (done (d.items, d.state)) d.is ∙ ap (λ (o : Outcome (Unit {0} × State)). onto o (giving d.items)) v.is);
             wrote = d.wrote;
             shows = v.shows;
           }
 
-      module _ (e : j ≡ Fine) {out2 : List ℕ} {b : Bool} (f : Finished n out1 b out2) where
-        pub again-fits : b ≡ true → Seconds t work out t2 out2 (Fits n)
-        again-fits c =
+      module _ (e : j ≡ Ok tt) {out2 : List ℕ} where
+        -- a tree that fits, or is too long
+        pub again-held : (b : Bool) → Finished n out1 b out2 → Seconds t work out t2 out2 (ok_or (then_some b n) NoRoom)
+        again-held true f =
             record {
               good = u.good;
-              inside = pass-inside f out m.size c;
-              is = λ {x = x} s w tree p works r l b. pass-held f (marked e x s works (went s w tree p works r l b)) c;
+              inside = pass-inside f out m.size refl;
+              is = λ {x = x} s w tree p works r l b. pass-held f (marked e x s works (went s w tree p works r l b)) refl;
             }
-
-        pub again-long : b ≡ false → Seconds t work out t2 out2 NoRoom
-        again-long c =
+        again-held false f =
             record {
               good = u.good;
               inside = tt;
-              is = λ {x = x} s w tree p works r l b. pass-long f (marked e x s works (went s w tree p works r l b)) c;
+              is = λ {x = x} s w tree p works r l b. pass-long f (marked e x s works (went s w tree p works r l b)) refl;
             }
 
 -- ---- The records

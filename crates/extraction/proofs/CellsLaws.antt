@@ -1,10 +1,10 @@
 -- What a pass keeps of what its tables lean on: in the first pass an item that is no import brings no namespace; in the second the sources of the
 -- collected records stay.
+use Rattle.std.specs.Prelude.{Option, None, Some}
 use Prim.Native.Nat.{ℕ, ◌+◌}
 use mathlib.Core.Path.{◌≡◌, refl, ap, ◌∙◌}
 use mathlib.Core.Bool.{Bool, true, false, cond}
 use mathlib.Core.List.{List, [], ◌∷◌, ◌++◌}
-use mathlib.Core.Option.{Option, none as nothing, some}
 use Rattle.tree.specs.Layout.{same, value_of}
 use Rattle.tree.specs.Tree.{Field, Fields, none, more}
 use Rattle.metadata.specs.Metadata.{append}
@@ -36,8 +36,8 @@ unfolding force_id forget
 force-kept i s = go (find (holds_namespace i) s.collected)
   where
     go : (o : Option Record) → (force_holder o (forget i s)).collected ≡ s.collected
-    go nothing = refl
-    go (some r) = source_kept (value_of r.literal) (forget i s)
+    go None = refl
+    go (Some r) = source_kept (value_of r.literal) (forget i s)
 
 -- ---- The first pass
 

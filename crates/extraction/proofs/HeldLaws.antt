@@ -38,11 +38,11 @@ pub room-size : (f : Field) {l l' : List ℕ} {r : Bool} → Delivered (encode f
 room-size f {l} d = ap (λ (n : ℕ). has_room n (length l)) (size-encode f) ∙ sym d.room
 
 -- a field that was finished stands in the first bytes of its buffer
-finished-part : (f : Field) {l m k : List ℕ} {n : ℕ} → Wrote l 0 (encode f) m n → Finished n m true k → take (n - 0) (drop 0 k) ≡ encode f
+finished-part : (f : Field) {l m k : List ℕ} {n : ℕ} → Wrote l 0 (encode f) m n → Finished n m true k → take n k ≡ encode f
 finished-part f {l} {m} {k} {n} w g =
     let d = delivers w g in
     let r = room-true n (length m) (sym g.room) in
-    let e : n - 0 ≡ length (encode f) = let z = wrote-end w r.0 in omega arith in
+    let e : n ≡ length (encode f) = let z = wrote-end w r.0 in omega arith in
     let q : k ≡ encode f ++ replicate (length l - length (encode f)) 0 = d.buffer ∙ delivered-field (encode f) (length l) (sym d.room) in
     ap₂ (λ (i : ℕ) (l : List ℕ). take i l) e q ∙ take-append_seam (encode f) (replicate (length l - length (encode f)) 0)
 
@@ -72,7 +72,7 @@ walked e s u {x} {t' = t'} d =
 refused-number : {A : Type 0} {n m p q : ℕ} → ◌≡◌ {A = Outcome A} (refused n p) (refused m q) → n ≡ m
 refused-number e = cc
 
-refused-place : {A : Type 0} {n m p q : ℕ} → ◌≡◌ {A = Outcome A} (refused n p) (refused m q) → p ≡ q
+pub refused-place : {A : Type 0} {n m p q : ℕ} → ◌≡◌ {A = Outcome A} (refused n p) (refused m q) → p ≡ q
 refused-place e = cc
 
 -- a refusal is that of the first step, where the next has none

@@ -1,15 +1,14 @@
 -- An item: one that stays is what it is walked to, one that is dropped leaves nothing, an import follows its rules.
+use Rattle.std.specs.Prelude.{Option, None, Some, Ok}
 use Prim.Native.Nat.{ℕ, ◌+◌, ◌*◌, ◌≤◌}
 use native.Mathlib.Omega.{arith}
 use mathlib.Core.Path.{◌≡◌, refl, sym, ap, subst, ◌∙◌}
 use mathlib.Core.Logic.{◌⊎◌, inl, inr}
 use mathlib.Core.Bool.{Bool, true, false, ◌||◌}
 use mathlib.Core.List.{List, [], ◌∷◌, append-nil}
-use mathlib.Core.Option.{Option, none as nothing, some}
 use lib.ListN.{get_or}
 use lib.Seq.{slice}
 use borrow.Author.Tests.{ne_eqb}
-use Rattle.tree.specs.declared.layout.Reach.TheVariants.{Upto, Short}
 use Rattle.tree.specs.declared.grammar.Set.TheVariants.{Item}
 use Rattle.tree.specs.Layout.{Bytes, value_of}
 use Rattle.tree.specs.Grammar.{within, holds_at, rule_of}
@@ -36,9 +35,7 @@ use Rattle.extraction_rules.proofs.SanityLaws.{Known}
 use Rattle.extraction_rules.proofs.StayLaws.{item-no-member, stays-plain, import-stays, walk-stays}
 use Rattle.state.specs.Cells.{Env, Good, flag, namespaces_in, sources_in}
 use Rattle.state.specs.Does.{Says, is_second}
-use Rattle.steps.specs.declared.Step.{Step}
-use Rattle.steps.specs.declared.Step.TheVariants.{Done}
-use Rattle.steps.specs.Step.{ReadAt, Reads, Steps}
+use Rattle.steps.specs.Step.{ReadAt, Reads, Step, Steps}
 use Rattle.steps.proofs.SoundLaws.{read-formed, read-tag}
 use Rattle.steps.proofs.StepsLaws.{steps-give, steps-by, steps-map}
 use Rattle.walking.specs.Walking.{FieldSteps}
@@ -80,8 +77,8 @@ module _ (e : Setting) where
 
   sole-tag : (o : Option Field) (x : List ℕ) (cs : Fields) (u : State) → After (on_sole o x cs u) (λ g y. tag_of g ≡ 0x10)
   unfolding on_sole
-  sole-tag nothing x cs u = refl
-  sole-tag (some f) x cs u = after-if (has 0x22 f) _ (give (field 0x10 x cs)) u (λ g y. tag_of g ≡ 0x10) (λ _. apart-tag (usages_of (fixed_of f) u.usages) x cs u) (λ _. refl)
+  sole-tag None x cs u = refl
+  sole-tag (Some f) x cs u = after-if (has 0x22 f) _ (give (field 0x10 x cs)) u (λ g y. tag_of g ≡ 0x10) (λ _. apart-tag (usages_of (fixed_of f) u.usages) x cs u) (λ _. refl)
 
   second-tag : (x : List ℕ) (cs : Fields) (u : State) → After (import_second e x cs u) (λ g y. tag_of g ≡ 0x10)
   unfolding import_second
@@ -137,7 +134,7 @@ module _ (s : List ℕ) (bytes : Bytes s) (at stop : ℕ) where
   item-plain h i j m = item-walked h (λ q. stays-plain (tree_at s at stop) (λ z. i (sym q ∙ z)) (λ z. j (sym q ∙ z))) m
 
   -- a 41 with parts
-  pub item-41 : {t out t' out' : List ℕ} {o : ℕ} {k : Step} → get_or s at 0 ≡ 0x41 → at + 3 ≤ stop → {end : ℕ} → extent_at s (at + 3) stop ≡ Upto end →
+  pub item-41 : {t out t' out' : List ℕ} {o : ℕ} {k : Step} → get_or s at 0 ≡ 0x41 → at + 3 ≤ stop → {end : ℕ} → extent_at s (at + 3) stop ≡ Some end →
       FieldSteps s at stop (λ x. walk (tree_at s at stop) x.setting false at) t out o t' out' k → Steps encodes (ItemRead s at stop) (λ x. item_act x.setting s at stop) t out o t' out' k
   unfolding stays
   item-41 q le {end} x m =
@@ -152,7 +149,7 @@ module _ (s : List ℕ) (bytes : Bytes s) (at stop : ℕ) where
   bare-walk e t x p u (inl q) = rw q refl
   bare-walk e t x p u (inr q) = rw q refl
 
-  pub item-40 : {t out : List ℕ} {o : ℕ} → get_or s at 0 ≡ 0x40 → Good t → Steps encodes (ItemRead s at stop) (λ x. item_act x.setting s at stop) t out o t out (Done o)
+  pub item-40 : {t out : List ℕ} {o : ℕ} → get_or s at 0 ≡ 0x40 → Good t → Steps encodes (ItemRead s at stop) (λ x. item_act x.setting s at stop) t out o t out (Ok o)
   unfolding encode
   item-40 q g =
       steps-give encodes (ItemRead s at stop) (λ x. item_act x.setting s at stop) none g refl
@@ -163,8 +160,8 @@ module _ (s : List ℕ) (bytes : Bytes s) (at stop : ℕ) where
       ap (λ (f : Field). onto (walk f x.setting false at u) (λ r. done (one-item r.0, r.1))) (z ∙ ap (field (get_or s at 0) (slice (at + 3) b.0 s)) (r.0.empty_bare q))
       ∙ bare-walk x.setting (get_or s at 0) (slice (at + 3) b.0 s) at u (inl q))
 
-  pub item-bare : {t out : List ℕ} {o : ℕ} → get_or s at 0 ≡ 0x41 → at + 3 ≤ stop → extent_at s (at + 3) stop ≡ Short → Good t →
-      Steps encodes (ItemRead s at stop) (λ x. item_act x.setting s at stop) t out o t out (Done o)
+  pub item-bare : {t out : List ℕ} {o : ℕ} → get_or s at 0 ≡ 0x41 → at + 3 ≤ stop → extent_at s (at + 3) stop ≡ None → Good t →
+      Steps encodes (ItemRead s at stop) (λ x. item_act x.setting s at stop) t out o t out (Ok o)
   unfolding encode
   item-bare q le x g =
       steps-give encodes (ItemRead s at stop) (λ x. item_act x.setting s at stop) none g refl

@@ -1,4 +1,5 @@
 -- The lent lists, and the tree: what each answer of `lists` says of the rules.
+use Rattle.std.specs.Prelude.{Result, Ok, Err}
 use Prim.Native.Nat.{ℕ, ◌≤◌, ◌<◌}
 use native.Mathlib.Omega.{arith}
 use mathlib.Core.Path.{◌≡◌, refl, sym, ap, subst, ◌∙◌}
@@ -11,18 +12,16 @@ use Rattle.modes.specs.declared.Modes.{Modes}
 use Rattle.modes.specs.Bits.{modes_of}
 use Rattle.scope.specs.Modules.{Modules, request}
 use Rattle.tree.specs.declared.grammar.Set.TheVariants.{Module}
-use Rattle.tree.specs.declared.read.Why.{Why as ReadWhy}
-use Rattle.tree.specs.declared.read.Verdict.{Verdict}
-use Rattle.tree.specs.declared.read.Verdict.TheVariants.{Good as Well, Refused as Broken}
+use Rattle.tree.specs.declared.read.Unread.{Unread}
 use Rattle.tree.specs.Tree.{Fields}
 use Rattle.tree.specs.Read.{Reading, fine, refused as unread, read, verdict, refusal_of as read_refusal}
 use Rattle.inputs.specs.Outcome.{Outcome, done, refused, onto, refuse_if}
 use Rattle.inputs.specs.Table.{Row, rows_in, bad_externals, bad_table, repeats, table_of}
 use Rattle.extraction_rules.specs.Call.{Lent, Lengths, Extracted, bad_lists, items_read, own_module, passes, extracted}
 use Rattle.records.specs.Writes.{items_in}
-use Rattle.extraction.specs.declared.Tested.{Tested}
-use Rattle.extraction.specs.declared.Tested.TheVariants.{Good as Passable, Bad, NamedTwice, Unread, TooManyFiles}
-use Rattle.extraction.specs.Answer.{lent_as}
+use Rattle.extraction.specs.declared.ExtractError.{ExtractError}
+use Rattle.extraction.specs.declared.ExtractError.TheVariants.{BadLists, NamedTwice, Unread as NoTree}
+use Rattle.extraction.specs.Answer.{outcome_of, UnreadAs, lent_as}
 use Rattle.extraction.specs.Stages.{read_as, lists_of}
 use Rattle.extraction.proofs.ReadLaws.{module-items}
 
@@ -70,25 +69,25 @@ module _ (externals table tree : List ℕ) where
   lends = lent_as 0 (modes_of 0) externals table tree
 
   -- the answer by the three tests
-  listed : (a b : Bool) (v : Verdict) → bad_lists lends ≡ a → repeats (rows_in table) ≡ b → verdict (read Module tree) ≡ v →
-      lists_of lends ≡ cond a Bad (cond b NamedTwice (read_as v))
+  listed : (a b : Bool) (v : Result Unit Unread) → bad_lists lends ≡ a → repeats (rows_in table) ≡ b → verdict (read Module tree) ≡ v →
+      lists_of lends ≡ cond a (Err BadLists) (cond b (Err NamedTwice) (read_as v))
   unfolding lists_of
   listed a b v e f q = rw (e, f, q)
 
   module _ {a : Bool} (bad : a ≡ bad_lists lends) where
-    pub lists-bad : a ≡ true → Bad ≡ lists_of lends
+    pub lists-bad : a ≡ true → Err BadLists ≡ lists_of lends
     lists-bad e = sym (listed true (repeats (rows_in table)) (verdict (read Module tree)) (sym bad ∙ e) refl refl)
 
     module _ {b : Bool} (twice : b ≡ repeats (rows_in table)) where
-      pub lists-twice : a ≡ false → b ≡ true → NamedTwice ≡ lists_of lends
+      pub lists-twice : a ≡ false → b ≡ true → Err NamedTwice ≡ lists_of lends
       lists-twice e f = sym (listed false true (verdict (read Module tree)) (sym bad ∙ e) (sym twice ∙ f) refl)
 
-      module _ {v : Verdict} (is : v ≡ verdict (read Module tree)) (e : a ≡ false) (f : b ≡ false) where
-        pub lists-read : v ≡ Well → Passable ≡ lists_of lends
-        lists-read q = sym (listed false false Well (sym bad ∙ e) (sym twice ∙ f) (sym is ∙ q))
+      module _ {v : Result Unit Unread} (is : v ≡ verdict (read Module tree)) (e : a ≡ false) (f : b ≡ false) where
+        pub lists-read : v ≡ Ok tt → Ok tt ≡ lists_of lends
+        lists-read q = sym (listed false false (Ok tt) (sym bad ∙ e) (sym twice ∙ f) (sym is ∙ q))
 
-        pub lists-unread : {w : ReadWhy} {p : ℕ} → v ≡ Broken w p → Unread w p ≡ lists_of lends
-        lists-unread {w} {p} q = sym (listed false false (Broken w p) (sym bad ∙ e) (sym twice ∙ f) (sym is ∙ q))
+        pub lists-unread : {u : Unread} → v ≡ Err u → Err (NoTree u) ≡ lists_of lends
+        lists-unread {u} q = sym (listed false false (Err u) (sym bad ∙ e) (sym twice ∙ f) (sym is ∙ q))
 
 -- ---- The call up to the own file
 
@@ -125,32 +124,29 @@ abbrev pub owned_by : Lent → Lengths → Modules → Outcome Extracted
 owned_by l room ms = onto (own_module (request l.file ms)) (passes l room (rows_in l.table) (items_in l.tree))
 
 -- what each answer says: the tree was read, or the rules refuse
-abbrev pub Says : Lent → Lengths → Modules → Tested → Type 0
-Says l room ms Passable =
+abbrev pub Says : Lent → Lengths → Modules → Result Unit ExtractError → Type 0
+Says l room ms (Ok u) =
     (extracted l room ms ≡ owned_by l room ms) × (length l.tree ≤ 32768) × (length l.externals ≤ 1024) × (length l.table ≤ 4096)
     × ((fs : Fields) × (read Module l.tree ≡ fine fs))
-Says l room ms Bad = extracted l room ms ≡ refused 1 0
-Says l room ms NamedTwice = extracted l room ms ≡ refused 2 0
-Says l room ms (Unread w p) = (extracted l room ms ≡ refused (read_refusal w) p) × (read Module l.tree ≡ unread w p)
-Says l room ms TooManyFiles = ⊥
+Says l room ms (Err e) = ((r : Extracted) → extracted l room ms ≡ outcome_of (Err e) r) × UnreadAs (Err e) (read Module l.tree)
 
 lists-say : (l : Lent) (room : Lengths) (ms : Modules) → Says l room ms (lists_of l)
 unfolding lists_of
 lists-say l room ms = go (bad_lists l) (repeats (rows_in l.table)) (read Module l.tree) refl refl refl
   where
     go : (a b : Bool) (r : Reading Fields) → bad_lists l ≡ a → repeats (rows_in l.table) ≡ b → read Module l.tree ≡ r →
-        Says l room ms (cond a Bad (cond b NamedTwice (read_as (verdict r))))
-    go true b r e f q = called-bad l room ms e
-    go false true r e f q = called-by l room ms true e f
+        Says l room ms (cond a (Err BadLists) (cond b (Err NamedTwice) (read_as (verdict r))))
+    go true b r e f q = (λ _. called-bad l room ms e, tt)
+    go false true r e f q = (λ _. called-by l room ms true e f, tt)
     go false false (fine fs) e f q = (called-read l room ms (done (items_in l.tree)) e f (module-items l.tree fs q), most l e, (few l e).0, (few l e).1, (fs, q))
-    go false false (unread w p) e f q = (called-read l room ms (refused (read_refusal w) p) e f (ap items_read q), q)
+    go false false (unread w p) e f q = (λ _. called-read l room ms (refused (read_refusal w) p) e f (ap items_read q), q)
 
 -- the tests look neither at the file nor at the modes
 lists-same : (file : ℕ) (modes : Modes) (externals table tree : List ℕ) → lists_of (lent_as file modes externals table tree) ≡ lists_of (lent_as 0 (modes_of 0) externals table tree)
 unfolding lists_of bad_lists
 lists-same file modes externals table tree = refl
 
-pub says : (file : ℕ) (modes : Modes) (externals table tree : List ℕ) (room : Lengths) (ms : Modules) {r : Tested} (a : Tested) →
+pub says : (file : ℕ) (modes : Modes) (externals table tree : List ℕ) (room : Lengths) (ms : Modules) {r : Result Unit ExtractError} (a : Result Unit ExtractError) →
     r ≡ lists_of (lent_as 0 (modes_of 0) externals table tree) → r ≡ a → Says (lent_as file modes externals table tree) room ms a
 says file modes externals table tree room ms a d e =
     let l = lent_as file modes externals table tree in

@@ -1,30 +1,33 @@
 -- The own file's number, and the first pass.
+use Rattle.std.specs.Prelude.{Option, None, Some, Result, Ok, Err}
+use Rattle.std.specs.Bool.{then_some}
+use Rattle.std.specs.Option.{ok_or}
 use Prim.Native.Nat.{ℕ, ◌*◌, ◌≤◌}
 use native.Mathlib.Omega.{arith}
-use mathlib.Core.Path.{◌≡◌, refl, sym, ap, subst, ◌∙◌}
+use mathlib.Core.Path.{◌≡◌, refl, sym, ap, ap₂, subst, ◌∙◌}
 use mathlib.Core.Bool.{Bool, true, false}
 use mathlib.Core.List.{List}
-use mathlib.Core.Option.{Option, none as nothing, some}
 use lib.ListN.{length}
 use Rattle.scope.specs.Modules.{Modules, Generated, generated_by, gen, request}
-use Rattle.scope.specs.ScopeValue.{modules_of, file_refusal, generated}
+use Rattle.scope.specs.Id.{module_id}
+use Rattle.scope.specs.ScopeValue.{modules_of, numbers_by, file_refusal, generated}
 use Rattle.scope.specs.declared.Gen.{Gen}
-use Rattle.scope.specs.declared.FileAnswer.TheVariants.{Given, TooManyFiles as NotGiven}
 use Rattle.scope.specs.declared.id.FileName.{FileName}
+use Rattle.scope.specs.declared.id.ModuleId.{ModuleId}
 use Rattle.scope.proofs.Laws.{none-some}
 use Rattle.tree.specs.Tree.{encode}
 use Rattle.writer.specs.Finished.{Finished}
 use Rattle.extraction_rules.specs.State.{State, Pass, first, start, set_top, set_modules}
 use Rattle.state.specs.Cells.{Env, Good, namespaces_in}
 use Rattle.state.specs.Does.{Turns, Resets, with_own}
-use Rattle.steps.specs.declared.Why.{Why}
-use Rattle.steps.specs.declared.Step.{Step}
-use Rattle.steps.specs.declared.Step.TheVariants.{Done, Refused}
-use Rattle.steps.specs.Step.{Steps}
-use Rattle.steps.specs.Refusal.{refusal_of}
+use Rattle.scope.specs.declared.Numbers.{Numbers}
+use Rattle.scope.specs.declared.TooManyFiles.{TooManyFiles}
+use Rattle.steps.specs.declared.Refusal.{Refusal}
+use Rattle.steps.specs.declared.Why.TheVariants.{TooManyFiles as NoNumber}
+use Rattle.steps.specs.Step.{Step, Steps}
+use Rattle.steps.specs.Refusal.{refusal, refusal_of}
+use Rattle.extraction.specs.declared.ExtractError.TheVariants.{Refused, NoRoom}
 use Rattle.records.specs.Writes.{Placing}
-use Rattle.extraction.specs.declared.Tested.TheVariants.{Good as Passable, TooManyFiles}
-use Rattle.extraction.specs.declared.Passed.TheVariants.{Fits, Refused as Turned, NoRoom}
 use Rattle.extraction.specs.Passes.{Ready, ItemsRead, pass_act}
 use Rattle.extraction.specs.Stages.{Owned, Owns, ModuleRead, Firsts}
 use Rattle.extraction.proofs.HeldLaws.{walked, walked-refused, pass-inside, pass-held, pass-long}
@@ -37,26 +40,27 @@ module _ (f : FileName) (ms : Modules) (g : Gen) (q : generated g ≡ gen f ms) 
   unfolding gen
   gen-by o e = q ∙ ap (λ (o : Option (ℕ × Modules)). generated_by o ms) e
 
-  pub own-given : {t t1 t' : List ℕ} → g.answer ≡ Given → Turns (set_modules (modules_of g.scope)) t t1 → Resets (with_own g.id.0) t1 t' → Owns f.0 ms t t' Passable
-  own-given {t} {t1} {t'} a u v = record { good = v.good; is = go (request f.0 ms) refl }
+  pub own-given : {t t1 t' : List ℕ} {n : Numbers} → g.answer ≡ Ok n → Turns (set_modules (modules_of g.scope)) t t1 → Resets (with_own n.id.0) t1 t' → Owns f.0 ms t t' (Ok tt)
+  own-given {t} {t1} {t'} {n} a u v = record { good = v.good; is = go (request f.0 ms) refl }
     where
       go : (o : Option (ℕ × Modules)) → request f.0 ms ≡ o → Owned f.0 ms t t'
-      go nothing e = none-some (sym (ap file_refusal a) ∙ ap (λ (x : Generated). x.refusal) (gen-by nothing e))
-      go (some r) e =
-          let h = gen-by (some r) e in
+      go None e = none-some (sym (ap file_refusal a) ∙ ap (λ (x : Generated). x.refusal) (gen-by None e))
+      go (Some r) e =
+          let h = gen-by (Some r) e in
+          let i : n.id ≡ module_id r.0 = sym (ap (λ (z : Result Numbers TooManyFiles). (numbers_by z).id) a) ∙ ap (λ (x : Generated). x.id) h in
           record {
-            own = g.id.0;
+            own = n.id.0;
             modules = modules_of g.scope;
-            is = e ∙ sym (ap (λ (x : Generated). some (x.id.0, x.modules)) h);
+            is = e ∙ ap₂ (λ (m : ModuleId) (ms : Modules). Some (m.0, ms)) (sym i) (sym (ap (λ (x : Generated). x.modules) h));
             shows = λ s w. v.shows (set_modules (modules_of g.scope) s) (u.shows s w);
           }
 
-  pub own-full : {t : List ℕ} → Good t → g.answer ≡ NotGiven → Owns f.0 ms t t TooManyFiles
-  own-full k a = record { good = k; is = go (request f.0 ms) refl }
+  pub own-full : {t : List ℕ} {n : TooManyFiles} → Good t → g.answer ≡ Err n → Owns f.0 ms t t (Err (Refused (refusal NoNumber 0)))
+  own-full k a = record { good = k; is = (refl, go (request f.0 ms) refl) }
     where
-      go : (o : Option (ℕ × Modules)) → request f.0 ms ≡ o → request f.0 ms ≡ nothing
-      go nothing e = e
-      go (some r) e = none-some (sym (ap (λ (x : Generated). x.refusal) (gen-by (some r) e)) ∙ ap file_refusal a)
+      go : (o : Option (ℕ × Modules)) → request f.0 ms ≡ o → request f.0 ms ≡ None
+      go None e = e
+      go (Some r) e = none-some (sym (ap (λ (x : Generated). x.refusal) (gen-by (Some r) e)) ∙ ap file_refusal a)
 
 -- ---- The first pass
 
@@ -76,29 +80,28 @@ ready {x} tree work ms e p r =
     }
 
 module _ {tree t t1 work work1 : List ℕ} {k : Step} (m : Steps encode (ItemsRead tree 3 (length tree)) (λ x. pass_act x.setting tree) t work 0 t1 work1 k) where
-  pub once-refused : {v : Why} {q : ℕ} → k ≡ Refused v q → Firsts tree t work t1 work1 (Turned v q)
-  once-refused {v} {q} h =
+  pub once-refused : {v : Refusal} → k ≡ Err v → Firsts tree t work t1 work1 (Err (Refused v))
+  once-refused {v} h =
       record {
         good = m.good;
         inside = tt;
         is = λ {x = x} ms e w r ws p.
             let s = set_top false (start ms) in
-            walked-refused x.setting tree s (refusal_of v) q (m.turned v q h s w (ready tree ws ms e p r));
+            walked-refused x.setting tree s (refusal_of v.why) v.place (m.turned v h s w (ready tree ws ms e p r));
       }
 
-  module _ {work2 : List ℕ} {n : ℕ} {b : Bool} (h : k ≡ Done n) (f : Finished n work1 b work2) where
-    pub once-fits : b ≡ true → Firsts tree t work t1 work2 (Fits n)
-    once-fits c =
+  module _ {work2 : List ℕ} {n : ℕ} (h : k ≡ Ok n) where
+    -- a tree that fits, or is too long
+    pub once-held : (b : Bool) → Finished n work1 b work2 → Firsts tree t work t1 work2 (ok_or (then_some b n) NoRoom)
+    once-held true f =
         record {
           good = m.good;
-          inside = pass-inside f work m.size c;
-          is = λ {x = x} ms e w r ws p. let s = set_top false (start ms) in pass-held f (walked x.setting tree s (m.made n h s w (ready tree ws ms e p r))) c;
+          inside = pass-inside f work m.size refl;
+          is = λ {x = x} ms e w r ws p. let s = set_top false (start ms) in pass-held f (walked x.setting tree s (m.made n h s w (ready tree ws ms e p r))) refl;
         }
-
-    pub once-long : b ≡ false → Firsts tree t work t1 work2 NoRoom
-    once-long c =
+    once-held false f =
         record {
           good = m.good;
           inside = tt;
-          is = λ {x = x} ms e w r ws p. let s = set_top false (start ms) in pass-long f (walked x.setting tree s (m.made n h s w (ready tree ws ms e p r))) c;
+          is = λ {x = x} ms e w r ws p. let s = set_top false (start ms) in pass-long f (walked x.setting tree s (m.made n h s w (ready tree ws ms e p r))) refl;
         }

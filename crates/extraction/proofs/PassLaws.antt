@@ -1,4 +1,5 @@
 -- The items one after the other, and the pass that they are.
+use Rattle.std.specs.Prelude.{None, Some, Ok, Err}
 use Prim.Native.Nat.{ℕ, ◌+◌, ◌*◌, ◌≤◌, ◌<◌}
 use native.Mathlib.Omega.{arith}
 use mathlib.Core.Path.{◌≡◌, refl, sym, ap, subst, ◌∙◌}
@@ -7,8 +8,6 @@ use mathlib.Core.List.{List}
 use lib.Dec.{eqb}
 use lib.ListN.{length, get_or}
 use borrow.Author.Tests.{eqb-true, eqb-false}
-use Rattle.tree.specs.declared.layout.Reach.TheVariants.{Upto, Short}
-use Rattle.tree.specs.declared.grammar.Step.TheVariants.{Go}
 use Rattle.tree.specs.Layout.{Bytes}
 use Rattle.tree.specs.Grammar.{rule_of}
 use Rattle.tree.specs.Tree.{Field, field, Fields, none, more, tag_of, fixed_of, parts_of, encode, encodes, size, sizes}
@@ -35,10 +34,8 @@ use Rattle.extraction_rules.proofs.SanityLaws.{Known}
 use Rattle.state.specs.Cells.{Env, Good, namespaces_in, sources_in}
 use Rattle.state.specs.Does.{Turns}
 use Rattle.imports.proofs.CountLaws.{import-brings}
-use Rattle.steps.specs.declared.Why.{Why}
-use Rattle.steps.specs.declared.Step.{Step}
-use Rattle.steps.specs.declared.Step.TheVariants.{Done, Refused}
-use Rattle.steps.specs.Step.{Steps, Ended}
+use Rattle.steps.specs.declared.Refusal.{Refusal}
+use Rattle.steps.specs.Step.{Step, Steps, Ended}
 use Rattle.steps.proofs.SoundLaws.{read-size, row-read, read-tag}
 use Rattle.steps.proofs.StepsLaws.{steps-is, steps-give, steps-as, steps-never, steps-changed, steps-field, begun, pair_of, steps-pair, steps-turned}
 use Rattle.walking.proofs.RowLaws.{all-more, all-none}
@@ -70,14 +67,14 @@ keep-more g gs = go (stays g)
     go false = refl
 
 module _ (s : List ℕ) (bytes : Bytes s) (at end : ℕ) (le : at ≤ end) where
-  pub items-over : {t out : List ℕ} {o : ℕ} → extent_at s at end ≡ Short → Good t → Steps encodes (ItemsRead s at end) (λ x. items_act x.setting s at end) t out o t out (Done o)
+  pub items-over : {t out : List ℕ} {o : ℕ} → extent_at s at end ≡ None → Good t → Steps encodes (ItemsRead s at end) (λ x. items_act x.setting s at end) t out o t out (Ok o)
   unfolding encode keep
   items-over x g =
       steps-give encodes (ItemsRead s at end) (λ x. items_act x.setting s at end) none g refl
       (λ y u w. ap (λ (fs : Fields). onto (walk_all fs y.setting false at u) (λ r. done (keep stays r.0, r.1))) (row-none s at end le x)
       ∙ ap (λ (m : Outcome (Fields × State)). onto m (λ r. done (keep stays r.0, r.1))) (all-none false y.setting at u))
 
-  module _ (stop : ℕ) (x : extent_at s at end ≡ Upto stop) where
+  module _ (stop : ℕ) (x : extent_at s at end ≡ Some stop) where
     inside-here : (at + 3 ≤ stop) × (stop ≤ end)
     inside-here = extent-upto s at end le x
 
@@ -88,7 +85,7 @@ module _ (s : List ℕ) (bytes : Bytes s) (at end : ℕ) (le : at ≤ end) where
         let q = (item-step (get_or s at 0) r.1.0 r.1.1).1 in
         record {
           read = r.0;
-          tag = r.1.1 ∙ ap Go q;
+          tag = r.1.1 ∙ ap Some q;
           reads = w.reads;
           ready =
               ready-part y.setting.pass at end stop u _ _ inside-here.1
@@ -170,7 +167,7 @@ module _ (s : List ℕ) (bytes : Bytes s) (at end : ℕ) (le : at ≤ end) where
         go (refused n k) = refl
 
     pub items-then : {t out t1 out1 t2 out2 : List ℕ} {o p : ℕ} {k : Step} →
-        Steps encodes (ItemRead s at stop) (λ x. item_act x.setting s at stop) t out o t1 out1 (Done p) →
+        Steps encodes (ItemRead s at stop) (λ x. item_act x.setting s at stop) t out o t1 out1 (Ok p) →
         Steps encodes (ItemsRead s stop end) (λ x. items_act x.setting s stop end) t1 out1 p t2 out2 k →
         Steps encodes (ItemsRead s at end) (λ x. items_act x.setting s at end) t out o t2 out2 k
     items-then one rest =
@@ -179,8 +176,8 @@ module _ (s : List ℕ) (bytes : Bytes s) (at end : ℕ) (le : at ≤ end) where
         (λ y u w a v z. let d = onto-done (walk (tree_at s at stop) y.setting false at u) _ (a, v) z in items-rest w (d.1 ∙ ap (λ (b : State). done (d.0.0, b)) (same-state d.2))))
         (λ y u w. (w, split-items w))
 
-    pub items-turned : {t out t1 out1 : List ℕ} {o q : ℕ} {v : Why} → Steps encodes (ItemRead s at stop) (λ x. item_act x.setting s at stop) t out o t1 out1 (Refused v q) →
-        Steps encodes (ItemsRead s at end) (λ x. items_act x.setting s at end) t out o t1 out1 (Refused v q)
+    pub items-turned : {t out t1 out1 : List ℕ} {o : ℕ} {v : Refusal} → Steps encodes (ItemRead s at stop) (λ x. item_act x.setting s at stop) t out o t1 out1 (Err v) →
+        Steps encodes (ItemsRead s at end) (λ x. items_act x.setting s at end) t out o t1 out1 (Err v)
     items-turned one =
         steps-as (λ x. items_act x.setting s at end)
         (steps-turned encodes encodes encodes append encodes-append (ItemsRead s at end) (λ _ x. items_act x.setting s stop end) one (λ y u w. item-here w))
@@ -202,11 +199,11 @@ pub passing-start : {s : List ℕ} {from end : ℕ} {t out : List ℕ} {o : ℕ}
 passing-start g le = record { good = g; kept = refl; size = refl; after = omega arith; inside = le; rest = λ t' out' k m. m }
 
 module _ {s : List ℕ} {from end : ℕ} {t₀ out₀ t out : List ℕ} {o at to : ℕ} (bytes : Bytes s) (g : Passing s from end t₀ out₀ o t out at to) where
-  pub passing-over : extent_at s at end ≡ Short → Steps encodes (ItemsRead s from end) (λ x. items_act x.setting s from end) t₀ out₀ o t out (Done to)
-  passing-over x = g.rest t out (Done to) (items-over s bytes at end g.inside x g.good)
+  pub passing-over : extent_at s at end ≡ None → Steps encodes (ItemsRead s from end) (λ x. items_act x.setting s from end) t₀ out₀ o t out (Ok to)
+  passing-over x = g.rest t out (Ok to) (items-over s bytes at end g.inside x g.good)
 
-  module _ {stop : ℕ} (x : extent_at s at end ≡ Upto stop) {t1 out1 : List ℕ} {k : Step} (m : Steps encodes (ItemRead s at stop) (λ x. item_act x.setting s at stop) t out to t1 out1 k) where
-    pub passing-more : {p : ℕ} → k ≡ Done p → length t1 ≡ length t → Passing s from end t₀ out₀ o t1 out1 stop p
+  module _ {stop : ℕ} (x : extent_at s at end ≡ Some stop) {t1 out1 : List ℕ} {k : Step} (m : Steps encodes (ItemRead s at stop) (λ x. item_act x.setting s at stop) t out to t1 out1 k) where
+    pub passing-more : {p : ℕ} → k ≡ Ok p → length t1 ≡ length t → Passing s from end t₀ out₀ o t1 out1 stop p
     passing-more z n =
         let i = extent-upto s at end g.inside x in
         let a = g.after in
@@ -219,7 +216,7 @@ module _ {s : List ℕ} {from end : ℕ} {t₀ out₀ t out : List ℕ} {o at to
           rest = λ t' out' j r. g.rest t' out' j (items-then s bytes at end g.inside stop x (steps-is m z) r);
         }
 
-    pub passing-turned : {v : Why} {q : ℕ} → k ≡ Refused v q → Steps encodes (ItemsRead s from end) (λ x. items_act x.setting s from end) t₀ out₀ o t1 out1 (Refused v q)
+    pub passing-turned : {v : Refusal} → k ≡ Err v → Steps encodes (ItemsRead s from end) (λ x. items_act x.setting s from end) t₀ out₀ o t1 out1 (Err v)
     passing-turned z = g.rest t1 out1 _ (items-turned s bytes at end g.inside stop x (steps-is m z))
 
 -- bytes that are no module cannot have been read

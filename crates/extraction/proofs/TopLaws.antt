@@ -1,10 +1,12 @@
 -- The whole call: an array of zeros, the steps in their order, and what is left at the end.
+use Rattle.std.specs.Prelude.{Option, None, Result, Ok, Err}
+use Rattle.std.specs.Bool.{then_some}
+use Rattle.std.specs.Option.{ok_or}
 use Prim.Native.Nat.{ℕ, zero, suc, ◌-◌, ◌≤◌}
 use native.Mathlib.Omega.{arith}
 use mathlib.Core.Path.{◌≡◌, refl, sym, ap, subst, ◌∙◌}
 use mathlib.Core.Bool.{Bool, true, false}
 use mathlib.Core.List.{List, [], ◌∷◌, map}
-use mathlib.Core.Option.{Option, none as nothing}
 use lib.ListN.{length, get_or, take, drop, replicate, length-replicate}
 use Rattle.modes.specs.declared.Modes.{Modes}
 use Rattle.modes.specs.Bits.{modes_of}
@@ -14,7 +16,6 @@ use Rattle.scope.specs.Modules.{Modules, request}
 use Rattle.scope.specs.ScopeValue.{modules_of}
 use Rattle.scope.specs.declared.Scope.{Scope}
 use Rattle.tree.specs.declared.grammar.Set.TheVariants.{Module}
-use Rattle.tree.specs.declared.read.Why.{Why as ReadWhy}
 use Rattle.tree.specs.Layout.{Bytes}
 use Rattle.tree.specs.Tree.{Field, Fields, none, more, encode, size}
 use Rattle.tree.specs.Read.{fine, read}
@@ -23,6 +24,7 @@ use Rattle.writer.specs.Finished.{has_room, zeroed, delivered}
 use Rattle.inputs.specs.Outcome.{Outcome, done, refused, onto, placeless, refusal_in}
 use Rattle.inputs.specs.Buffer.{fits, buffer_of}
 use Rattle.inputs.specs.Table.{atoms_in, rows_in}
+use Rattle.inputs.proofs.AcceptedLaws.{done-refused}
 use Rattle.extraction_rules.specs.State.{Record, State, first, second, Setting, start, set_top}
 use Rattle.extraction_rules.specs.Walk.{walk_module, walk_again}
 use Rattle.extraction_rules.specs.Records.{records_of}
@@ -37,25 +39,19 @@ use Rattle.tables.specs.Rows.{rows}
 use Rattle.state.specs.Cells.{Env, externals as externals-kind, table as table-kind, table_of, atom_of, lent_of, cells, Good, Shows, sources_in}
 use Rattle.state.specs.Does.{Tells, Resets, with_own, with_modes, with_externals, with_table}
 use Rattle.state.proofs.RestLaws.{unset, zero-good, zero-shows}
-use Rattle.steps.specs.declared.Why.{Why}
-use Rattle.steps.specs.declared.Why.TheVariants.{TooManyFiles as NoNumber}
 use Rattle.steps.specs.Refusal.{refusal_of}
 use Rattle.records.specs.Model.{rebuilt}
 use Rattle.records.specs.Writes.{placed, literal_in, Placing, BothRead, items_in, records_in}
 use Rattle.records.proofs.RebuiltLaws.{run-rebuilt}
 use Rattle.records.proofs.ToldLaws.{items-read}
-use Rattle.extraction.specs.declared.ExtractAnswer.{ExtractAnswer}
-use Rattle.extraction.specs.declared.ExtractAnswer.TheVariants.{Extracted as Accepted, BadLists, NamedTwice, Unread, Refused, NoRoom}
-use Rattle.extraction.specs.declared.Tested.{Tested}
-use Rattle.extraction.specs.declared.Tested.TheVariants.{Good as Passable, Bad, NamedTwice as Twice, Unread as NotRead, TooManyFiles}
-use Rattle.extraction.specs.declared.Passed.{Passed}
-use Rattle.extraction.specs.declared.Passed.TheVariants.{Fits, Refused as Turned, NoRoom as Short}
+use Rattle.extraction.specs.declared.ExtractError.{ExtractError}
+use Rattle.extraction.specs.declared.ExtractError.TheVariants.{BadLists, NamedTwice, Unread as NoTree, Refused, NoRoom}
 use Rattle.extraction.specs.Answer.{answer_refusal, outcome_of, UnreadAs, lent_as, room_in, left}
 use Rattle.extraction.specs.Stages.{lists_of, setting_in, LentTo, OwnIs, Owns, Begun, PreparedIs, Prepares, PassIs, Inside, Firsts, marking, Seconds, DeliversFor}
-use Rattle.extraction.specs.Stages.{Whole, AcceptedAs, TurnedAs, Ends}
+use Rattle.extraction.specs.Stages.{Whole, TurnedAs, EndIs, Ends}
 use Rattle.extraction.proofs.HeldLaws.{fits-not, fits-so, room-size}
 use Rattle.extraction.proofs.ReadLaws.{module-read}
-use Rattle.extraction.proofs.AgainLaws.{lost, again-by, told}
+use Rattle.extraction.proofs.AgainLaws.{lost, losing, again-by, told}
 use Rattle.extraction.proofs.ListsLaws.{says}
 
 -- ---- The array at the start
@@ -174,71 +170,71 @@ between l own ms works s h e =
       outs = after-both (walk_again b works s) (λ outs z'. Items outs) (λ outs z'. z'.collected ≡ mapped works outs z') within.1 retold;
     }
 
+placeless-lost : (m : Outcome (Fields × State)) → placeless (onto m losing) ≡ onto (placeless m) losing
+placeless-lost (done r) = refl
+placeless-lost (refused n p) = refl
+
+placeless-done : {A : Type 0} (m : Outcome A) (a : A) → placeless m ≡ done a → m ≡ done a
+placeless-done (done b) a e = e
+placeless-done (refused n p) a e = done-refused e
+
 module _ (e : Setting) (out records : ℕ) (works : Fields) (s : State) where
-  secondly-by : (m : Outcome (Fields × State)) → walk_again e works s ≡ m → secondly e out records works s ≡ onto (placeless m) (lastly works out records)
-  secondly-by m q = ap (λ (m : Outcome (Fields × State)). onto (placeless m) (lastly works out records)) q
+  secondly-by : (m : Outcome (Fields × State)) → placeless (marking e works s) ≡ m → secondly e out records works s ≡ onto (onto m losing) (lastly works out records)
+  secondly-by m q =
+      ap (λ (z : Outcome (Fields × State)). onto (placeless z) (lastly works out records)) (again-by e works s (marking e works s) refl)
+      ∙ ap (λ (z : Outcome (Fields × State)). onto z (lastly works out records)) (placeless-lost (marking e works s))
+      ∙ ap (λ (z : Outcome (Fields × State)). onto (onto z losing) (lastly works out records)) q
 
-  secondly-refused : (n p : ℕ) → marking e works s ≡ refused n p → secondly e out records works s ≡ refused n 0
-  secondly-refused n p q = secondly-by (refused n p) (again-by e works s (refused n p) q)
+  secondly-refused : (n p : ℕ) → placeless (marking e works s) ≡ refused n p → secondly e out records works s ≡ refused n p
+  secondly-refused n p q = secondly-by (refused n p) q
 
-  secondly-fit : (outs : Fields) (s2 : State) (m : Outcome (Unit {0})) → marking e works s ≡ done (outs, s2) → fits (module_with outs) out ≡ m →
+  secondly-fit : (outs : Fields) (s2 : State) (m : Outcome (Unit {0})) → placeless (marking e works s) ≡ done (outs, s2) → fits (module_with outs) out ≡ m →
       secondly e out records works s ≡ onto m (λ _. onto (fits (records_of (lost s2)) records) (λ _. done (extracted_from works outs (lost s2))))
   secondly-fit outs s2 m p q =
-      secondly-by (done (outs, lost s2)) (again-by e works s (done (outs, s2)) p)
+      secondly-by (done (outs, s2)) p
       ∙ ap (λ (z : Outcome (Unit {0})). onto z (λ _. onto (fits (records_of (lost s2)) records) (λ _. done (extracted_from works outs (lost s2))))) q
 
 -- a tree that fits is no longer than its buffer
-pub inside-fits : {r : Passed} {n room : ℕ} → r ≡ Fits n → Inside r room → n ≤ room
-inside-fits {room = room} e h = subst (λ (r : Passed). Inside r room) e h
+pub inside-fits : {r : Result ℕ ExtractError} {n room : ℕ} → r ≡ Ok n → Inside r room → n ≤ room
+inside-fits {room = room} e h = subst (λ (r : Result ℕ ExtractError). Inside r room) e h
 
 -- ---- Before the passes
 
 no-room : Lengths
 no-room = record { work = 0; out = 0; records = 0 }
 
-module _ (file : ℕ) (modes : Modes) (externals table tree : List ℕ) (ms : Modules) {r : Tested} (d : r ≡ lists_of (lent_as 0 (modes_of 0) externals table tree)) where
+module _ (file : ℕ) (modes : Modes) (externals table tree : List ℕ) (ms : Modules) {r : Result Unit ExtractError} (d : r ≡ lists_of (lent_as 0 (modes_of 0) externals table tree)) where
   abbrev lent : Lent
   lent = lent_as file modes externals table tree
 
-  module _ {t : List ℕ} (z : t ≡ replicate cells 0) where
-    pub prepared-bad : r ≡ Bad → Prepares lent ms t Bad
-    prepared-bad e = record { good = zeros-good z; is = record { is = λ room _. says file modes externals table tree room ms Bad d e; why = tt } }
-
-    pub prepared-twice : r ≡ Twice → Prepares lent ms t Twice
-    prepared-twice e = record { good = zeros-good z; is = record { is = λ room _. says file modes externals table tree room ms Twice d e; why = tt } }
-
-    pub prepared-unread : {w : ReadWhy} {p : ℕ} → r ≡ NotRead w p → Prepares lent ms t (NotRead w p)
-    prepared-unread {w} {p} e =
-        record {
-          good = zeros-good z;
-          is =
-              record {
-                is = λ room _. (says file modes externals table tree room ms (NotRead w p) d e).0;
-                why = (says file modes externals table tree no-room ms (NotRead w p) d e).1;
-              };
-        }
-
-    -- the tests do not ask for a number
-    pub prepared-never : {A : Type 0} → r ≡ TooManyFiles → A
-    prepared-never e = absurd (says file modes externals table tree no-room ms TooManyFiles d e)
+  pub prepared-refused : {t : List ℕ} {v : ExtractError} → t ≡ replicate cells 0 → r ≡ Err v → Prepares lent ms t (Err v)
+  prepared-refused {v = v} z e =
+      record {
+        good = zeros-good z;
+        is =
+            record {
+              is = λ room. (says file modes externals table tree room ms (Err v) d e).0;
+              why = (says file modes externals table tree no-room ms (Err v) d e).1;
+            };
+      }
 
   -- then the own file
-  module _ (e : r ≡ Passable) where
+  module _ (e : r ≡ Ok tt) where
     pub lists-short : (length externals ≤ 1024) × (length table ≤ 4096)
-    lists-short = let s = says file modes externals table tree no-room ms Passable d e in (s.2, s.3)
+    lists-short = let s = says file modes externals table tree no-room ms (Ok tt) d e in (s.2, s.3)
 
     owned_by : (room : Lengths) (o : Outcome (ℕ × Modules)) → own_module (request file ms) ≡ o →
         extracted lent room ms ≡ onto o (passes lent room (rows_in table) (items_in tree))
     owned_by room o q =
-        (says file modes externals table tree room ms Passable d e).0
+        (says file modes externals table tree room ms (Ok tt) d e).0
         ∙ ap (λ (z : Outcome (ℕ × Modules)). onto z (passes lent room (rows_in table) (items_in tree))) q
 
-    pub prepared-own : Bytes tree → {t1 t2 : List ℕ} → LentTo modes externals table t1 → {a : Tested} → Owns file ms t1 t2 a → Prepares lent ms t2 a
+    pub prepared-own : Bytes tree → {t1 t2 : List ℕ} → LentTo modes externals table t1 → {a : Result Unit ExtractError} → Owns file ms t1 t2 a → Prepares lent ms t2 a
     prepared-own bs {t1} {t2} k {a} g = record { good = g.good; is = go a g.is }
       where
-        go : (a : Tested) → OwnIs file ms t1 t2 a → PreparedIs lent ms t2 a
-        go Passable w =
-            let s = says file modes externals table tree no-room ms Passable d e in
+        go : (a : Result Unit ExtractError) → OwnIs file ms t1 t2 a → PreparedIs lent ms t2 a
+        go (Ok u) w =
+            let s = says file modes externals table tree no-room ms (Ok tt) d e in
             record {
               own = w.own;
               modules = w.modules;
@@ -252,10 +248,11 @@ module _ (file : ℕ) (modes : Modes) (externals table tree : List ℕ) (ms : Mo
                   (w.shows (set_top false (start [])) v));
               read = module-read tree s.4.0 bs s.1 s.4.1;
             }
-        go Bad w = absurd w
-        go Twice w = absurd w
-        go (NotRead v p) w = absurd w
-        go TooManyFiles w = record { is = λ room _. owned_by room (refused 5 0) (ap own_module w); why = tt }
+        go (Err v) w =
+            record {
+              is = λ room r. owned_by room (refused 5 0) (ap own_module w.1) ∙ sym (ap (λ (z : ExtractError). outcome_of (Err z) r) w.0);
+              why = subst (λ (z : ExtractError). UnreadAs (Err z) (read Module tree)) (sym w.0) tt;
+            }
 
 -- ---- The first pass
 
@@ -278,34 +275,41 @@ pub record Halfway (l : Lent) (m : Outcome Extracted) (room : Lengths) (t part w
   pub mid : Between (setting second own l (rows_in l.table)) works state
   pub buffer : work' ≡ delivered (encode (module_with works)) (length work)
 
-module _ (l : Lent) (ms : Modules) (work out records : List ℕ) {t t1 work1 : List ℕ} {p : Passed} (b : Begun l ms t) (g : Firsts l.tree t work t1 work1 p) where
+module _ (l : Lent) (ms : Modules) (work out records : List ℕ) {t t1 work1 : List ℕ} {p : Result ℕ ExtractError} (b : Begun l ms t) (g : Firsts l.tree t work t1 work1 p) where
   abbrev lengths : Lengths
   lengths = room_in work out records
 
   abbrev firstly : Setting
   firstly = setting first b.own l (rows_in l.table)
 
-  passed : (part : List ℕ) (a : Passed) → p ≡ a →
+  passed : (part : List ℕ) (a : Result ℕ ExtractError) → p ≡ a →
       PassIs (standing firstly l.tree part) (walked_first l lengths b.own b.modules) work t1 work1 a
   passed part a e =
       let x = standing firstly l.tree part in
       subst (PassIs x (walked_first l lengths b.own b.modules) work t1 work1) e
       (g.is b.modules refl (b.shows x refl) b.read part (stands firstly l.tree part))
 
-  pub once-turned : {B : Extracted → Type 0} {u : List ℕ} {w : Why} {q : ℕ} → p ≡ Turned w q → Ends B (extracted l lengths ms) l.tree u (Refused w q)
-  once-turned {w = w} {q} e =
-      record { is = record { is = λ _. b.rest lengths ∙ passes-by l lengths b.own b.modules (refused (refusal_of w) q) (passed [] (Turned w q) e); why = tt } }
+  pub once-turned : {B : Extracted → Type 0} {u : List ℕ} {v : ExtractError} → p ≡ Err v → Ends B (extracted l lengths ms) l.tree u (Err v)
+  once-turned {B} {u} {v} e = record { is = go v e }
+    where
+      go : (v : ExtractError) → p ≡ Err v → TurnedAs (extracted l lengths ms) l.tree v
+      go BadLists q = absurd (passed [] (Err BadLists) q)
+      go NamedTwice q = absurd (passed [] (Err NamedTwice) q)
+      go (NoTree w) q = absurd (passed [] (Err (NoTree w)) q)
+      go (Refused w) q =
+          record {
+            is = λ _. b.rest lengths ∙ passes-by l lengths b.own b.modules (refused (refusal_of w.why) w.place) (passed [] (Err (Refused w)) q);
+            why = tt;
+          }
+      go NoRoom q =
+          let z = passed [] (Err NoRoom) q in
+          let f = fits-not (module_with z.items) (length work) z.short in
+          record { is = λ _. b.rest lengths ∙ passes-fit l lengths b.own b.modules z.items z.state (refused 9 0) z.is f; why = tt }
 
-  pub once-short : {B : Extracted → Type 0} {u : List ℕ} → p ≡ Short → Ends B (extracted l lengths ms) l.tree u NoRoom
-  once-short e =
-      let z = passed [] Short e in
-      let f = fits-not (module_with z.items) (length work) z.short in
-      record { is = record { is = λ _. b.rest lengths ∙ passes-fit l lengths b.own b.modules z.items z.state (refused 9 0) z.is f; why = tt } }
-
-  pub halfway : (n : ℕ) → p ≡ Fits n → Halfway l (extracted l lengths ms) lengths t1 (take (n - 0) (drop 0 work1)) work work1
+  pub halfway : (n : ℕ) → p ≡ Ok n → Halfway l (extracted l lengths ms) lengths t1 (take n work1) work work1
   halfway n e =
-      let part = take (n - 0) (drop 0 work1) in
-      let z = passed part (Fits n) e in
+      let part = take n work1 in
+      let z = passed part (Ok n) e in
       let h = module_with z.items in
       let mid = between l b.own b.modules z.items z.state b.read.items (top-set l lengths b.own b.modules ∙ z.is) in
       record {
@@ -337,35 +341,40 @@ pub record Settled (m : Outcome Extracted) (tree t part last work out records wo
   pub work_held : work' ≡ delivered (encode (module_with works)) (length work)
   pub out_held : out' ≡ delivered (encode (module_with outs)) (length out)
 
-module _ (records : List ℕ) {l : Lent} {m : Outcome Extracted} {work out : List ℕ} {t t1 part work1 out1 : List ℕ} {p : Passed}
+module _ (records : List ℕ) {l : Lent} {m : Outcome Extracted} {work out : List ℕ} {t t1 part work1 out1 : List ℕ} {p : Result ℕ ExtractError}
     (h : Halfway l m (room_in work out records) t part work work1) (g : Seconds t part out t1 out1 p) where
   abbrev again : Setting
   again = setting second h.own l (rows_in l.table)
 
-  repassed : (a : Passed) → p ≡ a → PassIs (standing again l.tree part) (marking again h.works h.state) out t1 out1 a
+  repassed : (a : Result ℕ ExtractError) → p ≡ a → PassIs (standing again l.tree part) (placeless (marking again h.works h.state)) out t1 out1 a
   repassed a e =
-      subst (PassIs (standing again l.tree part) (marking again h.works h.state) out t1 out1) e
+      subst (PassIs (standing again l.tree part) (placeless (marking again h.works h.state)) out t1 out1) e
       (g.is h.state h.shows l.tree (stands (setting first h.own l (rows_in l.table)) l.tree part) h.works h.reads h.most h.mid.known)
 
-  pub again-turned : {B : Extracted → Type 0} {u : List ℕ} {w : Why} {q : ℕ} → p ≡ Turned w q → Ends B m l.tree u (Refused w 0)
-  again-turned {w = w} {q} e =
-      let z = secondly-refused again (length out) (length records) h.works h.state (refusal_of w) q (repassed (Turned w q) e) in
-      record { is = record { is = λ _. h.rest ∙ z; why = tt } }
+  pub again-turned : {B : Extracted → Type 0} {u : List ℕ} {v : ExtractError} → p ≡ Err v → Ends B m l.tree u (Err v)
+  again-turned {B} {u} {v} e = record { is = go v e }
+    where
+      go : (v : ExtractError) → p ≡ Err v → TurnedAs m l.tree v
+      go BadLists q = absurd (repassed (Err BadLists) q)
+      go NamedTwice q = absurd (repassed (Err NamedTwice) q)
+      go (NoTree w) q = absurd (repassed (Err (NoTree w)) q)
+      go (Refused w) q =
+          let z = secondly-refused again (length out) (length records) h.works h.state (refusal_of w.why) w.place (repassed (Err (Refused w)) q) in
+          record { is = λ _. h.rest ∙ z; why = tt }
+      go NoRoom q =
+          let z = repassed (Err NoRoom) q in
+          let f = fits-not (module_with z.items) (length out) z.short in
+          let k = secondly-fit again (length out) (length records) h.works h.state z.items z.state (refused 9 0) z.is f in
+          record { is = λ _. h.rest ∙ k; why = tt }
 
-  pub again-short : {B : Extracted → Type 0} {u : List ℕ} → p ≡ Short → Ends B m l.tree u NoRoom
-  again-short e =
-      let z = repassed Short e in
-      let f = fits-not (module_with z.items) (length out) z.short in
-      let k = secondly-fit again (length out) (length records) h.works h.state z.items z.state (refused 9 0) z.is f in
-      record { is = record { is = λ _. h.rest ∙ k; why = tt } }
-
-  pub settled : (n : ℕ) → p ≡ Fits n → Settled m l.tree t1 part (take (n - 0) (drop 0 out1)) work out records work1 out1
+  pub settled : (n : ℕ) → p ≡ Ok n → Settled m l.tree t1 part (take n out1) work out records work1 out1
   settled n e =
-      let z = repassed (Fits n) e in
+      let z = repassed (Ok n) e in
       let works = h.works in
       let outs = z.items in
-      let last = take (n - 0) (drop 0 out1) in
-      let after = after-done (walk_again again works h.state) _ (outs, lost z.state) (again-by again works h.state (done (outs, z.state)) z.is) h.mid.outs in
+      let last = take n out1 in
+      let marked = placeless-done (marking again works h.state) (outs, z.state) z.is in
+      let after = after-done (walk_again again works h.state) _ (outs, lost z.state) (again-by again works h.state (done (outs, z.state)) marked) h.mid.outs in
       let reads : read Module last ≡ fine (more (module_with outs) none) = ap (read Module) z.part ∙ items-readable outs (length out) after.0 z.room in
       record {
         works = works;
@@ -396,7 +405,7 @@ module _ {m : Outcome Extracted} {tree t part last work out records work1 out1 r
   ending : (o : Outcome (Unit {0})) → fits (records_of (lost h.state)) (length records) ≡ o → m ≡ onto o (λ _. done (extracted_from h.works h.outs (lost h.state)))
   ending o q = h.rest ∙ ap (λ (z : Outcome (Unit {0})). onto z (λ _. done (extracted_from h.works h.outs (lost h.state)))) q
 
-  pub ends-accepted : b ≡ true → Ends (Whole work out records work1 out1 records1) m tree t Accepted
+  pub ends-accepted : b ≡ true → Ends (Whole work out records work1 out1 records1) m tree t (Ok tt)
   ends-accepted e =
       let j = d.is h.state h.shows h.placing h.both in
       record {
@@ -415,64 +424,38 @@ module _ {m : Outcome Extracted} {tree t part last work out records work1 out1 r
             };
       }
 
-  pub ends-short : {B : Extracted → Type 0} {u : List ℕ} → b ≡ false → Ends B m tree u NoRoom
+  pub ends-short : {B : Extracted → Type 0} {u : List ℕ} → b ≡ false → Ends B m tree u (Err NoRoom)
   ends-short e =
       record { is = record { is = λ _. ending (refused 9 0) (fits-not (records_of (lost h.state)) (length records) (fits-told false e)); why = tt } }
 
--- ---- The steps together, over the lent tree
+-- ---- The steps together
 
-module _ (l : Lent) (ms : Modules) {tree : List ℕ} (q : l.tree ≡ tree) {t : List ℕ} {r : Tested} (p : Prepares l ms t r) where
-  prepared : (a : Tested) → r ≡ a → PreparedIs l ms t a
+module _ (l : Lent) (ms : Modules) {t : List ℕ} {r : Result Unit ExtractError} (p : Prepares l ms t r) where
+  prepared : (a : Result Unit ExtractError) → r ≡ a → PreparedIs l ms t a
   prepared a e = subst (PreparedIs l ms t) e p.is
 
-  module _ (room : Lengths) {B : Extracted → Type 0} {u : List ℕ} where
-    pub run-bad : r ≡ Bad → Ends B (extracted l room ms) tree u BadLists
-    run-bad e = record { is = record { is = (prepared Bad e).is room; why = tt } }
+  pub run-refused : (room : Lengths) {B : Extracted → Type 0} {u : List ℕ} {v : ExtractError} → r ≡ Err v → Ends B (extracted l room ms) l.tree u (Err v)
+  run-refused room {v = v} e = let z = prepared (Err v) e in record { is = record { is = z.is room; why = z.why } }
 
-    pub run-twice : r ≡ Twice → Ends B (extracted l room ms) tree u NamedTwice
-    run-twice e = record { is = record { is = (prepared Twice e).is room; why = tt } }
-
-    pub run-unread : {w : ReadWhy} {k : ℕ} → r ≡ NotRead w k → Ends B (extracted l room ms) tree u (Unread w k)
-    run-unread {w} {k} e =
-        let z = prepared (NotRead w k) e in
-        record { is = record { is = z.is room; why = ap (read Module) (sym q) ∙ z.why } }
-
-    pub run-full : r ≡ TooManyFiles → Ends B (extracted l room ms) tree u (Refused NoNumber 0)
-    run-full e = record { is = record { is = (prepared TooManyFiles e).is room; why = tt } }
-
-  module _ (work out records : List ℕ) (e : r ≡ Passable) {t1 work1 : List ℕ} {a : Passed} (g : Firsts tree t work t1 work1 a) where
+  module _ (work out records : List ℕ) (e : r ≡ Ok tt) {t1 work1 : List ℕ} {a : Result ℕ ExtractError} (g : Firsts l.tree t work t1 work1 a) where
     abbrev called : Outcome Extracted
     called = extracted l (room_in work out records) ms
 
-    firsts : Firsts l.tree t work t1 work1 a
-    firsts = subst (λ (z : List ℕ). Firsts z t work t1 work1 a) (sym q) g
+    pub run-turned : {B : Extracted → Type 0} {u : List ℕ} {v : ExtractError} → a ≡ Err v → Ends B called l.tree u (Err v)
+    run-turned h = once-turned l ms work out records (prepared (Ok tt) e) g h
 
-    pub run-turned : {B : Extracted → Type 0} {u : List ℕ} {w : Why} {k : ℕ} → a ≡ Turned w k → Ends B called tree u (Refused w k)
-    run-turned {B} {u} h = record { is = record { is = (once-turned l ms work out records (prepared Passable e) firsts {B = B} {u = u} h).is.is; why = tt } }
+    module _ (n : ℕ) (h : a ≡ Ok n) {t2 out1 : List ℕ} {b : Result ℕ ExtractError} (s : Seconds t1 (take n work1) out t2 out1 b) where
+      half : Halfway l called (room_in work out records) t1 (take n work1) work work1
+      half = halfway l ms work out records (prepared (Ok tt) e) g n h
 
-    pub run-short : {B : Extracted → Type 0} {u : List ℕ} → a ≡ Short → Ends B called tree u NoRoom
-    run-short {B} {u} h = record { is = record { is = (once-short l ms work out records (prepared Passable e) firsts {B = B} {u = u} h).is.is; why = tt } }
+      pub run-turned-again : {B : Extracted → Type 0} {u : List ℕ} {v : ExtractError} → b ≡ Err v → Ends B called l.tree u (Err v)
+      run-turned-again i = again-turned records half s i
 
-    module _ (n : ℕ) (h : a ≡ Fits n) {t2 out1 : List ℕ} {b : Passed} (s : Seconds t1 (take (n - 0) (drop 0 work1)) out t2 out1 b) where
-      half : Halfway l called (room_in work out records) t1 (take (n - 0) (drop 0 work1)) work work1
-      half = halfway l ms work out records (prepared Passable e) firsts n h
-
-      pub run-turned-again : {B : Extracted → Type 0} {u : List ℕ} {w : Why} {k : ℕ} → b ≡ Turned w k → Ends B called tree u (Refused w 0)
-      run-turned-again {B} {u} i = record { is = record { is = (again-turned records half s {B = B} {u = u} i).is.is; why = tt } }
-
-      pub run-short-again : {B : Extracted → Type 0} {u : List ℕ} → b ≡ Short → Ends B called tree u NoRoom
-      run-short-again {B} {u} i = record { is = record { is = (again-short records half s {B = B} {u = u} i).is.is; why = tt } }
-
-      module _ (m : ℕ) (i : b ≡ Fits m) {records1 : List ℕ} {c : Bool}
-          (d : DeliversFor tree (take (n - 0) (drop 0 work1)) (take (m - 0) (drop 0 out1)) t2 records records1 c) where
-        delivers-lent : DeliversFor l.tree (take (n - 0) (drop 0 work1)) (take (m - 0) (drop 0 out1)) t2 records records1 c
-        delivers-lent = subst (λ (z : List ℕ). DeliversFor z (take (n - 0) (drop 0 work1)) (take (m - 0) (drop 0 out1)) t2 records records1 c) (sym q) d
-
-        pub run-accepted : c ≡ true → Ends (Whole work out records work1 out1 records1) called tree t2 Accepted
-        run-accepted k = record { is = (ends-accepted (settled records half s m i) delivers-lent k).is }
-
-        pub run-unwritten : {B : Extracted → Type 0} {u : List ℕ} → c ≡ false → Ends B called tree u NoRoom
-        run-unwritten {B} {u} k = record { is = record { is = (ends-short (settled records half s m i) delivers-lent {B = B} {u = u} k).is.is; why = tt } }
+      module _ (m : ℕ) (i : b ≡ Ok m) {records1 : List ℕ} where
+        pub run-ended : (c : Bool) → DeliversFor l.tree (take n work1) (take m out1) t2 records records1 c →
+            Ends (Whole work out records work1 out1 records1) called l.tree t2 (ok_or (then_some c tt) NoRoom)
+        run-ended true d = ends-accepted (settled records half s m i) d refl
+        run-ended false d = ends-short (settled records half s m i) d refl
 
 -- ---- What is left
 
@@ -500,55 +483,46 @@ left-same r {ms} {ns} {m} {n} {w} {o} {k} {w'} {o'} {k'} a e b c d =
     ap (λ (z : Modules). leaving r z m w o k) a ∙ ap (λ (z : Report). leaving r ns z w o k) e ∙ ap (λ (z : List ℕ). leaving r ns n z o k) b
     ∙ ap (λ (z : List ℕ). leaving r ns n w' z k) c ∙ ap (λ (z : List ℕ). leaving r ns n w' o' z) d
 
--- any other answer is a refusal
-turned-left : (a : ExtractAnswer) (ms : Modules) (w o k : List ℕ) (r : Extracted) → (a ≡ Accepted → ⊥) →
-    leaving (answer_refusal a) ms no_counts (replicate (length w) 0) (replicate (length o) 0) (replicate (length k) 0) ≡ left_by (outcome_of a r) (room_in w o k) ms
-turned-left Accepted ms w o k r e = absurd (e refl)
-turned-left BadLists ms w o k r e = refl
-turned-left NamedTwice ms w o k r e = refl
-turned-left (Unread v p) ms w o k r e = refl
-turned-left (Refused v p) ms w o k r e = refl
-turned-left NoRoom ms w o k r e = refl
-
-turned : {B : Extracted → Type 0} {m : Outcome Extracted} {tree t : List ℕ} (a : ExtractAnswer) → Ends B m tree t a → (a ≡ Accepted → ⊥) → TurnedAs m tree a
-turned Accepted z e = absurd (e refl)
-turned BadLists z e = z.is
-turned NamedTwice z e = z.is
-turned (Unread w p) z e = z.is
-turned (Refused w p) z e = z.is
-turned NoRoom z e = z.is
+-- an error is a refusal
+turned-left : (v : ExtractError) (ms : Modules) (w o k : List ℕ) (r : Extracted) →
+    leaving (answer_refusal (Err v)) ms no_counts (replicate (length w) 0) (replicate (length o) 0) (replicate (length k) 0) ≡ left_by (outcome_of (Err v) r) (room_in w o k) ms
+turned-left BadLists ms w o k r = refl
+turned-left NamedTwice ms w o k r = refl
+turned-left (NoTree u) ms w o k r = refl
+turned-left (Refused u) ms w o k r = refl
+turned-left NoRoom ms w o k r = refl
 
 zeroed-is : (l k : List ℕ) {m : List ℕ} → m ≡ zeroed l → length l ≡ length k → m ≡ replicate (length k) 0
 unfolding zeroed
 zeroed-is l k e h = e ∙ ap (λ (n : ℕ). replicate n 0) h
 
-module _ (l : Lent) (scope : Scope) {t work out records work2 out2 records2 : List ℕ} (a : ExtractAnswer)
+module _ (l : Lent) (scope : Scope) {t work out records work2 out2 records2 : List ℕ} {a : Result Unit ExtractError}
     (c : Ends (Whole work out records work2 out2 records2) (extracted l (room_in work out records) (modules_of scope)) l.tree t a) where
-  accepted : a ≡ Accepted → AcceptedAs (Whole work out records work2 out2 records2) (extracted l (room_in work out records) (modules_of scope)) t
-  accepted e = (subst (Ends (Whole work out records work2 out2 records2) (extracted l (room_in work out records) (modules_of scope)) l.tree t) e c).is
+  ended : (b : Result Unit ExtractError) → a ≡ b → EndIs (Whole work out records work2 out2 records2) (extracted l (room_in work out records) (modules_of scope)) l.tree t b
+  ended b e = subst (EndIs (Whole work out records work2 out2 records2) (extracted l (room_in work out records) (modules_of scope)) l.tree t) e c.is
 
-  pub accepted-good : a ≡ Accepted → Good t
-  accepted-good e = (accepted e).good
+  pub accepted-good : a ≡ Ok tt → Good t
+  accepted-good e = (ended (Ok tt) e).good
 
-  pub left-accepted : (r : Scope) {n : Report} → a ≡ Accepted → Tells (λ s. s.modules) t (modules_of r) → n ≡ no_counts →
-      (left (record { scope = r; report = n; answer = Accepted }) work2 out2 records2 ≡ extraction l (room_in work out records) (modules_of scope)) × UnreadAs Accepted (read Module l.tree)
+  pub left-accepted : (r : Scope) {n : Report} → a ≡ Ok tt → Tells (λ s. s.modules) t (modules_of r) → n ≡ no_counts →
+      (left (record { scope = r; report = n; answer = Ok tt }) work2 out2 records2 ≡ extraction l (room_in work out records) (modules_of scope)) × UnreadAs (Ok tt) (read Module l.tree)
   left-accepted r e g h =
-      let z = accepted e in
+      let z = ended (Ok tt) e in
       let b = z.buffers in (
-        left-same nothing (g.is z.modules.state z.modules.shows ∙ z.modules.modules) h b.work b.out b.records
+        left-same None (g.is z.modules.state z.modules.shows ∙ z.modules.modules) h b.work b.out b.records
             ∙ left-is l (room_in work out records) (modules_of scope) (done z.result) z.is,
         tt,
       )
 
-  pub left-refused : {work3 out3 records3 : List ℕ} {n : Report} → (a ≡ Accepted → ⊥) → n ≡ no_counts → work3 ≡ zeroed work2 → out3 ≡ zeroed out2 →
+  pub left-refused : {work3 out3 records3 : List ℕ} {n : Report} {v : ExtractError} → a ≡ Err v → n ≡ no_counts → work3 ≡ zeroed work2 → out3 ≡ zeroed out2 →
       records3 ≡ zeroed records2 →
       length work2 ≡ length work → length out2 ≡ length out → length records2 ≡ length records →
-      (left (record { scope = scope; report = n; answer = a }) work3 out3 records3 ≡ extraction l (room_in work out records) (modules_of scope)) × UnreadAs a (read Module l.tree)
-  left-refused e h p q r i j k =
-      let z = turned a c e in
+      (left (record { scope = scope; report = n; answer = Err v }) work3 out3 records3 ≡ extraction l (room_in work out records) (modules_of scope)) × UnreadAs (Err v) (read Module l.tree)
+  left-refused {v = v} e h p q r i j k =
+      let z = ended (Err v) e in
       let none-given = extracted_from none none (start []) in (
-        left-same (answer_refusal a) refl h (zeroed-is work2 work p i) (zeroed-is out2 out q j) (zeroed-is records2 records r k)
-            ∙ turned-left a (modules_of scope) work out records none-given e
-            ∙ left-is l (room_in work out records) (modules_of scope) (outcome_of a none-given) (z.is none-given),
+        left-same (answer_refusal (Err v)) refl h (zeroed-is work2 work p i) (zeroed-is out2 out q j) (zeroed-is records2 records r k)
+            ∙ turned-left v (modules_of scope) work out records none-given
+            ∙ left-is l (room_in work out records) (modules_of scope) (outcome_of (Err v) none-given) (z.is none-given),
         z.why,
       )

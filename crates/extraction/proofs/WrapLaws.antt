@@ -1,32 +1,31 @@
 -- 'At the end forced sources get the wrapping mark if they resolve', one after the other.
+use Rattle.std.specs.Prelude.{Option, None, Some, Result, Ok, Err}
 use Prim.Native.Nat.{ℕ, ◌+◌, ◌≤◌}
 use native.Mathlib.Omega.{arith}
 use mathlib.Core.Path.{◌≡◌, refl, sym, ap, subst, ◌∙◌}
-use mathlib.Core.List.{List, ◌∷◌}
-use mathlib.Core.Option.{Option, none as nothing, some}
+use mathlib.Core.List.{List, [], ◌∷◌}
 use lib.ListN.{length, drop, drop_of_length-le}
-use Rattle.scope.specs.Modules.{set_mark}
+use Rattle.scope.specs.Modules.{Modules, request, set_mark}
 use Rattle.scope.specs.declared.Mark.TheVariants.{Wrapping as WrappingMark}
 use Rattle.scope.specs.declared.id.ModuleId.{ModuleId}
 use Rattle.tree.specs.Layout.{two}
-use Rattle.inputs.specs.Outcome.{Outcome, done, refused, onto}
+use Rattle.inputs.specs.Outcome.{Outcome, done, refused, onto, placeless}
+use Rattle.inputs.specs.Table.{file_of}
 use Rattle.extraction_rules.specs.State.{State, Setting, Act, set_modules}
-use Rattle.extraction_rules.specs.First.{module_for}
+use Rattle.extraction_rules.specs.First.{requested, module_of, module_for}
 use Rattle.extraction_rules.specs.Second.{wrap_module, wrap_all}
 use Rattle.extraction_rules.proofs.OutcomeLaws.{After, after-bind, after-weaken, after-done}
 use Rattle.extraction_rules.proofs.StepLaws.{module_for-stays}
 use Rattle.state.specs.Cells.{Env, Good, forces, table_of, held}
 use Rattle.tables.proofs.RowLaws.{rows-length}
 use Rattle.state.specs.Does.{Tells, Holds, Turns, Resolves}
-use Rattle.state.specs.declared.Module.{Module}
-use Rattle.state.specs.declared.Module.TheVariants.{Is as Numbered, Unresolved, TooMany}
-use Rattle.steps.specs.declared.Why.{Why}
-use Rattle.steps.specs.declared.Why.TheVariants.{TooManyFiles}
-use Rattle.steps.specs.declared.Effect.{Effect}
-use Rattle.steps.specs.declared.Effect.TheVariants.{Fine, Refused as Turned}
-use Rattle.steps.specs.Step.{Effects}
-use Rattle.steps.specs.Refusal.{refusal_of}
+use Rattle.scope.specs.declared.TooManyFiles.{TooManyFiles}
+use Rattle.steps.specs.declared.Refusal.{Refusal}
+use Rattle.steps.specs.declared.Why.TheVariants.{TooManyFiles as NoNumber}
+use Rattle.steps.specs.Step.{Effect, Effects}
+use Rattle.steps.specs.Refusal.{refusal, refusal_of}
 use Rattle.steps.proofs.StepsLaws.{fine-turned, turned-as}
+use Rattle.extraction.proofs.HeldLaws.{refused-place}
 use Rattle.extraction.specs.Stages.{Anywhere, wrap_one, wrap_from, Wrapping}
 
 -- ---- One source
@@ -41,39 +40,40 @@ module _ (a : ℕ) where
   wrapped : (e : Setting) (s : State) (m : Outcome (Option ℕ × State)) → module_for e (two a) 0 s ≡ m → wrap_one e (two a) s ≡ onto m (λ r. wrap_module r.0 r.1)
   wrapped e s m q = ap (λ (m : Outcome (Option ℕ × State)). onto m (λ r. wrap_module r.0 r.1)) q
 
-  pub source-marked : {t t1 t2 : List ℕ} {r : Module} (n : ModuleId) → Resolves (λ e. module_for e (two a)) t t1 r → r ≡ Numbered n →
-      Turns (λ s. set_modules (set_mark WrappingMark n.0 s.modules) s) t1 t2 → Effects Anywhere (wraps a) t t2 Fine
+  pub source-marked : {t t1 t2 : List ℕ} {r : Result (Option ModuleId) TooManyFiles} (n : ModuleId) → Resolves (λ e. module_for e (two a)) t t1 r → r ≡ Ok (Some n) →
+      Turns (λ s. set_modules (set_mark WrappingMark n.0 s.modules) s) t1 t2 → Effects Anywhere (wraps a) t t2 (Ok tt)
   unfolding wrap_module
   source-marked n g q u =
       record {
         good = u.good;
         fine = λ f {x = x} s w c.
-            let d = g.number n q s 0 w in
+            let d = g.resolved (Some n) q s 0 w in
             record {
               state = set_modules (set_mark WrappingMark n.0 d.state.modules) d.state;
-              is = wrapped x.setting s (done (some n.0, d.state)) d.is;
+              is = wrapped x.setting s (done (Some n.0, d.state)) d.is;
               shows = u.shows d.state d.shows;
             };
-        turned = λ v p f s w c. fine-turned f;
+        turned = λ v f s w c. fine-turned f;
       }
 
-  pub source-unresolved : {t t1 : List ℕ} {r : Module} → Resolves (λ e. module_for e (two a)) t t1 r → r ≡ Unresolved → Effects Anywhere (wraps a) t t1 Fine
+  pub source-unresolved : {t t1 : List ℕ} {r : Result (Option ModuleId) TooManyFiles} → Resolves (λ e. module_for e (two a)) t t1 r → r ≡ Ok None → Effects Anywhere (wraps a) t t1 (Ok tt)
   unfolding wrap_module
   source-unresolved g q =
       record {
         good = g.good;
         fine = λ f {x = x} s w c.
-            let d = g.unresolved q s 0 w in
-            record { state = d.state; is = wrapped x.setting s (done (nothing, d.state)) d.is; shows = d.shows };
-        turned = λ v p f s w c. fine-turned f;
+            let d = g.resolved None q s 0 w in
+            record { state = d.state; is = wrapped x.setting s (done (None, d.state)) d.is; shows = d.shows };
+        turned = λ v f s w c. fine-turned f;
       }
 
-  pub source-full : {t t1 : List ℕ} {r : Module} → Resolves (λ e. module_for e (two a)) t t1 r → r ≡ TooMany → Effects Anywhere (wraps a) t t1 (Turned TooManyFiles 0)
-  source-full g q =
+  pub source-full : {t t1 : List ℕ} {r : Result (Option ModuleId) TooManyFiles} {e : TooManyFiles} → Resolves (λ e. module_for e (two a)) t t1 r → r ≡ Err e →
+      Effects Anywhere (wraps a) t t1 (Err (refusal NoNumber 0))
+  source-full {e = e} g q =
       record {
         good = g.good;
         fine = λ f s w c. fine-turned (sym f);
-        turned = λ v p f {x = x} s w c. turned-as (wrapped x.setting s (refused 5 0) (g.full q s 0 w)) f;
+        turned = λ v f {x = x} s w c. turned-as (wrapped x.setting s (refused 5 0) (g.full e q s 0 w)) f;
       }
 
 -- ---- All of them
@@ -84,8 +84,8 @@ onto-onto (refused n p) f g = refl
 
 module-forced : (o : Option ℕ) (s : State) → After (wrap_module o s) (λ _ t. t.forced ≡ s.forced)
 unfolding wrap_module
-module-forced nothing s = refl
-module-forced (some n) s = refl
+module-forced None s = refl
+module-forced (Some n) s = refl
 
 -- forced sources stay
 forced-same : (e : Setting) (a : List ℕ) (s : State) → After (wrap_one e a s) (λ _ t. t.forced ≡ s.forced)
@@ -115,7 +115,7 @@ unfolding wrap_all
 nothing-wrapped i e s h = ap (λ (l : List (List ℕ)). wrap_all e l s) (drop_of_length-le s.forced h)
 
 module _ {t : List ℕ} {i : ℕ} where
-  pub wrap-more : {t1 t' : List ℕ} {k : Effect} (a : ℕ) → Holds (λ s. s.forced) (λ a. a) i t (λ _. two a) → Effects Anywhere (wraps a) t t1 Fine →
+  pub wrap-more : {t1 t' : List ℕ} {k : Effect} (a : ℕ) → Holds (λ s. s.forced) (λ a. a) i t (λ _. two a) → Effects Anywhere (wraps a) t t1 (Ok tt) →
       Effects Anywhere (wraps_from (i + 1)) t1 t' k → Effects Anywhere (wraps_from i) t t' k
   wrap-more a h f r =
       record {
@@ -125,30 +125,63 @@ module _ {t : List ℕ} {i : ℕ} where
             let d = f.fine refl s w tt in
             let z = r.fine p d.state d.shows tt in
             record { state = z.state; is = wrap-next x.setting i s b.0 (two a) b.1 b.2 d.state d.is ∙ z.is; shows = z.shows };
-        turned = λ v p g {x = x} s w c.
+        turned = λ v g {x = x} s w c.
             let b = h.is s w in
             let d = f.fine refl s w tt in
-            wrap-next x.setting i s b.0 (two a) b.1 b.2 d.state d.is ∙ r.turned v p g d.state d.shows tt;
+            wrap-next x.setting i s b.0 (two a) b.1 b.2 d.state d.is ∙ r.turned v g d.state d.shows tt;
       }
 
-  pub wrap-turned : {t1 : List ℕ} {v : Why} {p : ℕ} (a : ℕ) → Holds (λ s. s.forced) (λ a. a) i t (λ _. two a) → Effects Anywhere (wraps a) t t1 (Turned v p) →
-      Effects Anywhere (wraps_from i) t t1 (Turned v p)
-  wrap-turned {v = v} {p} a h f =
+  pub wrap-turned : {t1 : List ℕ} {v : Refusal} (a : ℕ) → Holds (λ s. s.forced) (λ a. a) i t (λ _. two a) → Effects Anywhere (wraps a) t t1 (Err v) →
+      Effects Anywhere (wraps_from i) t t1 (Err v)
+  wrap-turned {v = v} a h f =
       record {
         good = f.good;
         fine = λ g s w c. fine-turned (sym g);
-        turned = λ u j g {x = x} s w c.
+        turned = λ u g {x = x} s w c.
             let b = h.is s w in
-            turned-as (wrap-step x.setting i s b.0 (two a) b.1 b.2 (refused (refusal_of v) p) (f.turned v p refl s w tt)) g;
+            turned-as (wrap-step x.setting i s b.0 (two a) b.1 b.2 (refused (refusal_of v.why) v.place) (f.turned v refl s w tt)) g;
       }
 
-  pub wrap-over : {n : ℕ} → Good t → Tells (λ s. length s.forced) t n → n ≤ i → Effects Anywhere (wraps_from i) t t Fine
+  pub wrap-over : {n : ℕ} → Good t → Tells (λ s. length s.forced) t n → n ≤ i → Effects Anywhere (wraps_from i) t t (Ok tt)
   wrap-over g h le =
       record {
         good = g;
         fine = λ p {x = x} s w c. record { state = s; is = nothing-wrapped i x.setting s (let z = h.is s w in omega arith); shows = w };
-        turned = λ v p f s w c. fine-turned f;
+        turned = λ v f s w c. fine-turned f;
       }
+
+-- ---- 'All of pass two: 0'
+
+onto-placeless : {A B : Type 0} (m : Outcome A) (f : A → Outcome B) → placeless m ≡ m → ((a : A) → placeless (f a) ≡ f a) → placeless (onto m f) ≡ onto m f
+onto-placeless (done a) f h g = g a
+onto-placeless (refused n p) f h g = ap (refused n) (refused-place h)
+
+-- a module is asked for at place 0
+module-placeless : (e : Setting) (a : List ℕ) (s : State) → placeless (module_for e a 0 s) ≡ module_for e a 0 s
+unfolding module_for
+module-placeless e a s = go (file_of a e.table)
+  where
+    ask : (r : Option (ℕ × Modules)) → placeless (requested r 0 s) ≡ requested r 0 s
+    ask None = refl
+    ask (Some r) = refl
+
+    go : (o : Option ℕ) → placeless (module_of o 0 s) ≡ module_of o 0 s
+    go None = refl
+    go (Some f) = ask (request f s.modules)
+
+mark-placeless : (o : Option ℕ) (s : State) → placeless (wrap_module o s) ≡ wrap_module o s
+unfolding wrap_module
+mark-placeless None s = refl
+mark-placeless (Some n) s = refl
+
+pub wrap-placeless : (e : Setting) (l : List (List ℕ)) (s : State) → placeless (wrap_all e l s) ≡ wrap_all e l s
+unfolding wrap_all
+wrap-placeless e [] s = refl
+wrap-placeless e (a ∷ l) s =
+    ap placeless (first-wrapped e a l s)
+    ∙ onto-placeless (wrap_one e a s) (λ q. wrap_all e l q.1)
+    (onto-placeless (module_for e a 0 s) (λ r. wrap_module r.0 r.1) (module-placeless e a s) (λ r. mark-placeless r.0 r.1)) (λ q. wrap-placeless e l q.1)
+    ∙ sym (first-wrapped e a l s)
 
 -- ---- The loop
 
@@ -156,17 +189,16 @@ pub wrapping-start : {t : List ℕ} → Good t → Wrapping t 0 t
 wrapping-start g = record { good = g; rest = λ t' k w. w }
 
 pub wrapping-next : {t₀ t t1 : List ℕ} {i : ℕ} {k : Effect} (a : ℕ) → Wrapping t₀ i t → Holds (λ s. s.forced) (λ a. a) i t (λ _. two a) →
-    Effects Anywhere (wraps a) t t1 k → k ≡ Fine → Wrapping t₀ (i + 1) t1
+    Effects Anywhere (wraps a) t t1 k → k ≡ Ok tt → Wrapping t₀ (i + 1) t1
 wrapping-next {t = t} {t1} a w h f q =
     record { good = f.good; rest = λ t' k r. w.rest t' k (wrap-more a h (subst (Effects Anywhere (wraps a) t t1) q f) r) }
 
-pub wrapping-turned : {t₀ t t1 : List ℕ} {i p : ℕ} {k : Effect} {v : Why} (a : ℕ) → Wrapping t₀ i t → Holds (λ s. s.forced) (λ a. a) i t (λ _. two a) →
-    Effects Anywhere (wraps a) t t1 k → k ≡ Turned v p → Effects Anywhere (wraps_from 0) t₀ t1 (Turned v p)
-wrapping-turned {t = t} {t1} {p = p} {v = v} a w h f q =
-    w.rest t1 (Turned v p) (wrap-turned a h (subst (Effects Anywhere (wraps a) t t1) q f))
+pub wrapping-turned : {t₀ t t1 : List ℕ} {i : ℕ} {k : Effect} {v : Refusal} (a : ℕ) → Wrapping t₀ i t → Holds (λ s. s.forced) (λ a. a) i t (λ _. two a) →
+    Effects Anywhere (wraps a) t t1 k → k ≡ Err v → Effects Anywhere (wraps_from 0) t₀ t1 (Err v)
+wrapping-turned {t = t} {t1} {v = v} a w h f q = w.rest t1 (Err v) (wrap-turned a h (subst (Effects Anywhere (wraps a) t t1) q f))
 
-pub wrapping-over : {t₀ t : List ℕ} {i n : ℕ} → Wrapping t₀ i t → Tells (λ s. length s.forced) t n → n ≤ i → Effects Anywhere (wraps_from 0) t₀ t Fine
-wrapping-over {t = t} w h le = w.rest t Fine (wrap-over w.good h le)
+pub wrapping-over : {t₀ t : List ℕ} {i n : ℕ} → Wrapping t₀ i t → Tells (λ s. length s.forced) t n → n ≤ i → Effects Anywhere (wraps_from 0) t₀ t (Ok tt)
+wrapping-over {t = t} w h le = w.rest t (Ok tt) (wrap-over w.good h le)
 
 -- at most 256 sources are forced
 pub forces-most : {t : List ℕ} → Good t → held forces t ≤ 256

@@ -1,6 +1,6 @@
 -- What a pass over a module's items does, and what it leans on. Document 01, 'First pass', 'Second pass'.
+use Rattle.std.specs.Prelude.{Some}
 use Rattle.std.specs.Prelude.{ℕ, ◌*◌, ◌≤◌, ◌≡◌, false, List, length, get_or}
-use Rattle.tree.specs.declared.grammar.Step.TheVariants.{Go}
 use Rattle.tree.specs.Grammar.{rule_of, step_at}
 use Rattle.tree.specs.Tree.{Field, Fields, none, more}
 use Rattle.tree.specs.Standing.{tree_at, row_at, Row}
@@ -24,7 +24,7 @@ Ready second at end u known = known
 -- an item that was read
 pub record ItemRead (s : List ℕ) (at stop : ℕ) (x : Env) (u : State) : Type 0 where
   pub read : ReadAt s at stop
-  pub tag : step_at (rule_of 0x01) (get_or s at 0) ≡ Go (rule_of 0x01)
+  pub tag : step_at (rule_of 0x01) (get_or s at 0) ≡ Some (rule_of 0x01)
   pub reads : Reads x s
   pub ready : Ready x.setting.pass at stop u (Imports (tree_at s at stop) (Known x.setting.externals (sources_in u.collected)))
 

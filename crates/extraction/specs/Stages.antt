@@ -1,17 +1,15 @@
 -- What the steps of the call do, as the code has them: what each answers and what it leaves. Only inner contracts cite this.
-use Rattle.std.specs.Prelude.{ℕ, ◌-◌, ◌≤◌, ◌≡◌, Bool, true, false, cond, List, [], length, take, drop}
-use Rattle.std.proofs.Math.Option.{none as nothing, some}
+use Rattle.std.specs.Prelude.{ℕ, ◌-◌, ◌≤◌, ◌≡◌, Bool, true, false, cond, None, Some, Result, Ok, Err, IfOk, List, [], length, take, drop}
 use Rattle.modes.specs.declared.Modes.{Modes}
 use Rattle.scope.specs.Modules.{Modules, request}
 use Rattle.tree.specs.declared.grammar.Set.TheVariants.{Module}
-use Rattle.tree.specs.declared.read.Verdict.{Verdict}
-use Rattle.tree.specs.declared.read.Verdict.TheVariants.{Good as Well, Refused as Broken}
+use Rattle.tree.specs.declared.read.Unread.{Unread}
 use Rattle.tree.specs.Grammar.{rule_of}
 use Rattle.tree.specs.Tree.{Fields, none, more, encode, size}
 use Rattle.tree.specs.Read.{fine, read, verdict}
 use Rattle.tree.specs.Standing.{Row}
 use Rattle.writer.specs.Finished.{has_room, delivered, Delivered}
-use Rattle.inputs.specs.Outcome.{Outcome, done, refused, onto}
+use Rattle.inputs.specs.Outcome.{Outcome, done, refused, onto, placeless}
 use Rattle.inputs.specs.Table.{rows_in, repeats}
 use Rattle.extraction_rules.specs.State.{State, Pass, first, Setting, Act, start, set_top, set_modules}
 use Rattle.extraction_rules.specs.First.{module_for}
@@ -23,28 +21,23 @@ use Rattle.extraction_rules.proofs.SanityLaws.{Known}
 use Rattle.extraction_rules.proofs.ReadableLaws.{Items}
 use Rattle.state.specs.Cells.{Env, Good, Shows, sources_in}
 use Rattle.state.specs.Does.{with_own, with_second}
-use Rattle.steps.specs.declared.Effect.{Effect}
-use Rattle.steps.specs.Step.{Effects}
-use Rattle.steps.specs.Refusal.{refusal_of}
+use Rattle.steps.specs.declared.Why.TheVariants.{TooManyFiles}
+use Rattle.steps.specs.Step.{Effect, Effects}
+use Rattle.steps.specs.Refusal.{refusal, refusal_of}
 use Rattle.records.specs.Writes.{Placing, BothRead, items_in, records_in}
-use Rattle.extraction.specs.declared.ExtractAnswer.{ExtractAnswer}
-use Rattle.extraction.specs.declared.ExtractAnswer.TheVariants.{Extracted as Accepted, BadLists, NamedTwice, Unread, Refused as Turned, NoRoom as Short}
-use Rattle.extraction.specs.declared.Tested.{Tested}
-use Rattle.extraction.specs.declared.Tested.TheVariants.{Good as Passable, Bad, NamedTwice as Twice, Unread as NotRead, TooManyFiles}
-use Rattle.steps.specs.declared.Why.TheVariants.{TooManyFiles as NoNumber}
-use Rattle.extraction.specs.declared.Passed.{Passed}
-use Rattle.extraction.specs.declared.Passed.TheVariants.{Fits, Refused, NoRoom}
+use Rattle.extraction.specs.declared.ExtractError.{ExtractError}
+use Rattle.extraction.specs.declared.ExtractError.TheVariants.{BadLists, NamedTwice, Unread as NoTree, Refused, NoRoom}
 use Rattle.extraction.specs.Answer.{lent_as, outcome_of, UnreadAs}
 
 -- ---- The tests of what is lent
 
-abbrev pub read_as : Verdict → Tested
-read_as Well = Passable
-read_as (Broken w p) = NotRead w p
+abbrev pub read_as : Result Unit Unread → Result Unit ExtractError
+read_as (Ok u) = Ok u
+read_as (Err u) = Err (NoTree u)
 
 -- 1, then 2, then 3 or 4
-unfoldable pub lists_of : Lent → Tested
-lists_of l = cond (bad_lists l) Bad (cond (repeats (rows_in l.table)) Twice (read_as (verdict (read Module l.tree))))
+unfoldable pub lists_of : Lent → Result Unit ExtractError
+lists_of l = cond (bad_lists l) (Err BadLists) (cond (repeats (rows_in l.table)) (Err NamedTwice) (read_as (verdict (read Module l.tree))))
 
 -- a module that was read
 pub record ModuleRead (tree : List ℕ) : Type 0 where
@@ -70,17 +63,14 @@ pub record LentTo (modes : Modes) (externals table t : List ℕ) : Type 0 where
 pub record Owned (file : ℕ) (ms : Modules) (t t' : List ℕ) : Type 0 where
   pub own : ℕ
   pub modules : Modules
-  pub is : request file ms ≡ some (own, modules)
+  pub is : request file ms ≡ Some (own, modules)
   pub shows : {x : Env} (s : State) → Shows x t s → Shows (with_own own x) t' (set_modules modules s)
 
-abbrev pub OwnIs : ℕ → Modules → List ℕ → List ℕ → Tested → Type 0
-OwnIs file ms t t' Passable = Owned file ms t t'
-OwnIs file ms t t' Bad = ⊥
-OwnIs file ms t t' Twice = ⊥
-OwnIs file ms t t' (NotRead w p) = ⊥
-OwnIs file ms t t' TooManyFiles = request file ms ≡ nothing
+abbrev pub OwnIs : ℕ → Modules → List ℕ → List ℕ → Result Unit ExtractError → Type 0
+OwnIs file ms t t' (Ok u) = Owned file ms t t'
+OwnIs file ms t t' (Err e) = (e ≡ Refused (refusal TooManyFiles 0)) × (request file ms ≡ None)
 
-pub record Owns (file : ℕ) (ms : Modules) (t t' : List ℕ) (r : Tested) : Type 0 where
+pub record Owns (file : ℕ) (ms : Modules) (t t' : List ℕ) (r : Result Unit ExtractError) : Type 0 where
   pub good : Good t'
   pub is : OwnIs file ms t t' r
 
@@ -94,19 +84,16 @@ pub record Begun (l : Lent) (ms : Modules) (t : List ℕ) : Type 0 where
   pub shows : (x : Env) → x.setting ≡ setting first own l (rows_in l.table) → Shows x t (set_top false (start modules))
   pub read : ModuleRead l.tree
 
--- the rules refuse as the answer says
-pub record Refuses (l : Lent) (ms : Modules) (a : ExtractAnswer) : Type 0 where
-  pub is : (room : Lengths) (r : Extracted) → extracted l room ms ≡ outcome_of a r
-  pub why : UnreadAs a (read Module l.tree)
+-- the rules refuse as the error says
+pub record Refuses (l : Lent) (ms : Modules) (e : ExtractError) : Type 0 where
+  pub is : (room : Lengths) (r : Extracted) → extracted l room ms ≡ outcome_of (Err e) r
+  pub why : UnreadAs (Err e) (read Module l.tree)
 
-abbrev pub PreparedIs : Lent → Modules → List ℕ → Tested → Type 0
-PreparedIs l ms t Passable = Begun l ms t
-PreparedIs l ms t Bad = Refuses l ms BadLists
-PreparedIs l ms t Twice = Refuses l ms NamedTwice
-PreparedIs l ms t (NotRead w p) = Refuses l ms (Unread w p)
-PreparedIs l ms t TooManyFiles = Refuses l ms (Turned NoNumber 0)
+abbrev pub PreparedIs : Lent → Modules → List ℕ → Result Unit ExtractError → Type 0
+PreparedIs l ms t (Ok u) = Begun l ms t
+PreparedIs l ms t (Err e) = Refuses l ms e
 
-pub record Prepares (l : Lent) (ms : Modules) (t : List ℕ) (r : Tested) : Type 0 where
+pub record Prepares (l : Lent) (ms : Modules) (t : List ℕ) (r : Result Unit ExtractError) : Type 0 where
   pub good : Good t
   pub is : PreparedIs l ms t r
 
@@ -119,7 +106,7 @@ pub record Held (x : Env) (m : Outcome (Fields × State)) (l t' l' : List ℕ) (
   pub is : m ≡ done (items, state)
   pub room : has_room (size (module_with items)) (length l) ≡ true
   pub buffer : l' ≡ delivered (encode (module_with items)) (length l)
-  pub part : take (n - 0) (drop 0 l') ≡ encode (module_with items)
+  pub part : take n l' ≡ encode (module_with items)
   pub shows : Shows x t' state
 
 -- it is too long
@@ -129,18 +116,20 @@ pub record TooLong (m : Outcome (Fields × State)) (room : ℕ) : Type 0 where
   pub is : m ≡ done (items, state)
   pub short : has_room (size (module_with items)) room ≡ false
 
-abbrev pub PassIs : Env → Outcome (Fields × State) → List ℕ → List ℕ → List ℕ → Passed → Type 0
-PassIs x m l t' l' (Fits n) = Held x m l t' l' n
-PassIs x m l t' l' (Refused w p) = m ≡ refused (refusal_of w) p
-PassIs x m l t' l' NoRoom = TooLong m (length l)
+-- a pass tests no lists and reads no tree
+abbrev pub PassIs : Env → Outcome (Fields × State) → List ℕ → List ℕ → List ℕ → Result ℕ ExtractError → Type 0
+PassIs x m l t' l' (Ok n) = Held x m l t' l' n
+PassIs x m l t' l' (Err BadLists) = ⊥
+PassIs x m l t' l' (Err NamedTwice) = ⊥
+PassIs x m l t' l' (Err (NoTree u)) = ⊥
+PassIs x m l t' l' (Err (Refused u)) = m ≡ refused (refusal_of u.why) u.place
+PassIs x m l t' l' (Err NoRoom) = TooLong m (length l)
 
-abbrev pub Inside : Passed → ℕ → Type 0
-Inside (Fits n) room = n ≤ room
-Inside (Refused w p) room = Unit {0}
-Inside NoRoom room = Unit {0}
+abbrev pub Inside : Result ℕ ExtractError → ℕ → Type 0
+Inside r room = IfOk r (λ n. n ≤ room)
 
 -- the first pass, from the modules that the array shows
-pub record Firsts (tree t work t' work' : List ℕ) (r : Passed) : Type 0 where
+pub record Firsts (tree t work t' work' : List ℕ) (r : Result ℕ ExtractError) : Type 0 where
   pub good : Good t'
   pub inside : Inside r (length work)
   pub is : {x : Env} (ms : Modules) → x.setting.pass ≡ first → Shows x t (set_top false (start ms)) → ModuleRead tree → (w : List ℕ) → Placing tree w x →
@@ -170,13 +159,14 @@ pub record Wrapping (t₀ : List ℕ) (i : ℕ) (t : List ℕ) : Type 0 where
 abbrev pub marking : Setting → Fields → Act Fields
 marking e works = λ s. onto (walk_module e works s) (λ r. onto (wrap_from 0 e r.1) (λ u. done (r.0, u.1)))
 
--- *work* holds what the first pass left: items, whose sources are collected unless they are external
-pub record Seconds (t work out t' out' : List ℕ) (r : Passed) : Type 0 where
+-- *work* holds what the first pass left: items, whose sources are collected unless they are external. 'All of pass two: 0'
+pub record Seconds (t work out t' out' : List ℕ) (r : Result ℕ ExtractError) : Type 0 where
   pub good : Good t'
   pub inside : Inside r (length out)
   pub is : {x : Env} (s : State) → Shows x t s → (tree : List ℕ) → Placing tree work x → (works : Fields) →
       read Module work ≡ fine (more (module_with works) none) → length work ≤ 65538 →
-      ImportsAll works (Known x.setting.externals (sources_in s.collected)) → PassIs (with_second x) (marking (with_second x).setting works s) out t' out' r
+      ImportsAll works (Known x.setting.externals (sources_in s.collected)) →
+      PassIs (with_second x) (placeless (marking (with_second x).setting works s)) out t' out' r
 
 -- ---- The records, held to their buffer
 
@@ -206,19 +196,15 @@ pub record AcceptedAs (B : Extracted → Type 0) (m : Outcome Extracted) (t : Li
   pub modules : ShowsModules t result.modules
   pub buffers : B result
 
--- the rules refuse as the answer says
-pub record TurnedAs (m : Outcome Extracted) (tree : List ℕ) (a : ExtractAnswer) : Type 0 where
-  pub is : (r : Extracted) → m ≡ outcome_of a r
-  pub why : UnreadAs a (read Module tree)
+-- the rules refuse as the error says
+pub record TurnedAs (m : Outcome Extracted) (tree : List ℕ) (e : ExtractError) : Type 0 where
+  pub is : (r : Extracted) → m ≡ outcome_of (Err e) r
+  pub why : UnreadAs (Err e) (read Module tree)
 
-abbrev pub EndIs : (Extracted → Type 0) → Outcome Extracted → List ℕ → List ℕ → ExtractAnswer → Type 0
-EndIs B m tree t Accepted = AcceptedAs B m t
-EndIs B m tree t BadLists = TurnedAs m tree BadLists
-EndIs B m tree t NamedTwice = TurnedAs m tree NamedTwice
-EndIs B m tree t (Unread w p) = TurnedAs m tree (Unread w p)
-EndIs B m tree t (Turned w p) = TurnedAs m tree (Turned w p)
-EndIs B m tree t Short = TurnedAs m tree Short
+abbrev pub EndIs : (Extracted → Type 0) → Outcome Extracted → List ℕ → List ℕ → Result Unit ExtractError → Type 0
+EndIs B m tree t (Ok u) = AcceptedAs B m t
+EndIs B m tree t (Err e) = TurnedAs m tree e
 
 -- the answer to what the rules say
-pub record Ends (B : Extracted → Type 0) (m : Outcome Extracted) (tree t : List ℕ) (a : ExtractAnswer) : Type 0 where
+pub record Ends (B : Extracted → Type 0) (m : Outcome Extracted) (tree t : List ℕ) (a : Result Unit ExtractError) : Type 0 where
   pub is : EndIs B m tree t a

@@ -7,8 +7,7 @@ ghost use Rattle.tree.specs.declared.grammar.Set.TheVariants.{Module as module-s
 ghost use Rattle.tree.specs.Layout.{two as two_of};
 ghost use Rattle.tree.specs.Read.{read};
 ghost use Rattle.scope.specs.ScopeValue.{modules_of};
-ghost use Rattle.extraction_rules.specs.Call.{Lent, bad_lists, extracted, extraction};
-ghost use Rattle.scope.specs.Modules.{Modules};
+ghost use Rattle.extraction_rules.specs.Call.{bad_lists, extracted, extraction};
 ghost use Rattle.steps.specs.Step.{Effects};
 ghost use Rattle.state.specs.Cells.{cells, Good};
 ghost use Rattle.extraction.specs.Answer.{left, lent_as, room_in, UnreadAs};
@@ -22,32 +21,57 @@ use passes::pass;
 use records::put_records;
 use report::{Report, no_counts};
 use scope::id::{Atom, FileName};
-use scope::{FileAnswer, Scope};
+use scope::{Mark, Scope};
+use state::CELLS;
 use state::forced::{count_forced, forced_at};
-use state::modules::{load, mark_wrapping, module_for, scope_of};
+use state::modules::{load, module_for, scope_of, set_mark};
 use state::setting::{lend_externals, lend_table, set_modes, set_own, set_second};
-use state::{CELLS, Module};
-use steps::{Effect, Step, Why};
+use steps::{Effect, Refusal, Why};
 use tree::grammar::Set;
-use tree::read::{Verdict, read_tree};
+use tree::read::{Unread, read_tree};
 
 // The most bytes of a tree.
 const MOST: usize = 32768;
 
-// What a call answers.
-#[derive(Drop)]
-pub enum ExtractAnswer {
-    Extracted,
+// A file has no number, 'place 0'.
+const NO_NUMBER: Refusal = Refusal {
+    why: Why::TooManyFiles,
+    place: 0,
+};
+
+// Why a call refuses.
+#[derive(Clone, Copy, PartialEq, Eq)]
+pub enum ExtractError {
     // the tree, the externals or the table is too long, or a list is no list
     BadLists,
     // the table names a source twice
     NamedTwice,
-    // no tree: why, and where
-    Unread(tree::read::Why, usize),
-    // the walk turned back: why, and where
-    Refused(Why, usize),
+    // no tree
+    Unread(Unread),
+    // the walk turned back
+    Refused(Refusal),
     // a buffer is too short, or a content too long
     NoRoom,
+}
+
+impl From<Unread> for ExtractError {
+    ghost use Rattle.extraction.specs.declared.ExtractError.TheVariants.{Unread as no_tree};
+
+    ghost from_gives = { λ u e. e ≡ no_tree u };
+
+    fn from(unread: Unread) -> ExtractError {
+        ExtractError::Unread(unread)
+    }
+}
+
+impl From<Refusal> for ExtractError {
+    ghost use Rattle.extraction.specs.declared.ExtractError.TheVariants.{Refused as turned};
+
+    ghost from_gives = { λ r e. e ≡ turned r };
+
+    fn from(refusal: Refusal) -> ExtractError {
+        ExtractError::Refused(refusal)
+    }
 }
 
 // What a call gives: the scope, the counts, and the answer.
@@ -55,28 +79,7 @@ pub enum ExtractAnswer {
 pub struct Extraction {
     pub scope: Scope,
     pub report: Report,
-    pub answer: ExtractAnswer,
-}
-
-// What stands before the passes gives.
-#[derive(Drop)]
-enum Tested {
-    Good,
-    Bad,
-    NamedTwice,
-    // no tree: why, and where
-    Unread(tree::read::Why, usize),
-    TooManyFiles,
-}
-
-// What a pass gives, held to its buffer.
-#[derive(Drop)]
-enum Passed {
-    // the tree, in this many bytes
-    Fits(usize),
-    // the walk turned back: why, and where
-    Refused(Why, usize),
-    NoRoom,
+    pub answer: Result<(), ExtractError>,
 }
 
 // Extracts what a module imports: `work` then holds the tree after the first pass, `out` after the second, `records` the records.
@@ -96,25 +99,51 @@ pub fn extract_import_info(
         (room_in work.old out.old records.old) (modules_of scope)) × UnreadAs result.answer (read module-set tree.now) }
 {
     let mut t = [0u64; CELLS];
-    let tested = prepare(scope, file, modes, externals, table, tree, &mut t);
-    let answer = run(tested, tree, &mut t, work, out, records);
-    match answer {
-        ExtractAnswer::Extracted => Extraction {
+    match run(
+        scope, file, modes, externals, table, tree, &mut t, work, out, records,
+    ) {
+        Ok(()) => Extraction {
             scope: scope_of(&t),
             report: no_counts(),
-            answer: ExtractAnswer::Extracted,
+            answer: Ok(()),
         },
-        _ => {
+        Err(error) => {
             writer::clear(work);
             writer::clear(out);
             writer::clear(records);
             Extraction {
                 scope,
                 report: no_counts(),
-                answer,
+                answer: Err(error),
             }
         },
     }
+}
+
+// The tests, the passes and the records, in the order of the rules, with an array of zeros.
+fn run(
+    scope: Scope,
+    file: FileName,
+    modes: Modes,
+    externals: &[u8],
+    table: &[u8],
+    tree: &[u8],
+    t: &mut [u64],
+    work: &mut [u8],
+    out: &mut [u8],
+    records: &mut [u8],
+) -> Result<(), ExtractError>
+    requires { t.old ≡ replicate cells 0 }
+    ensures { Ends (Whole work.old out.old records.old work.new out.new records.new)
+        (extracted (lent_as file.0 modes externals.now table.now tree.now)
+        (room_in work.old out.old records.old) (modules_of scope)) tree.now t.new result }
+{
+    prepare(scope, file, modes, externals, table, tree, t)?;
+    let n = first_pass(tree, t, work)?;
+    let m = second_pass(&work[..n], t, out)?;
+    deliver_records(tree, &work[..n], &out[..m], t, records)
+        .then_some(())
+        .ok_or(ExtractError::NoRoom)
 }
 
 // What stands before the passes, with an array of zeros: the tests, the lent lists, the own file.
@@ -126,87 +155,35 @@ fn prepare(
     table: &[u8],
     tree: &[u8],
     t: &mut [u64],
-) -> Tested
+) -> Result<(), ExtractError>
     requires { t.old ≡ replicate cells 0 }
     ensures { Prepares (lent_as file.0 modes externals.now table.now tree.now) (modules_of scope) t.new result }
 {
-    match lists(externals, table, tree) {
-        Tested::Good => {
-            lend(modes, externals, table, t);
-            own_file(scope, file, t)
-        },
-        Tested::Bad => Tested::Bad,
-        Tested::NamedTwice => Tested::NamedTwice,
-        Tested::Unread(why, place) => Tested::Unread(why, place),
-        Tested::TooManyFiles => Tested::TooManyFiles,
-    }
-}
-
-// The passes and the records, in the order of the rules.
-fn run(
-    tested: Tested,
-    tree: &[u8],
-    t: &mut [u64],
-    work: &mut [u8],
-    out: &mut [u8],
-    records: &mut [u8],
-) -> ExtractAnswer
-    requires { Good t.old }
-    ensures { (l : Lent) (ms : Modules) → l.tree ≡ tree.now → Prepares l ms t.old tested →
-        Ends (Whole work.old out.old records.old work.new out.new records.new)
-        (extracted l (room_in work.old out.old records.old) ms) tree.now t.new result }
-{
-    match tested {
-        Tested::Good => {}
-        Tested::Bad => return ExtractAnswer::BadLists,
-        Tested::NamedTwice => return ExtractAnswer::NamedTwice,
-        Tested::Unread(why, place) => return ExtractAnswer::Unread(why, place),
-        Tested::TooManyFiles => return ExtractAnswer::Refused(Why::TooManyFiles, 0),
-    }
-    let n = match first_pass(tree, t, work) {
-        Passed::Fits(n) => n,
-        Passed::Refused(why, place) => return ExtractAnswer::Refused(why, place),
-        Passed::NoRoom => return ExtractAnswer::NoRoom,
-    };
-    let m = match second_pass(&work[0..n], t, out) {
-        Passed::Fits(m) => m,
-        Passed::Refused(why, _) => return ExtractAnswer::Refused(why, 0),
-        Passed::NoRoom => return ExtractAnswer::NoRoom,
-    };
-    if deliver_records(tree, &work[0..n], &out[0..m], t, records) {
-        ExtractAnswer::Extracted
-    } else {
-        ExtractAnswer::NoRoom
-    }
+    lists(externals, table, tree)?;
+    lend(modes, externals, table, t);
+    own_file(scope, file, t)
 }
 
 // Whether a lent list is too long, or none.
+#[tactic(auto, unfolding(extraction_rules::specs::Call::bad_lists))]
 fn bad_lists(externals: &[u8], table: &[u8], tree: &[u8]) -> bool
     ensures { result ≡ bad_lists (lent_as 0 (modes_of 0) externals.now table.now tree.now) }
 {
-    if MOST < tree.len() {
-        return true;
-    }
-    if bad_externals(externals) {
-        return true;
-    }
-    bad_table(table)
+    MOST < tree.len() || bad_externals(externals) || bad_table(table)
 }
 
 // The lent lists are tested, and the tree is read.
-fn lists(externals: &[u8], table: &[u8], tree: &[u8]) -> Tested
+fn lists(externals: &[u8], table: &[u8], tree: &[u8]) -> Result<(), ExtractError>
     ensures { result ≡ lists_of (lent_as 0 (modes_of 0) externals.now table.now tree.now) }
 {
     if bad_lists(externals, table, tree) {
-        return Tested::Bad;
+        return Err(ExtractError::BadLists);
     }
     if names_twice(table) {
-        return Tested::NamedTwice;
+        return Err(ExtractError::NamedTwice);
     }
-    match read_tree(tree, Set::Module) {
-        Verdict::Good => Tested::Good,
-        Verdict::Refused(why, place) => Tested::Unread(why, place),
-    }
+    read_tree(tree, Set::Module)?;
+    Ok(())
 }
 
 // What a call is set to and lent goes into the array.
@@ -220,56 +197,39 @@ fn lend(modes: Modes, externals: &[u8], table: &[u8], t: &mut [u64])
 }
 
 // 'Own file's number first': the array then shows the scope with it.
-fn own_file(scope: Scope, file: FileName, t: &mut [u64]) -> Tested
+fn own_file(scope: Scope, file: FileName, t: &mut [u64]) -> Result<(), ExtractError>
     requires { Good t.old }
     ensures { Owns file.0 (modules_of scope) t.old t.new result }
 {
     let g = scope.gen_id(file);
-    let answer = g.answer;
-    match answer {
-        FileAnswer::Given => {
-            let given = g.scope;
-            load(t, given);
-            let own = g.id;
-            set_own(t, own);
-            Tested::Good
-        },
-        FileAnswer::TooManyFiles => Tested::TooManyFiles,
-    }
+    let own = g.answer.map_err(|_| NO_NUMBER)?;
+    load(t, g.scope);
+    set_own(t, own.id);
+    Ok(())
 }
 
 // The first pass, held to its buffer.
-fn first_pass(tree: &[u8], t: &mut [u64], work: &mut [u8]) -> Passed
+fn first_pass(tree: &[u8], t: &mut [u64], work: &mut [u8]) -> Result<usize, ExtractError>
     requires { Good t.old }
     ensures { Firsts tree.now t.old work.old t.new work.new result }
 {
-    match pass(tree, t, work) {
-        Step::Done(n) => if writer::finish(work, n) {
-            Passed::Fits(n)
-        } else {
-            Passed::NoRoom
-        },
-        Step::Refused(why, place) => Passed::Refused(why, place),
-    }
+    let n = pass(tree, t, work)?;
+    writer::finish(work, n)
+        .then_some(n)
+        .ok_or(ExtractError::NoRoom)
 }
 
-// The second pass, over the tree that the first one left, and the wrapping marks, held to its buffer.
-fn second_pass(work: &[u8], t: &mut [u64], out: &mut [u8]) -> Passed
+// The second pass, over the tree that the first one left, and the wrapping marks, held to its buffer. 'All of pass two: 0'
+fn second_pass(work: &[u8], t: &mut [u64], out: &mut [u8]) -> Result<usize, ExtractError>
     requires { Good t.old }
     ensures { Seconds t.old work.now out.old t.new out.new result }
 {
     set_second(t);
-    match pass(work, t, out) {
-        Step::Done(n) => match wrap(t) {
-            Effect::Fine => if writer::finish(out, n) {
-                Passed::Fits(n)
-            } else {
-                Passed::NoRoom
-            },
-            Effect::Refused(why, place) => Passed::Refused(why, place),
-        },
-        Step::Refused(why, place) => Passed::Refused(why, place),
-    }
+    let n = pass(work, t, out).map_err(|turned| Refusal { place: 0, ..turned })?;
+    wrap(t)?;
+    writer::finish(out, n)
+        .then_some(n)
+        .ok_or(ExtractError::NoRoom)
 }
 
 // 'At the end forced sources get the wrapping mark if they resolve.'
@@ -279,12 +239,10 @@ fn wrap(t: &mut [u64]) -> Effect
 {
     let mut i = 0;
     while i < count_forced(t) {
-        match wrap_source(forced_at(t, i), t) {
-            Effect::Fine => i += 1,
-            Effect::Refused(why, place) => return Effect::Refused(why, place),
-        }
+        wrap_source(forced_at(t, i), t)?;
+        i += 1;
     }
-    Effect::Fine
+    Ok(())
 }
 
 // The module of a forced source gets the wrapping mark.
@@ -292,14 +250,10 @@ fn wrap_source(source: Atom, t: &mut [u64]) -> Effect
     requires { Good t.old }
     ensures { Effects Anywhere (λ x. wrap_one x.setting (two_of source.0)) t.old t.new result }
 {
-    match module_for(t, source) {
-        Module::Is(id) => {
-            mark_wrapping(t, id);
-            Effect::Fine
-        },
-        Module::Unresolved => Effect::Fine,
-        Module::TooMany => Effect::Refused(Why::TooManyFiles, 0),
+    if let Some(id) = module_for(t, source).map_err(|_| NO_NUMBER)? {
+        set_mark(t, id, Mark::Wrapping);
     }
+    Ok(())
 }
 
 // The records, held to their buffer: whether they fit.

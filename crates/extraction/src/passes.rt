@@ -11,7 +11,6 @@ use state::rest::set_top;
 use state::setting::is_second;
 use steps::{Step, end_field};
 use tree::access::extent;
-use tree::layout::Reach;
 use walking::walk;
 
 // Where the items of a module start.
@@ -25,7 +24,7 @@ pub fn pass(s: &[u8], t: &mut [u64], out: &mut [u8]) -> Step
         out.new result }
 {
     if s.len() < START {
-        return Step::Done(0);
+        return Ok(0);
     }
     let content = writer::open_field(out, 0, 0x01);
     set_top(t, true);
@@ -42,18 +41,11 @@ fn items(s: &[u8], from: usize, end: usize, t: &mut [u64], out: &mut [u8], o: us
 {
     let mut at = from;
     let mut to = o;
-    loop {
-        let Reach::Upto(stop) = extent(s, at, end) else {
-            return Step::Done(to);
-        };
-        match item(s, at, stop, t, out, to) {
-            Step::Done(p) => {
-                to = p;
-                at = stop;
-            },
-            Step::Refused(why, place) => return Step::Refused(why, place),
-        }
+    while let Some(stop) = extent(s, at, end) {
+        to = item(s, at, stop, t, out, to)?;
+        at = stop;
     }
+    Ok(to)
 }
 
 // The item at `at` up to stop: 'drop module items 40, and module items 41 without 42'.
@@ -65,10 +57,10 @@ fn item(s: &[u8], at: usize, stop: usize, t: &mut [u64], out: &mut [u8], o: usiz
 {
     match s[at] {
         0x10 => import(s, at, stop, t, out, o),
-        0x40 => Step::Done(o),
+        0x40 => Ok(o),
         0x41 => match extent(s, at + 3, stop) {
-            Reach::Upto(_) => walk(s, at, stop, false, t, out, o),
-            Reach::Short => Step::Done(o),
+            Some(_) => walk(s, at, stop, false, t, out, o),
+            None => Ok(o),
         },
         _ => walk(s, at, stop, false, t, out, o),
     }

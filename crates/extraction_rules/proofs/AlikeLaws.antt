@@ -1,11 +1,11 @@
 -- What the first pass does to a tree behind the imports: tags and shape stay, and bytes change only behind a 23's original and in
 -- callees named require.
+use Rattle.std.specs.Prelude.{None, Some}
 use Prim.Native.Nat.{ℕ, ◌+◌, ◌≤◌}
 use mathlib.Core.Path.{◌≡◌, refl, sym, ap, subst, ◌∙◌}
 use mathlib.Core.Logic.{◌⊎◌, inl, inr}
 use mathlib.Core.Bool.{Bool, true, false, cond, ◌&&◌, ◌||◌}
 use mathlib.Core.List.{List, [], ◌∷◌, ◌++◌}
-use mathlib.Core.Option.{none as nothing, some}
 use native.Mathlib.Omega.{arith}
 use lib.Dec.{eqb}
 use lib.ListN.{length, take, get_or, length-take}
@@ -109,11 +109,11 @@ same-trans t x y z (callee j q m u) (callee k r n v) = callee j q n v
 
 -- ---- A callee in another context
 
-pub required-named : (e : Setting) (t : ℕ) (x : List ℕ) (c : Field) (gs : Fields) (l : List ℕ) → required e (field t x (more c gs)) ≡ some l → name_of (fixed_of c) ≡ two require_atom
+pub required-named : (e : Setting) (t : ℕ) (x : List ℕ) (c : Field) (gs : Fields) (l : List ℕ) → required e (field t x (more c gs)) ≡ Some l → name_of (fixed_of c) ≡ two require_atom
 unfolding required
 required-named e t x c gs l q = go (e.config.require && eqb t 0x65 && has 0x60 c) (same (name_of (fixed_of c)) (two require_atom)) refl q
   where
-    go : (a b : Bool) → same (name_of (fixed_of c)) (two require_atom) ≡ b → cond (a && b) (not_external e (argument (sole gs))) nothing ≡ some l → name_of (fixed_of c) ≡ two require_atom
+    go : (a b : Bool) → same (name_of (fixed_of c)) (two require_atom) ≡ b → cond (a && b) (not_external e (argument (sole gs))) None ≡ Some l → name_of (fixed_of c) ≡ two require_atom
     go true true w q = same-equal (name_of (fixed_of c)) (two require_atom) w
     go true false w q = absurd (let z : ◌≡◌ {A = ℕ} 0 1 = cc in omega arith)
     go false b w q = absurd (let z : ◌≡◌ {A = ℕ} 0 1 = cc in omega arith)
@@ -123,7 +123,7 @@ callee-bytes t x y n (equal q) k h = callee k (ap name_of (sym q) ∙ h) n (ap (
 callee-bytes t x y n (behind q r) k h = absurd (let w : 0x23 ≡ 0x60 = sym q ∙ k in omega arith)
 callee-bytes t x y n (callee a b m c) k h = callee a b n (ap (λ (v : List ℕ). v ++ four (export n)) h)
 
-pub alike-callee : (e : Setting) (n : ℕ) (f g : Field) (l : List ℕ) → required e g ≡ some l → Alike f g → Alike f (with_callee n g)
+pub alike-callee : (e : Setting) (n : ℕ) (f g : Field) (l : List ℕ) → required e g ≡ Some l → Alike f g → Alike f (with_callee n g)
 unfolding with_callee
 alike-callee e n f (field t x none) l q h = h
 alike-callee e n (field k y none) (field t x (more c gs)) l q h = alike-none c gs h.2
@@ -150,7 +150,7 @@ module _ (e : Setting) (one : e.pass ≡ first) where
   declarator-alike : (cs ds : Fields) (p : ℕ) (s : State) → AlikeAll cs ds → After (declarator e ds p s) (λ gs s. AlikeAll cs gs)
   declarator-alike cs ds p s h = declarator-value e (AlikeAll cs) ds p s h (λ q i rest n l w r. go cs q i rest n l r (subst (AlikeAll cs) w h))
     where
-      go : (cs : Fields) (q i : Field) (rest : Fields) (n : ℕ) (l : List ℕ) → required e i ≡ some l → AlikeAll cs (more q (more i rest)) →
+      go : (cs : Fields) (q i : Field) (rest : Fields) (n : ℕ) (l : List ℕ) → required e i ≡ Some l → AlikeAll cs (more q (more i rest)) →
           AlikeAll cs (more q (more (with_callee n i) rest))
       go none q i rest n l r h = alike-none q (more i rest) h
       go (more c none) q i rest n l r h = alike-none i rest (alike-more c none q (more i rest) h).1

@@ -1,4 +1,5 @@
 -- The fixed bytes of the fields that the rules read and write: how long they are, and that what is written is whole.
+use Rattle.std.specs.Prelude.{Option, None, Some}
 use Prim.Native.Nat.{ℕ, ◌+◌, ◌-◌, ◌≤◌, ◌<◌}
 use mathlib.Core.Path.{◌≡◌, refl, ap, subst, ◌∙◌}
 use mathlib.Core.Bool.{Bool, true, false, cond}
@@ -9,11 +10,8 @@ use lib.ListN.{get_or-append, length, get_or, take, length-append}
 use lib.Seq.{length-slice, length-take-le, get_or_at, get_or-take}
 use borrow.Author.Tests.{ltb-true, le-leb, le-ltb, eqb-true}
 use Rattle.scope.specs.Id.{export}
-use Rattle.tree.specs.declared.layout.Reach.{Reach}
-use Rattle.tree.specs.declared.layout.Reach.TheVariants.{Upto, Short}
 use Rattle.tree.specs.declared.grammar.Value.TheVariants.{Id, Atom}
 use Rattle.tree.specs.declared.grammar.Piece.TheVariants.{Outside, Original}
-use Rattle.tree.specs.declared.access.Choice.TheVariants.{Take, Bad}
 use Rattle.tree.specs.Layout.{skip_at, four, id_at, atom_at, name_of}
 use Rattle.tree.specs.Grammar.{pieces_of}
 use Rattle.tree.specs.Access.{value_at, kinds, choice_of, on_choice, kind_at, key_at, piece_at, then_piece, fixed_at}
@@ -27,20 +25,20 @@ use Rattle.extraction_rules.specs.First.{id_from, outside_name, exported_name}
 
 -- ---- Names inside and outside
 
-outside-is : (x : List ℕ) (b stop : ℕ) → kind_at x Outside b stop ≡ Upto stop → (b < stop) × (get_or x b 0 ≡ 1 → stop ≡ b + 7)
+outside-is : (x : List ℕ) (b stop : ℕ) → kind_at x Outside b stop ≡ Some stop → (b < stop) × (get_or x b 0 ≡ 1 → stop ≡ b + 7)
 unfolding kind_at choice_of kinds on_choice value_at
 outside-is x b stop e = go (ltb b stop) refl e
   where
-    go : (c : Bool) → ltb b stop ≡ c → cond c (on_choice (choice_of Outside (get_or x b 0)) (b + 1) stop) Short ≡ Upto stop →
+    go : (c : Bool) → ltb b stop ≡ c → cond c (on_choice (choice_of Outside (get_or x b 0)) (b + 1) stop) None ≡ Some stop →
         (b < stop) × (get_or x b 0 ≡ 1 → stop ≡ b + 7)
     go true w e = (ltb-true b stop w, λ q. let z = skip-ends (b + 1) 6 stop stop (rw q at e) in omega arith)
     go false w e = absurd (no-upto e)
 
-then-outside : (x : List ℕ) (n : ℕ) (r : Reach) → skip_at 0 n (length x) ≡ r → then_piece r x Outside (length x) ≡ Upto (length x) →
+then-outside : (x : List ℕ) (n : ℕ) (r : Option ℕ) → skip_at 0 n (length x) ≡ r → then_piece r x Outside (length x) ≡ Some (length x) →
     (n < length x) × (get_or x n 0 ≡ 1 → length x ≡ n + 7)
 unfolding then_piece piece_at
-then-outside x n Short w e = absurd (no-upto e)
-then-outside x n (Upto b) w e =
+then-outside x n None w e = absurd (no-upto e)
+then-outside x n (Some b) w e =
     let q : b ≡ n = skip-ends 0 n (length x) b w ∙ omega arith in
     subst (λ (k : ℕ). (k < length x) × (get_or x k 0 ≡ 1 → length x ≡ k + 7)) q (outside-is x b (length x) e)
 
@@ -60,26 +58,26 @@ pub exact-23 : (x : List ℕ) → length x ≡ 14 → get_or x 0 0 ≡ 1 → get
 unfolding fixed_at piece_at value_at pieces_of skip_at then_piece kind_at choice_of kinds on_choice
 exact-23 x e k j = rw (e, k, j)
 
-original-is : (x : List ℕ) (stop b : ℕ) → kind_at x Original 0 stop ≡ Upto b → eqb (get_or x 0 0) 2 ≡ false → (get_or x 0 0 ≡ 1) × (b ≡ 7)
+original-is : (x : List ℕ) (stop b : ℕ) → kind_at x Original 0 stop ≡ Some b → eqb (get_or x 0 0) 2 ≡ false → (get_or x 0 0 ≡ 1) × (b ≡ 7)
 unfolding kind_at choice_of kinds on_choice value_at
 original-is x stop b e n = go (ltb 0 stop) e
   where
-    kind : (c d : Bool) → eqb (get_or x 0 0) 1 ≡ c → d ≡ false → on_choice (cond c (Take Id) (cond d (Take Atom) Bad)) (0 + 1) stop ≡ Upto b →
+    kind : (c d : Bool) → eqb (get_or x 0 0) 1 ≡ c → d ≡ false → on_choice (cond c (Some Id) (cond d (Some Atom) None)) (0 + 1) stop ≡ Some b →
         (get_or x 0 0 ≡ 1) × (b ≡ 7)
     kind true d w q e = (eqb-true (get_or x 0 0) 1 w, let z = skip-ends 1 6 stop b e in omega arith)
     kind false false w q e = absurd (no-upto e)
     kind false true w q e = absurd (let z : ◌≡◌ {A = ℕ} 0 1 = cc in omega arith)
 
-    go : (c : Bool) → cond c (on_choice (choice_of Original (get_or x 0 0)) (0 + 1) stop) Short ≡ Upto b → (get_or x 0 0 ≡ 1) × (b ≡ 7)
+    go : (c : Bool) → cond c (on_choice (choice_of Original (get_or x 0 0)) (0 + 1) stop) None ≡ Some b → (get_or x 0 0 ≡ 1) × (b ≡ 7)
     go true e = kind (eqb (get_or x 0 0) 1) (eqb (get_or x 0 0) 2) refl n e
     go false e = absurd (no-upto e)
 
-exported-is : (x : List ℕ) (r : Reach) → kind_at x Original 0 (length x) ≡ r → eqb (get_or x 0 0) 2 ≡ false →
-    then_piece r x Outside (length x) ≡ Upto (length x) →
+exported-is : (x : List ℕ) (r : Option ℕ) → kind_at x Original 0 (length x) ≡ r → eqb (get_or x 0 0) 2 ≡ false →
+    then_piece r x Outside (length x) ≡ Some (length x) →
     (get_or x 0 0 ≡ 1) × (7 < length x) × (get_or x 7 0 ≡ 1 → length x ≡ 14)
 unfolding then_piece piece_at
-exported-is x Short w n e = absurd (no-upto e)
-exported-is x (Upto b) w n e =
+exported-is x None w n e = absurd (no-upto e)
+exported-is x (Some b) w n e =
     let o = original-is x (length x) b w n in
     let q = subst (λ (k : ℕ). (k < length x) × (get_or x k 0 ≡ 1 → length x ≡ k + 7)) o.1 (outside-is x b (length x) e) in
     (o.0, q.0, q.1)
@@ -144,7 +142,7 @@ key-exact x a b c d =
     let a' : 3 ≤ length x - 0 = omega arith in
     let z : length x + 0 ≡ length x = omega arith in
     rw (le-ltb (length x - 0) 3 a', le-ltb 1 (get_or x 0 0) b, le-ltb 1 (get_or x 1 0) c, le-leb (get_or x 2 0) (length x - 3) d)
-    (ap (λ (b : Bool). cond b (Upto (length x + 0)) Short) (le-leb 0 (length x - length x) (omega arith)) ∙ ap Upto z)
+    (ap (λ (b : Bool). cond b (Some (length x + 0)) None) (le-leb 0 (length x - length x) (omega arith)) ∙ ap Some z)
 
 pub attribute-exact : (c : ℕ) → Exact 0x30 (fixed_of (context_attribute c))
 unfolding context_attribute

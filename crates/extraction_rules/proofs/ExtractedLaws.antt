@@ -1,9 +1,9 @@
 -- What an accepted call is made of: the two passes that it ran, and what the second pass's end left.
+use Rattle.std.specs.Prelude.{Option, None, Some}
 use Prim.Native.Nat.{ℕ}
 use mathlib.Core.Path.{◌≡◌, refl, sym, ap, ◌∙◌, subst}
 use mathlib.Core.Bool.{true}
 use mathlib.Core.List.{List, [], ◌∷◌, map}
-use mathlib.Core.Option.{Option, none as nothing, some}
 use Rattle.scope.specs.Modules.{Modules, number_of, request}
 use Rattle.tree.specs.declared.grammar.Set.TheVariants.{Module}
 use Rattle.tree.specs.Tree.{Fields, size}
@@ -61,16 +61,16 @@ passes-done l room rows items own r e =
       given = done-inj f.2;
     }
 
-own-done : (o : Option (ℕ × Modules)) (r : ℕ × Modules) → own_module o ≡ done r → o ≡ some r
-own-done nothing r e = done-refused e
-own-done (some q) r e = ap some (done-inj e)
+own-done : (o : Option (ℕ × Modules)) (r : ℕ × Modules) → own_module o ≡ done r → o ≡ Some r
+own-done None r e = done-refused e
+own-done (Some q) r e = ap Some (done-inj e)
 
 -- the items that the call read, its own module, and its passes
 pub record Made (l : Lent) (room : Lengths) (ms : Modules) (r : Extracted) : Type 0 where
   pub items : Fields
   pub reads : items_read (read Module l.tree) ≡ done items
   pub own : ℕ × Modules
-  pub requests : request l.file ms ≡ some own
+  pub requests : request l.file ms ≡ Some own
   pub run : Run l room (rows_in l.table) own.0 items own.1 r
 
 pub call-made : (l : Lent) (room : Lengths) (ms : Modules) (r : Extracted) → extracted l room ms ≡ done r → Made l room ms r
@@ -90,7 +90,7 @@ call-made l room ms r e =
 
 -- the same for items and a module that are known
 pub call-run : (l : Lent) (room : Lengths) (ms : Modules) (r : Extracted) (items : Fields) (own : ℕ × Modules) → extracted l room ms ≡ done r →
-    items_read (read Module l.tree) ≡ done items → request l.file ms ≡ some own → Run l room (rows_in l.table) own.0 items own.1 r
+    items_read (read Module l.tree) ≡ done items → request l.file ms ≡ Some own → Run l room (rows_in l.table) own.0 items own.1 r
 call-run l room ms r items own e p q =
     let m = call-made l room ms r e in
     let i : m.items ≡ items = done-inj (sym m.reads ∙ p) in
@@ -125,7 +125,7 @@ Finished s t =
     (t.collected ≡ map (lose_namespaces s.forced) s.collected)
     × (t.forced ≡ s.forced)
     × (t.lazy ≡ s.lazy)
-    × ((f n : ℕ) → number_of f s.modules ≡ some n → number_of f t.modules ≡ some n)
+    × ((f n : ℕ) → number_of f s.modules ≡ Some n → number_of f t.modules ≡ Some n)
 
 -- what holds after a step for each b
 after-each : {A B : Type 0} (m : Outcome (A × State)) (P : B → A → State → Type 0) → ((b : B) → After m (P b)) → After m (λ a s. (b : B) → P b a s)
@@ -140,8 +140,8 @@ module _ (e : Setting) where
 
   wrap_module-untouched : (o : Option ℕ) (s : State) → After (wrap_module o s) (λ n t. Untouched s t)
   unfolding wrap_module
-  wrap_module-untouched nothing s = (refl, refl, refl)
-  wrap_module-untouched (some n) s = (refl, refl, refl)
+  wrap_module-untouched None s = (refl, refl, refl)
+  wrap_module-untouched (Some n) s = (refl, refl, refl)
 
   untouched-next : (s t u : State) → Untouched s t → Untouched t u → Untouched s u
   untouched-next s t u h k = (k.0 ∙ h.0, k.1 ∙ h.1, k.2 ∙ h.2)
@@ -161,19 +161,19 @@ module _ (e : Setting) where
       (wrap_all-untouched s.forced s s (refl, refl, refl)) λ _ t h. (rw (h.0, h.1), h.1, h.2)
 
   -- numbers that were given stay
-  finish-numbers : (s : State) → After (finish e s) (λ _ t. (k : (f : ℕ) × (n : ℕ) × (number_of f s.modules ≡ some n)) → number_of k.0 t.modules ≡ some k.1)
+  finish-numbers : (s : State) → After (finish e s) (λ _ t. (k : (f : ℕ) × (n : ℕ) × (number_of f s.modules ≡ Some n)) → number_of k.0 t.modules ≡ Some k.1)
   finish-numbers s =
-      after-each (finish e s) (λ k _ t. number_of k.0 t.modules ≡ some k.1)
+      after-each (finish e s) (λ k _ t. number_of k.0 t.modules ≡ Some k.1)
       (λ k. finish-keeps e (Numbered k.0 k.1) (numbered-steps e (λ _. Unit {0}) k.0 k.1).common.requires (numbered-end k.0 k.1) s k.2)
 
   pub finish-leaves : (s : State) → After (finish e s) (λ _ t. Finished s t)
   finish-leaves s =
       after-weaken (finish e s)
       (λ _ t. ((t.collected ≡ map (lose_namespaces s.forced) s.collected) × (t.forced ≡ s.forced) × (t.lazy ≡ s.lazy))
-      × ((k : (f : ℕ) × (n : ℕ) × (number_of f s.modules ≡ some n)) → number_of k.0 t.modules ≡ some k.1)) (λ _ t. Finished s t)
+      × ((k : (f : ℕ) × (n : ℕ) × (number_of f s.modules ≡ Some n)) → number_of k.0 t.modules ≡ Some k.1)) (λ _ t. Finished s t)
       (λ _ t h. (h.0.0, h.0.1, h.0.2, λ f n w. h.1 (f, n, w)))
       (after-both (finish e s) (λ _ t. (t.collected ≡ map (lose_namespaces s.forced) s.collected) × (t.forced ≡ s.forced) × (t.lazy ≡ s.lazy))
-      (λ _ t. (k : (f : ℕ) × (n : ℕ) × (number_of f s.modules ≡ some n)) → number_of k.0 t.modules ≡ some k.1) (finish-records s) (finish-numbers s))
+      (λ _ t. (k : (f : ℕ) × (n : ℕ) × (number_of f s.modules ≡ Some n)) → number_of k.0 t.modules ≡ Some k.1) (finish-records s) (finish-numbers s))
 
   -- the second pass is a walk, then its end
   pub again-done : (items : Fields) (s : State) (r : Fields × State) → walk_again e items s ≡ done r →

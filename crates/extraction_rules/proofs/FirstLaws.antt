@@ -1,9 +1,9 @@
 -- What forcing, collecting and noting do to the tables.
+use Rattle.std.specs.Prelude.{Option, None, Some}
 use Prim.Native.Nat.{ℕ}
 use mathlib.Core.Path.{◌≡◌, refl, sym, ap, ◌∙◌}
 use mathlib.Core.Bool.{Bool, true, false, not, cond, ◌||◌}
 use mathlib.Core.List.{List, [], ◌∷◌, ◌++◌, map}
-use mathlib.Core.Option.{Option, none as nothing, some}
 use native.Mathlib.Omega.{arith}
 use Rattle.tree.specs.Layout.{same, value_of, same_literal}
 use Rattle.metadata.specs.Metadata.{append}
@@ -30,14 +30,14 @@ source-cases a s Q h k = go (among a s.forced) refl
 
 -- an id is forgotten, and the source of the record that holds it, if there is one, is forced
 pub force-cases : (i : List ℕ) (s : State) (Q : State → Type 0) → Q (forget i s) →
-    ((r : Record) → find (holds_namespace i) s.collected ≡ some r → Q
+    ((r : Record) → find (holds_namespace i) s.collected ≡ Some r → Q
     (set_forced (s.forced ++ (value_of r.literal ∷ [])) (forget i s))) → Q (force_id i s)
 unfolding force_id forget
 force-cases i s Q h k = go (find (holds_namespace i) s.collected) refl
   where
     go : (o : Option Record) → find (holds_namespace i) s.collected ≡ o → Q (force_holder o (forget i s))
-    go nothing e = h
-    go (some r) e = source-cases (value_of r.literal) (forget i s) Q (λ _. h) (k r e)
+    go None e = h
+    go (Some r) e = source-cases (value_of r.literal) (forget i s) Q (λ _. h) (k r e)
 
 -- ---- Records
 
@@ -109,7 +109,7 @@ map-sources f [] h = refl
 map-sources f (r ∷ l) h = rw (h r, map-sources f l h)
 
 -- the source of a collected record is among the sources
-pub found-among : (t : Record → Bool) (l : List Record) (r : Record) → find t l ≡ some r → among (value_of r.literal) (sources_of l) ≡ true
+pub found-among : (t : Record → Bool) (l : List Record) (r : Record) → find t l ≡ Some r → among (value_of r.literal) (sources_of l) ≡ true
 unfolding find among
 found-among t [] r e = absurd (let z : ◌≡◌ {A = ℕ} 0 1 = cc in omega arith)
 found-among t (q ∷ l) r e = go (t q) e (found-among t l r)
@@ -118,7 +118,7 @@ found-among t (q ∷ l) r e = go (t q) e (found-among t l r)
     later true h = refl
     later false h = h
 
-    go : (b : Bool) → cond b (some q) (find t l) ≡ some r → (find t l ≡ some r → among (value_of r.literal) (sources_of l) ≡ true) →
+    go : (b : Bool) → cond b (Some q) (find t l) ≡ Some r → (find t l ≡ Some r → among (value_of r.literal) (sources_of l) ≡ true) →
         same (value_of r.literal) (value_of q.literal) || among (value_of r.literal) (sources_of l) ≡ true
     go true e k = let w : q ≡ r = cc in rw (w, same-refl (value_of r.literal))
     go false e k = later (same (value_of r.literal) (value_of q.literal)) (k e)
@@ -127,11 +127,11 @@ found-among t (q ∷ l) r e = go (t q) e (found-among t l r)
 
 -- an id is imported
 abbrev pub IsImported : List ℕ → List Imported → Type 0
-IsImported i l = (c : List ℕ) × (imported_as i l ≡ some c)
+IsImported i l = (c : List ℕ) × (imported_as i l ≡ Some c)
 
-imported-step : (i : List ℕ) (m : Imported) (l : List Imported) → imported_as i (m ∷ l) ≡ cond (same m.id i) (some m.context) (imported_as i l)
+imported-step : (i : List ℕ) (m : Imported) (l : List Imported) → imported_as i (m ∷ l) ≡ cond (same m.id i) (Some m.context) (imported_as i l)
 unfolding imported_as find
-imported-step i m l = cond-of (mapped (λ (k : Imported). k.context)) (same m.id i) (some m) (find (λ (k : Imported). same k.id i) l)
+imported-step i m l = cond-of (mapped (λ (k : Imported). k.context)) (same m.id i) (Some m) (find (λ (k : Imported). same k.id i) l)
 
 none-imported : (i : List ℕ) → IsImported i [] → ⊥
 unfolding imported_as find

@@ -1,9 +1,9 @@
 -- The first pass leaves a tree whose imports are known: the source of each 10 that a walk comes to is external or collected.
+use Rattle.std.specs.Prelude.{Some}
 use Prim.Native.Nat.{ℕ, ◌+◌}
 use mathlib.Core.Path.{◌≡◌, refl, sym, subst, ◌∙◌}
 use mathlib.Core.Bool.{Bool, true, false, cond, ◌||◌, true≢false}
 use mathlib.Core.List.{List}
-use mathlib.Core.Option.{some}
 use native.Mathlib.Omega.{arith}
 use lib.Dec.{eqb, leb}
 use lib.ListN.{get_or, length}
@@ -84,7 +84,7 @@ unfolding parts_for
 call-imports c gs x y P q h = (λ r. absurd (omega arith), (callee-imports c y P q h.0, h.1))
 
 with_callee-imports : (e : Setting) (n t : ℕ) (x : List ℕ) (cs : Fields) (l : List ℕ) (P : List ℕ → Type 0) →
-    required e (field t x cs) ≡ some l → ImportsParts (parts_for t) cs P →
+    required e (field t x cs) ≡ Some l → ImportsParts (parts_for t) cs P →
     Imports (with_callee n (field t x cs)) P
 unfolding with_callee required
 with_callee-imports e n t x none l P w h = absurd (let z : ◌≡◌ {A = ℕ} 0 1 = cc in omega arith)
@@ -150,10 +150,10 @@ module _ (e : Setting) (k : e.pass ≡ first) where
       (declarator-value e (λ ds. Imports (field 0x42 x ds) P) cs p s (λ r. absurd (omega arith), rw q at h)
       (λ a i rest n l w v. (λ r. absurd (omega arith), initialised a i rest n l v (subst (λ (ds : Fields). ImportsAll ds P) w (rw q at h)))))
     where
-      initial : (i : Field) (n : ℕ) (l : List ℕ) → required e i ≡ some l → Imports i P → Imports (with_callee n i) P
+      initial : (i : Field) (n : ℕ) (l : List ℕ) → required e i ≡ Some l → Imports i P → Imports (with_callee n i) P
       initial (field t x cs) n l v h = with_callee-imports e n t x cs l P v h.1
 
-      initialised : (a i : Field) (rest : Fields) (n : ℕ) (l : List ℕ) → required e i ≡ some l → ImportsAll (more a (more i rest)) P →
+      initialised : (a i : Field) (rest : Fields) (n : ℕ) (l : List ℕ) → required e i ≡ Some l → ImportsAll (more a (more i rest)) P →
           ImportsAll (more a (more (with_callee n i) rest)) P
       initialised a i rest n l v h = (h.0, (initial i n l v h.1.0, h.1.1))
 

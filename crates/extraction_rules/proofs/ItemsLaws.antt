@@ -1,10 +1,10 @@
 -- What the steps of the first pass behind the imports keep, the walk keeps: as WalkLaws, with what is known of each usage.
+use Rattle.std.specs.Prelude.{Option, None, Some}
 use Prim.Native.Nat.{ℕ, ◌+◌}
 use mathlib.Core.Path.{◌≡◌, refl, sym, ap, subst, ◌∙◌}
 use mathlib.Core.Logic.{◌⊎◌, inl, inr}
 use mathlib.Core.Bool.{Bool, true, false, not, cond, ◌&&◌, true≢false}
 use mathlib.Core.List.{List, [], ◌∷◌, ◌++◌}
-use mathlib.Core.Option.{Option, none as nothing, some}
 use native.Mathlib.Omega.{arith}
 use lib.Dec.{eqb}
 use lib.ListN.{length}
@@ -30,7 +30,7 @@ pub record ItemSteps (e : Setting) (J : State → Type 0) : Type 0 where
   pub common : CommonSteps e J
   pub on_empty : EmptyKeeps e J
   -- a usage of the id j: the property p in an export context, and the record that was found
-  pub on_usage : (s : State) (j p : List ℕ) (n : ℕ) (r : Record) → used_record e.own j s.collected ≡ some r → length p ≡ 2 → J s →
+  pub on_usage : (s : State) (j p : List ℕ) (n : ℕ) (r : Record) → used_record e.own j s.collected ≡ Some r → length p ≡ 2 → J s →
       J (set_usages (s.usages ++ (record { id = j; property = id_from p (export n) } ∷ [])) s)
 
 module _ (e : Setting) (J : State → Type 0) (steps : ItemSteps e J) where
@@ -43,11 +43,11 @@ module _ (e : Setting) (J : State → Type 0) (steps : ItemSteps e J) where
   two_bytes q (inr (inl k), w) a b = absurd (true≢false (sym (ap (λ (m : ℕ). eqb m 0x71) k) ∙ a))
   two_bytes q (inr (inr k), w) a b = absurd (true≢false (sym (ap (λ (m : ℕ). eqb m 0x72) k) ∙ b))
 
-  property-keeps : (o : Option ℕ) (j : List ℕ) (q : Field) (at p : ℕ) (s : State) (r : Record) → used_record e.own j s.collected ≡ some r →
+  property-keeps : (o : Option ℕ) (j : List ℕ) (q : Field) (at p : ℕ) (s : State) (r : Record) → used_record e.own j s.collected ≡ Some r →
       Member q → has 0x71 q ≡ false → J s → Keeps J (use_property o j q at p s)
   unfolding use_property
-  property-keeps nothing j q at p s r w m a h = h
-  property-keeps (some n) j q at p s r w m a h =
+  property-keeps None j q at p s r w m a h = h
+  property-keeps (Some n) j q at p s r w m a h =
       let u : Usage = record { id = j; property = id_from (fixed_of q) (export n) } in
       after-if (has 0x72 q) (refuse 7 at) (add_usage u p) s (λ r s. J s) (λ _. tt)
       (λ b. add_usage-keeps J u p s (steps.on_usage s j (fixed_of q) n r w (two_bytes q m a b) h))
@@ -55,8 +55,8 @@ module _ (e : Setting) (J : State → Type 0) (steps : ItemSteps e J) where
   from-keeps : (o : Option Record) (j : List ℕ) (q : Field) (at p : ℕ) (s : State) → used_record e.own j s.collected ≡ o → Member q →
       has 0x71 q ≡ false → J s → Keeps J (use_from o e j q at p s)
   unfolding use_from
-  from-keeps nothing j q at p s w m a h = h
-  from-keeps (some r) j q at p s w m a h =
+  from-keeps None j q at p s w m a h = h
+  from-keeps (Some r) j q at p s w m a h =
       after-bind (module_for e (value_of r.literal) p s) _ (λ n t. J t × (t ≡ set_modules t.modules s)) (λ r s. J s)
       (after-both (module_for e (value_of r.literal) p s) (λ n t. J t) (λ n t. t ≡ set_modules t.modules s)
       (module_for-keeps e J steps.common.requires (value_of r.literal) p s h) (module_for-stays e (value_of r.literal) p s)) λ n t k.
@@ -64,8 +64,8 @@ module _ (e : Setting) (J : State → Type 0) (steps : ItemSteps e J) where
 
   imported-keeps : (o : Option (List ℕ)) (j : List ℕ) (q : Field) (at p : ℕ) (s : State) → Member q → J s → Keeps J (use_imported o e j q at p s)
   unfolding use_imported
-  imported-keeps nothing j q at p s m h = h
-  imported-keeps (some k) j q at p s m h =
+  imported-keeps None j q at p s m h = h
+  imported-keeps (Some k) j q at p s m h =
       after-if (has 0x71 q) (change (force_id j)) _ s (λ r s. J s) (λ _. steps.common.on_force s j h) (λ a. from-keeps (used_record e.own j s.collected) j q at p s refl m a h)
 
   usage-pair : (t : ℕ) (x : List ℕ) (ds : Fields) (p : ℕ) (s : State) → (t ≡ 0x63 → Two ds × RegularAll ds) → J s → Keeps J (usage (on_ident (field t x ds)) e p s)
@@ -80,7 +80,7 @@ module _ (e : Setting) (J : State → Type 0) (steps : ItemSteps e J) where
           name : (q : Field) → Regular q → tag_of q ≡ 0x70 → length (fixed_of q) ≡ 2
           name (field t y ds) w = w.0.name_two
 
-      go : (a b : Bool) → eqb t 0x63 ≡ a → Keeps J (usage (cond (a && b) (some (o, q)) nothing) e p s)
+      go : (a b : Bool) → eqb t 0x63 ≡ a → Keeps J (usage (cond (a && b) (Some (o, q)) None) e p s)
       go true true r = imported-keeps (imported_as (fixed_of o) s.imported) (fixed_of o) q (p + 3 + size o) p s (member-of (w (eqb-true t 0x63 r))) h
       go true false r = h
       go false b r = h

@@ -1,8 +1,8 @@
 -- Fields that are kept by a test: those that meet it. So the specifiers of an import and its attributes are told apart.
+use Rattle.std.specs.Prelude.{Option, None, Some}
 use Prim.Native.Nat.{ℕ}
 use mathlib.Core.Path.{◌≡◌, refl, ap, ap₂, ◌∙◌, sym}
 use mathlib.Core.Bool.{Bool, true, false, not, cond}
-use mathlib.Core.Option.{Option, none as nothing, some}
 use Rattle.tree.specs.Tree.{Field, Fields, none, more, tag_of}
 use Rattle.metadata.specs.Metadata.{append, with_metadata}
 use Rattle.metadata.proofs.EncodeLaws.{append-none}
@@ -90,8 +90,8 @@ no-specifiers (more f fs) = go (has 0x2F f) refl (no-specifiers fs)
 
 pub no-context : (m : Option ℕ) (ds : Fields) → specifiers_in (with_context m ds) ≡ none
 unfolding keep with_context with_metadata
-no-context nothing ds = no-specifiers ds
-no-context (some n) ds = refl
+no-context None ds = no-specifiers ds
+no-context (Some n) ds = refl
 
 -- the attributes are no namespace
 pub keep-specifiers : (fs : Fields) → keep (has 0x22) (specifiers_in fs) ≡ keep (has 0x22) fs

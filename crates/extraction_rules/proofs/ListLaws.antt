@@ -1,9 +1,9 @@
 -- Searches in lists and in lists of byte runs.
+use Rattle.std.specs.Prelude.{Some}
 use Prim.Native.Nat.{ℕ}
 use mathlib.Core.Path.{◌≡◌, refl, sym, ap, subst, ◌∙◌}
 use mathlib.Core.Bool.{Bool, true, false, cond, ◌||◌, true≢false, or-false, or_assoc}
 use mathlib.Core.List.{List, [], ◌∷◌, ◌++◌, map}
-use mathlib.Core.Option.{some}
 use native.Mathlib.Omega.{arith}
 use Rattle.tree.specs.Layout.{same}
 use Rattle.tree.proofs.LayoutLaws.{same-refl, same-equal}
@@ -37,12 +37,12 @@ all-map P Q f [] k h = tt
 all-map P Q f (a ∷ l) k h = (k a h.0, all-map P Q f l k h.1)
 
 -- what is found meets P
-pub all-find : {A : Type 0} (P : A → Type 0) (t : A → Bool) (l : List A) (a : A) → All P l → find t l ≡ some a → P a
+pub all-find : {A : Type 0} (P : A → Type 0) (t : A → Bool) (l : List A) (a : A) → All P l → find t l ≡ Some a → P a
 unfolding find
 all-find P t [] a h e = absurd (let z : ◌≡◌ {A = ℕ} 0 1 = cc in omega arith)
 all-find P t (b ∷ l) a h e = go (t b) e (all-find P t l a h.1)
   where
-    go : (c : Bool) → cond c (some b) (find t l) ≡ some a → (find t l ≡ some a → P a) → P a
+    go : (c : Bool) → cond c (Some b) (find t l) ≡ Some a → (find t l ≡ Some a → P a) → P a
     go true e k = subst P (let q : b ≡ a = cc in q) h.0
     go false e k = k e
 

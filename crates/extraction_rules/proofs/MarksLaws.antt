@@ -1,11 +1,11 @@
 -- Wrapping marks through an extraction: an accepted one marks exactly the modules of its forced sources, which are what its 83s hold, and
 -- leaves all other wrapping marks. Document 01, 'Second pass': "At the end forced sources get the wrapping mark if they resolve".
+use Rattle.std.specs.Prelude.{Option, None, Some}
 use Prim.Native.Nat.{ℕ, ◌<◌}
 use native.Mathlib.Omega.{arith}
 use mathlib.Core.Path.{◌≡◌, refl, sym, ap, ◌∙◌, subst}
 use mathlib.Core.Bool.{Bool, true, false, cond, ◌||◌, or-true, or-false, or_assoc}
 use mathlib.Core.List.{List, [], ◌∷◌}
-use mathlib.Core.Option.{Option, none as nothing, some, bind, Option-elim}
 use lib.Dec.{eqb}
 use lib.ListN.{length}
 use borrow.Author.Tests.{eqb-true, eqb-false}
@@ -85,9 +85,9 @@ walk-unwrapped e items ms s h =
 -- from ms to ms' the modules of these sources get the wrapping mark, and numbers stay
 record Wrapped (rows : List Row) (l : List (List ℕ)) (ms ms' : Modules) : Type 0 where
   marks : (n : ℕ) → is_marked Wrapping n ms' ≡ is_marked Wrapping n ms || reaches n rows ms' l
-  stays : (f k : ℕ) → number_of f ms ≡ some k → number_of f ms' ≡ some k
+  stays : (f k : ℕ) → number_of f ms ≡ Some k → number_of f ms' ≡ Some k
 
-found-or : (b : Bool) (a : List ℕ) (o : Option (List ℕ)) → is_some (cond b (some a) o) ≡ b || is_some o
+found-or : (b : Bool) (a : List ℕ) (o : Option (List ℕ)) → is_some (cond b (Some a) o) ≡ b || is_some o
 found-or true a o = refl
 found-or false a o = refl
 
@@ -97,16 +97,14 @@ module _ (rows : List Row) (a : List ℕ) (l : List (List ℕ)) where
   unfolding find
   reaches-first n ms b e = found-or (is_module_of n rows ms a) a (find (is_module_of n rows ms) l) ∙ ap (λ (c : Bool). c || reaches n rows ms l) e
 
-  unresolved : (n : ℕ) (ms : Modules) → file_of a rows ≡ nothing → is_module_of n rows ms a ≡ false
-  unfolding Option-elim bind
+  unresolved : (n : ℕ) (ms : Modules) → file_of a rows ≡ None → is_module_of n rows ms a ≡ false
   unresolved n ms q = rw q
 
-  resolved-to : (n : ℕ) (ms : Modules) (f k : ℕ) → file_of a rows ≡ some f → number_of f ms ≡ some k → is_module_of n rows ms a ≡ eqb n k
-  unfolding Option-elim bind
+  resolved-to : (n : ℕ) (ms : Modules) (f k : ℕ) → file_of a rows ≡ Some f → number_of f ms ≡ Some k → is_module_of n rows ms a ≡ eqb n k
   resolved-to n ms f k q r = rw (q, r)
 
   -- the first does not resolve
-  wrap-none : (ms ms' : Modules) → file_of a rows ≡ nothing → Wrapped rows l ms ms' → Wrapped rows (a ∷ l) ms ms'
+  wrap-none : (ms ms' : Modules) → file_of a rows ≡ None → Wrapped rows l ms ms' → Wrapped rows (a ∷ l) ms ms'
   wrap-none ms ms' q w =
       record {
         marks = λ n. w.marks n ∙ ap (λ (b : Bool). is_marked Wrapping n ms || b) (sym (reaches-first n ms' false (unresolved n ms' q)));
@@ -114,11 +112,11 @@ module _ (rows : List Row) (a : List ℕ) (l : List (List ℕ)) where
       }
 
   -- the first is of the file f, which a request finds as module k
-  wrap-more : (f k : ℕ) (ms new ms' : Modules) → file_of a rows ≡ some f → request f ms ≡ some (k, new) →
+  wrap-more : (f k : ℕ) (ms new ms' : Modules) → file_of a rows ≡ Some f → request f ms ≡ Some (k, new) →
       Wrapped rows l (set_mark Wrapping k new) ms' → Wrapped rows (a ∷ l) ms ms'
   wrap-more f k ms new ms' q r w =
-      let here : number_of f new ≡ some k = request-numbers f ms r in
-      let there : number_of f ms' ≡ some k = w.stays f k (mark-keeps-numbers Wrapping k new f ∙ here) in
+      let here : number_of f new ≡ Some k = request-numbers f ms r in
+      let there : number_of f ms' ≡ Some k = w.stays f k (mark-keeps-numbers Wrapping k new f ∙ here) in
       record {
         marks = λ n.
             let rest = reaches n rows ms' l in
@@ -142,20 +140,20 @@ unfolding wrap_all module_for wrap_module find
 wrap_all-after e [] s = (refl, record { marks = λ n. sym (or-false (is_marked Wrapping n s.modules)); stays = λ f k h. h })
 wrap_all-after e (a ∷ l) s = named (file_of a e.table) refl (wrap_all-after e l)
   where
-    asked : (f : ℕ) (o : Option (ℕ × Modules)) → file_of a e.table ≡ some f → request f s.modules ≡ o → WrapsAll e l →
+    asked : (f : ℕ) (o : Option (ℕ × Modules)) → file_of a e.table ≡ Some f → request f s.modules ≡ o → WrapsAll e l →
         After (onto (requested o 0 s) (λ q. onto (wrap_module q.0 q.1) (λ q. wrap_all e l q.1))) (λ _ s'. WrappedAfter e (a ∷ l) s s')
-    asked f nothing q r rest = tt
-    asked f (some k) q r rest =
+    asked f None q r rest = tt
+    asked f (Some k) q r rest =
         let t : State = set_modules (set_mark Wrapping k.0 k.1) s in
         after-weaken (wrap_all e l t) (λ _ s'. WrappedAfter e l t s') (λ _ s'. WrappedAfter e (a ∷ l) s s')
         (λ _ s' w. (w.0, wrap-more e.table a l f k.0 s.modules k.1 s'.modules q r w.1)) (rest t)
 
     named : (o : Option ℕ) → file_of a e.table ≡ o → WrapsAll e l →
         After (onto (module_of o 0 s) (λ q. onto (wrap_module q.0 q.1) (λ q. wrap_all e l q.1))) (λ _ s'. WrappedAfter e (a ∷ l) s s')
-    named nothing q rest =
+    named None q rest =
         after-weaken (wrap_all e l s) (λ _ s'. WrappedAfter e l s s') (λ _ s'. WrappedAfter e (a ∷ l) s s')
         (λ _ s' w. (w.0, wrap-none e.table a l s.modules s'.modules q w.1)) (rest s)
-    named (some f) q rest = asked f (request f s.modules) q refl rest
+    named (Some f) q rest = asked f (request f s.modules) q refl rest
 
 -- ---- The whole call
 

@@ -1,4 +1,5 @@
 -- What a pass leaves can be read: *work* after the first, *out* after the second, whenever there is room for them.
+use Rattle.std.specs.Prelude.{Some}
 use Prim.Native.Nat.{ℕ, ◌≤◌, min}
 use mathlib.Core.Path.{◌≡◌, refl, ap, subst, ◌∙◌}
 use mathlib.Core.Bool.{Bool, true, false, cond}
@@ -9,7 +10,6 @@ use borrow.Author.Tests.{leb-true, eqb-true}
 use Rattle.scope.specs.Modules.{Modules}
 use Rattle.tree.specs.declared.grammar.Set.TheVariants.{Module, Item}
 use Rattle.tree.specs.declared.grammar.Rule.{Rule}
-use Rattle.tree.specs.declared.grammar.Step.TheVariants.{Go}
 use Rattle.tree.specs.Layout.{skip_at, Bytes}
 use Rattle.tree.specs.Tree.{Field, field, Fields, none, more, tag_of, parts_of, size, encode, depths}
 use Rattle.tree.specs.Grammar.{within, holds_at, pieces_of, rule_of, step_at}
@@ -39,7 +39,7 @@ use Rattle.extraction_rules.proofs.ResultLaws.{Results, Widths, widths-common}
 -- ---- A module's items
 
 -- each item of a module, and the module's rule behind it
-pub item-step : (t : ℕ) (q : Rule) → step_at (rule_of 0x01) t ≡ Go q → (holds_at Item t ≡ true) × (q ≡ rule_of 0x01)
+pub item-step : (t : ℕ) (q : Rule) → step_at (rule_of 0x01) t ≡ Some q → (holds_at Item t ≡ true) × (q ≡ rule_of 0x01)
 unfolding rule_of within
 item-step t q e = only-step Item t q e
 
@@ -50,7 +50,7 @@ keep-shaped t none h = h
 keep-shaped t (more f fs) h = go (t f) (keep-shaped t fs (subst (ShapedAll fs) (item-step (tag_of f) h.0 h.1).1 h.3))
   where
     go : (b : Bool) → ShapedAll (keep t fs) (rule_of 0x01) → ShapedAll (cond b (more f (keep t fs)) (keep t fs)) (rule_of 0x01)
-    go true r = (rule_of 0x01, h.1 ∙ ap Go (item-step (tag_of f) h.0 h.1).1, h.2, r)
+    go true r = (rule_of 0x01, h.1 ∙ ap Some (item-step (tag_of f) h.0 h.1).1, h.2, r)
     go false r = r
 
 keep-deep : (t : Field → Bool) (fs : Fields) (k : ℕ) → depths fs ≤ k → depths (keep t fs) ≤ k
@@ -189,7 +189,7 @@ read-items s bs = go (read Module s) refl
         let v = w.1 in
         let q : w.0 ≡ f = cc in
         subst (λ (g : Field). Items (parts_of g)) q (module-items w.0 w.2)
-    go (unread w p) e = tt
+    go u e = tt
 
 -- *work* and *out* of an accepted call can be read
 abbrev pub Readable : Field → Type 0

@@ -1,10 +1,10 @@
 -- Whole records: literals of six bytes, specifiers within the grammar, forced values of two bytes. What the tree gives is whole, and
 -- collecting, extending and losing namespaces keep it so.
+use Rattle.std.specs.Prelude.{Option, None, Some}
 use Prim.Native.Nat.{ℕ}
 use mathlib.Core.Path.{◌≡◌, refl, sym, ap, subst, ◌∙◌}
 use mathlib.Core.Bool.{Bool, true, false, not, cond, ◌&&◌, ◌||◌}
 use mathlib.Core.List.{List, [], ◌∷◌, ◌++◌}
-use mathlib.Core.Option.{Option, none as nothing, some}
 use native.Mathlib.Omega.{arith}
 use lib.Dec.{eqb}
 use lib.ListN.{length}
@@ -105,7 +105,7 @@ mutual
   bindings_first-whole (more f fs) q h = bindings-whole f h.2
 
 -- the literal of a call that meets the require conditions
-sole-shaped : (gs : Fields) (q : Rule) (f : Field) → ShapedAll gs q → sole gs ≡ some f → Shaped f
+sole-shaped : (gs : Fields) (q : Rule) (f : Field) → ShapedAll gs q → sole gs ≡ Some f → Shaped f
 unfolding sole
 sole-shaped none q f h e = absurd (let z : ◌≡◌ {A = ℕ} 0 1 = cc in omega arith)
 sole-shaped (more g none) q f h e = let w : g ≡ f = cc in subst Shaped w h.2
@@ -114,35 +114,35 @@ sole-shaped (more g (more k ks)) q f h e = absurd (let z : ◌≡◌ {A = ℕ} 0
 literal-61 : (f : Field) → Shaped f → tag_of f ≡ 0x61 → length (fixed_of f) ≡ 6
 literal-61 (field t x cs) h e = plain-width 0x61 Literal refl x e h.0
 
-argument-whole : (o : Option Field) (l : List ℕ) → ((f : Field) → o ≡ some f → Shaped f) → argument o ≡ some l → length l ≡ 6
+argument-whole : (o : Option Field) (l : List ℕ) → ((f : Field) → o ≡ Some f → Shaped f) → argument o ≡ Some l → length l ≡ 6
 unfolding argument
-argument-whole nothing l h e = absurd (let z : ◌≡◌ {A = ℕ} 0 1 = cc in omega arith)
-argument-whole (some (field t x none)) l h e = absurd (let z : ◌≡◌ {A = ℕ} 0 1 = cc in omega arith)
-argument-whole (some (field t x (more f fs))) l h e = go (eqb t 0x75 && same x (0 ∷ [])) (has 0x61 f) refl e
+argument-whole None l h e = absurd (let z : ◌≡◌ {A = ℕ} 0 1 = cc in omega arith)
+argument-whole (Some (field t x none)) l h e = absurd (let z : ◌≡◌ {A = ℕ} 0 1 = cc in omega arith)
+argument-whole (Some (field t x (more f fs))) l h e = go (eqb t 0x75 && same x (0 ∷ [])) (has 0x61 f) refl e
   where
-    go : (a b : Bool) → has 0x61 f ≡ b → cond {A = Option (List ℕ)} (a && b) (some (fixed_of f)) nothing ≡ some l → length l ≡ 6
+    go : (a b : Bool) → has 0x61 f ≡ b → cond {A = Option (List ℕ)} (a && b) (Some (fixed_of f)) None ≡ Some l → length l ≡ 6
     go true true w e =
         let q : fixed_of f ≡ l = cc in
         ap length (sym q) ∙ literal-61 f (h (field t x (more f fs)) refl).1.2 (eqb-true (tag_of f) 0x61 w)
     go true false w e = absurd (let z : ◌≡◌ {A = ℕ} 0 1 = cc in omega arith)
     go false b w e = absurd (let z : ◌≡◌ {A = ℕ} 0 1 = cc in omega arith)
 
-not_external-same : (e : Setting) (o : Option (List ℕ)) (l : List ℕ) → not_external e o ≡ some l → o ≡ some l
+not_external-same : (e : Setting) (o : Option (List ℕ)) (l : List ℕ) → not_external e o ≡ Some l → o ≡ Some l
 unfolding not_external
-not_external-same e nothing l q = q
-not_external-same e (some k) l q = go (external e k) q
+not_external-same e None l q = q
+not_external-same e (Some k) l q = go (external e k) q
   where
-    go : (b : Bool) → cond b nothing (some k) ≡ some l → some k ≡ some l
+    go : (b : Bool) → cond b None (Some k) ≡ Some l → Some k ≡ Some l
     go true q = absurd (let z : ◌≡◌ {A = ℕ} 0 1 = cc in omega arith)
     go false q = q
 
-pub required-width : (e : Setting) (f : Field) (l : List ℕ) → Shaped f → required e f ≡ some l → length l ≡ 6
+pub required-width : (e : Setting) (f : Field) (l : List ℕ) → Shaped f → required e f ≡ Some l → length l ≡ 6
 unfolding required
 required-width e (field t x none) l h q = absurd (let z : ◌≡◌ {A = ℕ} 0 1 = cc in omega arith)
 required-width e (field t x (more c gs)) l h q =
     go (e.config.require && eqb t 0x65 && has 0x60 c && same (name_of (fixed_of c)) (two require_atom)) q
   where
-    go : (b : Bool) → cond b (not_external e (argument (sole gs))) nothing ≡ some l → length l ≡ 6
+    go : (b : Bool) → cond b (not_external e (argument (sole gs))) None ≡ Some l → length l ≡ 6
     go true q = argument-whole (sole gs) l (λ f w. sole-shaped gs h.1.0 f h.1.3 w) (not_external-same e (argument (sole gs)) l q)
     go false q = absurd (let z : ◌≡◌ {A = ℕ} 0 1 = cc in omega arith)
 

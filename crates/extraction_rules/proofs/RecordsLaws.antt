@@ -1,4 +1,5 @@
 -- The records of an accepted extraction are read back: whole records make a tree within the grammar, three deep at most.
+use Rattle.std.specs.Prelude.{Some}
 use Prim.Native.Nat.{ℕ, ◌≤◌}
 use mathlib.Core.Path.{◌≡◌, refl, subst, ◌∙◌}
 use mathlib.Core.Bool.{true, false}
@@ -9,7 +10,6 @@ use Rattle.scope.specs.Modules.{Modules}
 use Rattle.tree.specs.declared.grammar.Set.TheVariants.{Specifier, Records, Lazy, Dynamic, Forced}
 use Rattle.tree.specs.declared.grammar.Slot.TheVariants.{Nothing, Many}
 use Rattle.tree.specs.declared.grammar.Rule.{Rule}
-use Rattle.tree.specs.declared.grammar.Step.TheVariants.{Go}
 use Rattle.tree.specs.Layout.{Bytes}
 use Rattle.tree.specs.Tree.{Field, field, Fields, none, more, tag_of, size, encode, depths}
 use Rattle.tree.specs.Grammar.{within, holds_at, parts1, parts3, rule_of, slot_at, step_by, step_at, done_at}
@@ -49,7 +49,7 @@ specifiers-shaped (more f fs) h =
     (parts1 (Many Specifier), many-slot Specifier Nothing Nothing Nothing (tag_of f) ∙ rw h.0.0, h.0.1, specifiers-shaped fs h.1)
 
 -- records, then a rest that may stand where they may
-records-shaped : (t : ℕ) (q q' : Rule) (l : List Record) (rest : Fields) → step_at q t ≡ Go q' → step_at q' t ≡ Go q' →
+records-shaped : (t : ℕ) (q q' : Rule) (l : List Record) (rest : Fields) → step_at q t ≡ Some q' → step_at q' t ≡ Some q' →
     ((x : List ℕ) → length x ≡ 6 → Exact t x) → rule_of t ≡ parts1 (Many Specifier) → ShapedAll rest q → ShapedAll rest q' → All WholeRecord l →
     ShapedAll (append (record_fields t l) rest) q
 unfolding append record_fields
@@ -57,7 +57,7 @@ records-shaped t q q' [] rest a b x r k m h = k
 records-shaped t q q' (c ∷ l) rest a b x r k m h =
     (q', a, (x c.literal h.0.0, rw r (specifiers-shaped c.specifiers h.0.1)), records-shaped t q' q' l rest b b x r m m h.1)
 
-forced-shaped : (q q' : Rule) (l : List (List ℕ)) → step_at q 0x83 ≡ Go q' → step_at q' 0x83 ≡ Go q' →
+forced-shaped : (q q' : Rule) (l : List (List ℕ)) → step_at q 0x83 ≡ Some q' → step_at q' 0x83 ≡ Some q' →
     ((x : List ℕ) → length x ≡ 2 → Exact 0x83 x) → done_at (rule_of 0x83) ≡ true → done_at q ≡ true → done_at q' ≡ true →
     All (λ a. length a ≡ 2) l → ShapedAll (forced_fields l) q
 unfolding forced_fields

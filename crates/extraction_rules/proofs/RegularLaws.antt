@@ -1,4 +1,5 @@
 -- Trees within the grammar are regular behind the imports.
+use Rattle.std.specs.Prelude.{Some}
 use Prim.Native.Nat.{ℕ, ◌≤◌}
 use mathlib.Core.Path.{◌≡◌, refl, sym, ap, subst, ◌∙◌}
 use mathlib.Core.Logic.{◌⊎◌, inl, inr}
@@ -14,7 +15,6 @@ use Rattle.tree.specs.declared.grammar.Set.{Set}
 use Rattle.tree.specs.declared.grammar.Set.TheVariants.{Item, Expression, Member}
 use Rattle.tree.specs.declared.grammar.Slot.TheVariants.{Nothing, One}
 use Rattle.tree.specs.declared.grammar.Rule.{Rule}
-use Rattle.tree.specs.declared.grammar.Step.TheVariants.{Go}
 use Rattle.tree.specs.Layout.{id_at}
 use Rattle.tree.specs.Tree.{Field, field, Fields, none, more, tag_of}
 use Rattle.tree.specs.Grammar.{within, holds_at, parts0, rule_of, step_at, done_at}
@@ -48,7 +48,7 @@ not-outer : (t u : ℕ) → outer t ≡ false → outer u ≡ true → t ≡ u �
 not-outer t u h k q = true≢false (sym k ∙ ap outer (sym q) ∙ h)
 
 -- a part of a rule without such sets
-part-outer : (q q' : Rule) (t : ℕ) → in_rule takes_outer q ≡ false → step_at q t ≡ Go q' → outer t ≡ false
+part-outer : (q q' : Rule) (t : ℕ) → in_rule takes_outer q ≡ false → step_at q t ≡ Some q' → outer t ≡ false
 part-outer q q' t h e =
     neither-or (eqb t 0x01) _ (no 0x01 (λ x w. (or-neither (holds_at x 0x01) _ w).0))
     (neither-or (eqb t 0x02) _ (no 0x02 (λ x w. (or-neither (holds_at x 0x02) _ (two x w)).0))
@@ -133,7 +133,7 @@ member-parts (more o none) h = absurd (true≢false (sym (ap done_at (sym (step-
 member-parts (more o (more q rest)) h =
     let k = (step-one Expression (One Member) Nothing Nothing (tag_of o) h.0 h.1).1 in
     let m = h.3 in
-    let w = step-one Member Nothing Nothing Nothing (tag_of q) m.0 (subst (λ (r : Rule). step_at r (tag_of q) ≡ Go m.0) k m.1) in
+    let w = step-one Member Nothing Nothing Nothing (tag_of q) m.0 (subst (λ (r : Rule). step_at r (tag_of q) ≡ Some m.0) k m.1) in
     (o, q, ap (λ (r : Fields). more o (more q r)) (shaped-none rest (subst (ShapedAll rest) w.1 m.3)), member-tag (tag_of q) w.0)
 
 target-tag : (cs : Fields) → ShapedAll cs (rule_of 0x66) → (f : Field) (fs : Fields) → cs ≡ more f fs → (tag_of f ≡ 0x60 → ⊥) × (tag_of f ≡ 0x23 → ⊥)

@@ -1,15 +1,14 @@
 -- What a walk makes of a field and of a row, within the grammar and at most as deep; and how wide the entries of the tables are.
+use Rattle.std.specs.Prelude.{Option, None, Some}
 use Prim.Native.Nat.{ℕ, ◌+◌, ◌-◌, ◌≤◌, max}
 use mathlib.Core.Path.{◌≡◌, refl, sym, ap, subst, ◌∙◌}
 use mathlib.Core.Bool.{Bool, true, false, not, cond, true≢false}
 use mathlib.Core.List.{List, [], ◌∷◌}
-use mathlib.Core.Option.{Option, none as nothing, some}
 use native.Mathlib.Omega.{arith}
 use lib.ListN.{length}
 use borrow.Author.Tests.{ne_eqb}
 use Rattle.scope.specs.Id.{export}
 use Rattle.tree.specs.declared.grammar.Rule.{Rule}
-use Rattle.tree.specs.declared.grammar.Step.TheVariants.{Go}
 use Rattle.tree.specs.Layout.{same, name_of}
 use Rattle.tree.specs.Tree.{Field, field, Fields, none, more, tag_of, fixed_of, parts_of, depth, depths}
 use Rattle.tree.specs.Grammar.{within, rule_of, step_at, done_at}
@@ -47,27 +46,27 @@ pub none-results : (q : Rule) → done_at q ≡ true → Results none none q
 none-results q h = record { shaped = h; deep = λ k i d. d }
 
 -- where a 10 stands, and where one may stand further on, one may stand
-takes-import : (q q' : Rule) → step_at q 0x10 ≡ Go q' → in_rule takes_import q ≡ true
+takes-import : (q q' : Rule) → step_at q 0x10 ≡ Some q' → in_rule takes_import q ≡ true
 takes-import q q' e = is-true (in_rule takes_import q) (λ w. no_import q q' w e)
 
-takes-later : (q q' : Rule) (t : ℕ) → step_at q t ≡ Go q' → in_rule takes_import q' ≡ true → in_rule takes_import q ≡ true
+takes-later : (q q' : Rule) (t : ℕ) → step_at q t ≡ Some q' → in_rule takes_import q' ≡ true → in_rule takes_import q ≡ true
 takes-later q q' t e h = is-true (in_rule takes_import q) (λ w. true≢false (sym h ∙ step-without takes_import q q' t w e))
 
-row-deep : (f g : Field) (fs gs : Fields) (q q' : Rule) → step_at q (tag_of f) ≡ Go q' → Result f g → Results fs gs q' → (k : ℕ) →
+row-deep : (f g : Field) (fs gs : Fields) (q q' : Rule) → step_at q (tag_of f) ≡ Some q' → Result f g → Results fs gs q' → (k : ℕ) →
     (in_rule takes_import q ≡ true → 3 ≤ k) →
     depths (more f fs) ≤ k → depths (more g gs) ≤ k
 row-deep f g fs gs q q' e r rs k i d =
     let a = depth-first f fs in
     let b = depth-rest f fs in
     depth-most g gs k
-    (r.deep k (λ w. i (takes-import q q' (subst (λ (t : ℕ). step_at q t ≡ Go q') w e))) (omega arith))
+    (r.deep k (λ w. i (takes-import q q' (subst (λ (t : ℕ). step_at q t ≡ Some q') w e))) (omega arith))
     (rs.deep k (λ w. i (takes-later q q' (tag_of f) e w)) (omega arith))
 
-pub more-results : (f g : Field) (fs gs : Fields) (q q' : Rule) → step_at q (tag_of f) ≡ Go q' → in_rule takes_target q ≡ false → Result f g →
+pub more-results : (f g : Field) (fs gs : Fields) (q q' : Rule) → step_at q (tag_of f) ≡ Some q' → in_rule takes_target q ≡ false → Result f g →
     Results fs gs q' → Results (more f fs) (more g gs) q
 more-results f g fs gs q q' e w r rs = record { shaped = (q', r.steps q w ∙ e, r.shaped, rs.shaped); deep = row-deep f g fs gs q q' e r rs }
 
-pub target-results : (f g : Field) (fs gs : Fields) (q q' : Rule) → step_at q (tag_of f) ≡ Go q' → tag_of g ≡ tag_of f → Result f g →
+pub target-results : (f g : Field) (fs gs : Fields) (q q' : Rule) → step_at q (tag_of f) ≡ Some q' → tag_of g ≡ tag_of f → Result f g →
     Results fs gs q' → Results (more f fs) (more g gs) q
 target-results f g fs gs q q' e w r rs = record { shaped = (q', ap (step_at q) w ∙ e, r.shaped, rs.shaped); deep = row-deep f g fs gs q q' e r rs }
 
@@ -121,13 +120,13 @@ all-note P m (n ∷ l) k h = go (same n.id m.id) (all-note P m l k h.1)
     go true w = (k, h.1)
     go false w = (h.0, w)
 
-pub imported-width : (i c : List ℕ) (l : List Imported) → All (λ m. length m.context ≡ 4) l → imported_as i l ≡ some c → length c ≡ 4
+pub imported-width : (i c : List ℕ) (l : List Imported) → All (λ m. length m.context ≡ 4) l → imported_as i l ≡ Some c → length c ≡ 4
 unfolding imported_as
 imported-width i c l h e = go (find (λ m. same m.id i) l) refl e
   where
-    go : (o : Option Imported) → find (λ m. same m.id i) l ≡ o → mapped (λ m. m.context) o ≡ some c → length c ≡ 4
-    go nothing w e = absurd (let z : ◌≡◌ {A = ℕ} 0 1 = cc in omega arith)
-    go (some m) w e = let q : m.context ≡ c = cc in ap length (sym q) ∙ all-find (λ m. length m.context ≡ 4) (λ m. same m.id i) l m h w
+    go : (o : Option Imported) → find (λ m. same m.id i) l ≡ o → mapped (λ m. m.context) o ≡ Some c → length c ≡ 4
+    go None w e = absurd (let z : ◌≡◌ {A = ℕ} 0 1 = cc in omega arith)
+    go (Some m) w e = let q : m.context ≡ c = cc in ap length (sym q) ∙ all-find (λ m. length m.context ≡ 4) (λ m. same m.id i) l m h w
 
 -- ---- Another callee
 
@@ -152,7 +151,7 @@ pub record Same (f g : Field) : Type 0 where
   pub shaped : Shaped g
   pub deep : depth g ≡ depth f
 
-pub with_callee-same : (e : Setting) (f : Field) (n : ℕ) (l : List ℕ) → required e f ≡ some l → Shaped f → Same f (with_callee n f)
+pub with_callee-same : (e : Setting) (f : Field) (n : ℕ) (l : List ℕ) → required e f ≡ Some l → Shaped f → Same f (with_callee n f)
 unfolding with_callee required
 with_callee-same e (field t x none) n l w h = absurd (let z : ◌≡◌ {A = ℕ} 0 1 = cc in omega arith)
 with_callee-same e (field t x (more c gs)) n l w h =

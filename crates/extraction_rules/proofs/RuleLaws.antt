@@ -1,5 +1,6 @@
 -- The grammar's rules as the walk meets them: in every row but that of a 66 an expression 60 may stand where a 63 stands,
 -- a 10 stands only among a module's items, and a module nowhere.
+use Rattle.std.specs.Prelude.{Option, Some}
 use Prim.Native.Nat.{ℕ, zero, suc}
 use mathlib.Core.Path.{◌≡◌, refl, sym, ap, ap₂, ◌∙◌}
 use mathlib.Core.Logic.{◌⊎◌, inl, inr, ⊎_elim}
@@ -12,8 +13,6 @@ use Rattle.tree.specs.declared.grammar.Slot.TheVariants.{Nothing, One, Maybe, Ma
 use Rattle.tree.specs.declared.grammar.Rule.{Rule}
 use Rattle.tree.specs.declared.grammar.Fit.{Fit}
 use Rattle.tree.specs.declared.grammar.Fit.TheVariants.{Stay, Used, Over, No}
-use Rattle.tree.specs.declared.grammar.Step.{Step}
-use Rattle.tree.specs.declared.grammar.Step.TheVariants.{Go}
 use Rattle.tree.specs.Grammar.{within, holds_at, parts0, parts1, parts3, parts4, statements, patterns, expressions, others, rule_of, slot_at, rest_of, on_fit, step_by, step_at}
 use Rattle.tree.proofs.Table.{passes, find-passes}
 use Rattle.tree.proofs.GrammarLaws.{no-step, maybe-slot, many-slot, go-inj}
@@ -46,18 +45,18 @@ rest-without p q h =
     go true y z e f g = absurd (true≢false e)
 
 -- the rule that is left behind a part has no other sets
-without-by : (p : Set → Bool) (n : ℕ) (q q' : Rule) (t : ℕ) → in_rule p q ≡ false → step_by n q t ≡ Go q' → in_rule p q' ≡ false
+without-by : (p : Set → Bool) (n : ℕ) (q q' : Rule) (t : ℕ) → in_rule p q ≡ false → step_by n q t ≡ Some q' → in_rule p q' ≡ false
 unfolding step_by
 without-by p zero q q' t h e = absurd (let z : ◌≡◌ {A = ℕ} 0 1 = cc in omega arith)
 without-by p (suc n) q q' t h e = on (slot_at q.first t) e (without-by p n (rest_of q) q' t (rest-without p q h))
   where
-    on : (f : Fit) → on_fit f q (step_by n (rest_of q) t) ≡ Go q' → (step_by n (rest_of q) t ≡ Go q' → in_rule p q' ≡ false) → in_rule p q' ≡ false
+    on : (f : Fit) → on_fit f q (step_by n (rest_of q) t) ≡ Some q' → (step_by n (rest_of q) t ≡ Some q' → in_rule p q' ≡ false) → in_rule p q' ≡ false
     on Stay e k = ap (in_rule p) (sym (go-inj e)) ∙ h
     on Used e k = ap (in_rule p) (sym (go-inj e)) ∙ rest-without p q h
     on Over e k = k e
     on No e k = absurd (let z : ◌≡◌ {A = ℕ} 0 1 = cc in omega arith)
 
-pub step-without : (p : Set → Bool) (q q' : Rule) (t : ℕ) → in_rule p q ≡ false → step_at q t ≡ Go q' → in_rule p q' ≡ false
+pub step-without : (p : Set → Bool) (q q' : Rule) (t : ℕ) → in_rule p q ≡ false → step_at q t ≡ Some q' → in_rule p q' ≡ false
 unfolding step_at
 step-without p q q' t h e = without-by p 4 q q' t h e
 
@@ -75,7 +74,7 @@ alike-by : (p : Set → Bool) (t u : ℕ) → ((x : Set) → p x ≡ false → h
 unfolding step_by
 alike-by p t u k zero q h = refl
 alike-by p t u k (suc n) q h =
-    ap₂ (λ (f : Fit) (r : Step). on_fit f q r) (slot-alike p t u k q.first (or-neither (in_slot p q.first) _ h).0)
+    ap₂ (λ (f : Fit) (r : Option Rule). on_fit f q r) (slot-alike p t u k q.first (or-neither (in_slot p q.first) _ h).0)
     (alike-by p t u k n (rest_of q) (rest-without p q h))
 
 pub step-alike : (p : Set → Bool) (t u : ℕ) → ((x : Set) → p x ≡ false → holds_at x t ≡ holds_at x u) → (q : Rule) → in_rule p q ≡ false →
@@ -85,20 +84,20 @@ step-alike p t u k q h = alike-by p t u k 4 q h
 
 -- a tag that no set of a rule takes makes no step
 untaken-by : (p : Set → Bool) (t : ℕ) → ((x : Set) → p x ≡ false → holds_at x t ≡ false) → (n : ℕ) (q q' : Rule) → in_rule p q ≡ false →
-    step_by n q t ≡ Go q' → ⊥
+    step_by n q t ≡ Some q' → ⊥
 unfolding step_by slot_at
 untaken-by p t k zero q q' h e = let z : ◌≡◌ {A = ℕ} 0 1 = cc in omega arith
 untaken-by p t k (suc n) q q' h e = slot q.first (or-neither (in_slot p q.first) _ h).0 e
     (untaken-by p t k n (rest_of q) q' (rest-without p q h))
   where
-    slot : (s : Slot) → in_slot p s ≡ false → on_fit (slot_at s t) q (step_by n (rest_of q) t) ≡ Go q' → (step_by n (rest_of q) t ≡ Go q' → ⊥) → ⊥
+    slot : (s : Slot) → in_slot p s ≡ false → on_fit (slot_at s t) q (step_by n (rest_of q) t) ≡ Some q' → (step_by n (rest_of q) t ≡ Some q' → ⊥) → ⊥
     slot Nothing h e j = j e
     slot (One x) h e j = let z = rw (k x h) at e in let z : ◌≡◌ {A = ℕ} 0 1 = cc in omega arith
     slot (Maybe x) h e j = j (rw (k x h) at e)
     slot (Many x) h e j = j (rw (k x h) at e)
 
 pub step-untaken : (p : Set → Bool) (t : ℕ) → ((x : Set) → p x ≡ false → holds_at x t ≡ false) → (q q' : Rule) → in_rule p q ≡ false →
-    step_at q t ≡ Go q' → ⊥
+    step_at q t ≡ Some q' → ⊥
 unfolding step_at
 step-untaken p t k q q' h e = untaken-by p t k 4 q q' h e
 
@@ -124,10 +123,10 @@ pub turned-step : (q : Rule) → in_rule takes_target q ≡ false → step_at q 
 turned-step q h = step-alike takes_target 0x63 0x60
     (λ x w. differ-not (holds_at x 0x63) (holds_at x 0x60) (or-neither (differ (holds_at x 0x63) (holds_at x 0x60)) (holds_at x 0x01) w).0) q h
 
-pub no-module : (q q' : Rule) → in_rule takes_target q ≡ false → step_at q 0x01 ≡ Go q' → ⊥
+pub no-module : (q q' : Rule) → in_rule takes_target q ≡ false → step_at q 0x01 ≡ Some q' → ⊥
 no-module q q' h e = step-untaken takes_target 0x01 (λ x w. (or-neither (differ (holds_at x 0x63) (holds_at x 0x60)) (holds_at x 0x01) w).1) q q' h e
 
-pub no_import : (q q' : Rule) → in_rule takes_import q ≡ false → step_at q 0x10 ≡ Go q' → ⊥
+pub no_import : (q q' : Rule) → in_rule takes_import q ≡ false → step_at q 0x10 ≡ Some q' → ⊥
 no_import q q' h e = step-untaken takes_import 0x10 (λ x w. w) q q' h e
 
 -- ---- The grammar's table
@@ -168,19 +167,19 @@ rule-imports t n = only-by (eqb t 0x01) (in_rule takes_import (rule_of t)) (rule
 
 -- ---- A step through a slot for many parts, and for one that may be missing
 
-many-by : (b : Bool) (x : Set) (q q' : Rule) (t : ℕ) (o : Step) → holds_at x t ≡ b → cond b (Go q') o ≡ Go q →
-    ((holds_at x t ≡ true) × (q ≡ q')) ⊎ (o ≡ Go q)
+many-by : (b : Bool) (x : Set) (q q' : Rule) (t : ℕ) (o : Option Rule) → holds_at x t ≡ b → cond b (Some q') o ≡ Some q →
+    ((holds_at x t ≡ true) × (q ≡ q')) ⊎ (o ≡ Some q)
 many-by true x q q' t o w e = inl (w, sym (go-inj e))
 many-by false x q q' t o w e = inr e
 
-pub many-step : (x : Set) (a b c : Slot) (t : ℕ) (q : Rule) → step_at (parts4 (Many x) a b c) t ≡ Go q →
-    ((holds_at x t ≡ true) × (q ≡ parts4 (Many x) a b c)) ⊎ (step_at (parts3 a b c) t ≡ Go q)
+pub many-step : (x : Set) (a b c : Slot) (t : ℕ) (q : Rule) → step_at (parts4 (Many x) a b c) t ≡ Some q →
+    ((holds_at x t ≡ true) × (q ≡ parts4 (Many x) a b c)) ⊎ (step_at (parts3 a b c) t ≡ Some q)
 many-step x a b c t q e = many-by (holds_at x t) x q (parts4 (Many x) a b c) t (step_at (parts3 a b c) t) refl (sym (many-slot x a b c t) ∙ e)
 
-pub maybe-step : (x : Set) (a b c : Slot) (t : ℕ) (q : Rule) → step_at (parts4 (Maybe x) a b c) t ≡ Go q →
-    ((holds_at x t ≡ true) × (q ≡ parts3 a b c)) ⊎ (step_at (parts3 a b c) t ≡ Go q)
+pub maybe-step : (x : Set) (a b c : Slot) (t : ℕ) (q : Rule) → step_at (parts4 (Maybe x) a b c) t ≡ Some q →
+    ((holds_at x t ≡ true) × (q ≡ parts3 a b c)) ⊎ (step_at (parts3 a b c) t ≡ Some q)
 maybe-step x a b c t q e = many-by (holds_at x t) x q (parts3 a b c) t (step_at (parts3 a b c) t) refl (sym (maybe-slot x a b c t) ∙ e)
 
 -- the last of them: nothing else may stand there
-pub only-step : (x : Set) (t : ℕ) (q : Rule) → step_at (parts1 (Many x)) t ≡ Go q → (holds_at x t ≡ true) × (q ≡ parts1 (Many x))
+pub only-step : (x : Set) (t : ℕ) (q : Rule) → step_at (parts1 (Many x)) t ≡ Some q → (holds_at x t ≡ true) × (q ≡ parts1 (Many x))
 only-step x t q e = ⊎_elim (λ w. w) (λ w. absurd (no-step t w)) (many-step x Nothing Nothing Nothing t q e)

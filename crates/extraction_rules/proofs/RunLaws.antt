@@ -1,9 +1,9 @@
 -- The sanity laws of a whole run: of both passes, from the fresh state on, and of the call.
+use Rattle.std.specs.Prelude.{Some}
 use Prim.Native.Nat.{ℕ}
 use mathlib.Core.Path.{◌≡◌, refl, subst}
 use mathlib.Core.Bool.{true}
 use mathlib.Core.List.{List, ◌∷◌, ◌++◌}
-use mathlib.Core.Option.{some}
 use Rattle.scope.specs.Modules.{Modules, number_of}
 use Rattle.scope.proofs.Laws.{request-keeps-numbers}
 use Rattle.tree.specs.Layout.{same}
@@ -124,17 +124,17 @@ used-imported i s u us h e =
 -- so an expression 63 with 70 on a 60 with usages always becomes a 60
 pub used-rewritten : (o q f : Field) (s : State) (u : Usage) (us : List Usage) → UsagesImported s →
     usages_of (fixed_of o) s.usages ≡ u ∷ us → has 0x70 q ≡ true →
-    (c : List ℕ) × (imported_as (fixed_of o) s.imported ≡ some c) × (rewritten (some (o, q)) f s ≡ field 0x60 (fixed_of q ++ c) none)
+    (c : List ℕ) × (imported_as (fixed_of o) s.imported ≡ Some c) × (rewritten (Some (o, q)) f s ≡ field 0x60 (fixed_of q ++ c) none)
 unfolding rewritten as_property
 used-rewritten o q f s u us h e t = let i = used-imported (fixed_of o) s u us h e in (i.0, i.1, rw (e, i.1, t))
 
 -- ---- Numbers
 
 -- no run changes a number that was given
-pub run-keeps-numbers : (l : Lent) (rows : List Row) (own : ℕ) (s : State) (items : Fields) (f n : ℕ) → number_of f s.modules ≡ some n →
+pub run-keeps-numbers : (l : Lent) (rows : List Row) (own : ℕ) (s : State) (items : Fields) (f n : ℕ) → number_of f s.modules ≡ Some n →
     After (walk_module (setting first own l rows) items s)
-    (λ works s'. (number_of f s'.modules ≡ some n) × After (walk_again (setting second own l rows) works s')
-    (λ outs s''. number_of f s''.modules ≡ some n))
+    (λ works s'. (number_of f s'.modules ≡ Some n) × After (walk_again (setting second own l rows) works s')
+    (λ outs s''. number_of f s''.modules ≡ Some n))
 run-keeps-numbers l rows own s items f n h =
     let one = setting first own l rows in
     let two = setting second own l rows in
@@ -148,11 +148,11 @@ run-keeps-numbers l rows own s items f n h =
     (walk_module-keeps one AnyLiteral (Numbered f n) (numbered-steps one AnyLiteral f n) items s (imports-any-all items AnyLiteral (λ x. tt)) h)
 
 -- no accepted call changes a number that was given
-pub call-keeps-numbers : (l : Lent) (room : Lengths) (ms : Modules) (f n : ℕ) → number_of f ms ≡ some n → (r : Extracted) →
-    extracted l room ms ≡ done r → number_of f r.modules ≡ some n
+pub call-keeps-numbers : (l : Lent) (room : Lengths) (ms : Modules) (f n : ℕ) → number_of f ms ≡ Some n → (r : Extracted) →
+    extracted l room ms ≡ done r → number_of f r.modules ≡ Some n
 call-keeps-numbers l room ms f n h r e =
     let m = call-made l room ms r e in
     let rows = rows_in l.table in
-    subst (λ (z : Extracted). number_of f z.modules ≡ some n) m.run.given
+    subst (λ (z : Extracted). number_of f z.modules ≡ Some n) m.run.given
     (run-both l rows m.own.0 m.items m.own.1 r m.run (λ works s. Numbered f n s) (λ outs s. Numbered f n s)
     (run-keeps-numbers l rows m.own.0 (start m.own.1) m.items f n (request-keeps-numbers l.file ms m.requests f n h))).1

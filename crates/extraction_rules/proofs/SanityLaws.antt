@@ -1,10 +1,10 @@
 -- What holds in every state of a run: numbers once given stay, usages are of imported ids, collected sources differ and none is
 -- external, and forced sources are collected ones. Each is kept by every elementary step of both passes, so by both passes.
+use Rattle.std.specs.Prelude.{Some}
 use Prim.Native.Nat.{ℕ}
 use mathlib.Core.Path.{◌≡◌, sym, ap, ◌∙◌}
 use mathlib.Core.Bool.{true, false, not}
 use mathlib.Core.List.{List, map}
-use mathlib.Core.Option.{some}
 use native.Mathlib.Omega.{arith}
 use borrow.Author.Tests.{not-true}
 use Rattle.scope.specs.Modules.{number_of}
@@ -24,7 +24,7 @@ use Rattle.extraction_rules.proofs.WalkLaws.{Steps}
 -- ---- A file's number, once given, stays
 
 abbrev pub Numbered : ℕ → ℕ → State → Type 0
-Numbered f n s = number_of f s.modules ≡ some n
+Numbered f n s = number_of f s.modules ≡ Some n
 
 pub numbered-steps : (e : Setting) (P : List ℕ → Type 0) (f n : ℕ) → Steps e P (Numbered f n)
 unfolding forget

@@ -1,10 +1,10 @@
 -- What is found in the tables: the source of the first record whose specifiers meet a test, an id's context and its usages, and what
 -- forcing and noting make of them.
+use Rattle.std.specs.Prelude.{Option, None, Some}
 use Prim.Native.Nat.{ℕ}
 use mathlib.Core.Path.{◌≡◌, refl, sym, ap, ◌∙◌}
 use mathlib.Core.Bool.{Bool, true, false, not, cond, ◌&&◌, ◌||◌, true≢false, or-false}
 use mathlib.Core.List.{List, [], ◌∷◌, ◌++◌, append-nil}
-use mathlib.Core.Option.{Option, none as nothing, some}
 use native.Mathlib.Omega.{arith}
 use Rattle.tree.specs.Layout.{same, value_of}
 use Rattle.tree.specs.Tree.{Field, Fields, none, more, fixed_of}
@@ -21,12 +21,12 @@ use Rattle.extraction_rules.proofs.FirstLaws.{source-cases, force-cases, sources
 
 -- ---- Lists
 
-pub find-filter-none : {A : Type 0} (t q : A → Bool) (l : List A) → ((a : A) → t a ≡ true → q a ≡ false) → find t (filter q l) ≡ nothing
+pub find-filter-none : {A : Type 0} (t q : A → Bool) (l : List A) → ((a : A) → t a ≡ true → q a ≡ false) → find t (filter q l) ≡ None
 unfolding find filter
 find-filter-none t q [] h = refl
 find-filter-none t q (a ∷ l) h = go (t a) (q a) refl refl (find-filter-none t q l h)
   where
-    go : (b c : Bool) → t a ≡ b → q a ≡ c → find t (filter q l) ≡ nothing → find t (cond c (a ∷ filter q l) (filter q l)) ≡ nothing
+    go : (b c : Bool) → t a ≡ b → q a ≡ c → find t (filter q l) ≡ None → find t (cond c (a ∷ filter q l) (filter q l)) ≡ None
     go b false x y r = r
     go true true x y r = absurd (true≢false (sym y ∙ h a x))
     go false true x y r = rw x r
@@ -36,7 +36,7 @@ unfolding find filter
 find-filter t q [] h = refl
 find-filter t q (a ∷ l) h = go (t a) (q a) refl refl (find-filter t q l h)
   where
-    go : (b c : Bool) → t a ≡ b → q a ≡ c → find t (filter q l) ≡ find t l → find t (cond c (a ∷ filter q l) (filter q l)) ≡ cond b (some a) (find t l)
+    go : (b c : Bool) → t a ≡ b → q a ≡ c → find t (filter q l) ≡ find t l → find t (cond c (a ∷ filter q l) (filter q l)) ≡ cond b (Some a) (find t l)
     go true true x y r = rw x
     go true false x y r = absurd (true≢false (sym (h a x) ∙ y))
     go false true x y r = rw x r
@@ -78,7 +78,7 @@ filter-append t (a ∷ l) m = go (t a) (filter-append t l m)
 different : (i j k : List ℕ) → same j i ≡ false → same k i ≡ true → not (same k j) ≡ true
 different i j k n h = ap not (same-not k j (λ q. not-same j i n (sym q ∙ same-equal k i h)))
 
-pub forgotten-imported : (i : List ℕ) (l : List Imported) → imported_as i (filter (λ m. not (same m.id i)) l) ≡ nothing
+pub forgotten-imported : (i : List ℕ) (l : List Imported) → imported_as i (filter (λ m. not (same m.id i)) l) ≡ None
 unfolding imported_as
 forgotten-imported i l =
     ap (mapped (λ (m : Imported). m.context)) (find-filter-none (λ (m : Imported). same m.id i) (λ (m : Imported). not (same m.id i)) l (λ m h. ap not h))
@@ -105,13 +105,13 @@ unfolding usages_of filter
 usages-other i u l e = filter-append (λ (u : Usage). same u.id i) l (u ∷ []) ∙ rw e (append-nil (filter (λ (u : Usage). same u.id i) l))
 
 -- noting: the id itself, and another
-pub noted-own : (m : Imported) (l : List Imported) → imported_as m.id (note_in m l) ≡ some m.context
+pub noted-own : (m : Imported) (l : List Imported) → imported_as m.id (note_in m l) ≡ Some m.context
 unfolding imported_as find note_in
 noted-own m [] = rw (same-refl m.id)
 noted-own m (k ∷ l) = go (same k.id m.id) refl (noted-own m l)
   where
-    go : (b : Bool) → same k.id m.id ≡ b → mapped (λ (m : Imported). m.context) (find (λ (n : Imported). same n.id m.id) (note_in m l)) ≡ some m.context →
-        mapped (λ (m : Imported). m.context) (find (λ (n : Imported). same n.id m.id) (cond b (m ∷ l) (k ∷ note_in m l))) ≡ some m.context
+    go : (b : Bool) → same k.id m.id ≡ b → mapped (λ (m : Imported). m.context) (find (λ (n : Imported). same n.id m.id) (note_in m l)) ≡ Some m.context →
+        mapped (λ (m : Imported). m.context) (find (λ (n : Imported). same n.id m.id) (cond b (m ∷ l) (k ∷ note_in m l))) ≡ Some m.context
     go true e r = rw (same-refl m.id)
     go false e r = rw e r
 
@@ -124,8 +124,8 @@ noted-other i m (k ∷ l) n = go (same k.id m.id) refl (noted-other i m l n)
     Ask l = mapped (λ (m : Imported). m.context) (find (λ (n : Imported). same n.id i) l)
 
     next : (b : Bool) → Ask (note_in m l) ≡ Ask l →
-        mapped (λ (m : Imported). m.context) (cond b (some k) (find (λ (n : Imported). same n.id i) (note_in m l))) ≡ mapped
-        (λ (m : Imported). m.context) (cond b (some k) (find (λ (n : Imported). same n.id i) l))
+        mapped (λ (m : Imported). m.context) (cond b (Some k) (find (λ (n : Imported). same n.id i) (note_in m l))) ≡ mapped
+        (λ (m : Imported). m.context) (cond b (Some k) (find (λ (n : Imported). same n.id i) l))
     next true r = refl
     next false r = r
 
@@ -144,11 +144,11 @@ holds_in i fs = is_some (find_field (λ f. has 0x22 f && same (fixed_of f) i) fs
 abbrev pub suits_in : ℕ → List ℕ → Fields → Bool
 suits_in own i fs = suits own i (find_field (has 0x22) fs)
 
-pub seek-step : (t : Fields → Bool) (r : Record) (l : List Record) → seek t (r ∷ l) ≡ cond (t r.specifiers) (some (value_of r.literal)) (seek t l)
+pub seek-step : (t : Fields → Bool) (r : Record) (l : List Record) → seek t (r ∷ l) ≡ cond (t r.specifiers) (Some (value_of r.literal)) (seek t l)
 unfolding find
 seek-step t r l = go (t r.specifiers)
   where
-    go : (b : Bool) → mapped (λ (r : Record). value_of r.literal) (cond b (some r) (find (λ (r : Record). t r.specifiers) l)) ≡ cond b (some (value_of r.literal)) (seek t l)
+    go : (b : Bool) → mapped (λ (r : Record). value_of r.literal) (cond b (Some r) (find (λ (r : Record). t r.specifiers) l)) ≡ cond b (Some (value_of r.literal)) (seek t l)
     go true = refl
     go false = refl
 
@@ -163,8 +163,8 @@ seek-collect t r (q ∷ l) h k = go (same (value_of q.literal) (value_of r.liter
         seek t (cond b (record { literal = q.literal; specifiers = append q.specifiers r.specifiers } ∷ l) (q ∷ collect_in r l)) ≡ seek t
         (q ∷ l)
     go true e = seek-step t (record { literal = q.literal; specifiers = append q.specifiers r.specifiers }) l
-        ∙ ap (λ (b : Bool). cond b (some (value_of q.literal)) (seek t l)) (k q.specifiers) ∙ sym (seek-step t q l)
-    go false e = seek-step t q (collect_in r l) ∙ ap (λ (o : Option (List ℕ)). cond (t q.specifiers) (some (value_of q.literal)) o) e ∙ sym (seek-step t q l)
+        ∙ ap (λ (b : Bool). cond b (Some (value_of q.literal)) (seek t l)) (k q.specifiers) ∙ sym (seek-step t q l)
+    go false e = seek-step t q (collect_in r l) ∙ ap (λ (o : Option (List ℕ)). cond (t q.specifiers) (Some (value_of q.literal)) o) e ∙ sym (seek-step t q l)
 
 -- a record of a new source becomes the last
 pub collect-new : (r : Record) (l : List Record) → among (value_of r.literal) (sources_of l) ≡ false → collect_in r l ≡ l ++ (r ∷ [])
@@ -174,39 +174,39 @@ collect-new r (q ∷ l) h =
     let k = or-neither (same (value_of r.literal) (value_of q.literal)) (among (value_of r.literal) (sources_of l)) h in
     rw (same-swap (value_of q.literal) (value_of r.literal), k.0) (ap (λ (m : List Record). q ∷ m) (collect-new r l k.1))
 
-pub seek-last : (t : Fields → Bool) (r : Record) (l : List Record) → seek t l ≡ nothing → seek t (l ++ (r ∷ [])) ≡ cond (t r.specifiers) (some (value_of r.literal)) nothing
+pub seek-last : (t : Fields → Bool) (r : Record) (l : List Record) → seek t l ≡ None → seek t (l ++ (r ∷ [])) ≡ cond (t r.specifiers) (Some (value_of r.literal)) None
 unfolding find
 seek-last t r [] h = seek-step t r []
 seek-last t r (q ∷ l) h = seek-step t q (l ++ (r ∷ [])) ∙ go (t q.specifiers) (sym (seek-step t q l) ∙ h) (seek-last t r l)
   where
-    go : (b : Bool) → cond b (some (value_of q.literal)) (seek t l) ≡ nothing →
-        (seek t l ≡ nothing → seek t (l ++ (r ∷ [])) ≡ cond (t r.specifiers) (some (value_of r.literal)) nothing) →
-        cond b (some (value_of q.literal)) (seek t (l ++ (r ∷ []))) ≡ cond (t r.specifiers) (some (value_of r.literal)) nothing
+    go : (b : Bool) → cond b (Some (value_of q.literal)) (seek t l) ≡ None →
+        (seek t l ≡ None → seek t (l ++ (r ∷ [])) ≡ cond (t r.specifiers) (Some (value_of r.literal)) None) →
+        cond b (Some (value_of q.literal)) (seek t (l ++ (r ∷ []))) ≡ cond (t r.specifiers) (Some (value_of r.literal)) None
     go true e k = absurd (let z : ◌≡◌ {A = ℕ} 0 1 = cc in omega arith)
     go false e k = k e
 
 -- what is found at the last, of a source that no other has, is found in the last
 pub seek-own : (t : Fields → Bool) (r : Record) (l : List Record) → among (value_of r.literal) (sources_of l) ≡ false →
-    seek t (l ++ (r ∷ [])) ≡ some (value_of r.literal) → t r.specifiers ≡ true
+    seek t (l ++ (r ∷ [])) ≡ Some (value_of r.literal) → t r.specifiers ≡ true
 unfolding among find
 seek-own t r [] h e = go (t r.specifiers) refl (sym (seek-step t r []) ∙ e)
   where
-    go : (b : Bool) → t r.specifiers ≡ b → cond b (some (value_of r.literal)) nothing ≡ some (value_of r.literal) → b ≡ true
+    go : (b : Bool) → t r.specifiers ≡ b → cond b (Some (value_of r.literal)) None ≡ Some (value_of r.literal) → b ≡ true
     go true w e = refl
     go false w e = absurd (let z : ◌≡◌ {A = ℕ} 0 1 = cc in omega arith)
 seek-own t r (q ∷ l) h e =
     let k = or-neither (same (value_of r.literal) (value_of q.literal)) (among (value_of r.literal) (sources_of l)) h in
     go (t q.specifiers) (sym (seek-step t q (l ++ (r ∷ []))) ∙ e) (seek-own t r l k.1) k.0
   where
-    go : (b : Bool) → cond b (some (value_of q.literal)) (seek t (l ++ (r ∷ []))) ≡ some (value_of r.literal) →
-        (seek t (l ++ (r ∷ [])) ≡ some (value_of r.literal) → t r.specifiers ≡ true) →
+    go : (b : Bool) → cond b (Some (value_of q.literal)) (seek t (l ++ (r ∷ []))) ≡ Some (value_of r.literal) →
+        (seek t (l ++ (r ∷ [])) ≡ Some (value_of r.literal) → t r.specifiers ≡ true) →
         same (value_of r.literal) (value_of q.literal) ≡ false → t r.specifiers ≡ true
     go true e k d = absurd (not-same (value_of r.literal) (value_of q.literal) d (let w : value_of q.literal ≡ value_of r.literal = cc in sym w))
     go false e k d = k e
 
 -- ---- Appended specifiers
 
-pub find-append : (p : Field → Bool) (fs gs : Fields) → find_field p gs ≡ nothing → find_field p (append fs gs) ≡ find_field p fs
+pub find-append : (p : Field → Bool) (fs gs : Fields) → find_field p gs ≡ None → find_field p (append fs gs) ≡ find_field p fs
 unfolding append find_field
 find-append p none gs h = h
 find-append p (more f fs) gs h = rw (find-append p fs gs h)
@@ -222,21 +222,21 @@ source-other a b s n =
     (among-last a b s.forced ∙ ap (λ (c : Bool). among a s.forced || c) (same-not a b n) ∙ or-false (among a s.forced))
 
 -- the source that forcing an id forces
-pub force-own : (i a : List ℕ) (s : State) → seek (holds_in i) s.collected ≡ some a → among a (force_id i s).forced ≡ true
+pub force-own : (i a : List ℕ) (s : State) → seek (holds_in i) s.collected ≡ Some a → among a (force_id i s).forced ≡ true
 unfolding force_id holds_namespace
 force-own i a s h = go (find (λ r. holds_in i r.specifiers) s.collected) h
   where
-    go : (o : Option Record) → mapped (λ (r : Record). value_of r.literal) o ≡ some a → among a (force_holder o (forget i s)).forced ≡ true
-    go nothing h = absurd (let z : ◌≡◌ {A = ℕ} 0 1 = cc in omega arith)
-    go (some r) h = let q : value_of r.literal ≡ a = cc in rw q (source-forced a (forget i s))
+    go : (o : Option Record) → mapped (λ (r : Record). value_of r.literal) o ≡ Some a → among a (force_holder o (forget i s)).forced ≡ true
+    go None h = absurd (let z : ◌≡◌ {A = ℕ} 0 1 = cc in omega arith)
+    go (Some r) h = let q : value_of r.literal ≡ a = cc in rw q (source-forced a (forget i s))
 
-pub force-other : (i a : List ℕ) (s : State) → (seek (holds_in i) s.collected ≡ some a → ⊥) → among a (force_id i s).forced ≡ among a s.forced
+pub force-other : (i a : List ℕ) (s : State) → (seek (holds_in i) s.collected ≡ Some a → ⊥) → among a (force_id i s).forced ≡ among a s.forced
 unfolding force_id holds_namespace forget
 force-other i a s h = go (find (λ r. holds_in i r.specifiers) s.collected) h
   where
-    go : (o : Option Record) → (mapped (λ (r : Record). value_of r.literal) o ≡ some a → ⊥) → among a (force_holder o (forget i s)).forced ≡ among a s.forced
-    go nothing h = refl
-    go (some r) h = source-other a (value_of r.literal) (forget i s) (λ q. h (ap some (sym q)))
+    go : (o : Option Record) → (mapped (λ (r : Record). value_of r.literal) o ≡ Some a → ⊥) → among a (force_holder o (forget i s)).forced ≡ among a s.forced
+    go None h = refl
+    go (Some r) h = source-other a (value_of r.literal) (forget i s) (λ q. h (ap Some (sym q)))
 
 -- what forcing leaves as it was, and what it forgets
 pub force-tables : (i : List ℕ) (s : State) →

@@ -1,10 +1,10 @@
 -- Trees within the grammar, whatever their lengths, and the parts of those fields that the rules take apart.
+use Rattle.std.specs.Prelude.{Option, None, Some}
 use Prim.Native.Nat.{ℕ, ◌≤◌}
 use mathlib.Core.Path.{◌≡◌, refl, sym, ap, subst, ◌∙◌}
 use mathlib.Core.Logic.{◌⊎◌, inl, inr, ⊎_elim}
 use mathlib.Core.Bool.{Bool, true, false, not, cond, ◌&&◌, ◌||◌, true≢false}
 use mathlib.Core.List.{List, [], ◌∷◌, ◌++◌}
-use mathlib.Core.Option.{Option, none as nothing, some}
 use native.Mathlib.Omega.{arith}
 use lib.Dec.{leb, eqb}
 use lib.ListN.{length}
@@ -12,7 +12,6 @@ use borrow.Author.Tests.{leb-true, eqb-true, eqb-false, eq-eqb, ne_eqb}
 use Rattle.tree.specs.declared.grammar.Set.TheVariants.{Specifier, Attributes, Attribute, Expression, Member, Target}
 use Rattle.tree.specs.declared.grammar.Slot.TheVariants.{Nothing, One, Maybe}
 use Rattle.tree.specs.declared.grammar.Rule.{Rule}
-use Rattle.tree.specs.declared.grammar.Step.TheVariants.{Go}
 use Rattle.tree.specs.Layout.{skip_at}
 use Rattle.tree.specs.Access.{value_at, piece_at, then_piece, fixed_at}
 use Rattle.tree.specs.Tree.{Field, field, Fields, none, more, tag_of, fixed_of, parts_of, size, sizes, depth, depths}
@@ -42,7 +41,7 @@ abbrev mutual
 
   pub ShapedAll : Fields → Rule → Type 0
   ShapedAll none q = done_at q ≡ true
-  ShapedAll (more f fs) q = (q' : Rule) × (step_at q (tag_of f) ≡ Go q') × Shaped f × ShapedAll fs q'
+  ShapedAll (more f fs) q = (q' : Rule) × (step_at q (tag_of f) ≡ Some q') × Shaped f × ShapedAll fs q'
 
 mutual
   pub formed-shaped : (f : Field) → Formed f → Shaped f
@@ -90,27 +89,27 @@ specifier-is t h = within-is 0x20 0x22 t h
 abbrev pub ImportStep : ℕ → Rule → Type 0
 ImportStep t q = ((holds_at Specifier t ≡ true) × (q ≡ rule_of 0x10)) ⊎ ((t ≡ 0x2F) × (q ≡ parts0))
 
-pub import-step : (t : ℕ) (q : Rule) → step_at (rule_of 0x10) t ≡ Go q → ImportStep t q
+pub import-step : (t : ℕ) (q : Rule) → step_at (rule_of 0x10) t ≡ Some q → ImportStep t q
 unfolding rule_of within holds_at
 import-step t q e =
     ⊎_elim (λ w. inl w) (λ w. ⊎_elim (λ v. inr (eqb-true t 0x2F v.0, v.1)) (λ v. absurd (no-step t v))
     (maybe-step Attributes Nothing Nothing Nothing t q w))
     (many-step Specifier (Maybe Attributes) Nothing Nothing t q e)
 
-specifier-step : (t : ℕ) → holds_at Specifier t ≡ true → step_at (rule_of 0x10) t ≡ Go (rule_of 0x10)
+specifier-step : (t : ℕ) → holds_at Specifier t ≡ true → step_at (rule_of 0x10) t ≡ Some (rule_of 0x10)
 unfolding rule_of within
 specifier-step t h = many-slot Specifier (Maybe Attributes) Nothing Nothing t ∙ rw h
 
-attributes-step : step_at (rule_of 0x10) 0x2F ≡ Go parts0
+attributes-step : step_at (rule_of 0x10) 0x2F ≡ Some parts0
 unfolding step_at step_by slot_at rule_of within holds_at
 attributes-step = refl
 
 -- '2F attributes: 30*.'
-pub attribute-step : (t : ℕ) (q : Rule) → step_at (rule_of 0x2F) t ≡ Go q → (t ≡ 0x30) × (q ≡ rule_of 0x2F)
+pub attribute-step : (t : ℕ) (q : Rule) → step_at (rule_of 0x2F) t ≡ Some q → (t ≡ 0x30) × (q ≡ rule_of 0x2F)
 unfolding rule_of within holds_at
 attribute-step t q e = let w = only-step Attribute t q e in (eqb-true t 0x30 w.0, w.1)
 
-attribute-stays : step_at (rule_of 0x2F) 0x30 ≡ Go (rule_of 0x2F)
+attribute-stays : step_at (rule_of 0x2F) 0x30 ≡ Some (rule_of 0x2F)
 unfolding step_at step_by slot_at rule_of within holds_at
 attribute-stays = refl
 
@@ -123,16 +122,16 @@ target-is t h = go (eqb t 0x50) refl h
     go true w h = inl (eqb-true t 0x50 w)
     go false w h = inr (eqb-true t 0x63 h)
 
-pub target-step : (t : ℕ) (q : Rule) → step_at (rule_of 0x66) t ≡ Go q → ((t ≡ 0x50) ⊎ (t ≡ 0x63)) × (q ≡ parts1 (One Expression))
+pub target-step : (t : ℕ) (q : Rule) → step_at (rule_of 0x66) t ≡ Some q → ((t ≡ 0x50) ⊎ (t ≡ 0x63)) × (q ≡ parts1 (One Expression))
 unfolding rule_of within
 target-step t q e = let w = step-one Target (One Expression) Nothing Nothing t q e in (target-is t w.0, w.1)
 
 -- '63 member: object expression, 70|71|72'
-pub member-first : (t : ℕ) (q : Rule) → step_at (rule_of 0x63) t ≡ Go q → q ≡ parts1 (One Member)
+pub member-first : (t : ℕ) (q : Rule) → step_at (rule_of 0x63) t ≡ Some q → q ≡ parts1 (One Member)
 unfolding rule_of within
 member-first t q e = (step-one Expression (One Member) Nothing Nothing t q e).1
 
-pub member-second : (t : ℕ) (q : Rule) → step_at (parts1 (One Member)) t ≡ Go q → (0x70 ≤ t) × (t ≤ 0x72)
+pub member-second : (t : ℕ) (q : Rule) → step_at (parts1 (One Member)) t ≡ Some q → (0x70 ≤ t) × (t ≤ 0x72)
 unfolding holds_at
 member-second t q e = within-is 0x70 0x72 t (step-one Member Nothing Nothing Nothing t q e).0
 
@@ -146,7 +145,7 @@ pub member-width : (o q : Field) (qs : Fields) → ShapedAll (more o (more q qs)
     length (fixed_of q) ≡ 2
 member-width o q qs h a b =
     let m = h.3 in
-    let s = subst (λ (r : Rule). step_at r (tag_of q) ≡ Go m.0) (member-first (tag_of o) h.0 h.1) m.1 in
+    let s = subst (λ (r : Rule). step_at r (tag_of q) ≡ Some m.0) (member-first (tag_of o) h.0 h.1) m.1 in
     let w = member-second (tag_of q) m.0 s in
     let x = eqb-false (tag_of q) 0x71 a in
     let y = eqb-false (tag_of q) 0x72 b in
@@ -182,7 +181,7 @@ import-parts (more f fs) h = go (import-step (tag_of f) h.0 h.1) (λ w. import-p
     go (inr w) ih =
         let e : fs ≡ none = shaped-none fs (subst (ShapedAll fs) w.1 h.3) in
         let y : has 0x2F f ≡ true = eq-eqb (tag_of f) 0x2F w.0 in
-        rw (y, e) (tt, (parts0, subst (λ (k : ℕ). step_at (rule_of 0x10) k ≡ Go parts0) (sym w.0) attributes-step, h.2, refl))
+        rw (y, e) (tt, (parts0, subst (λ (k : ℕ). step_at (rule_of 0x10) k ≡ Some parts0) (sym w.0) attributes-step, h.2, refl))
 
 -- specifiers, then attributes, are the parts of an import
 pub import-from : (fs gs : Fields) → Specifiers fs → ShapedAll gs (rule_of 0x10) → ShapedAll (append fs gs) (rule_of 0x10)
@@ -191,13 +190,13 @@ import-from none gs h k = k
 import-from (more f fs) gs h k = (rule_of 0x10, specifier-step (tag_of f) h.0.0, h.0.1, import-from fs gs h.1 k)
 
 -- a part that is found is whole
-pub shaped-found : (t : ℕ) (cs : Fields) (q : Rule) (f : Field) → ShapedAll cs q → find_field (has t) cs ≡ some f → Shaped f × (tag_of f ≡ t)
+pub shaped-found : (t : ℕ) (cs : Fields) (q : Rule) (f : Field) → ShapedAll cs q → find_field (has t) cs ≡ Some f → Shaped f × (tag_of f ≡ t)
 unfolding find_field
 shaped-found t none q f h e = absurd (let z : ◌≡◌ {A = ℕ} 0 1 = cc in omega arith)
 shaped-found t (more g gs) q f h e = go (has t g) refl e (λ w. shaped-found t gs h.0 f h.3 w)
   where
-    go : (b : Bool) → has t g ≡ b → cond b (some g) (find_field (has t) gs) ≡ some f →
-        (find_field (has t) gs ≡ some f → Shaped f × (tag_of f ≡ t)) → Shaped f × (tag_of f ≡ t)
+    go : (b : Bool) → has t g ≡ b → cond b (Some g) (find_field (has t) gs) ≡ Some f →
+        (find_field (has t) gs ≡ Some f → Shaped f × (tag_of f ≡ t)) → Shaped f × (tag_of f ≡ t)
     go true w e k = let r : g ≡ f = cc in (subst Shaped r h.2, ap tag_of (sym r) ∙ eqb-true (tag_of g) t w)
     go false w e k = k e
 
@@ -219,7 +218,7 @@ attributes-more none c h = attributes-one c
 attributes-more (more f fs) c h =
     let w = attribute-step (tag_of f) h.0 h.1 in (
       rule_of 0x2F,
-      subst (λ (k : ℕ). step_at (rule_of 0x2F) k ≡ Go (rule_of 0x2F)) (sym w.0) attribute-stays,
+      subst (λ (k : ℕ). step_at (rule_of 0x2F) k ≡ Some (rule_of 0x2F)) (sym w.0) attribute-stays,
       h.2,
       attributes-more fs c
           (subst (ShapedAll fs) w.1 h.3),
@@ -233,10 +232,10 @@ unfolding fixed_at piece_at value_at pieces_of skip_at then_piece
 empty-exact = refl
 
 old-shaped : (o : Option Field) (cs : Fields) → ShapedAll cs (rule_of 0x10) → find_field (has 0x2F) cs ≡ o → ShapedAll (attributes_of o) (rule_of 0x2F)
-old-shaped nothing cs h e = attributes-done
-old-shaped (some f) cs h e = let w = shaped-found 0x2F cs (rule_of 0x10) f h e in shaped-parts f 0x2F w.0 w.1
+old-shaped None cs h e = attributes-done
+old-shaped (Some f) cs h e = let w = shaped-found 0x2F cs (rule_of 0x10) f h e in shaped-parts f 0x2F w.0 w.1
 
-metadata-shaped : (old : Fields) (c : ℕ) → ShapedAll old (rule_of 0x2F) → Shaped (with_metadata (record { injected = false; context = some c }) old)
+metadata-shaped : (old : Fields) (c : ℕ) → ShapedAll old (rule_of 0x2F) → Shaped (with_metadata (record { injected = false; context = Some c }) old)
 unfolding with_metadata attributes_for append
 metadata-shaped old c h = (empty-exact, attributes-more old c h)
 
@@ -247,9 +246,9 @@ metadata-tag m old = refl
 -- 'if resolved, append metadata': the attributes of an import stay whole
 pub context-shaped : (o : Option ℕ) (cs : Fields) → ShapedAll cs (rule_of 0x10) → ShapedAll (with_context o cs) (rule_of 0x10)
 unfolding with_context
-context-shaped nothing cs h = (import-parts cs h).1
-context-shaped (some n) cs h =
-    let m : Metadata = record { injected = false; context = some (export n) } in
+context-shaped None cs h = (import-parts cs h).1
+context-shaped (Some n) cs h =
+    let m : Metadata = record { injected = false; context = Some (export n) } in
     let old = attributes_of (find_field (has 0x2F) cs) in (
       parts0,
       ap (step_at (rule_of 0x10)) (metadata-tag m old) ∙ attributes-step,

@@ -1,10 +1,10 @@
 -- In the first pass only namespaces have usages, each a property in an export context, and a namespace is imported as an export context.
+use Rattle.std.specs.Prelude.{Option, None, Some}
 use Prim.Native.Nat.{ℕ, ◌+◌}
 use mathlib.Core.Path.{◌≡◌, refl, sym, ap, ap₂, subst, ◌∙◌}
 use mathlib.Core.Logic.{◌⊎◌, inl, inr}
 use mathlib.Core.Bool.{Bool, true, false, not, cond, ◌||◌, true≢false}
 use mathlib.Core.List.{List, [], ◌∷◌, ◌++◌}
-use mathlib.Core.Option.{Option, none as nothing, some}
 use native.Mathlib.Omega.{arith}
 use lib.Dec.{leb, eqb}
 use lib.ListN.{length, get_or, take, drop}
@@ -43,7 +43,7 @@ Property y = (p : List ℕ) × (n : ℕ) × (length p ≡ 2) × (y ≡ p ++ four
 
 -- not imported, or as an export context
 abbrev pub AsExport : List ℕ → State → Type 0
-AsExport j s = (imported_as j s.imported ≡ nothing) ⊎ ((n : ℕ) × (imported_as j s.imported ≡ some (four (export n))))
+AsExport j s = (imported_as j s.imported ≡ None) ⊎ ((n : ℕ) × (imported_as j s.imported ≡ Some (four (export n))))
 
 module _ (Space : List ℕ → Type 0) (own : ℕ) (locals : (j : List ℕ) → Space j → context_of j ≡ four (local own)) where
   -- a namespace among the specifiers is one of those
@@ -55,19 +55,19 @@ module _ (Space : List ℕ → Type 0) (own : ℕ) (locals : (j : List ℕ) → 
     pub imports : (j : List ℕ) → Space j → AsExport j s
     pub usages : All (λ u. Space u.id × Property u.property) s.usages
 
-  first-space : (fs : Fields) (f : Field) → Each OfSpace fs → find_field (has 0x22) fs ≡ some f → Space (fixed_of f)
+  first-space : (fs : Fields) (f : Field) → Each OfSpace fs → find_field (has 0x22) fs ≡ Some f → Space (fixed_of f)
   unfolding find_field
   first-space none f h e = absurd (let z : ◌≡◌ {A = ℕ} 0 1 = cc in omega arith)
   first-space (more g fs) f h e = go (has 0x22 g) refl e (first-space fs f h.1)
     where
-      go : (b : Bool) → has 0x22 g ≡ b → cond b (some g) (find_field (has 0x22) fs) ≡ some f → (find_field (has 0x22) fs ≡ some f → Space (fixed_of f)) → Space (fixed_of f)
+      go : (b : Bool) → has 0x22 g ≡ b → cond b (Some g) (find_field (has 0x22) fs) ≡ Some f → (find_field (has 0x22) fs ≡ Some f → Space (fixed_of f)) → Space (fixed_of f)
       go true q e k = let w : g ≡ f = cc in subst (λ (y : Field). Space (fixed_of y)) w (h.0 q)
       go false q e k = k e
 
   -- what the search by name and context finds is the id itself
-  suits-space : (i : List ℕ) (o : Option Field) → ((f : Field) → o ≡ some f → Space (fixed_of f)) → suits own i o ≡ true → Space i
-  suits-space i nothing k h = absurd (true≢false (sym h))
-  suits-space i (some f) k h =
+  suits-space : (i : List ℕ) (o : Option Field) → ((f : Field) → o ≡ Some f → Space (fixed_of f)) → suits own i o ≡ true → Space i
+  suits-space i None k h = absurd (true≢false (sym h))
+  suits-space i (Some f) k h =
       let a = both-true (same (name_of (fixed_of f)) (name_of i)) _ h in
       let c = locals (fixed_of f) (k f refl) in
       subst Space (same-id (fixed_of f) i (same-equal (name_of (fixed_of f)) (name_of i) a.0) (go (same (context_of i) (four (local own))) refl a.1)) (k f refl)
@@ -76,7 +76,7 @@ module _ (Space : List ℕ → Type 0) (own : ℕ) (locals : (j : List ℕ) → 
       go true q h = locals (fixed_of f) (k f refl) ∙ sym (same-equal (context_of i) (four (local own)) q)
       go false q h = sym (same-equal (context_of i) (context_of (fixed_of f)) h)
 
-  used-space : (j : List ℕ) (l : List Record) (r : Record) → All (λ r. Each OfSpace r.specifiers) l → used_record own j l ≡ some r → Space j
+  used-space : (j : List ℕ) (l : List Record) (r : Record) → All (λ r. Each OfSpace r.specifiers) l → used_record own j l ≡ Some r → Space j
   unfolding used_record
   used-space j l r h e =
       suits-space j (find_field (has 0x22) r.specifiers)
@@ -108,8 +108,8 @@ module _ (Space : List ℕ → Type 0) (own : ℕ) (locals : (j : List ℕ) → 
       }
     where
       go : (j : List ℕ) (b : Bool) → same i j ≡ b → AsExport j s →
-          (imported_as j (filter (λ m. not (same m.id i)) s.imported) ≡ nothing) ⊎
-          ((n : ℕ) × (imported_as j (filter (λ m. not (same m.id i)) s.imported) ≡ some (four (export n))))
+          (imported_as j (filter (λ m. not (same m.id i)) s.imported) ≡ None) ⊎
+          ((n : ℕ) × (imported_as j (filter (λ m. not (same m.id i)) s.imported) ≡ Some (four (export n))))
       go j true q w = inl (rw (same-equal i j q) (forgotten-imported j s.imported))
       go j false q (inl w) = inl (other-imported j i s.imported q ∙ w)
       go j false q (inr w) = inr (w.0, other-imported j i s.imported q ∙ w.1)
@@ -133,7 +133,7 @@ module _ (Space : List ℕ → Type 0) (own : ℕ) (locals : (j : List ℕ) → 
               imports = h.imports;
               usages =
                   all-last (λ u. Space u.id × Property u.property) s.usages (record { id = j; property = id_from p (export n) }) h.usages
-                  (used-space j s.collected r h.records (subst (λ (o : ℕ). used_record o j s.collected ≡ some r) mine w), (p, n, len, refl));
+                  (used-space j s.collected r h.records (subst (λ (o : ℕ). used_record o j s.collected ≡ Some r) mine w), (p, n, len, refl));
             };
       }
 
@@ -151,11 +151,11 @@ module _ (Space : List ℕ → Type 0) (own : ℕ) (locals : (j : List ℕ) → 
       (λ _. record { records = h.records; imports = λ j w. go j (same m.id j) refl w (h.imports j w); usages = h.usages }) (λ _. tt)
     where
       go : (j : List ℕ) (b : Bool) → same m.id j ≡ b → Space j → AsExport j s →
-          (imported_as j (note_in m s.imported) ≡ nothing) ⊎ ((n : ℕ) × (imported_as j (note_in m s.imported) ≡ some (four (export n))))
+          (imported_as j (note_in m s.imported) ≡ None) ⊎ ((n : ℕ) × (imported_as j (note_in m s.imported) ≡ Some (four (export n))))
       go j true q w v =
           let e : m.id ≡ j = same-equal m.id j q in
           let c = k (subst Space (sym e) w) in
-          inr (c.0, ap (λ (y : List ℕ). imported_as y (note_in m s.imported)) (sym e) ∙ noted-own m s.imported ∙ ap some c.1)
+          inr (c.0, ap (λ (y : List ℕ). imported_as y (note_in m s.imported)) (sym e) ∙ noted-own m s.imported ∙ ap Some c.1)
       go j false q w (inl v) = inl (noted-other j m s.imported q ∙ v)
       go j false q w (inr v) = inr (v.0, noted-other j m s.imported q ∙ v.1)
 
@@ -183,8 +183,8 @@ module _ (Space : List ℕ → Type 0) (own : ℕ) (locals : (j : List ℕ) → 
       (notes-space n fs (p + size f) t k.1 w.0) λ gs u v. (v.0, (w.1, v.1))
 
   specifiers-space : (o : Option ℕ) (fs : Fields) (p : ℕ) (s : State) → Each OfImport fs → Spaces s → After (note_specifiers o fs p s) (λ gs t. Spaces t × Each OfSpace gs)
-  specifiers-space nothing fs p s k h = (h, each-weaken OfImport OfSpace fs (λ f k. k.0) k)
-  specifiers-space (some n) fs p s k h = notes-space n fs p s k h
+  specifiers-space None fs p s k h = (h, each-weaken OfImport OfSpace fs (λ f k. k.0) k)
+  specifiers-space (Some n) fs p s k h = notes-space n fs p s k h
 
   pub import-space : (e : Setting) (y : List ℕ) (ds : Fields) (p : ℕ) (s : State) → Each OfImport (specifiers_in ds) → Spaces s → After (import_first e y ds p s) (λ g t. Spaces t)
   unfolding import_first collect

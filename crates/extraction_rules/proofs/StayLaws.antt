@@ -1,9 +1,9 @@
 -- The walk keeps a field's tag, but for a 63, and its fixed bytes, but for a 23. So an item that stays in its module stays there.
+use Rattle.std.specs.Prelude.{Option, None, Some}
 use Prim.Native.Nat.{ℕ, ◌+◌}
 use mathlib.Core.Path.{◌≡◌, refl, sym, ap, subst, ◌∙◌}
 use mathlib.Core.Bool.{Bool, true, false, not, cond, ◌&&◌, ◌||◌, true≢false}
 use mathlib.Core.List.{List}
-use mathlib.Core.Option.{Option, none as nothing, some}
 use native.Mathlib.Omega.{arith}
 use lib.Dec.{eqb}
 use lib.ListN.{get_or}
@@ -33,13 +33,13 @@ unfolding with_callee
 callee-same n t x none = (refl, λ _. refl)
 callee-same n t x (more c gs) = (refl, λ _. refl)
 
-pub no-member : (t : ℕ) (x : List ℕ) (cs : Fields) → (t ≡ 0x63 → ⊥) → on_ident (field t x cs) ≡ nothing
+pub no-member : (t : ℕ) (x : List ℕ) (cs : Fields) → (t ≡ 0x63 → ⊥) → on_ident (field t x cs) ≡ None
 unfolding on_ident
 no-member t x none h = refl
 no-member t x (more o none) h = refl
-no-member t x (more o (more q qs)) h = ap (λ (b : Bool). cond (b && has 0x60 o) (some (o, q)) nothing) (ne_eqb t 0x63 h)
+no-member t x (more o (more q qs)) h = ap (λ (b : Bool). cond (b && has 0x60 o) (Some (o, q)) None) (ne_eqb t 0x63 h)
 
-pub expression-same : (k : Pass) (e : Setting) (t : ℕ) (x : List ℕ) (ds : Fields) (object : Bool) (p : ℕ) (s : State) → (k ≡ second → on_ident (field t x ds) ≡ nothing) →
+pub expression-same : (k : Pass) (e : Setting) (t : ℕ) (x : List ℕ) (ds : Fields) (object : Bool) (p : ℕ) (s : State) → (k ≡ second → on_ident (field t x ds) ≡ None) →
     After (after_expression k e (field t x ds) object p s) (λ g s'. Same t x g)
 unfolding after_expression rewritten
 expression-same first e t x ds object p s h =

@@ -1,9 +1,9 @@
 -- What every elementary step of the rules keeps, every rule keeps: a predicate J of the state, and the rules of both passes one by one.
+use Rattle.std.specs.Prelude.{Option, None, Some}
 use Prim.Native.Nat.{ℕ, ◌+◌}
 use mathlib.Core.Path.{◌≡◌, refl, sym, ap, ◌∙◌}
 use mathlib.Core.Bool.{Bool, true, false, not, cond, ◌&&◌, ◌||◌}
 use mathlib.Core.List.{List, [], ◌∷◌, ◌++◌, map}
-use mathlib.Core.Option.{Option, none as nothing, some}
 use lib.Dec.{leb, eqb}
 use lib.ListN.{length, get_or}
 use Rattle.scope.specs.Id.{require_atom, export}
@@ -32,7 +32,7 @@ use Rattle.extraction_rules.proofs.TestLaws.{or-neither}
 
 -- steps of require, in both passes: a file is requested, a module marked cjs, a lazy record added
 pub record RequireSteps (e : Setting) (J : State → Type 0) : Type 0 where
-  pub on_request : (s : State) (f n : ℕ) (ms : Modules) → request f s.modules ≡ some (n, ms) → J s → J (set_modules ms s)
+  pub on_request : (s : State) (f n : ℕ) (ms : Modules) → request f s.modules ≡ Some (n, ms) → J s → J (set_modules ms s)
   pub on_cjs : (s : State) (n : ℕ) → J s → J (set_modules (set_mark Cjs n s.modules) s)
   pub on_lazy : (s : State) (r : Record) → external e r.literal ≡ false → J s → J (set_lazy (s.lazy ++ (r ∷ [])) s)
 
@@ -49,7 +49,7 @@ EmptyKeeps e J = (s : State) (l : List ℕ) → external e l ≡ false → J s �
 -- steps of the first pass: an imported id is noted, a usage of an imported id added, a record collected
 pub record FirstSteps (e : Setting) (J : State → Type 0) : Type 0 where
   pub on_note : (s : State) (m : Imported) → J s → J (set_imported (note_in m s.imported) s)
-  pub on_usage : (s : State) (u : Usage) (c : List ℕ) → imported_as u.id s.imported ≡ some c → J s → J (set_usages (s.usages ++ (u ∷ [])) s)
+  pub on_usage : (s : State) (u : Usage) (c : List ℕ) → imported_as u.id s.imported ≡ Some c → J s → J (set_usages (s.usages ++ (u ∷ [])) s)
   pub on_collect : (s : State) (r : Record) → external e r.literal ≡ false → J s → J (set_collected (collect_in r s.collected) s)
 
 -- steps of the second pass: the records of the literal of an import of which P holds are extended, its source is forced
@@ -64,24 +64,24 @@ pub record EndSteps (J : State → Type 0) : Type 0 where
 
 -- ---- Not external: of every call that meets the require conditions
 
-pub some-inj : {A : Type 0} {a b : A} → some a ≡ some b → a ≡ b
+pub some-inj : {A : Type 0} {a b : A} → Some a ≡ Some b → a ≡ b
 some-inj e = cc
 
-not_external-own : (e : Setting) (o : Option (List ℕ)) (l : List ℕ) → not_external e o ≡ some l → external e l ≡ false
+not_external-own : (e : Setting) (o : Option (List ℕ)) (l : List ℕ) → not_external e o ≡ Some l → external e l ≡ false
 unfolding not_external
-not_external-own e nothing l q = none-some q
-not_external-own e (some k) l q = go (external e k) refl q
+not_external-own e None l q = none-some q
+not_external-own e (Some k) l q = go (external e k) refl q
   where
-    go : (b : Bool) → external e k ≡ b → cond b nothing (some k) ≡ some l → external e l ≡ false
+    go : (b : Bool) → external e k ≡ b → cond b None (Some k) ≡ Some l → external e l ≡ false
     go true r q = none-some q
     go false r q = ap (external e) (sym (some-inj q)) ∙ r
 
-pub required-own : (e : Setting) (f : Field) (l : List ℕ) → required e f ≡ some l → external e l ≡ false
+pub required-own : (e : Setting) (f : Field) (l : List ℕ) → required e f ≡ Some l → external e l ≡ false
 unfolding required
 required-own e (field t x none) l q = none-some q
 required-own e (field t x (more c gs)) l q = go (e.config.require && eqb t 0x65 && has 0x60 c && same (name_of (fixed_of c)) (two require_atom)) q
   where
-    go : (b : Bool) → cond b (not_external e (argument (sole gs))) nothing ≡ some l → external e l ≡ false
+    go : (b : Bool) → cond b (not_external e (argument (sole gs))) None ≡ Some l → external e l ≡ false
     go true q = not_external-own e (argument (sole gs)) l q
     go false q = none-some q
 
@@ -108,12 +108,12 @@ unfolding module_for
 module_for-stays e a p s = go (file_of a e.table)
   where
     ask : (r : Option (ℕ × Modules)) → After (requested r p s) (λ n t. t ≡ set_modules t.modules s)
-    ask nothing = tt
-    ask (some r) = refl
+    ask None = tt
+    ask (Some r) = refl
 
     go : (o : Option ℕ) → After (module_of o p s) (λ n t. t ≡ set_modules t.modules s)
-    go nothing = refl
-    go (some f) = ask (request f s.modules)
+    go None = refl
+    go (Some f) = ask (request f s.modules)
 
 -- the tables, one by one
 module _ (J : State → Type 0) where
@@ -151,8 +151,8 @@ module _ (J : State → Type 0) where
 
   pub note_specifiers-keeps : ((s : State) (m : Imported) → J s → J (set_imported (note_in m s.imported) s)) →
       (o : Option ℕ) (fs : Fields) (p : ℕ) (s : State) → J s → Keeps J (note_specifiers o fs p s)
-  note_specifiers-keeps k nothing fs p s h = h
-  note_specifiers-keeps k (some n) fs p s h = note_all-keeps k n fs p s h
+  note_specifiers-keeps k None fs p s h = h
+  note_specifiers-keeps k (Some n) fs p s h = note_all-keeps k n fs p s h
 
 module _ (e : Setting) (J : State → Type 0) (c : RequireSteps e J) where
   pub module_for-keeps : (a : List ℕ) (p : ℕ) (s : State) → J s → Keeps J (module_for e a p s)
@@ -160,12 +160,12 @@ module _ (e : Setting) (J : State → Type 0) (c : RequireSteps e J) where
   module_for-keeps a p s h = go (file_of a e.table)
     where
       ask : (f : ℕ) (r : Option (ℕ × Modules)) → request f s.modules ≡ r → Keeps J (requested r p s)
-      ask f nothing q = tt
-      ask f (some r) q = c.on_request s f r.0 r.1 q h
+      ask f None q = tt
+      ask f (Some r) q = c.on_request s f r.0 r.1 q h
 
       go : (o : Option ℕ) → Keeps J (module_of o p s)
-      go nothing = h
-      go (some f) = ask f (request f s.modules) refl
+      go None = h
+      go (Some f) = ask f (request f s.modules) refl
 
   add_lazy-keeps : (r : Record) (p : ℕ) (s : State) → external e r.literal ≡ false → J s → Keeps J (add_lazy r p s)
   unfolding add_lazy
@@ -173,8 +173,8 @@ module _ (e : Setting) (J : State → Type 0) (c : RequireSteps e J) where
 
   mark_cjs-keeps : (o : Option ℕ) (f : Field) (s : State) → J s → Keeps J (mark_cjs o f s)
   unfolding mark_cjs
-  mark_cjs-keeps nothing f s h = h
-  mark_cjs-keeps (some n) f s h = c.on_cjs s n h
+  mark_cjs-keeps None f s h = h
+  mark_cjs-keeps (Some n) f s h = c.on_cjs s n h
 
   mark_required-keeps : (l : List ℕ) (f : Field) (p : ℕ) (s : State) → J s → Keeps J (mark_required e l f p s)
   unfolding mark_required
@@ -182,8 +182,8 @@ module _ (e : Setting) (J : State → Type 0) (c : RequireSteps e J) where
 
   require_lazily-keeps : (o : Option (List ℕ)) (q i : Field) (p : ℕ) (s : State) → required e i ≡ o → J s → Keeps J (require_lazily o e q i p s)
   unfolding require_lazily
-  require_lazily-keeps nothing q i p s w h = h
-  require_lazily-keeps (some l) q i p s w h =
+  require_lazily-keeps None q i p s w h = h
+  require_lazily-keeps (Some l) q i p s w h =
       then-keeps J (mark_required e l i p s) _ (mark_required-keeps l i p s h) λ j s h.
       then-keeps J (add_lazy (record { literal = l; specifiers = bindings q }) p s) _ (add_lazy-keeps _ p s (required-own e i l w) h) λ _ s h. h
 
@@ -196,8 +196,8 @@ module _ (e : Setting) (J : State → Type 0) (c : RequireSteps e J) where
 
   require-by : EmptyKeeps e J → (o : Option (List ℕ)) (f : Field) (p : ℕ) (s : State) → required e f ≡ o → J s → Keeps J (require o e f p s)
   unfolding require
-  require-by k nothing f p s w h = h
-  require-by k (some l) f p s w h =
+  require-by k None f p s w h = h
+  require-by k (Some l) f p s w h =
       let r : Record = record { literal = l; specifiers = none } in
       then-keeps J (mark_required e l f p s) _ (mark_required-keeps l f p s h) λ g s h.
       then-keeps J (cond s.top (collect r p) (add_lazy r p) s) _
@@ -228,8 +228,8 @@ module _ (e : Setting) (J : State → Type 0) (c : RequireSteps e J) where
   on_sole-keeps : (P : List ℕ → Type 0) → SecondSteps e P J → (o : Option Field) (x : List ℕ) (cs : Fields) (s : State) →
       external e x ≡ false → P x → J s → Keeps J (on_sole o x cs s)
   unfolding on_sole
-  on_sole-keeps P two nothing x cs s b q h = h
-  on_sole-keeps P two (some f) x cs s b q h =
+  on_sole-keeps P two None x cs s b q h = h
+  on_sole-keeps P two (Some f) x cs s b q h =
       after-if (has 0x22 f) _ (give (field 0x10 x cs)) s (λ r s. J s)
       (λ _. take_apart-keeps P two (usages_of (fixed_of f) s.usages) x cs s b q h) (λ _. h)
 
@@ -244,8 +244,8 @@ module _ (e : Setting) (J : State → Type 0) (c : RequireSteps e J) where
 
   wrap_module-keeps : EndSteps J → (o : Option ℕ) (s : State) → J s → Keeps J (wrap_module o s)
   unfolding wrap_module
-  wrap_module-keeps end nothing s h = h
-  wrap_module-keeps end (some n) s h = end.on_wrap s n h
+  wrap_module-keeps end None s h = h
+  wrap_module-keeps end (Some n) s h = end.on_wrap s n h
 
   wrap_all-keeps : EndSteps J → (l : List (List ℕ)) (s : State) → J s → Keeps J (wrap_all e l s)
   unfolding wrap_all
@@ -264,21 +264,21 @@ module _ (e : Setting) (J : State → Type 0) (c : CommonSteps e J) where
   -- what is asked of the usage (property q, export context) of the id i
   abbrev pub UseKeeps : List ℕ → Field → Type 0
   UseKeeps i q =
-      (s : State) (n : ℕ) (k : List ℕ) → imported_as i s.imported ≡ some k → J s →
+      (s : State) (n : ℕ) (k : List ℕ) → imported_as i s.imported ≡ Some k → J s →
       J (set_usages (s.usages ++ (record { id = i; property = id_from (fixed_of q) (export n) } ∷ [])) s)
 
-  use_property-keeps : (o : Option ℕ) (i : List ℕ) (q : Field) (at p : ℕ) (s : State) (k : List ℕ) → imported_as i s.imported ≡ some k →
+  use_property-keeps : (o : Option ℕ) (i : List ℕ) (q : Field) (at p : ℕ) (s : State) (k : List ℕ) → imported_as i s.imported ≡ Some k →
       (has 0x72 q ≡ false → UseKeeps i q) → J s → Keeps J (use_property o i q at p s)
   unfolding use_property
-  use_property-keeps nothing i q at p s k w u h = h
-  use_property-keeps (some n) i q at p s k w u h =
+  use_property-keeps None i q at p s k w u h = h
+  use_property-keeps (Some n) i q at p s k w u h =
       after-if (has 0x72 q) (refuse 7 at) _ s (λ r s. J s) (λ _. tt) (λ b. add_usage-keeps J _ p s (u b s n k w h))
 
-  use_from-keeps : (o : Option Record) (i : List ℕ) (q : Field) (at p : ℕ) (s : State) (k : List ℕ) → imported_as i s.imported ≡ some k →
+  use_from-keeps : (o : Option Record) (i : List ℕ) (q : Field) (at p : ℕ) (s : State) (k : List ℕ) → imported_as i s.imported ≡ Some k →
       (has 0x72 q ≡ false → UseKeeps i q) → J s → Keeps J (use_from o e i q at p s)
   unfolding use_from
-  use_from-keeps nothing i q at p s k w u h = h
-  use_from-keeps (some r) i q at p s k w u h =
+  use_from-keeps None i q at p s k w u h = h
+  use_from-keeps (Some r) i q at p s k w u h =
       after-bind (module_for e (value_of r.literal) p s) _ (λ n t. J t × (t ≡ set_modules t.modules s)) (λ r s. J s)
       (after-both (module_for e (value_of r.literal) p s) (λ n t. J t) (λ n t. t ≡ set_modules t.modules s)
       (module_for-keeps e J c.requires (value_of r.literal) p s h) (module_for-stays e (value_of r.literal) p s)) λ n t j.
@@ -287,16 +287,16 @@ module _ (e : Setting) (J : State → Type 0) (c : CommonSteps e J) where
   use_imported-keeps : (o : Option (List ℕ)) (i : List ℕ) (q : Field) (at p : ℕ) (s : State) → imported_as i s.imported ≡ o →
       (has 0x71 q ≡ false → has 0x72 q ≡ false → UseKeeps i q) → J s → Keeps J (use_imported o e i q at p s)
   unfolding use_imported
-  use_imported-keeps nothing i q at p s w u h = h
-  use_imported-keeps (some k) i q at p s w u h =
+  use_imported-keeps None i q at p s w u h = h
+  use_imported-keeps (Some k) i q at p s w u h =
       after-if (has 0x71 q) (change (force_id i)) _ s (λ r s. J s) (λ _. c.on_force s i h)
       (λ b. use_from-keeps (used_record e.own i s.collected) i q at p s k w (u b) h)
 
   pub usage-keeps : (m : Option (Field × Field)) (p : ℕ) (s : State) →
-      ((o q : Field) → m ≡ some (o, q) → has 0x71 q ≡ false → has 0x72 q ≡ false → UseKeeps (fixed_of o) q) → J s → Keeps J (usage m e p s)
+      ((o q : Field) → m ≡ Some (o, q) → has 0x71 q ≡ false → has 0x72 q ≡ false → UseKeeps (fixed_of o) q) → J s → Keeps J (usage m e p s)
   unfolding usage
-  usage-keeps nothing p s u h = h
-  usage-keeps (some m) p s u h =
+  usage-keeps None p s u h = h
+  usage-keeps (Some m) p s u h =
       use_imported-keeps (imported_as (fixed_of m.0) s.imported) (fixed_of m.0) m.1 (p + 3 + size m.0) p s refl (u m.0 m.1 refl) h
 
   pub export_specifier-keeps : (x : List ℕ) (p : ℕ) (s : State) → J s → Keeps J (export_specifier e x p s)
@@ -305,7 +305,7 @@ module _ (e : Setting) (J : State → Type 0) (c : CommonSteps e J) where
       after-if (eqb (get_or x 0 0) 2 || eqb (get_or x 7 0) 2) (refuse 6 p) _ s (λ r s. J s) (λ _. tt) (λ _. c.on_force s (id_at x 1) h)
 
   pub expression-keeps : EmptyKeeps e J → (f : Field) →
-      ((o q : Field) → on_ident f ≡ some (o, q) → has 0x71 q ≡ false → has 0x72 q ≡ false → UseKeeps (fixed_of o) q) →
+      ((o q : Field) → on_ident f ≡ Some (o, q) → has 0x71 q ≡ false → has 0x72 q ≡ false → UseKeeps (fixed_of o) q) →
       (object : Bool) (p : ℕ) (s : State) → J s → Keeps J (after_expression first e f object p s)
   unfolding after_expression
   expression-keeps k f u object p s h =

@@ -1,9 +1,9 @@
 -- What the rules make of a field, whatever the state: a call, as it was or with another callee; a declarator with such an initialiser.
+use Rattle.std.specs.Prelude.{Option, None, Some}
 use Prim.Native.Nat.{ℕ}
 use mathlib.Core.Path.{◌≡◌, refl}
 use mathlib.Core.Bool.{Bool, true, false, not, cond, ◌&&◌}
 use mathlib.Core.List.{List}
-use mathlib.Core.Option.{Option, none as nothing, some}
 use native.Mathlib.Omega.{arith}
 use lib.Dec.{eqb}
 use borrow.Author.Tests.{eqb-true}
@@ -35,12 +35,12 @@ walk-second e q (field t x cs) p s h = rw (h, q)
 
 -- the require conditions: a 65 with a callee 60
 pub required-call : (e : Setting) (t : ℕ) (x : List ℕ) (c : Field) (gs : Fields) (l : List ℕ) →
-    required e (field t x (more c gs)) ≡ some l → (t ≡ 0x65) × (tag_of c ≡ 0x60)
+    required e (field t x (more c gs)) ≡ Some l → (t ≡ 0x65) × (tag_of c ≡ 0x60)
 unfolding required
 required-call e t x c gs l q = go (e.config.require && eqb t 0x65 && has 0x60 c && same (name_of (fixed_of c)) (two require_atom)) refl q
   where
     go : (b : Bool) → e.config.require && eqb t 0x65 && has 0x60 c && same (name_of (fixed_of c)) (two require_atom) ≡ b →
-        cond b (not_external e (argument (sole gs))) nothing ≡ some l → (t ≡ 0x65) × (tag_of c ≡ 0x60)
+        cond b (not_external e (argument (sole gs))) None ≡ Some l → (t ≡ 0x65) × (tag_of c ≡ 0x60)
     go true w q =
         let a = both-true (e.config.require && eqb t 0x65 && has 0x60 c) (same (name_of (fixed_of c)) (two require_atom)) w in
         let b = both-true (e.config.require && eqb t 0x65) (has 0x60 c) a.0 in
@@ -51,14 +51,14 @@ required-call e t x c gs l q = go (e.config.require && eqb t 0x65 && has 0x60 c 
 module _ (e : Setting) (Q : Field → Type 0) where
   -- Q holds of the field, and of it with another callee where it meets the require conditions
   abbrev pub Called : Field → Type 0
-  Called f = Q f × ((n : ℕ) (l : List ℕ) → required e f ≡ some l → Q (with_callee n f))
+  Called f = Q f × ((n : ℕ) (l : List ℕ) → required e f ≡ Some l → Q (with_callee n f))
 
   mark_cjs-value : (o : Option ℕ) (f : Field) (s : State) → Q f → ((n : ℕ) → Q (with_callee n f)) → After (mark_cjs o f s) (λ g s. Q g)
   unfolding mark_cjs
-  mark_cjs-value nothing f s h k = h
-  mark_cjs-value (some n) f s h k = k n
+  mark_cjs-value None f s h k = h
+  mark_cjs-value (Some n) f s h k = k n
 
-  mark_required-value : (l : List ℕ) (f : Field) (p : ℕ) (s : State) → required e f ≡ some l → Called f → After (mark_required e l f p s) (λ g s. Q g)
+  mark_required-value : (l : List ℕ) (f : Field) (p : ℕ) (s : State) → required e f ≡ Some l → Called f → After (mark_required e l f p s) (λ g s. Q g)
   unfolding mark_required
   mark_required-value l f p s w h =
       after-bind (module_for e (value_of l) p s) _ (λ n s. Unit {0}) (λ g s. Q g) (after-any (module_for e (value_of l) p s)) λ n s _.
@@ -66,8 +66,8 @@ module _ (e : Setting) (Q : Field → Type 0) where
 
   require-by : (o : Option (List ℕ)) (f : Field) (p : ℕ) (s : State) → required e f ≡ o → Called f → After (require o e f p s) (λ g s. Q g)
   unfolding require
-  require-by nothing f p s w h = h.0
-  require-by (some l) f p s w h =
+  require-by None f p s w h = h.0
+  require-by (Some l) f p s w h =
       let r : Record = record { literal = l; specifiers = none } in
       after-bind (mark_required e l f p s) _ (λ g s. Q g) (λ g s. Q g) (mark_required-value l f p s w h) λ g s k.
       after-bind (cond s.top (collect r p) (add_lazy r p) s) _ (λ _ s. Unit {0}) (λ g s. Q g)
@@ -83,8 +83,8 @@ module _ (e : Setting) (Q : Field → Type 0) where
   require_lazily-value : (o : Option (List ℕ)) (q i : Field) (p : ℕ) (s : State) → required e i ≡ o → Called i →
       After (require_lazily o e q i p s) (λ g s. Q g)
   unfolding require_lazily
-  require_lazily-value nothing q i p s w h = h.0
-  require_lazily-value (some l) q i p s w h =
+  require_lazily-value None q i p s w h = h.0
+  require_lazily-value (Some l) q i p s w h =
       after-bind (mark_required e l i p s) _ (λ g s. Q g) (λ g s. Q g) (mark_required-value l i p s w h) λ g s k.
       after-bind (add_lazy (record { literal = l; specifiers = bindings q }) p s) _ (λ _ s. Unit {0}) (λ g s. Q g)
       (after-any (add_lazy (record { literal = l; specifiers = bindings q }) p s)) λ _ s _. k
@@ -97,7 +97,7 @@ first-expression e Q second q f object p s h = absurd (let z : ◌≡◌ {A = �
 
 -- a declarator keeps its pattern and what stands behind the initialiser
 pub declarator-value : (e : Setting) (R : Fields → Type 0) (cs : Fields) (p : ℕ) (s : State) → R cs →
-    ((q i : Field) (rest : Fields) (n : ℕ) (l : List ℕ) → cs ≡ more q (more i rest) → required e i ≡ some l → R
+    ((q i : Field) (rest : Fields) (n : ℕ) (l : List ℕ) → cs ≡ more q (more i rest) → required e i ≡ Some l → R
     (more q (more (with_callee n i) rest))) → After (declarator e cs p s) (λ ds s. R ds)
 unfolding declarator
 declarator-value e R none p s h k = h

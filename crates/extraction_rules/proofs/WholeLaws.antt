@@ -1,9 +1,9 @@
 -- The walk keeps the records whole: literals of six bytes, specifiers within the grammar, forced values of two bytes.
+use Rattle.std.specs.Prelude.{Option, None, Some}
 use Prim.Native.Nat.{ℕ, ◌+◌}
 use mathlib.Core.Path.{◌≡◌, refl, sym, subst}
 use mathlib.Core.Bool.{Bool, true, false, not, cond, ◌&&◌, ◌||◌}
 use mathlib.Core.List.{List, [], ◌∷◌, ◌++◌}
-use mathlib.Core.Option.{Option, none as nothing, some}
 use native.Mathlib.Omega.{arith}
 use lib.Dec.{eqb}
 use lib.ListN.{length, get_or}
@@ -46,32 +46,32 @@ module _ (e : Setting) where
 
   use_property-whole : (o : Option ℕ) (i : List ℕ) (q : Field) (at p : ℕ) (s : State) → Whole s → Keeps Whole (use_property o i q at p s)
   unfolding use_property
-  use_property-whole nothing i q at p s h = h
-  use_property-whole (some n) i q at p s h = after-if (has 0x72 q) (refuse 7 at) _ s (λ r s. Whole s) (λ _. tt) (λ _. add_usage-keeps Whole _ p s h)
+  use_property-whole None i q at p s h = h
+  use_property-whole (Some n) i q at p s h = after-if (has 0x72 q) (refuse 7 at) _ s (λ r s. Whole s) (λ _. tt) (λ _. add_usage-keeps Whole _ p s h)
 
   use_from-whole : (o : Option Record) (i : List ℕ) (q : Field) (at p : ℕ) (s : State) → Whole s → Keeps Whole (use_from o e i q at p s)
   unfolding use_from
-  use_from-whole nothing i q at p s h = h
-  use_from-whole (some r) i q at p s h =
+  use_from-whole None i q at p s h = h
+  use_from-whole (Some r) i q at p s h =
       then-keeps Whole (module_for e (value_of r.literal) p s) _ (module_for-whole (value_of r.literal) p s h) λ n s h. use_property-whole n i q at p s h
 
   use_imported-whole : (o : Option (List ℕ)) (i : List ℕ) (q : Field) (at p : ℕ) (s : State) → Whole s → Keeps Whole (use_imported o e i q at p s)
   unfolding use_imported
-  use_imported-whole nothing i q at p s h = h
-  use_imported-whole (some k) i q at p s h =
+  use_imported-whole None i q at p s h = h
+  use_imported-whole (Some k) i q at p s h =
       after-if (has 0x71 q) (change (force_id i)) _ s (λ r s. Whole s) (λ _. force-whole i s h)
       (λ _. use_from-whole (used_record e.own i s.collected) i q at p s h)
 
   usage-whole : (m : Option (Field × Field)) (p : ℕ) (s : State) → Whole s → Keeps Whole (usage m e p s)
   unfolding usage
-  usage-whole nothing p s h = h
-  usage-whole (some m) p s h =
+  usage-whole None p s h = h
+  usage-whole (Some m) p s h =
       use_imported-whole (imported_as (fixed_of m.0) s.imported) (fixed_of m.0) m.1 (p + 3 + size m.0) p s h
 
   mark_cjs-whole : (o : Option ℕ) (f : Field) (s : State) → Whole s → Keeps Whole (mark_cjs o f s)
   unfolding mark_cjs
-  mark_cjs-whole nothing f s h = h
-  mark_cjs-whole (some n) f s h = h
+  mark_cjs-whole None f s h = h
+  mark_cjs-whole (Some n) f s h = h
 
   mark_required-whole : (l : List ℕ) (f : Field) (p : ℕ) (s : State) → Whole s → Keeps Whole (mark_required e l f p s)
   unfolding mark_required
@@ -85,11 +85,11 @@ module _ (e : Setting) where
   collect-whole : (r : Record) (p : ℕ) (s : State) → WholeRecord r → Whole s → Keeps Whole (collect r p s)
   collect-whole r p s k h = collect-keeps Whole r p s (collect_in-whole r s.collected k h.0, h.1, h.2)
 
-  require-whole : (o : Option (List ℕ)) (f : Field) (p : ℕ) (s : State) → ((l : List ℕ) → o ≡ some l → length l ≡ 6) → Whole s →
+  require-whole : (o : Option (List ℕ)) (f : Field) (p : ℕ) (s : State) → ((l : List ℕ) → o ≡ Some l → length l ≡ 6) → Whole s →
       Keeps Whole (require o e f p s)
   unfolding require
-  require-whole nothing f p s k h = h
-  require-whole (some l) f p s k h =
+  require-whole None f p s k h = h
+  require-whole (Some l) f p s k h =
       let r : Record = record { literal = l; specifiers = none } in
       then-keeps Whole (mark_required e l f p s) _ (mark_required-whole l f p s h) λ g s h.
       then-keeps Whole (cond s.top (collect r p) (add_lazy r p) s) _
@@ -101,11 +101,11 @@ module _ (e : Setting) where
   export_specifier-whole x p s h =
       after-if (eqb (get_or x 0 0) 2 || eqb (get_or x 7 0) 2) (refuse 6 p) _ s (λ r s. Whole s) (λ _. tt) (λ _. force-whole (id_at x 1) s h)
 
-  require_lazily-whole : (o : Option (List ℕ)) (q i : Field) (p : ℕ) (s : State) → ((l : List ℕ) → o ≡ some l → length l ≡ 6) → Shaped q →
+  require_lazily-whole : (o : Option (List ℕ)) (q i : Field) (p : ℕ) (s : State) → ((l : List ℕ) → o ≡ Some l → length l ≡ 6) → Shaped q →
       Whole s → Keeps Whole (require_lazily o e q i p s)
   unfolding require_lazily
-  require_lazily-whole nothing q i p s k m h = h
-  require_lazily-whole (some l) q i p s k m h =
+  require_lazily-whole None q i p s k m h = h
+  require_lazily-whole (Some l) q i p s k m h =
       then-keeps Whole (mark_required e l i p s) _ (mark_required-whole l i p s h) λ j s h.
       then-keeps Whole (add_lazy (record { literal = l; specifiers = bindings q }) p s) _ (add_lazy-whole _ p s (k l refl, bindings-whole q m) h) λ _ s h. h
 
@@ -158,8 +158,8 @@ module _ (e : Setting) where
 
   on_sole-whole : (o : Option Field) (x : List ℕ) (cs : Fields) (s : State) → Exact 0x10 x → Widths s → Whole s → Keeps Whole (on_sole o x cs s)
   unfolding on_sole
-  on_sole-whole nothing x cs s k w h = h
-  on_sole-whole (some f) x cs s k w h =
+  on_sole-whole None x cs s k w h = h
+  on_sole-whole (Some f) x cs s k w h =
       after-if (has 0x22 f) _ (give (field 0x10 x cs)) s (λ r s. Whole s)
       (λ _. take_apart-whole (usages_of (fixed_of f) s.usages) x cs s (used-width e (fixed_of f) s w) k h) (λ _. h)
 
@@ -182,8 +182,8 @@ module _ (e : Setting) where
       then-keeps Whole (module_for e a 0 s) _ (module_for-whole a 0 s h) λ n s h. then-keeps Whole (wrap_module n s) _ (wrap n s h) λ _ s h. wrap_all-whole l s h
     where
       wrap : (o : Option ℕ) (s : State) → Whole s → Keeps Whole (wrap_module o s)
-      wrap nothing s h = h
-      wrap (some n) s h = h
+      wrap None s h = h
+      wrap (Some n) s h = h
 
   pub finish-whole : (s : State) → Whole s → Keeps Whole (finish e s)
   unfolding finish

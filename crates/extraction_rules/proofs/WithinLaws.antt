@@ -1,10 +1,10 @@
 -- The walk keeps the tree within the grammar and, but for an import's metadata, at most as deep: what a pass leaves can be read.
+use Rattle.std.specs.Prelude.{Option, None, Some}
 use Prim.Native.Nat.{ℕ, ◌+◌}
 use mathlib.Core.Path.{◌≡◌, refl, sym, ap, subst, ◌∙◌}
 use mathlib.Core.Logic.{◌⊎◌, inl, inr}
 use mathlib.Core.Bool.{Bool, true, false, cond, ◌&&◌, ◌||◌}
 use mathlib.Core.List.{List, [], ◌∷◌, ◌++◌}
-use mathlib.Core.Option.{Option, none as nothing, some}
 use native.Mathlib.Omega.{arith}
 use lib.Dec.{eqb}
 use lib.ListN.{length, get_or, take, length-drop}
@@ -13,7 +13,6 @@ use Rattle.scope.specs.Id.{local, export}
 use Rattle.tree.specs.declared.grammar.Set.TheVariants.{Specifier, Expression}
 use Rattle.tree.specs.declared.grammar.Slot.TheVariants.{One}
 use Rattle.tree.specs.declared.grammar.Rule.{Rule}
-use Rattle.tree.specs.declared.grammar.Step.TheVariants.{Go}
 use Rattle.tree.specs.Layout.{same, four, id_at, context_of, value_of}
 use Rattle.tree.specs.Tree.{Field, field, Fields, none, more, tag_of, fixed_of, size}
 use Rattle.tree.specs.Grammar.{within, holds_at, parts1, rule_of, step_at}
@@ -81,14 +80,14 @@ module _ (e : Setting) where
   call-result f g r = (r, λ n l w. same-result f g (with_callee n g) r (with_callee-same e g n l w r.shaped))
 
   -- the usage of a member that is neither computed nor private
-  on-ident : (t : ℕ) (x : List ℕ) (cs : Fields) (o q : Field) → on_ident (field t x cs) ≡ some (o, q) →
+  on-ident : (t : ℕ) (x : List ℕ) (cs : Fields) (o q : Field) → on_ident (field t x cs) ≡ Some (o, q) →
       (qs : Fields) × (cs ≡ more o (more q qs)) × (t ≡ 0x63)
   unfolding on_ident
   on-ident t x none o q w = absurd (let z : ◌≡◌ {A = ℕ} 0 1 = cc in omega arith)
   on-ident t x (more a none) o q w = absurd (let z : ◌≡◌ {A = ℕ} 0 1 = cc in omega arith)
   on-ident t x (more a (more b qs)) o q w = go (eqb t 0x63) (has 0x60 a) refl w
     where
-      go : (c d : Bool) → eqb t 0x63 ≡ c → cond {A = Option (Field × Field)} (c && d) (some (a, b)) nothing ≡ some (o, q) →
+      go : (c d : Bool) → eqb t 0x63 ≡ c → cond {A = Option (Field × Field)} (c && d) (Some (a, b)) None ≡ Some (o, q) →
           (rs : Fields) × (more a (more b qs) ≡ more o (more q rs)) × (t ≡ 0x63)
       go true true v w =
           let pair : ◌≡◌ {A = Field × Field} (a, b) (o, q) = cc in
@@ -162,8 +161,8 @@ module _ (e : Setting) where
 
   pub note_specifiers-within : (o : Option ℕ) (fs : Fields) (p : ℕ) (s : State) → Specifiers fs → Widths s →
       After (note_specifiers o fs p s) (λ gs s'. Specifiers gs × Widths s')
-  note_specifiers-within nothing fs p s h w = (h, w)
-  note_specifiers-within (some n) fs p s h w = note_all-within n fs p s h w
+  note_specifiers-within None fs p s h w = (h, w)
+  note_specifiers-within (Some n) fs p s h w = note_all-within n fs p s h w
 
   import_first-within : (x : List ℕ) (cs ds : Fields) (p : ℕ) (s : State) → Exact 0x10 x → ShapedAll ds (rule_of 0x10) → Widths s →
       After (import_first e x ds p s) (λ g s'. Result (field 0x10 x cs) g × Widths s')
@@ -200,8 +199,8 @@ module _ (e : Setting) where
   on_sole-within : (o : Option Field) (x : List ℕ) (cs ds : Fields) (s : State) → Exact 0x10 x → ShapedAll ds (rule_of 0x10) → Widths s →
       After (on_sole o x ds s) (λ g s'. Result (field 0x10 x cs) g × Widths s')
   unfolding on_sole
-  on_sole-within nothing x cs ds s h k w = (import-result x cs ds h k, w)
-  on_sole-within (some f) x cs ds s h k w =
+  on_sole-within None x cs ds s h k w = (import-result x cs ds h k, w)
+  on_sole-within (Some f) x cs ds s h k w =
       after-if (has 0x22 f) _ (give (field 0x10 x ds)) s (λ g s'. Result (field 0x10 x cs) g × Widths s')
       (λ _. take_apart-within (usages_of (fixed_of f) s.usages) x cs ds s (used-width (fixed_of f) s w) h k w) (λ _. (import-result x cs ds h k, w))
 
@@ -229,12 +228,12 @@ module _ (e : Setting) where
         deep = λ n i d. let x = depth-parts 0x60 (a ++ c) none in let z = depth-none in let b = depth-positive f in omega arith;
       }
 
-  as-property : (us : List Usage) (o : Option (List ℕ)) (q f g : Field) → ((c : List ℕ) → o ≡ some c → length c ≡ 4) → Shaped q →
+  as-property : (us : List Usage) (o : Option (List ℕ)) (q f g : Field) → ((c : List ℕ) → o ≡ Some c → length c ≡ 4) → Shaped q →
       Result f g → tag_of g ≡ 0x63 → Result f (as_property us o q g)
   unfolding as_property
   as-property [] o q f g k h r t = r
-  as-property (u ∷ us) nothing q f g k h r t = r
-  as-property (u ∷ us) (some c) q f g k h r t = go (has 0x70 q) refl
+  as-property (u ∷ us) None q f g k h r t = r
+  as-property (u ∷ us) (Some c) q f g k h r t = go (has 0x70 q) refl
     where
       go : (b : Bool) → has 0x70 q ≡ b → Result f (cond b (field 0x60 (fixed_of q ++ c) none) g)
       go true v = property-result f (fixed_of q) c (name-width q h (eqb-true (tag_of q) 0x70 v)) (k c refl)
@@ -244,8 +243,8 @@ module _ (e : Setting) where
   rewritten-result : (f : Field) (t : ℕ) (x : List ℕ) (ds : Fields) (o : Option (Field × Field)) (s : State) → on_ident (field t x ds) ≡ o →
       Result f (field t x ds) → Widths s → Result f (rewritten o (field t x ds) s)
   unfolding rewritten
-  rewritten-result f t x ds nothing s v r w = r
-  rewritten-result f t x ds (some m) s v r w =
+  rewritten-result f t x ds None s v r w = r
+  rewritten-result f t x ds (Some m) s v r w =
       let i = on-ident t x ds m.0 m.1 v in
       let h = subst (λ (z : Fields). ShapedAll z (rule_of t)) i.1 r.shaped.1 in
       as-property (usages_of (fixed_of m.0) s.usages) (imported_as (fixed_of m.0) s.imported) m.1 f (field t x ds)
@@ -317,8 +316,8 @@ module _ (e : Setting) where
   parts-within children t cs object p s v h all mem asg w =
       all object (rule_of t) (rule-targets t (parts-other t children v (λ q. let z : ◌≡◌ {A = ℕ} 0 1 = cc in omega arith))) h p s w
 
-  pub not-module : (q q' : Rule) (t : ℕ) → in_rule takes_target q ≡ false → step_at q t ≡ Go q' → t ≡ 0x01 → ⊥
-  not-module q q' t w e v = no-module q q' w (subst (λ (u : ℕ). step_at q u ≡ Go q') v e)
+  pub not-module : (q q' : Rule) (t : ℕ) → in_rule takes_target q ≡ false → step_at q t ≡ Some q' → t ≡ 0x01 → ⊥
+  not-module q q' t w e v = no-module q q' w (subst (λ (u : ℕ). step_at q u ≡ Some q') v e)
 
   pub value-row : (q : Rule) → q ≡ parts1 (One Expression) → in_rule takes_target q ≡ false
   unfolding holds_at within

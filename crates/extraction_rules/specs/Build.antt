@@ -1,7 +1,7 @@
 -- Trees by hand, for the worked cases: the cards' names, and a function for each field that they use.
 -- Document 01's cards: a=21, x=22, ./m=20 to file 10, own file 9.
+use Rattle.std.specs.Prelude.{None, Some}
 use Rattle.std.specs.Prelude.{ℕ, ◌-◌, Bool, false, List, [], ◌∷◌, ◌++◌, replicate}
-use Rattle.std.proofs.Math.Option.{none as nothing, some}
 use Rattle.modes.specs.Bits.{modes_of}
 use Rattle.report.specs.Counts.{no_counts}
 use Rattle.scope.specs.Modules.{Modules, unmarked}
@@ -145,9 +145,9 @@ abbrev pub files : Bool → Bool → Modules
 files c w = unmarked 9 ∷ record { file = 10; loaded = false; stored = false; cjs = c; wrapping = w } ∷ []
 
 abbrev pub accepts : Modules → Field → Field → Field → Left
-accepts ms w o r = record { refusal = nothing; modules = ms; report = no_counts; work = holding w; out = holding o; records = holding r }
+accepts ms w o r = record { refusal = None; modules = ms; report = no_counts; work = holding w; out = holding o; records = holding r }
 
 -- refused in a fresh scope
 abbrev pub refuses : ℕ → ℕ → Left
 refuses n p =
-    record { refusal = some (n, p); modules = []; report = no_counts; work = replicate room 0; out = replicate room 0; records = replicate room 0 }
+    record { refusal = Some (n, p); modules = []; report = no_counts; work = replicate room 0; out = replicate room 0; records = replicate room 0 }

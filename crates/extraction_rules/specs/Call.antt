@@ -1,7 +1,7 @@
 -- The whole call: from the lent slices and the scope to the answer, the scope and every buffer to the last byte.
 -- Document 01, 'Where a call turns back'.
+use Rattle.std.specs.Prelude.{Option, None, Some}
 use Rattle.std.specs.Prelude.{ℕ, Bool, ◌||◌, List, [], ltb, length}
-use Rattle.std.proofs.Math.Option.{Option, none as nothing, some}
 use Rattle.modes.specs.declared.Modes.{Modes}
 use Rattle.report.specs.declared.Report.{Report}
 use Rattle.report.specs.Counts.{no_counts}
@@ -50,8 +50,8 @@ items_read (unread w p) = refused (refusal_of w) p
 
 -- 'Own file's number first.' 5: place 0
 abbrev pub own_module : Option (ℕ × Modules) → Outcome (ℕ × Modules)
-own_module nothing = refused 5 0
-own_module (some r) = done r
+own_module None = refused 5 0
+own_module (Some r) = done r
 
 abbrev pub setting : Pass → ℕ → Lent → List Row → Setting
 setting p own l rows = record { pass = p; own = own; config = l.modes; externals = atoms_in l.externals; table = rows }

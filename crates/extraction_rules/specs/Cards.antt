@@ -1,6 +1,6 @@
 -- The cards of document 01 that ask for an extraction, each with what the card says it gives, and one sentence: the rules give that.
+use Rattle.std.specs.Prelude.{None}
 use Rattle.std.specs.Prelude.{ℕ, zero, suc, ◌≡◌, refl, true, false, List, [], ◌∷◌, ◌++◌, map, replicate}
-use Rattle.std.proofs.Math.Option.{none as nothing}
 use Rattle.report.specs.Counts.{no_counts}
 use Rattle.scope.specs.Modules.{unmarked}
 use Rattle.tree.specs.Tree.{Field, encode}
@@ -15,7 +15,7 @@ pub card1 : Case
 card1 = record {
   lent = lending 0 (0x01 ∷ 0x00 ∷ 0x00 ∷ []);
   left = record {
-    refusal = nothing;
+    refusal = None;
     modules = unmarked 9 ∷ [];
     report = no_counts;
     work = 0x01 ∷ 0x00 ∷ 0x00 ∷ replicate 247 0;
@@ -52,7 +52,7 @@ pub card2 : Case
 card2 = record {
   lent = lending 0 bytes2;
   left = record {
-    refusal = nothing;
+    refusal = None;
     modules = files false false;
     report = no_counts;
     work = holding (program (imports (namespace (own a) ∷ metadata ∷ []) ∷ ax ∷ []));

@@ -1,7 +1,7 @@
 -- The rules of the first pass, in the order of document 01, 'First pass'. Those for 23 and 42 hold in both passes.
 -- A place p is the offset of the field that a rule stands at.
+use Rattle.std.specs.Prelude.{Option, None, Some}
 use Rattle.std.specs.Prelude.{ℕ, ◌+◌, Bool, false, not, cond, ◌&&◌, ◌||◌, List, [], ◌∷◌, ◌++◌, eqb, length, get_or, take}
-use Rattle.std.proofs.Math.Option.{Option, none as nothing, some}
 use Rattle.scope.specs.Id.{require_atom, local, export}
 use Rattle.scope.specs.Modules.{Modules, request, set_mark}
 use Rattle.scope.specs.declared.Mark.TheVariants.{Cjs}
@@ -26,12 +26,12 @@ unfoldable pub external : Setting → List ℕ → Bool
 external e l = among (value_of l) e.externals
 
 abbrev pub requested : Option (ℕ × Modules) → ℕ → Act (Option ℕ)
-requested nothing p = refuse 5 p
-requested (some r) p = λ s. done (some r.0, set_modules r.1 s)
+requested None p = refuse 5 p
+requested (Some r) p = λ s. done (Some r.0, set_modules r.1 s)
 
 abbrev pub module_of : Option ℕ → ℕ → Act (Option ℕ)
-module_of nothing p = give nothing
-module_of (some f) p = λ s. requested (request f s.modules) p s
+module_of None p = give None
+module_of (Some f) p = λ s. requested (request f s.modules) p s
 
 -- the module of the file that the table names for a source; none: unresolved; 5: 'a 257th file'
 unfoldable pub module_for : Setting → List ℕ → ℕ → Act (Option ℕ)
@@ -47,8 +47,8 @@ unfoldable pub force_source : List ℕ → State → State
 force_source a s = cond (among a s.forced) s (set_forced (s.forced ++ (a ∷ [])) s)
 
 abbrev pub force_holder : Option Record → State → State
-force_holder nothing s = s
-force_holder (some r) s = force_source (value_of r.literal) s
+force_holder None s = s
+force_holder (Some r) s = force_source (value_of r.literal) s
 
 -- drop its imported entry and usages
 unfoldable pub forget : List ℕ → State → State
@@ -61,17 +61,17 @@ force_id i s = force_holder (find (holds_namespace i) s.collected) (forget i s)
 
 -- the object and the member of a 63 on a 60
 unfoldable pub on_ident : Field → Option (Field × Field)
-on_ident (field t x none) = nothing
-on_ident (field t x (more o none)) = nothing
-on_ident (field t x (more o (more q qs))) = cond (eqb t 0x63 && has 0x60 o) (some (o, q)) nothing
+on_ident (field t x none) = None
+on_ident (field t x (more o none)) = None
+on_ident (field t x (more o (more q qs))) = cond (eqb t 0x63 && has 0x60 o) (Some (o, q)) None
 
 unfoldable pub imported_as : List ℕ → List Imported → Option (List ℕ)
 imported_as i l = mapped (λ m. m.context) (find (λ m. same m.id i) l)
 
 -- 'FIRST namespace has that name, with the 60 in own local context or the namespace's'
 abbrev pub suits : ℕ → List ℕ → Option Field → Bool
-suits own i nothing = false
-suits own i (some f) =
+suits own i None = false
+suits own i (Some f) =
     same (name_of (fixed_of f)) (name_of i) && (same (context_of i) (four (local own)) || same (context_of i) (context_of (fixed_of f)))
 
 -- 'the first record whose FIRST namespace ..'
@@ -84,45 +84,45 @@ add_usage u p = λ s. let l : List Usage = s.usages ++ (u ∷ []) in room_for (l
 
 -- '72: refusal 7', at that field; 'unresolved: nothing'
 unfoldable pub use_property : Option ℕ → List ℕ → Field → ℕ → ℕ → Act (Unit {0})
-use_property nothing i q at p = skip
-use_property (some n) i q at p =
+use_property None i q at p = skip
+use_property (Some n) i q at p =
     cond (has 0x72 q) (refuse 7 at) (add_usage (record { id = i; property = id_from (fixed_of q) (export n) }) p)
 
 -- 'none .. : nothing'
 unfoldable pub use_from : Option Record → Setting → List ℕ → Field → ℕ → ℕ → Act (Unit {0})
-use_from nothing e i q at p = skip
-use_from (some r) e i q at p = do
+use_from None e i q at p = skip
+use_from (Some r) e i q at p = do
   n ← module_for e (value_of r.literal) p
   use_property n i q at p
 
 -- 'Computed: force.'
 unfoldable pub use_imported : Option (List ℕ) → Setting → List ℕ → Field → ℕ → ℕ → Act (Unit {0})
-use_imported nothing e i q at p = skip
-use_imported (some c) e i q at p =
+use_imported None e i q at p = skip
+use_imported (Some c) e i q at p =
     cond (has 0x71 q) (change (force_id i)) (λ s. use_from (used_record e.own i s.collected) e i q at p s)
 
 -- the object and the member of a 63 at p, if it is one on a 60
 unfoldable pub usage : Option (Field × Field) → Setting → ℕ → Act (Unit {0})
-usage nothing e p = skip
-usage (some m) e p = λ s. use_imported (imported_as (fixed_of m.0) s.imported) e (fixed_of m.0) m.1 (p + 3 + size m.0) p s
+usage None e p = skip
+usage (Some m) e p = λ s. use_imported (imported_as (fixed_of m.0) s.imported) e (fixed_of m.0) m.1 (p + 3 + size m.0) p s
 
 -- ---- 'Require (config on): 65, callee 60 named require in any context, just one argument, no spread, a 61, not external.'
 
 -- the literal of a 75 without spread that holds a 61
 unfoldable pub argument : Option Field → Option (List ℕ)
-argument nothing = nothing
-argument (some (field t x none)) = nothing
-argument (some (field t x (more f fs))) = cond (eqb t 0x75 && same x (0 ∷ []) && has 0x61 f) (some (fixed_of f)) nothing
+argument None = None
+argument (Some (field t x none)) = None
+argument (Some (field t x (more f fs))) = cond (eqb t 0x75 && same x (0 ∷ []) && has 0x61 f) (Some (fixed_of f)) None
 
 unfoldable pub not_external : Setting → Option (List ℕ) → Option (List ℕ)
-not_external e nothing = nothing
-not_external e (some l) = cond (external e l) nothing (some l)
+not_external e None = None
+not_external e (Some l) = cond (external e l) None (Some l)
 
 -- the literal of a call that meets the require conditions
 unfoldable pub required : Setting → Field → Option (List ℕ)
-required e (field t x none) = nothing
+required e (field t x none) = None
 required e (field t x (more c gs)) =
-    cond (e.config.require && eqb t 0x65 && has 0x60 c && same (name_of (fixed_of c)) (two require_atom)) (not_external e (argument (sole gs))) nothing
+    cond (e.config.require && eqb t 0x65 && has 0x60 c && same (name_of (fixed_of c)) (two require_atom)) (not_external e (argument (sole gs))) None
 
 -- 'the callee gets the export context'
 unfoldable pub with_callee : ℕ → Field → Field
@@ -131,8 +131,8 @@ with_callee n (field t x (more c gs)) = field t x (more (field (tag_of c) (id_fr
 
 -- 'Mark cjs'; 'unresolved does neither'
 unfoldable pub mark_cjs : Option ℕ → Field → Act Field
-mark_cjs nothing f = give f
-mark_cjs (some n) f = do
+mark_cjs None f = give f
+mark_cjs (Some n) f = do
   change (λ s. set_modules (set_mark Cjs n s.modules) s)
   give (with_callee n f)
 
@@ -160,8 +160,8 @@ add_lazy r p = λ s. let l : List Record = s.lazy ++ (r ∷ []) in room_for (len
 
 -- 'Record without specifiers: collected if *top*, else lazy.'
 unfoldable pub require : Option (List ℕ) → Setting → Field → ℕ → Act Field
-require nothing e f p = give f
-require (some l) e f p = do
+require None e f p = give f
+require (Some l) e f p = do
   g ← mark_required e l f p
   λ s. cond s.top (collect (record { literal = l; specifiers = none }) p) (add_lazy (record { literal = l; specifiers = none }) p) s
   give g
@@ -208,8 +208,8 @@ note_all n (more f fs) p = do
 
 -- 'if resolved'
 abbrev pub note_specifiers : Option ℕ → Fields → ℕ → Act Fields
-note_specifiers nothing fs p = give fs
-note_specifiers (some n) fs p = note_all n fs p
+note_specifiers None fs p = give fs
+note_specifiers (Some n) fs p = note_all n fs p
 
 -- an import's parts: '(20|21|22)*, 2F?'
 abbrev pub specifiers_in : Fields → Fields
@@ -220,13 +220,13 @@ attributes_in cs = keep (has 0x2F) cs
 
 -- the attributes in an import's 2F
 abbrev pub attributes_of : Option Field → Fields
-attributes_of nothing = none
-attributes_of (some f) = parts_of f
+attributes_of None = none
+attributes_of (Some f) = parts_of f
 
 -- 'if resolved, append metadata (the export context alone)'
 unfoldable pub with_context : Option ℕ → Fields → Fields
-with_context nothing cs = attributes_in cs
-with_context (some n) cs = more (with_metadata (record { injected = false; context = some (export n) }) (attributes_of (find_field (has 0x2F) cs))) none
+with_context None cs = attributes_in cs
+with_context (Some n) cs = more (with_metadata (record { injected = false; context = Some (export n) }) (attributes_of (find_field (has 0x2F) cs))) none
 
 -- '10, not external: .. Then collect'
 unfoldable pub import_first : Setting → List ℕ → Fields → ℕ → Act Field
@@ -280,8 +280,8 @@ unfoldable mutual
 
 -- 'marks cjs, sets the callee, adds a lazy record'
 unfoldable pub require_lazily : Option (List ℕ) → Setting → Field → Field → ℕ → Act Field
-require_lazily nothing e q i p = give i
-require_lazily (some l) e q i p = do
+require_lazily None e q i p = give i
+require_lazily (Some l) e q i p = do
   j ← mark_required e l i p
   add_lazy (record { literal = l; specifiers = bindings q }) p
   give j

@@ -1,6 +1,6 @@
 -- The rules of the second pass, in the order of document 01, 'Second pass', and what its end does.
+use Rattle.std.specs.Prelude.{Option, None, Some}
 use Rattle.std.specs.Prelude.{ℕ, not, cond, ◌||◌, List, [], ◌∷◌, ◌++◌, map}
-use Rattle.std.proofs.Math.Option.{Option, none as nothing, some}
 use Rattle.scope.specs.Modules.{set_mark}
 use Rattle.scope.specs.declared.Mark.TheVariants.{Wrapping}
 use Rattle.tree.specs.Layout.{same, value_of, same_literal}
@@ -36,8 +36,8 @@ take_apart (u ∷ us) x cs = do
 
 -- 'with a sole 22'
 unfoldable pub on_sole : Option Field → List ℕ → Fields → Act Field
-on_sole nothing x cs = give (field 0x10 x cs)
-on_sole (some f) x cs = cond (has 0x22 f) (λ s. take_apart (usages_of (fixed_of f) s.usages) x cs s) (give (field 0x10 x cs))
+on_sole None x cs = give (field 0x10 x cs)
+on_sole (Some f) x cs = cond (has 0x22 f) (λ s. take_apart (usages_of (fixed_of f) s.usages) x cs s) (give (field 0x10 x cs))
 
 -- 'not external, unforced'
 unfoldable pub import_second : Setting → List ℕ → Fields → Act Field
@@ -47,18 +47,18 @@ import_second e x cs = λ s. cond (external e x || among (value_of x) s.forced) 
 
 unfoldable pub as_property : List Usage → Option (List ℕ) → Field → Field → Field
 as_property [] c q f = f
-as_property (u ∷ us) nothing q f = f
-as_property (u ∷ us) (some c) q f = cond (has 0x70 q) (field 0x60 (fixed_of q ++ c) none) f
+as_property (u ∷ us) None q f = f
+as_property (u ∷ us) (Some c) q f = cond (has 0x70 q) (field 0x60 (fixed_of q ++ c) none) f
 
 unfoldable pub rewritten : Option (Field × Field) → Field → State → Field
-rewritten nothing f s = f
-rewritten (some m) f s = as_property (usages_of (fixed_of m.0) s.usages) (imported_as (fixed_of m.0) s.imported) m.1 f
+rewritten None f s = f
+rewritten (Some m) f s = as_property (usages_of (fixed_of m.0) s.usages) (imported_as (fixed_of m.0) s.imported) m.1 f
 
 -- ---- 'At the end forced sources get the wrapping mark if they resolve'
 
 unfoldable pub wrap_module : Option ℕ → Act (Unit {0})
-wrap_module nothing = skip
-wrap_module (some n) = change (λ s. set_modules (set_mark Wrapping n s.modules) s)
+wrap_module None = skip
+wrap_module (Some n) = change (λ s. set_modules (set_mark Wrapping n s.modules) s)
 
 unfoldable pub wrap_all : Setting → List (List ℕ) → Act (Unit {0})
 wrap_all e [] = skip

@@ -1,11 +1,11 @@
 -- The attributes of an import, written as they are and with an export context.
+use Rattle.std.specs.Prelude.{None, Some}
 use Prim.Native.Nat.{ℕ, ◌+◌, ◌≤◌}
 use native.Mathlib.Omega.{arith}
 use mathlib.Core.Path.{◌≡◌, refl, sym, ap, ◌∙◌}
 use mathlib.Core.Logic.{⊎_elim}
 use mathlib.Core.Bool.{Bool, true, false, cond}
 use mathlib.Core.List.{List, [], ◌++◌}
-use mathlib.Core.Option.{some}
 use lib.ListN.{length, get_or}
 use lib.Seq.{slice}
 use borrow.Author.Tests.{eq-eqb, ne_eqb}
@@ -13,7 +13,6 @@ use Rattle.writer.specs.Bytes.{framed}
 use Rattle.writer.specs.Wrote.{Wrote, Opened, closed}
 use Rattle.writer.proofs.Wrote.{wrote-none, wrote-then, wrote-as, wrote-field}
 use Rattle.scope.specs.Id.{export}
-use Rattle.tree.specs.declared.layout.Reach.TheVariants.{Upto, Short}
 use Rattle.tree.specs.Layout.{Bytes}
 use Rattle.tree.specs.Tree.{Field, Fields, none, more, tag_of, parts_of, encode, encodes}
 use Rattle.tree.specs.Access.{extent_at}
@@ -46,7 +45,7 @@ kept-meets p (more g fs) gs f e = by (p g) (kept-meets p fs gs f) refl e
     by false h q e = h e
 
 module _ {s : List ℕ} {at end : ℕ} (bytes : Bytes s) (le : at ≤ end) (fits : end ≤ length s) where
-  behind-last : {stop : ℕ} → extent_at s at end ≡ Upto stop → Behind s at end → LastPart s at end stop
+  behind-last : {stop : ℕ} → extent_at s at end ≡ Some stop → Behind s at end → LastPart s at end stop
   behind-last {stop} e b =
       ⊎_elim (λ f.
       absurd (
@@ -79,7 +78,7 @@ unfolding find_field
 old-none = refl
 
 module _ {s : List ℕ} {at end : ℕ} (bytes : Bytes s) (le : at ≤ end) (fits : end ≤ length s) {out : List ℕ} {o : ℕ} where
-  pub attributes-copied : {stop : ℕ} {out' : List ℕ} {p : ℕ} → extent_at s at end ≡ Upto stop → Wrote out o (slice (at + 3) stop s) out' p → Attributes s at end encodes out o out' p
+  pub attributes-copied : {stop : ℕ} {out' : List ℕ} {p : ℕ} → extent_at s at end ≡ Some stop → Wrote out o (slice (at + 3) stop s) out' p → Attributes s at end encodes out o out' p
   attributes-copied {stop} e w =
       record {
         is = λ b.
@@ -89,7 +88,7 @@ module _ {s : List ℕ} {at end : ℕ} (bytes : Bytes s) (le : at ≤ end) (fits
             ∙ content-is bytes l.read (sym (read-tag l.read) ∙ l.tag)));
       }
 
-  pub attributes-none : extent_at s at end ≡ Short → Attributes s at end encodes out o out o
+  pub attributes-none : extent_at s at end ≡ None → Attributes s at end encodes out o out o
   attributes-none e =
       record {
         is = λ b.
@@ -98,7 +97,7 @@ module _ {s : List ℕ} {at end : ℕ} (bytes : Bytes s) (le : at ≤ end) (fits
 
 -- ---- With a context
 
-context-written : (old : Fields) (c : ℕ) → framed 0x2F (encodes old ++ encode (context_attribute c)) ≡ encode (with_metadata (record { injected = false; context = some c }) old)
+context-written : (old : Fields) (c : ℕ) → framed 0x2F (encodes old ++ encode (context_attribute c)) ≡ encode (with_metadata (record { injected = false; context = Some c }) old)
 unfolding with_metadata attributes_for append
 context-written old c =
     ap (λ (b : List ℕ). framed 0x2F (encodes old ++ b)) (sym (encodes-one (context_attribute c)))
@@ -106,10 +105,10 @@ context-written old c =
 
 pub context-put : {s : List ℕ} {at end : ℕ} (n : ℕ) {c : ℕ} {l m k j out' : List ℕ} {o x q p : ℕ} → c ≡ export n → Opened l o 0x2F m x → Attributes s at end encodes m x k q →
     Wrote k q (encode (context_attribute c)) j p → out' ≡ closed j o p →
-    Attributes s at end (λ old. encode (with_metadata (record { injected = false; context = some (export n) }) old)) l o out' p
+    Attributes s at end (λ old. encode (with_metadata (record { injected = false; context = Some (export n) }) old)) l o out' p
 context-put {s} {at} {end} n {c} e u a w v =
     record {
       is = λ b.
           let old = attributes_of (find_field (has 0x2F) (row_at s at end)) in
-          wrote-as (wrote-field u (wrote-then (a.is b) w) v) (context-written old c ∙ ap (λ (i : ℕ). encode (with_metadata (record { injected = false; context = some i }) old)) e);
+          wrote-as (wrote-field u (wrote-then (a.is b) w) v) (context-written old c ∙ ap (λ (i : ℕ). encode (with_metadata (record { injected = false; context = Some i }) old)) e);
     }

@@ -1,11 +1,11 @@
 -- How many namespaces an import brings: at most one for 9 bytes of it. Its specifiers, noted, have the same namespaces, and noting collects nothing.
+use Rattle.std.specs.Prelude.{Option, None, Some}
 use Prim.Native.Nat.{ℕ, ◌+◌, ◌*◌, ◌≤◌}
 use native.Mathlib.Omega.{arith}
 use mathlib.Core.Path.{◌≡◌, refl, sym, ap, ap₂, subst, ◌∙◌}
 use mathlib.Core.Logic.{inl, inr}
 use mathlib.Core.Bool.{Bool, true, false, not}
 use mathlib.Core.List.{List}
-use mathlib.Core.Option.{Option, none as nothing, some}
 use lib.Dec.{eqb, leb}
 use lib.ListN.{length, get_or}
 use borrow.Author.Tests.{eqb-true, eq-eqb, ne_eqb}
@@ -124,16 +124,16 @@ note_all-same n (more f fs) p s =
     (λ gs v k. (keep-same f g fs gs h.0 h.1 k.0, k.1 ∙ h.2)))
 
 pub specifiers-same : (o : Option ℕ) (fs : Fields) (p : ℕ) (s : State) → After (note_specifiers o fs p s) (λ gs s'. SameAll s fs gs s')
-specifiers-same nothing fs p s = (refl, refl)
-specifiers-same (some n) fs p s = note_all-same n fs p s
+specifiers-same None fs p s = (refl, refl)
+specifiers-same (Some n) fs p s = note_all-same n fs p s
 
 pub module-collects : (o : Option ℕ) (p : ℕ) (s : State) → After (module_of o p s) (λ _ s'. s'.collected ≡ s.collected)
-module-collects nothing p s = refl
-module-collects (some f) p s = by (request f s.modules)
+module-collects None p s = refl
+module-collects (Some f) p s = by (request f s.modules)
   where
     by : (r : Option (ℕ × Modules)) → After (requested r p s) (λ _ s'. s'.collected ≡ s.collected)
-    by nothing = tt
-    by (some q) = refl
+    by None = tt
+    by (Some q) = refl
 
 -- ---- An import
 

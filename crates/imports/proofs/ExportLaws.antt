@@ -1,4 +1,5 @@
 -- An export specifier: its exported name as it stands in the tree, and what the code does with it.
+use Rattle.std.specs.Prelude.{Ok, Err}
 use Prim.Native.Nat.{ℕ, ◌+◌, ◌≤◌}
 use native.Mathlib.Omega.{arith}
 use mathlib.Core.Path.{◌≡◌, refl, sym, ap, ap₂, subst, ◌∙◌}
@@ -23,7 +24,7 @@ use Rattle.extraction_rules.proofs.ExactLaws.{width-23}
 use Rattle.state.specs.Cells.{Good, id_by, Shows}
 use Rattle.state.specs.Does.{Turns, Says}
 use Rattle.steps.specs.Step.{Steps}
-use Rattle.steps.specs.declared.Step.TheVariants.{Done, Refused}
+use Rattle.steps.specs.Refusal.{refusal}
 use Rattle.steps.specs.declared.Why.TheVariants.{StringName}
 use Rattle.steps.proofs.StepsLaws.{steps-done, steps-refused}
 use Rattle.imports.specs.Parts.{Framed, exported_at}
@@ -70,7 +71,7 @@ module _ {s : List ℕ} {at stop from : ℕ} (e : get_or s at 0 ≡ 0x23) (w : F
   first-byte = let h = export-first in byte-of (at + 3) from s 0 (at + 3) (omega arith) (omega arith)
 
   pub export-string : {t out : List ℕ} {o : ℕ} → Good t → get_or s (at + 3) 0 ≡ 2 →
-      Steps encode (λ x u. Unit {0}) (λ x. export_specifier x.setting (fixed_of (tree_at s at stop)) at) t out o t out (Refused StringName at)
+      Steps encode (λ x u. Unit {0}) (λ x. export_specifier x.setting (fixed_of (tree_at s at stop)) at) t out o t out (Err (refusal StringName at))
   unfolding export_specifier
   export-string g q = steps-refused g refl (λ x s k u. rw (fixed-of, eq-eqb (get_or X 0 0) 2 (first-byte ∙ q)) refl)
 
@@ -96,7 +97,7 @@ module _ {s : List ℕ} {at stop from : ℕ} (e : get_or s at 0 ≡ 0x23) (w : F
     export-room = let i = (framed-in w).2 in let h = export-second in (omega arith, λ q. let k = export-third q in omega arith)
 
     pub export-outside : {t out : List ℕ} {o : ℕ} → Good t → get_or s (at + 10) 0 ≡ 2 →
-        Steps encode (λ x u. Unit {0}) (λ x. export_specifier x.setting (fixed_of (tree_at s at stop)) at) t out o t out (Refused StringName at)
+        Steps encode (λ x u. Unit {0}) (λ x. export_specifier x.setting (fixed_of (tree_at s at stop)) at) t out o t out (Err (refusal StringName at))
     unfolding export_specifier
     export-outside g q = steps-refused g refl (λ x s k u. rw (fixed-of, no-string, eq-eqb (get_or X 7 0) 2 (second-byte ∙ q)) refl)
 
@@ -121,7 +122,7 @@ module _ {s : List ℕ} {at stop from : ℕ} (e : get_or s at 0 ≡ 0x23) (w : F
 
     pub export-made : {t t' out out' : List ℕ} {o p c n : ℕ} (id : Id) → (get_or s (at + 10) 0 ≡ 2 → ⊥) → id_by id ≡ id_at s (at + 4) → Turns (force_id (id_by id)) t t' →
         Says (λ y. y.own) t' n → c ≡ local n → Wrote out o (encode (field 0x23 (slice (at + 3) (at + 10) s ++ 1 ∷ id_from (exported_at s at) c) none)) out' p →
-        Steps encode (λ x u. Unit {0}) (λ x. export_specifier x.setting (fixed_of (tree_at s at stop)) at) t out o t' out' (Done p)
+        Steps encode (λ x u. Unit {0}) (λ x. export_specifier x.setting (fixed_of (tree_at s at stop)) at) t out o t' out' (Ok p)
     unfolding export_specifier
     export-made {t' = t'} {c = c} id m i f q l v =
         steps-done f.good v.size (λ x u k b.

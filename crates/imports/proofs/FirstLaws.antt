@@ -1,10 +1,10 @@
 -- An import in the first pass: external, unresolved or resolved.
+use Rattle.std.specs.Prelude.{Option, None, Some, Result, Ok, Err}
 use Prim.Native.Nat.{ℕ, ◌+◌, ◌*◌, ◌≤◌}
 use native.Mathlib.Omega.{arith}
 use mathlib.Core.Path.{◌≡◌, refl, sym, ap, ap₂, subst, ◌∙◌}
 use mathlib.Core.Bool.{Bool, true, false, cond}
 use mathlib.Core.List.{List, ◌++◌, append-nil}
-use mathlib.Core.Option.{Option, none as nothing, some}
 use lib.ListN.{length, get_or, length-set}
 use lib.Seq.{slice, length-slice}
 use Rattle.writer.specs.Bytes.{framed}
@@ -20,29 +20,27 @@ use Rattle.tree.specs.Within.{Formed}
 use Rattle.tree.proofs.TreeLaws.{content-size}
 use Rattle.metadata.specs.Metadata.{append, with_metadata}
 use Rattle.metadata.proofs.EncodeLaws.{encodes-append, framed-field}
-use Rattle.inputs.specs.Lists.{among}
+use Rattle.inputs.specs.Lists.{among, mapped}
 use Rattle.inputs.specs.Fields.{has, keep, find_field, inside}
 use Rattle.inputs.specs.Outcome.{Outcome, done, onto}
 use Rattle.extraction_rules.specs.State.{State, Setting}
-use Rattle.extraction_rules.specs.First.{external, module_for, note_all, specifiers_in, attributes_in, attributes_of, with_context, collect, import_first}
+use Rattle.extraction_rules.specs.First.{external, module_for, note_all, note_specifiers, specifiers_in, attributes_in, attributes_of, with_context, collect, import_first}
 use Rattle.extraction_rules.proofs.OutcomeLaws.{after-done}
 use Rattle.extraction_rules.proofs.ShapeLaws.{ShapedAll, formed-shaped-all}
 use Rattle.extraction_rules.proofs.KeepLaws.{keep-all, keep-meets, keep-specifiers}
 use Rattle.state.specs.Cells.{Env, Good, Shows, count_namespaces, namespaces_in}
 use Rattle.state.specs.Does.{Says, Gave, Resolves}
-use Rattle.state.specs.declared.Module.{Module}
-use Rattle.state.specs.declared.Module.TheVariants.{Is, Unresolved, TooMany}
-use Rattle.steps.specs.Step.{ReadAt, Reads, Steps, Begun}
-use Rattle.steps.specs.declared.Step.{Step}
-use Rattle.steps.specs.declared.Step.TheVariants.{Done, Refused}
-use Rattle.steps.specs.declared.Why.{Why}
-use Rattle.steps.specs.declared.Why.TheVariants.{TooManyFiles}
+use Rattle.scope.specs.declared.TooManyFiles.{TooManyFiles}
+use Rattle.steps.specs.Step.{ReadAt, Reads, Step, Steps, Begun}
+use Rattle.steps.specs.Refusal.{refusal}
+use Rattle.steps.specs.declared.Refusal.{Refusal}
+use Rattle.steps.specs.declared.Why.TheVariants.{TooManyFiles as too-many}
 use Rattle.steps.proofs.SoundLaws.{read-formed, read-size}
-use Rattle.steps.proofs.StepsLaws.{steps-refused}
-use Rattle.imports.specs.Parts.{Ends, Behind, Attributes, Collected, import_on}
+use Rattle.steps.proofs.StepsLaws.{steps-done, steps-refused}
+use Rattle.imports.specs.Parts.{Ends, Behind, Attributes, Collected, import_on, import_with}
 use Rattle.imports.proofs.HeadLaws.{Headed, head-external, head-in, head-fixed, head-parts, head-tree, head-row, head-copied, head-begun, head-stays}
 use Rattle.imports.proofs.NoteAllLaws.{NotedAll}
-use Rattle.imports.proofs.CountLaws.{namespaces-size, parts-again, SameAll, note_all-same, module_for-collects}
+use Rattle.imports.proofs.CountLaws.{namespaces-size, parts-again, SameAll, specifiers-same, module_for-collects}
 
 -- ---- What is kept
 
@@ -54,8 +52,8 @@ unfolding find_field keep
 find-kept p none = refl
 find-kept p (more f fs) = by (p f) refl (find-kept p fs)
   where
-    by : (b : Bool) → p f ≡ b → find_field p (keep p fs) ≡ find_field p fs → find_field p (cond b (more f (keep p fs)) (keep p fs)) ≡ cond b (some f) (find_field p fs)
-    by true q h = ap (λ (c : Bool). cond c (some f) (find_field p (keep p fs))) q
+    by : (b : Bool) → p f ≡ b → find_field p (keep p fs) ≡ find_field p fs → find_field p (cond b (more f (keep p fs)) (keep p fs)) ≡ cond b (Some f) (find_field p fs)
+    by true q h = ap (λ (c : Bool). cond c (Some f) (find_field p (keep p fs))) q
     by false q h = h
 
 -- a field whose last part is one more
@@ -97,53 +95,36 @@ module _ {s : List ℕ} {at stop from : ℕ} (bytes : Bytes s) (hd : Headed s at
       let m = namespaces-size CS (rule_of 0x10) (shaped r) in
       omega arith
 
-  -- ---- Unresolved
+  -- ---- What is noted and written
 
-  abbrev onward : Option ℕ → Fields → Outcome (Unit {0} × State) → Outcome (Field × State)
-  onward n fs m = onto m (λ r. done (field 0x10 X (append fs (with_context n CS)), r.1))
+  abbrev noting_all : Option ℕ → State → Outcome (Fields × State)
+  noting_all n u = note_specifiers n (specifiers_in CS) (inside at X) u
 
-  unresolved-is : (u : State) → import_on nothing X CS at u ≡ onward nothing (specifiers_in CS) (collect (record { literal = X; specifiers = specifiers_in CS }) at u)
-  unfolding import_on
-  unresolved-is u = refl
+  -- the import is written with its specifiers
+  abbrev Puts : Option ℕ → List ℕ → List ℕ → ℕ → List ℕ → List ℕ → Step → Type 0
+  Puts n t out o t' out' k = Steps (import_with n X CS) (λ x u. ReadAt s at stop) (λ _. noting_all n) t out o t' out' k
 
-  unresolved-bytes : ReadAt s at stop → encode (field 0x10 X CS) ≡ encode (field 0x10 X (append (specifiers_in CS) (with_context nothing CS)))
+  unresolved-bytes : ReadAt s at stop → encode (field 0x10 X CS) ≡ import_with None X CS (specifiers_in CS)
   unfolding with_context
   unresolved-bytes r = ap (λ (fs : Fields). encode (field 0x10 X fs)) (sym (parts-again CS (shaped r)))
 
-  pub first-unresolved : {t t' out out' : List ℕ} {o p : ℕ} {k : Step} → Wrote out o (slice at stop s) out' p → Collected s X CS at t t' p k →
-      Steps encode Ready (λ _. import_on nothing X CS at) t out o t' out' k
-  first-unresolved {out = out} {out' = out'} {o = o} {p = p} w c =
-      record {
-        good = c.good;
-        size = w.size;
-        made = λ q d u b h.
-            let did = c.made q d u (specifiers_in CS) (keep-specifiers CS) (room-left (namespaces_in u.collected) h.0 h.2 h.3) b h.1 in
-            record {
-              value = field 0x10 X (append (specifiers_in CS) (with_context nothing CS));
-              state = did.state;
-              is = unresolved-is u ∙ ap (onward nothing (specifiers_in CS)) did.is;
-              wrote =
-                  subst (λ (i : ℕ). Wrote out o (encode (field 0x10 X (append (specifiers_in CS) (with_context nothing CS)))) out' i) (sym (c.place q d))
-                  (wrote-as (head-copied hd bytes h.0 w) (unresolved-bytes h.0));
-              shows = did.shows;
-            };
-        turned = λ y q d u b h. unresolved-is u ∙ ap (onward nothing (specifiers_in CS)) (c.turned y q d u (specifiers_in CS) b h.1);
-      }
+  pub put-unresolved : {t out out' : List ℕ} {o p : ℕ} → Good t → Wrote out o (slice at stop s) out' p → Puts None t out o t out' (Ok p)
+  put-unresolved g w =
+      steps-done g w.size (λ x u v r. record {
+        value = specifiers_in CS;
+        state = u;
+        is = refl;
+        wrote = wrote-as (head-copied hd bytes r w) (unresolved-bytes r);
+        shows = v;
+      })
 
-  -- ---- Resolved
-
-  abbrev rest_of : ℕ → Outcome (Fields × State) → Outcome (Field × State)
-  rest_of n m = onto m (λ r. onward (some n) r.0 (collect (record { literal = X; specifiers = r.0 }) at r.1))
-
-  resolved-is : (n : ℕ) (u : State) → import_on (some n) X CS at u ≡ rest_of n (note_all n (specifiers_in (row_at s from stop)) from u)
-  unfolding import_on
-  resolved-is n u =
-      ap₂ (λ (fs : Fields) (p : ℕ). rest_of n (note_all n (specifiers_in fs) p u)) (head-parts hd) inside-is
+  resolved-is : (n : ℕ) (u : State) → noting_all (Some n) u ≡ note_all n (specifiers_in (row_at s from stop)) from u
+  resolved-is n u = ap₂ (λ (fs : Fields) (p : ℕ). note_all n (specifiers_in fs) p u) (head-parts hd) inside-is
 
   abbrev contextual : ℕ → Fields → Field
-  contextual n old = with_metadata (record { injected = false; context = some (export n) }) old
+  contextual n old = with_metadata (record { injected = false; context = Some (export n) }) old
 
-  context-is : (n : ℕ) → with_context (some n) CS ≡ more (contextual n (attributes_of (find_field (has 0x2F) CS))) none
+  context-is : (n : ℕ) → with_context (Some n) CS ≡ more (contextual n (attributes_of (find_field (has 0x2F) CS))) none
   unfolding with_context
   context-is n = refl
 
@@ -167,44 +148,68 @@ module _ {s : List ℕ} {at stop from : ℕ} (bytes : Bytes s) (hd : Headed s at
     begun-here : Begun l o 0x10 X k d
     begun-here = head-begun hd bg
 
-    pub first-refused : {w : Why} {q : ℕ} → y ≡ Refused w q → Steps encode Ready (λ _. import_on (some n) X CS at) t l o t' j (Refused w q)
-    first-refused {w} {q} f =
-        steps-refused nt.good (nt.size ∙ begun-here.fixed.size ∙ ap length begun-here.opened.tag ∙ length-set l o 0x10) (λ x u b h.
-        resolved-is n u ∙ ap (rest_of n) (nt.turned w q f u b (head-row hd h.0)))
+    pub put-refused : {e : Refusal} → y ≡ Err e → Puts (Some n) t l o t' j (Err e)
+    put-refused {e} f =
+        steps-refused nt.good (nt.size ∙ begun-here.fixed.size ∙ ap length begun-here.opened.tag ∙ length-set l o 0x10) (λ x u b r.
+        resolved-is n u ∙ nt.turned e f u b (head-row hd r))
 
-    pub first-resolved : {q a p : ℕ} {h out' t'' : List ℕ} {z : Step} → y ≡ Done q → Ends s from stop a →
-        Attributes s a stop (λ old. encode (contextual n old)) j q h p → out' ≡ closed h o p →
-        length out' ≡ length l → Collected s X CS at t' t'' p z → Steps encode Ready (λ _. import_on (some n) X CS at) t l o t'' out' z
-    first-resolved {q} {a} {p} {h} {out'} f v w cl sz g =
+    pub put-resolved : {q a p : ℕ} {h out' : List ℕ} → y ≡ Ok q → Ends s from stop a → Attributes s a stop (λ old. encode (contextual n old)) j q h p →
+        out' ≡ closed h o p → length out' ≡ length l → Puts (Some n) t l o t' out' (Ok p)
+    put-resolved {q} f v w cl sz =
+        steps-done nt.good sz (λ x u b r.
+        let m = nt.made q f u b (head-row hd r) in
+        let old = attributes_of (find_field (has 0x2F) CS) in
+        record {
+          value = m.value;
+          state = m.state;
+          is = resolved-is n u ∙ m.is;
+          wrote =
+              wrote-as (wrote-field begun-here.opened
+              (wrote-then begun-here.fixed
+              (wrote-then m.wrote (wrote-as (w.is (behind-is v r)) (ap (λ (x : Fields). encode (contextual n x)) (old-same v r))))) cl)
+              (last-written X m.value (contextual n old) ∙ ap (λ (x : Fields). encode (field 0x10 X (append m.value x))) (sym (context-is n)));
+          shows = m.shows;
+        })
+
+  -- ---- And then collected
+
+  abbrev onward : Option ℕ → Fields → Outcome (Unit {0} × State) → Outcome (Field × State)
+  onward n fs m = onto m (λ r. done (field 0x10 X (append fs (with_context n CS)), r.1))
+
+  abbrev rest_of : Option ℕ → Outcome (Fields × State) → Outcome (Field × State)
+  rest_of n m = onto m (λ r. onward n r.0 (collect (record { literal = X; specifiers = r.0 }) at r.1))
+
+  on-is : (n : Option ℕ) (u : State) → import_on n X CS at u ≡ rest_of n (noting_all n u)
+  unfolding import_on
+  on-is n u = refl
+
+  module _ (n : Option ℕ) {t out t1 out1 : List ℕ} {o : ℕ} where
+    pub put-turned : {e : Refusal} → Puts n t out o t1 out1 (Err e) → Steps encode Ready (λ _. import_on n X CS at) t out o t1 out1 (Err e)
+    put-turned {e} w = steps-refused w.good w.size (λ x u b r. on-is n u ∙ ap (rest_of n) (w.turned e refl u b r.0))
+
+    pub put-collected : {p : ℕ} {t2 : List ℕ} {z : Step} → Puts n t out o t1 out1 (Ok p) → Collected s X CS at t1 t2 p z →
+        Steps encode Ready (λ _. import_on n X CS at) t out o t2 out1 z
+    put-collected {p} w g =
         record {
           good = g.good;
-          size = sz;
+          size = w.size;
           made = λ i d u b r.
-              let m = nt.made q f u b (head-row hd r.0) in
-              let fs = m.value in
-              let same = after-done (note_all n (specifiers_in (row_at s from stop)) from u) (SameAll u (specifiers_in (row_at s from stop))) (fs, m.state) m.is
-              (note_all-same n (specifiers_in (row_at s from stop)) from u) in
-              let e₁ : keep (has 0x22) fs ≡ keep (has 0x22) CS =
-              same.0 ∙ keep-specifiers (row_at s from stop) ∙ ap (keep (has 0x22)) (sym (head-parts hd)) in
+              let m = w.made p refl u b r.0 in
+              let same = after-done (noting_all n u) (SameAll u (specifiers_in CS)) (m.value, m.state) m.is (specifiers-same n (specifiers_in CS) (inside at X) u) in
+              let e₁ : keep (has 0x22) m.value ≡ keep (has 0x22) CS = same.0 ∙ keep-specifiers CS in
               let e₂ : namespaces_in m.state.collected ≡ namespaces_in u.collected = ap namespaces_in same.1 in
               let most = room-left (namespaces_in u.collected) r.0 r.2 r.3 in
-              let did = g.made i d m.state fs e₁ (omega arith) m.shows r.1 in
-              let old = attributes_of (find_field (has 0x2F) CS) in
+              let did = g.made i d m.state m.value e₁ (omega arith) m.shows r.1 in
               record {
-                value = field 0x10 X (append fs (with_context (some n) CS));
+                value = field 0x10 X (append m.value (with_context n CS));
                 state = did.state;
-                is = resolved-is n u ∙ ap (rest_of n) m.is ∙ ap (onward (some n) fs) did.is;
-                wrote =
-                    subst (λ (x : ℕ). Wrote l o (encode (field 0x10 X (append fs (with_context (some n) CS)))) out' x) (sym (g.place i d))
-                    (wrote-as (wrote-field begun-here.opened
-                    (wrote-then begun-here.fixed
-                    (wrote-then m.wrote (wrote-as (w.is (behind-is v r.0)) (ap (λ (x : Fields). encode (contextual n x)) (old-same v r.0))))) cl)
-                    (last-written X fs (contextual n old) ∙ ap (λ (x : Fields). encode (field 0x10 X (append fs x))) (sym (context-is n))));
+                is = on-is n u ∙ ap (rest_of n) m.is ∙ ap (onward n m.value) did.is;
+                wrote = subst (λ (x : ℕ). Wrote out o (import_with n X CS m.value) out1 x) (sym (g.place i d)) m.wrote;
                 shows = did.shows;
               };
-          turned = λ w₁ i d u b r.
-              let m = nt.made q f u b (head-row hd r.0) in
-              resolved-is n u ∙ ap (rest_of n) m.is ∙ ap (onward (some n) m.value) (g.turned w₁ i d m.state m.value m.shows r.1);
+          turned = λ e d u b r.
+              let m = w.made p refl u b r.0 in
+              on-is n u ∙ ap (rest_of n) m.is ∙ ap (onward n m.value) (g.turned e d m.state m.value m.shows r.1);
         }
 
   -- ---- By its module
@@ -225,7 +230,7 @@ module _ {s : List ℕ} {at stop from : ℕ} (bytes : Bytes s) (hd : Headed s at
     outside b {x} u k q = head-external hd x.setting n source (ext.is u k) q
 
     pub first-external : {out out' : List ℕ} {o p : ℕ} → Good t → a ≡ true → Wrote out o (slice at stop s) out' p →
-        Steps encode Ready (λ x. import_first x.setting X CS at) t out o t out' (Done p)
+        Steps encode Ready (λ x. import_first x.setting X CS at) t out o t out' (Ok p)
     first-external g q w = head-stays hd bytes g w (λ x u h. h.0) (λ x u k h. external-is x.setting u (outside true u k q))
 
     module _ (own : a ≡ false) where
@@ -245,9 +250,9 @@ module _ {s : List ℕ} {at stop from : ℕ} (bytes : Bytes s) (hd : Headed s at
                   wrote = v.wrote;
                   shows = v.shows;
                 };
-            turned = λ y q d {x} u b r.
+            turned = λ e d {x} u b r.
                 let g = f x u b in
-                module-is x.setting u n source (outside false u b own) ∙ ap then-on g.is ∙ w.turned y q d g.state g.shows (still x u g.state g.is r);
+                module-is x.setting u n source (outside false u b own) ∙ ap then-on g.is ∙ w.turned e d g.state g.shows (still x u g.state g.is r);
           }
         where
           still : (x : Env) (u v : State) → module_for x.setting (two n) at u ≡ done (i, v) → Ready x u → Ready x v
@@ -256,14 +261,12 @@ module _ {s : List ℕ} {at stop from : ℕ} (bytes : Bytes s) (hd : Headed s at
               let b = r.2 in
               (r.0, r.1, omega arith, r.3)
 
-      module _ {m : List ℕ} {y : Module} (c : Resolves (λ E. module_for E (two n)) t m y) where
-        pub first-module : (i : ModuleId) {t' out out' : List ℕ} {o : ℕ} {k : Step} → y ≡ Is i → Steps encode Ready (λ _. import_on (some i.0) X CS at) m out o t' out' k →
-            Steps encode Ready (λ x. import_first x.setting X CS at) t out o t' out' k
-        first-module i q w = on-given (some i.0) (λ x u b. c.number i q u at b) w
+      module _ {m : List ℕ} {y : Result (Option ModuleId) TooManyFiles} (c : Resolves (λ E. module_for E (two n)) t m y) where
+        pub first-module : (i : Option ModuleId) {t' out out' : List ℕ} {o : ℕ} {k : Step} → y ≡ Ok i →
+            Steps encode Ready (λ _. import_on (mapped (λ j. j.0) i) X CS at) m out o t' out' k → Steps encode Ready (λ x. import_first x.setting X CS at) t out o t' out' k
+        first-module i q w = on-given (mapped (λ j. j.0) i) (λ x u b. c.resolved i q u at b) w
 
-        pub first-nowhere : {t' out out' : List ℕ} {o : ℕ} {k : Step} → y ≡ Unresolved → Steps encode Ready (λ _. import_on nothing X CS at) m out o t' out' k →
-            Steps encode Ready (λ x. import_first x.setting X CS at) t out o t' out' k
-        first-nowhere q w = on-given nothing (λ x u b. c.unresolved q u at b) w
-
-        pub first-many : {out : List ℕ} {o : ℕ} → y ≡ TooMany → Steps encode Ready (λ x. import_first x.setting X CS at) t out o m out (Refused TooManyFiles at)
-        first-many q = steps-refused c.good refl (λ x u b r. module-is x.setting u n source (outside false u b own) ∙ ap then-on (c.full q u at b))
+        pub first-many : {e : TooManyFiles} {out : List ℕ} {o : ℕ} → y ≡ Err e → Steps encode Ready (λ x. import_first x.setting X CS at) t out o m out (Err (refusal too-many at))
+        first-many {e} q =
+            steps-refused c.good refl (λ x u b r.
+            module-is x.setting u n source (outside false u b own) ∙ ap then-on (c.full e q u at b))

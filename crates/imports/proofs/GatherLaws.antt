@@ -1,13 +1,12 @@
 -- A record gets the specifiers of an import: of these the array shows the namespaces alone, so only they are gathered.
+use Rattle.std.specs.Prelude.{Option, None, Some, Result, Ok, Err}
 use Prim.Native.Nat.{ℕ, ◌+◌, ◌≤◌, ◌<◌}
 use native.Mathlib.Omega.{arith}
 use mathlib.Core.Path.{◌≡◌, refl, sym, ap, subst, ◌∙◌}
 use mathlib.Core.Bool.{Bool, true, false, cond}
 use mathlib.Core.List.{List, [], ◌∷◌}
-use mathlib.Core.Option.{none as nothing, some}
 use lib.ListN.{length}
 use lib.Dec.{leb}
-use Rattle.tree.specs.declared.layout.Reach.TheVariants.{Upto, Short}
 use Rattle.tree.specs.Tree.{Field, Fields, none, more, fixed_of}
 use Rattle.tree.specs.Access.{extent_at}
 use Rattle.tree.specs.Standing.{tree_at, row_at}
@@ -25,22 +24,15 @@ use Rattle.extraction_rules.proofs.KeepLaws.{keep-none, keep-yes, keep-no}
 use Rattle.state.specs.Cells.{Env, records, held, Good, Shows, id_by, literal_by, Valued, flag, count_namespaces, namespaces_in}
 use Rattle.state.specs.Does.{Says, Did, place_in, extend_at, Extends, Collects}
 use Rattle.state.specs.declared.Literal.{Literal}
-use Rattle.state.specs.declared.Place.{Place}
-use Rattle.state.specs.declared.Place.TheVariants.{Index, NoRoom}
-use Rattle.state.specs.declared.Room.{Room}
-use Rattle.state.specs.declared.Room.TheVariants.{Made, Full}
 use Rattle.state.proofs.CollectLaws.{length-extend}
 use Rattle.state.proofs.ExtendLaws.{extended-other}
 use Rattle.state.proofs.NamespaceLaws.{namespaces-extended, extend-more, extend-none}
 use Rattle.state.proofs.RecordLaws.{held-shown}
+use Rattle.state.specs.declared.TableFull.{TableFull}
 use Rattle.steps.specs.Step.{ident_by, Reads}
-use Rattle.steps.specs.Refusal.{refusal_of}
-use Rattle.steps.specs.declared.Ident.{Ident}
-use Rattle.steps.specs.declared.Ident.TheVariants.{Is, Other}
-use Rattle.steps.specs.declared.Step.TheVariants.{Done, Refused}
-use Rattle.steps.specs.declared.Why.{Why}
-use Rattle.steps.specs.declared.Why.TheVariants.{TableFull}
-use Rattle.steps.proofs.StepsLaws.{done-refused, done-same}
+use Rattle.steps.specs.Refusal.{refusal}
+use Rattle.steps.specs.declared.Why.TheVariants.{TableFull as no-room}
+use Rattle.steps.proofs.StepsLaws.{done-refused, done-same, refused-as}
 use Rattle.imports.specs.Parts.{namespace_in, Gathers, Extending, Gathering, Collected}
 
 -- ---- Specifiers that are no namespaces
@@ -129,22 +121,22 @@ module _ (i : ℕ) (f : Field) (cs : Fields) {t m t' : List ℕ} (q : has 0x22 f
 
 -- ---- The field at a place
 
-named-is : (f : Field) (x : List ℕ) → some x ≡ namespace_in f → (has 0x22 f ≡ true) × (x ≡ fixed_of f)
+named-is : (f : Field) (x : List ℕ) → Some x ≡ namespace_in f → (has 0x22 f ≡ true) × (x ≡ fixed_of f)
 named-is f x e = by (has 0x22 f) refl e
   where
-    by : (c : Bool) → has 0x22 f ≡ c → some x ≡ cond c (some (fixed_of f)) nothing → (has 0x22 f ≡ true) × (x ≡ fixed_of f)
+    by : (c : Bool) → has 0x22 f ≡ c → Some x ≡ cond c (Some (fixed_of f)) None → (has 0x22 f ≡ true) × (x ≡ fixed_of f)
     by true q e = (q, cc)
     by false q e = absurd (let z : ◌≡◌ {A = ℕ} 0 1 = cc in omega arith)
 
-named-other : (f : Field) → nothing ≡ namespace_in f → has 0x22 f ≡ false
+named-other : (f : Field) → None ≡ namespace_in f → has 0x22 f ≡ false
 named-other f e = by (has 0x22 f) refl e
   where
-    by : (c : Bool) → has 0x22 f ≡ c → nothing ≡ cond c (some (fixed_of f)) nothing → has 0x22 f ≡ false
+    by : (c : Bool) → has 0x22 f ≡ c → None ≡ cond c (Some (fixed_of f)) None → has 0x22 f ≡ false
     by true q e = absurd (let z : ◌≡◌ {A = ℕ} 0 1 = cc in omega arith)
     by false q e = q
 
-module _ (i : ℕ) (f : Field) (r : Ident) (e : ident_by r ≡ namespace_in f) {t : List ℕ} where
-  pub extending-is : (id : Id) {t' : List ℕ} → r ≡ Is id → Extends i (id_by id) t t' → Extending i f t t'
+module _ (i : ℕ) (f : Field) (r : Option Id) (e : ident_by r ≡ namespace_in f) {t : List ℕ} where
+  pub extending-is : (id : Id) {t' : List ℕ} → r ≡ Some id → Extends i (id_by id) t t' → Extending i f t t'
   extending-is id {t'} q x =
       let w = named-is f (id_by id) (sym (ap ident_by q) ∙ e) in
       record {
@@ -153,7 +145,7 @@ module _ (i : ℕ) (f : Field) (r : Ident) (e : ident_by r ≡ namespace_in f) {
         next = λ {t''} {cs} g. gathers-more i f cs w.0 (subst (λ (y : List ℕ). Extends i y t t') w.1 x) g;
       }
 
-  pub extending-other : Good t → r ≡ Other → Extending i f t t
+  pub extending-other : Good t → r ≡ None → Extending i f t t
   extending-other g q = record { good = g; kept = refl; next = λ {t''} {cs} h. gathers-other i f cs (named-other f (sym (ap ident_by q) ∙ e)) h }
 
 -- ---- All fields
@@ -169,7 +161,7 @@ pub filling-start : (i : ℕ) (s : List ℕ) (from end : ℕ) {t : List ℕ} →
 filling-start i s from end g h b = record { good = g; before = h; below = b; cells = refl; rest = λ t' w. w }
 
 module _ (i : ℕ) (s : List ℕ) (from end : ℕ) {t₀ t : List ℕ} {at : ℕ} (g : Filling i s from end t₀ t at) where
-  pub filling-more : {t' : List ℕ} {stop : ℕ} → extent_at s at end ≡ Upto stop → Extending i (tree_at s at stop) t t' → length t' ≡ length t → Filling i s from end t₀ t' stop
+  pub filling-more : {t' : List ℕ} {stop : ℕ} → extent_at s at end ≡ Some stop → Extending i (tree_at s at stop) t t' → length t' ≡ length t → Filling i s from end t₀ t' stop
   filling-more {t'} {stop} e x l =
       let k = x.kept in
       let b = g.below in
@@ -181,7 +173,7 @@ module _ (i : ℕ) (s : List ℕ) (from end : ℕ) {t₀ t : List ℕ} {at : ℕ
         rest = λ t'' w. g.rest t'' (subst (λ (fs : Fields). Gathers i fs t t'') (sym (row-more s at end stop g.before e)) (x.next w));
       }
 
-  pub filling-end : extent_at s at end ≡ Short → Gathers i (row_at s from end) t₀ t
+  pub filling-end : extent_at s at end ≡ None → Gathers i (row_at s from end) t₀ t
   filling-end e = g.rest t (subst (λ (fs : Fields). Gathers i fs t t) (sym (row-none s at end g.before e)) (gathers-none i g.good))
 
 -- ---- A record is collected
@@ -223,8 +215,8 @@ gathered-count x l s e = by (leb (length (collect_in (record { literal = x; spec
         ap namespaces_in (sym z) ∙ c ∙ omega arith
     by false e = not_done e
 
-module _ (l : Literal) (cs : Fields) {t m : List ℕ} {r : Place} (c : Collects l t m r) where
-  pub gathering-made : (i : ℕ) {t' : List ℕ} → r ≡ Index i → Gathers i cs m t' → Gathering l cs t t' Made
+module _ (l : Literal) (cs : Fields) {t m : List ℕ} {r : Result ℕ TableFull} (c : Collects l t m r) where
+  pub gathering-made : (i : ℕ) {t' : List ℕ} → r ≡ Ok i → Gathers i cs m t' → Gathering l cs t t' (Ok tt)
   gathering-made i e g =
       record {
         good = g.good;
@@ -238,15 +230,15 @@ module _ (l : Literal) (cs : Fields) {t m : List ℕ} {r : Place} (c : Collects 
               is = d.is fs p;
               shows = g.shows (set_collected d.list s) fs k (omega arith) (omega arith) d.shows;
             };
-        full = λ q s fs p w v. absurd (let z : ◌≡◌ {A = ℕ} 0 1 = cc in omega arith);
+        full = λ _ q s fs p w v. done-refused refl q;
       }
 
-  pub gathering-full : r ≡ NoRoom → Gathering l cs t m Full
-  gathering-full e =
+  pub gathering-full : {e : TableFull} → r ≡ Err e → Gathering l cs t m (Err e)
+  gathering-full {e} h =
       record {
         good = c.good;
-        made = λ q s fs p k n w v. absurd (let z : ◌≡◌ {A = ℕ} 0 1 = cc in omega arith);
-        full = λ q s fs p w v. c.full e s w v fs p;
+        made = λ q s fs p k n w v. done-refused q refl;
+        full = λ _ q s fs p w v. c.full e h s w v fs p;
       }
 
 -- ---- As a step
@@ -255,7 +247,7 @@ abbrev collecting : Fields → ℕ → State → List ℕ → Outcome (Unit {0} 
 collecting fs at u z = collect (record { literal = z; specifiers = fs }) at u
 
 -- the literal that stands at `at` of the tree that is walked
-module _ {s x : List ℕ} {cs ds : Fields} (at p : ℕ) {l : Literal} {n : ℕ} {t t' : List ℕ} {r : Room} (fits : at + 3 + 6 ≤ length s) (a : id_at s (at + 3) ≡ x) (b : ds ≡ cs)
+module _ {s x : List ℕ} {cs ds : Fields} (at p : ℕ) {l : Literal} {n : ℕ} {t t' : List ℕ} {r : Result Unit TableFull} (fits : at + 3 + 6 ≤ length s) (a : id_at s (at + 3) ≡ x) (b : ds ≡ cs)
     (place : Says (λ e. place_in e.pass (at + 3)) t n) (read : (value_of (id_at s (at + 3)) ≡ two l.value.0) × (l.place ≡ n)) (g : Gathering l cs t t' r) where
   literal-is : {y : Env} {u : State} → Shows y t u → Reads y s → literal_by y l ≡ id_at s (at + 3)
   literal-is {y} {u} k d = ap y.literal (read.1 ∙ place.is u k) ∙ d.literals (at + 3) fits
@@ -263,7 +255,7 @@ module _ {s x : List ℕ} {cs ds : Fields} (at p : ℕ) {l : Literal} {n : ℕ} 
   valued : {y : Env} {u : State} → Shows y t u → Reads y s → Valued y l
   valued k d = ap value_of (literal-is k d) ∙ read.0
 
-  pub collected-made : r ≡ Made → Collected s x ds at t t' p (Done p)
+  pub collected-made : r ≡ Ok tt → Collected s x ds at t t' p (Ok p)
   collected-made e =
       record {
         good = g.good;
@@ -272,18 +264,14 @@ module _ {s x : List ℕ} {cs ds : Fields} (at p : ℕ) {l : Literal} {n : ℕ} 
             let f : keep (has 0x22) fs ≡ keep (has 0x22) cs = k ∙ ap (keep (has 0x22)) b in
             let c = ap count_namespaces b in
             subst (λ (z : List ℕ). Did y (collecting fs at u z) t') (literal-is w h ∙ a) (g.made e u fs at f (omega arith) w (valued w h));
-        turned = λ w q d u fs k h. done-refused refl d;
+        turned = λ _ d u fs k h. done-refused refl d;
       }
 
-  pub collected-full : r ≡ Full → Collected s x ds at t t' p (Refused TableFull at)
-  collected-full e =
+  pub collected-full : {e : TableFull} → r ≡ Err e → Collected s x ds at t t' p (Err (refusal no-room at))
+  collected-full {e} f =
       record {
         good = g.good;
         place = λ q d. done-refused d refl;
         made = λ q d u fs k m w h. done-refused d refl;
-        turned = λ w q d u fs k h.
-            let i : TableFull ≡ w = cc in
-            let j : at ≡ q = cc in
-            sym (ap (collecting fs at u) (literal-is k h ∙ a)) ∙ g.full e u fs at k (valued k h)
-            ∙ ap (λ (z : Why). refused (refusal_of z) at) i ∙ ap (refused (refusal_of w)) j;
+        turned = λ _ d u fs k h. refused-as (sym (ap (collecting fs at u) (literal-is k h ∙ a)) ∙ g.full e f u fs at k (valued k h)) d;
       }

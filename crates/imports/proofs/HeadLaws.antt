@@ -1,4 +1,5 @@
 -- An import as it stands in the tree: its literal, its source, its parts, and its bytes.
+use Rattle.std.specs.Prelude.{None, Some, Ok}
 use Prim.Native.Nat.{ℕ, ◌+◌, ◌≤◌}
 use native.Mathlib.Omega.{arith}
 use mathlib.Core.Path.{◌≡◌, refl, sym, ap, subst, ◌∙◌}
@@ -8,7 +9,6 @@ use lib.ListN.{length, get_or}
 use lib.Seq.{slice}
 use Rattle.writer.specs.Wrote.{Wrote}
 use Rattle.writer.proofs.Wrote.{wrote-as}
-use Rattle.tree.specs.declared.layout.Reach.TheVariants.{Upto, Short}
 use Rattle.tree.specs.Layout.{Bytes, two, two_at, id_at, value_of}
 use Rattle.tree.specs.Tree.{Field, field, Fields, fixed_of, parts_of, encode}
 use Rattle.tree.specs.Access.{fixed_at}
@@ -24,20 +24,18 @@ use Rattle.extraction_rules.specs.First.{external}
 use Rattle.inputs.specs.Lists.{among}
 use Rattle.inputs.specs.Outcome.{done}
 use Rattle.state.specs.Cells.{Env, Good, Shows}
-use Rattle.steps.specs.Step.{ReadAt, Steps, Begun}
-use Rattle.steps.specs.declared.Step.{Step}
-use Rattle.steps.specs.declared.Step.TheVariants.{Done}
+use Rattle.steps.specs.Step.{ReadAt, Step, Steps, Begun}
 use Rattle.steps.proofs.SoundLaws.{read-bytes, read-parts, read-short}
 use Rattle.steps.proofs.StepsLaws.{steps-done, steps-never}
 use Rattle.imports.specs.Parts.{Framed}
 use Rattle.imports.proofs.WidthLaws.{framing, framing-as, framed-in, framed-exact, framed-tree, framed-length}
 
 -- an import that was read has its literal
-pub head-never : {s : List ℕ} {at stop : ℕ} → get_or s at 0 ≡ 0x10 → fixed_at s 0x10 (at + 3) stop ≡ Short → ReadAt s at stop → ⊥
-head-never {s} {at} {stop} tag e r = read-short r (subst (λ (k : ℕ). fixed_at s k (at + 3) stop ≡ Short) (sym tag) e)
+pub head-never : {s : List ℕ} {at stop : ℕ} → get_or s at 0 ≡ 0x10 → fixed_at s 0x10 (at + 3) stop ≡ None → ReadAt s at stop → ⊥
+head-never {s} {at} {stop} tag e r = read-short r (subst (λ (k : ℕ). fixed_at s k (at + 3) stop ≡ None) (sym tag) e)
 
 pub head-short : {s : List ℕ} {at stop : ℕ} {P : Env → State → Type 0} {act : Env → Act Field} {t out : List ℕ} {o : ℕ} {k : Step} →
-    get_or s at 0 ≡ 0x10 → fixed_at s 0x10 (at + 3) stop ≡ Short → Good t → ((x : Env) (u : State) → P x u → ReadAt s at stop) → Steps encode P act t out o t out k
+    get_or s at 0 ≡ 0x10 → fixed_at s 0x10 (at + 3) stop ≡ None → Good t → ((x : Env) (u : State) → P x u → ReadAt s at stop) → Steps encode P act t out o t out k
 head-short tag e g h = steps-never _ _ _ _ g (λ x u c. head-never tag e (h x u c))
 
 -- an import whose literal is whole
@@ -45,7 +43,7 @@ pub record Headed (s : List ℕ) (at stop from : ℕ) : Type 0 where
   pub framed : Framed s at stop from
   pub tag : get_or s at 0 ≡ 0x10
 
-pub headed : {s : List ℕ} {at stop from : ℕ} → at + 3 ≤ stop → stop ≤ length s → get_or s at 0 ≡ 0x10 → fixed_at s 0x10 (at + 3) stop ≡ Upto from → Headed s at stop from
+pub headed : {s : List ℕ} {at stop from : ℕ} → at + 3 ≤ stop → stop ≤ length s → get_or s at 0 ≡ 0x10 → fixed_at s 0x10 (at + 3) stop ≡ Some from → Headed s at stop from
 headed room fits tag e = record { framed = framing-as room fits tag e; tag = tag }
 
 -- and so it is once it was read
@@ -109,7 +107,7 @@ module _ {s : List ℕ} {at stop from : ℕ} (hd : Headed s at stop from) where
 
   pub head-stays : {P : Env → State → Type 0} {act : Env → Act Field} {t out out' : List ℕ} {o p : ℕ} → Bytes s → Good t →
       Wrote out o (slice at stop s) out' p → ((x : Env) (u : State) → P x u → ReadAt s at stop) →
-      ((x : Env) (u : State) → Shows x t u → P x u → act x u ≡ done (field 0x10 (fixed_of F) (parts_of F), u)) → Steps encode P act t out o t out' (Done p)
+      ((x : Env) (u : State) → Shows x t u → P x u → act x u ≡ done (field 0x10 (fixed_of F) (parts_of F), u)) → Steps encode P act t out o t out' (Ok p)
   head-stays b g w h k = steps-done g w.size (λ x u v c. record { value = field 0x10 (fixed_of F) (parts_of F); state = u; is = k x u v c; wrote = head-copied b (h x u c) w; shows = v })
 
   -- whether it is external, as the code asks

@@ -1,4 +1,5 @@
 -- A specifier of a resolved import: which one stands in the tree, and how it is noted and written.
+use Rattle.std.specs.Prelude.{None, Result, Ok, Err}
 use Prim.Native.Nat.{ℕ, ◌+◌, ◌≤◌, ◌<◌}
 use native.Mathlib.Omega.{arith}
 use mathlib.Core.Path.{◌≡◌, refl, sym, ap, ap₂, subst, ◌∙◌}
@@ -15,7 +16,6 @@ use Rattle.scope.specs.declared.id.Id.{Id}
 use Rattle.scope.specs.declared.id.Atom.{Atom}
 use Rattle.tree.specs.Layout.{Bytes, two, four, atom_at, id_at, name_of, context_of}
 use Rattle.tree.specs.Tree.{Field, field, none, tag_of, fixed_of, encode}
-use Rattle.tree.specs.declared.layout.Reach.TheVariants.{Short}
 use Rattle.tree.specs.Access.{fixed_at}
 use Rattle.tree.specs.Standing.{tree_at}
 use Rattle.tree.specs.Within.{Exact}
@@ -27,12 +27,10 @@ use Rattle.extraction_rules.proofs.ExactLaws.{width-20}
 use Rattle.extraction_rules.proofs.ShapeLaws.{one-of, specifier-is}
 use Rattle.state.specs.Cells.{Env, Good, id_by}
 use Rattle.state.specs.Does.{Acts, Anyhow}
-use Rattle.state.specs.declared.Room.{Room}
-use Rattle.state.specs.declared.Room.TheVariants.{Made, Full}
-use Rattle.steps.specs.Step.{Steps, ReadAt}
-use Rattle.steps.specs.declared.Step.{Step}
-use Rattle.steps.specs.declared.Step.TheVariants.{Done, Refused}
-use Rattle.steps.specs.declared.Why.TheVariants.{StringName, TableFull}
+use Rattle.steps.specs.Step.{Step, Steps, ReadAt}
+use Rattle.state.specs.declared.TableFull.{TableFull}
+use Rattle.steps.specs.Refusal.{refusal}
+use Rattle.steps.specs.declared.Why.TheVariants.{StringName, TableFull as no-room}
 use Rattle.steps.proofs.SoundLaws.{read-bytes, read-short}
 use Rattle.steps.proofs.StepsLaws.{steps-as, steps-never, steps-refused}
 use Rattle.imports.specs.declared.note.Outside.{Outside}
@@ -138,16 +136,16 @@ module _ {s : List ℕ} {at stop from : ℕ} (w : Framed s at stop from) where
 abbrev noted : Id → ℕ → ℕ → ℕ → Act Field
 noted id name c at = noting (record { id = id_by id; context = four c }) (field 0x20 (id_by id ++ 1 ∷ id_from (two name) c) none) at
 
-module _ (id : Id) (name n at : ℕ) {c : ℕ} (e : c ≡ export n) {t t' : List ℕ} {r : Room} (w : Acts Anyhow (λ _. note_id (record { id = id_by id; context = four c })) t t' r) where
-  pub as-made : {out out' : List ℕ} {o p : ℕ} → r ≡ Made → Wrote out o (encode (field 0x20 (id_by id ++ 1 ∷ (two name ++ four c)) none)) out' p →
-      Steps encode (λ x u. Unit {0}) (λ _. noted id name (export n) at) t out o t' out' (Done p)
+module _ (id : Id) (name n at : ℕ) {c : ℕ} (e : c ≡ export n) {t t' : List ℕ} {r : Result Unit TableFull} (w : Acts Anyhow (λ _. note_id (record { id = id_by id; context = four c })) t t' r) where
+  pub as-made : {out out' : List ℕ} {o p : ℕ} → r ≡ Ok tt → Wrote out o (encode (field 0x20 (id_by id ++ 1 ∷ (two name ++ four c)) none)) out' p →
+      Steps encode (λ x u. Unit {0}) (λ _. noted id name (export n) at) t out o t' out' (Ok p)
   as-made {out} {out'} {o} {p} k v =
-      subst (λ (j : ℕ). Steps encode (λ x u. Unit {0}) (λ _. noted id name j at) t out o t' out' (Done p)) e
+      subst (λ (j : ℕ). Steps encode (λ x u. Unit {0}) (λ _. noted id name j at) t out o t' out' (Ok p)) e
       (acts-made at (field 0x20 (id_by id ++ 1 ∷ id_from (two name) c) none) w k v.size (λ x s u. v))
 
-  pub as-full : {out : List ℕ} {o : ℕ} → r ≡ Full → Steps encode (λ x u. Unit {0}) (λ _. noted id name (export n) at) t out o t' out (Refused TableFull at)
+  pub as-full : {out : List ℕ} {o : ℕ} {y : TableFull} → r ≡ Err y → Steps encode (λ x u. Unit {0}) (λ _. noted id name (export n) at) t out o t' out (Err (refusal no-room at))
   as-full {out} {o} k =
-      subst (λ (j : ℕ). Steps encode (λ x u. Unit {0}) (λ _. noted id name j at) t out o t' out (Refused TableFull at)) e
+      subst (λ (j : ℕ). Steps encode (λ x u. Unit {0}) (λ _. noted id name j at) t out o t' out (Err (refusal no-room at))) e
       (acts-full at (field 0x20 (id_by id ++ 1 ∷ id_from (two name) c) none) w k)
 
 module _ (id : Id) (n at : ℕ) (x : List ℕ) (i : id_by id ≡ id_at x 0) {t t' out out' : List ℕ} {o : ℕ} {r : Step} where
@@ -171,7 +169,7 @@ module _ (id : Id) (n at : ℕ) (x : List ℕ) (i : id_by id ≡ id_at x 0) {t t
       named-as id.0.0 k.0 (k.1 ∙ sym (ap (take 2) i ∙ take-take 2 6 x (omega arith))) w
 
 pub named-text : (x : List ℕ) {y : Outside} {a : Atom} (n at : ℕ) {t out : List ℕ} {o : ℕ} → Good t → y ≡ Text a → OutsideIs x y →
-    Steps encode (λ x u. Unit {0}) (λ _. note_named n x at) t out o t out (Refused StringName at)
+    Steps encode (λ x u. Unit {0}) (λ _. note_named n x at) t out o t out (Err (refusal StringName at))
 unfolding note_named
 named-text x n at g e h = let k = subst (OutsideIs x) e h in steps-refused g refl (λ y s u v. rw k refl)
 
@@ -221,7 +219,7 @@ module _ {s : List ℕ} {at stop from : ℕ} (w : Framed s at stop from) (n : �
 -- ---- A 21 or a 22
 
 -- its id is as it stands in the tree
-pub noted-as : {i j : List ℕ} (c : List ℕ) {t t' : List ℕ} {r : Room} → i ≡ j → Acts Anyhow (λ _. note_id (record { id = i; context = c })) t t' r →
+pub noted-as : {i j : List ℕ} (c : List ℕ) {t t' : List ℕ} {r : Result Unit TableFull} → i ≡ j → Acts Anyhow (λ _. note_id (record { id = i; context = c })) t t' r →
     Acts Anyhow (λ _. note_id (record { id = j; context = c })) t t' r
 noted-as c {t} {t'} {r} e w = subst (λ (k : List ℕ). Acts Anyhow (λ _. note_id (record { id = k; context = c })) t t' r) e w
 
@@ -233,8 +231,8 @@ other-copied b w x u r = wrote-as w (sym (read-bytes r b))
 -- ---- Fields that are no specifiers
 
 module _ {s : List ℕ} {at stop : ℕ} {act : Env → Act Field} {t out : List ℕ} {o p : ℕ} (g : Good t) where
-  pub specified-short : fixed_at s (get_or s at 0) (at + 3) stop ≡ Short → Steps encode (λ x u. Specified s at stop) act t out o t out (Done p)
+  pub specified-short : fixed_at s (get_or s at 0) (at + 3) stop ≡ None → Steps encode (λ x u. Specified s at stop) act t out o t out (Ok p)
   specified-short e = steps-never _ _ _ _ g (λ x u k. read-short k.read e)
 
-  pub specified-else : (0x20 ≤ get_or s at 0 → get_or s at 0 ≤ 0x22 → ⊥) → Steps encode (λ x u. Specified s at stop) act t out o t out (Done p)
+  pub specified-else : (0x20 ≤ get_or s at 0 → get_or s at 0 ≤ 0x22 → ⊥) → Steps encode (λ x u. Specified s at stop) act t out o t out (Ok p)
   specified-else e = steps-never _ _ _ _ g (λ x u k. let i = specifier-is (get_or s at 0) k.specifier in e i.0 i.1)

@@ -1,4 +1,5 @@
 -- An import's parts as they stand in the tree: a specifier and those behind it, or the attributes, behind which there is nothing.
+use Rattle.std.specs.Prelude.{None, Some}
 use Prim.Native.Nat.{ℕ, ◌≤◌}
 use native.Mathlib.Omega.{arith}
 use mathlib.Core.Path.{◌≡◌, sym, ap, subst, ◌∙◌}
@@ -7,9 +8,7 @@ use mathlib.Core.Bool.{false, not}
 use mathlib.Core.List.{List}
 use lib.ListN.{length, get_or}
 use borrow.Author.Tests.{eq-eqb, ne_eqb}
-use Rattle.tree.specs.declared.layout.Reach.TheVariants.{Upto, Short}
 use Rattle.tree.specs.declared.grammar.Rule.{Rule}
-use Rattle.tree.specs.declared.grammar.Step.TheVariants.{Go}
 use Rattle.tree.specs.Layout.{Bytes}
 use Rattle.tree.specs.Tree.{none, more, tag_of}
 use Rattle.tree.specs.Access.{extent_at}
@@ -39,14 +38,14 @@ pub record LastPart (s : List ℕ) (at end stop : ℕ) : Type 0 where
   pub tag : tag_of (tree_at s at stop) ≡ 0x2F
   pub row : row_at s at end ≡ more (tree_at s at stop) none
 
-module _ {s : List ℕ} {at end stop : ℕ} (bytes : Bytes s) (le : at ≤ end) (fits : end ≤ length s) (e : extent_at s at end ≡ Upto stop) (w : Row s at end (rule_of 0x10)) where
+module _ {s : List ℕ} {at end stop : ℕ} (bytes : Bytes s) (le : at ≤ end) (fits : end ≤ length s) (e : extent_at s at end ≡ Some stop) (w : Row s at end (rule_of 0x10)) where
   pub part-cases : FirstPart s at end stop ⊎ LastPart s at end stop
   part-cases = by (import-step (get_or s at 0) rest.0 rest.1)
     where
       read : ReadAt s at stop
       read = (row-read (rule_of 0x10) le fits w e).0
 
-      rest : (q : Rule) × (step_at (rule_of 0x10) (get_or s at 0) ≡ Go q) × Row s stop end q
+      rest : (q : Rule) × (step_at (rule_of 0x10) (get_or s at 0) ≡ Some q) × Row s stop end q
       rest = (row-read (rule_of 0x10) le fits w e).1
 
       by : ImportStep (get_or s at 0) rest.0 → FirstPart s at end stop ⊎ LastPart s at end stop
@@ -97,7 +96,7 @@ module _ {s : List ℕ} {at end stop : ℕ} (w : LastPart s at end stop) where
 -- ---- Where the specifiers end
 
 module _ {s : List ℕ} {at end : ℕ} (bytes : Bytes s) (le : at ≤ end) (fits : end ≤ length s) where
-  pub ends-short : extent_at s at end ≡ Short → Ends s at end at
+  pub ends-short : extent_at s at end ≡ None → Ends s at end at
   ends-short e =
       let z = row-none s at end le e in
       record {
@@ -109,7 +108,7 @@ module _ {s : List ℕ} {at end : ℕ} (bytes : Bytes s) (le : at ≤ end) (fits
         goes = λ w k. absurd (omega arith);
       }
 
-  module _ {stop : ℕ} (e : extent_at s at end ≡ Upto stop) where
+  module _ {stop : ℕ} (e : extent_at s at end ≡ Some stop) where
     pub ends-attributes : get_or s at 0 ≡ 0x2F → Ends s at end at
     ends-attributes k =
         record {
@@ -142,7 +141,7 @@ pub record Seeking (s : List ℕ) (from end at : ℕ) : Type 0 where
 pub seeking-start : (s : List ℕ) (from end : ℕ) → from ≤ end → Seeking s from end from
 seeking-start s from end h = record { before = h; rest = λ r w. w }
 
-pub seeking-more : {s : List ℕ} {from end at stop : ℕ} → Seeking s from end at → Bytes s → end ≤ length s → extent_at s at end ≡ Upto stop → (get_or s at 0 ≡ 0x2F → ⊥) →
+pub seeking-more : {s : List ℕ} {from end at stop : ℕ} → Seeking s from end at → Bytes s → end ≤ length s → extent_at s at end ≡ Some stop → (get_or s at 0 ≡ 0x2F → ⊥) →
     Seeking s from end stop
 seeking-more {s} {from} {end} {at} g bytes fits e n =
     record { before = (extent-upto s at end g.before e).1; rest = λ r w. g.rest r (ends-more bytes g.before fits e n w) }

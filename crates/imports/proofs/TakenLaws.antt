@@ -1,4 +1,5 @@
 -- The usages of an id, written one after another as specifiers, and the import that gets them.
+use Rattle.std.specs.Prelude.{Option, None, Some, Ok}
 use Prim.Native.Nat.{ℕ, ◌+◌, ◌≤◌}
 use native.Mathlib.Omega.{arith}
 use mathlib.Core.Path.{◌≡◌, refl, sym, ap, subst, ◌∙◌}
@@ -24,11 +25,8 @@ use Rattle.extraction_rules.specs.First.{attributes_in, force_source}
 use Rattle.extraction_rules.specs.Second.{usages_of, specifiers_from, extend, take_apart}
 use Rattle.state.specs.Cells.{Good, Shows, id_by, sources_in}
 use Rattle.state.specs.Does.{Tells, Lists, listed, any, Forces}
-use Rattle.state.specs.declared.Property.{Property}
-use Rattle.state.specs.declared.Property.TheVariants.{Is, Other}
 use Rattle.state.proofs.SecondLaws.{specifiers-plain, shows-extended}
 use Rattle.steps.specs.Step.{ReadAt, Steps, Begun}
-use Rattle.steps.specs.declared.Step.TheVariants.{Done}
 use Rattle.steps.proofs.StepsLaws.{steps-done}
 use Rattle.imports.specs.Parts.{Ends, Writes, usages_from, Usage as Written}
 use Rattle.imports.proofs.HeadLaws.{Headed, headed-of, head-parts, head-source, head-row, head-copied, head-begun}
@@ -39,8 +37,8 @@ from-more : (u : Usage) (l : List Usage) → encodes (specifiers_from (u ∷ l))
 unfolding specifiers_from encode
 from-more u l = refl
 
-module _ (x : List ℕ) (i : ℕ) {t out : List ℕ} {o : ℕ} {r : Property} (w : Lists x i t r) where
-  pub usage-is : (q : Id) {out' : List ℕ} {p : ℕ} → r ≡ Is q → Wrote out o (encode (field 0x20 (id_by q ++ 0 ∷ []) none)) out' p → Written x i t out o out' p
+module _ (x : List ℕ) (i : ℕ) {t out : List ℕ} {o : ℕ} {r : Option Id} (w : Lists x i t r) where
+  pub usage-is : (q : Id) {out' : List ℕ} {p : ℕ} → r ≡ Some q → Wrote out o (encode (field 0x20 (id_by q ++ 0 ∷ []) none)) out' p → Written x i t out o out' p
   usage-is q e v =
       record {
         next = λ k.
@@ -48,18 +46,18 @@ module _ (x : List ℕ) (i : ℕ) {t out : List ℕ} {o : ℕ} {r : Property} (w
               is = λ s b.
                   let rest = usages_of x (drop (i + 1) s.usages) in
                   wrote-as (wrote-then v (k.is s b))
-                  (sym (ap (λ (l : List Usage). encodes (specifiers_from l)) (w.is s b ∙ ap (λ (y : Property). listed x y rest) e) ∙ from-more (record { id = x; property = id_by q }) rest));
+                  (sym (ap (λ (l : List Usage). encodes (specifiers_from l)) (w.is s b ∙ ap (λ (y : Option Id). listed x y rest) e) ∙ from-more (record { id = x; property = id_by q }) rest));
             };
       }
 
-  pub usage-other : r ≡ Other → Written x i t out o out o
+  pub usage-other : r ≡ None → Written x i t out o out o
   usage-other e =
       record {
         next = λ k.
             record {
               is = λ s b.
                   let rest = usages_of x (drop (i + 1) s.usages) in
-                  wrote-as (k.is s b) (sym (ap (λ (l : List Usage). encodes (specifiers_from l)) (w.is s b ∙ ap (λ (y : Property). listed x y rest) e)));
+                  wrote-as (k.is s b) (sym (ap (λ (l : List Usage). encodes (specifiers_from l)) (w.is s b ∙ ap (λ (y : Option Id). listed x y rest) e)));
             };
       }
 
@@ -143,7 +141,7 @@ module _ (s : List ℕ) (at stop : ℕ) (bytes : Bytes s) (room : at + 3 ≤ sto
   abbrev Apart : Id → List ℕ → List ℕ → ℕ → List ℕ → List ℕ → ℕ → Type 0
   Apart id t out o t' out' p =
       Steps encode (λ x u. ReadAt s at stop × (among (value_of Literal) (sources_in u.collected) ≡ true))
-      (λ _ u. take_apart (usages_of (id_by id) u.usages) Literal Parts u) t out o t' out' (Done p)
+      (λ _ u. take_apart (usages_of (id_by id) u.usages) Literal Parts u) t out o t' out' (Ok p)
 
   pub apart-some : (id : Id) {t out out' : List ℕ} {o p : ℕ} {b : Bool} → Good t → length out' ≡ length out → Tells (λ u. any (usages_of (id_by id) u.usages)) t b → b ≡ true →
       (ReadAt s at stop → Writes (λ u. encode (field 0x10 Literal (append (specifiers_from (usages_of (id_by id) u.usages)) (attributes_in Parts)))) t out o out' p) → Apart id t out o t out' p

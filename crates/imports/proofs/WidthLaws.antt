@@ -1,4 +1,5 @@
 -- The fixed bytes of imports, specifiers and export specifiers: how long they are, and where their bytes stand in the tree.
+use Rattle.std.specs.Prelude.{Option, None, Some}
 use Prim.Native.Nat.{ℕ, ◌+◌, ◌-◌, ◌≤◌, ◌<◌}
 use native.Mathlib.Omega.{arith}
 use mathlib.Core.Path.{◌≡◌, refl, sym, ap, subst, ◌∙◌}
@@ -8,11 +9,8 @@ use lib.Dec.{ltb, eqb}
 use lib.ListN.{length, get_or, drop}
 use lib.Seq.{slice, length-slice}
 use borrow.Author.Tests.{eqb-true, ne_eqb}
-use Rattle.tree.specs.declared.layout.Reach.{Reach}
-use Rattle.tree.specs.declared.layout.Reach.TheVariants.{Upto, Short}
 use Rattle.tree.specs.declared.grammar.Value.TheVariants.{Atom}
 use Rattle.tree.specs.declared.grammar.Piece.TheVariants.{Outside}
-use Rattle.tree.specs.declared.access.Choice.TheVariants.{Take, Bad}
 use Rattle.tree.specs.Layout.{skip_at}
 use Rattle.tree.specs.Tree.{field}
 use Rattle.tree.specs.Grammar.{pieces_of}
@@ -37,12 +35,12 @@ slice-of a b s i j k l e f h g =
 
 -- ---- Fixed bytes that were found
 
-pub framing : {s : List ℕ} {at stop from : ℕ} → at + 3 ≤ stop → stop ≤ length s → fixed_at s (get_or s at 0) (at + 3) stop ≡ Upto from → Framed s at stop from
+pub framing : {s : List ℕ} {at stop from : ℕ} → at + 3 ≤ stop → stop ≤ length s → fixed_at s (get_or s at 0) (at + 3) stop ≡ Some from → Framed s at stop from
 framing a b f = record { room = a; fits = b; fixed = f }
 
 -- where the tag is known
-pub framing-as : {s : List ℕ} {at stop from tag : ℕ} → at + 3 ≤ stop → stop ≤ length s → get_or s at 0 ≡ tag → fixed_at s tag (at + 3) stop ≡ Upto from → Framed s at stop from
-framing-as {s} {at} {stop} {from} a b e f = framing a b (subst (λ (k : ℕ). fixed_at s k (at + 3) stop ≡ Upto from) (sym e) f)
+pub framing-as : {s : List ℕ} {at stop from tag : ℕ} → at + 3 ≤ stop → stop ≤ length s → get_or s at 0 ≡ tag → fixed_at s tag (at + 3) stop ≡ Some from → Framed s at stop from
+framing-as {s} {at} {stop} {from} a b e f = framing a b (subst (λ (k : ℕ). fixed_at s k (at + 3) stop ≡ Some from) (sym e) f)
 
 module _ {s : List ℕ} {at stop from : ℕ} (w : Framed s at stop from) where
   pub framed-in : (at + 3 ≤ from) × (from ≤ stop) × (from ≤ length s)
@@ -61,7 +59,7 @@ module _ {s : List ℕ} {at stop from : ℕ} (w : Framed s at stop from) where
       let e₂ : 0 + length x ≡ length x = omega arith in
       fixed-same (get_or s at 0) s x (at + 3) 0 (length x) stop (length x) w.room
       (λ k h. let u : 0 + k ≡ k = omega arith in sym (ap (λ (j : ℕ). get_or x j 0) u ∙ get_d-slice (at + 3) from s k (omega arith)))
-      (omega arith) (λ _. e₂) (w.fixed ∙ ap Upto e₁) ∙ ap Upto e₂
+      (omega arith) (λ _. e₂) (w.fixed ∙ ap Some e₁) ∙ ap Some e₂
 
   pub framed-tree : tree_at s at stop ≡ field (get_or s at 0) (slice (at + 3) from s) (row_at s from stop)
   framed-tree = tree-upto s at stop from w.fixed
@@ -72,25 +70,25 @@ module _ {s : List ℕ} {at stop from : ℕ} (w : Framed s at stop from) where
 -- ---- How long they are
 
 -- the third kind of an outside name
-text-is : (x : List ℕ) (b stop : ℕ) → kind_at x Outside b stop ≡ Upto stop → (get_or x b 0 ≡ 0 → ⊥) → (get_or x b 0 ≡ 1 → ⊥) → (get_or x b 0 ≡ 2) × (stop ≡ b + 3)
+text-is : (x : List ℕ) (b stop : ℕ) → kind_at x Outside b stop ≡ Some stop → (get_or x b 0 ≡ 0 → ⊥) → (get_or x b 0 ≡ 1 → ⊥) → (get_or x b 0 ≡ 2) × (stop ≡ b + 3)
 unfolding kind_at choice_of kinds on_choice value_at
 text-is x b stop e n m = go (ltb b stop) e
   where
-    kind : (c : Bool) → eqb (get_or x b 0) 2 ≡ c → on_choice (cond c (Take Atom) Bad) (b + 1) stop ≡ Upto stop → (get_or x b 0 ≡ 2) × (stop ≡ b + 3)
+    kind : (c : Bool) → eqb (get_or x b 0) 2 ≡ c → on_choice (cond c (Some Atom) None) (b + 1) stop ≡ Some stop → (get_or x b 0 ≡ 2) × (stop ≡ b + 3)
     kind true w e = (eqb-true (get_or x b 0) 2 w, let z = skip-ends (b + 1) 2 stop stop e in omega arith)
     kind false w e = absurd (no-upto e)
 
-    go : (c : Bool) → cond c (on_choice (choice_of Outside (get_or x b 0)) (b + 1) stop) Short ≡ Upto stop → (get_or x b 0 ≡ 2) × (stop ≡ b + 3)
+    go : (c : Bool) → cond c (on_choice (choice_of Outside (get_or x b 0)) (b + 1) stop) None ≡ Some stop → (get_or x b 0 ≡ 2) × (stop ≡ b + 3)
     go true e = kind (eqb (get_or x b 0) 2) refl (rw (ne_eqb (get_or x b 0) 0 n, ne_eqb (get_or x b 0) 1 m) at e)
     go false e = absurd (no-upto e)
 
-then-text : (x : List ℕ) (r : Reach) → skip_at 0 6 (length x) ≡ r → then_piece r x Outside (length x) ≡ Upto (length x) →
+then-text : (x : List ℕ) (r : Option ℕ) → skip_at 0 6 (length x) ≡ r → then_piece r x Outside (length x) ≡ Some (length x) →
     (get_or x 6 0 ≡ 0 → ⊥) → (get_or x 6 0 ≡ 1 → ⊥) → (get_or x 6 0 ≡ 2) × (length x ≡ 9)
 unfolding then_piece piece_at
-then-text x Short w e n m = absurd (no-upto e)
-then-text x (Upto b) w e n m =
+then-text x None w e n m = absurd (no-upto e)
+then-text x (Some b) w e n m =
     let q : b ≡ 6 = skip-ends 0 6 (length x) b w in
-    text-is x 6 (length x) (subst (λ (k : ℕ). kind_at x Outside k (length x) ≡ Upto (length x)) q e) n m
+    text-is x 6 (length x) (subst (λ (k : ℕ). kind_at x Outside k (length x) ≡ Some (length x)) q e) n m
 
 pub width-text : (x : List ℕ) → Exact 0x20 x → (get_or x 6 0 ≡ 0 → ⊥) → (get_or x 6 0 ≡ 1 → ⊥) → (get_or x 6 0 ≡ 2) × (length x ≡ 9)
 unfolding fixed_at piece_at value_at pieces_of

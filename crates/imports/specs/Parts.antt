@@ -1,11 +1,10 @@
 -- The parts of an import: what the code's answers stand for, where the specifiers end, and what a record and the output get of them.
+use Rattle.std.specs.Prelude.{Option, None, Some, Result, Ok, Err}
 use Rattle.std.specs.Prelude.{ℕ, ◌+◌, ◌≤◌, ◌<◌, ◌≡◌, true, false, cond, List, eqb, length, get_or, drop}
-use Rattle.std.proofs.Math.Option.{Option, none as nothing, some}
 use Rattle.writer.specs.Wrote.{Wrote}
-use Rattle.tree.specs.declared.layout.Reach.TheVariants.{Upto}
 use Rattle.tree.specs.declared.grammar.Set.TheVariants.{Specifier as specifier-set}
 use Rattle.tree.specs.Layout.{two, atom_at, id_at, name_of}
-use Rattle.tree.specs.Tree.{Field, field, Fields, none, more, tag_of, fixed_of, encodes}
+use Rattle.tree.specs.Tree.{Field, field, Fields, none, more, tag_of, fixed_of, encode, encodes}
 use Rattle.tree.specs.Access.{fixed_at}
 use Rattle.tree.specs.Grammar.{holds_at, rule_of}
 use Rattle.tree.specs.Standing.{row_at, Row}
@@ -16,15 +15,12 @@ use Rattle.extraction_rules.specs.First.{outside_name, note_id, note_specifiers,
 use Rattle.extraction_rules.specs.Second.{usages_of, specifiers_from}
 use Rattle.state.specs.Cells.{Env, records, held, Good, id_by, literal_by, Valued, count_namespaces, namespaces_in, Shows}
 use Rattle.state.specs.declared.Literal.{Literal}
+use Rattle.state.specs.declared.TableFull.{TableFull}
 use Rattle.state.specs.Does.{Did, extend_at}
-use Rattle.state.specs.declared.Room.{Room}
-use Rattle.state.specs.declared.Room.TheVariants.{Made, Full}
 use Rattle.metadata.specs.Metadata.{append}
-use Rattle.steps.specs.Step.{ReadAt, Reads}
+use Rattle.steps.specs.Step.{ReadAt, Reads, Step}
 use Rattle.steps.specs.Refusal.{refusal_of}
-use Rattle.steps.specs.declared.Step.{Step}
-use Rattle.steps.specs.declared.Step.TheVariants.{Done, Refused}
-use Rattle.steps.specs.declared.Why.{Why}
+use Rattle.steps.specs.declared.Refusal.{Refusal}
 use Rattle.imports.specs.declared.note.Outside.{Outside}
 use Rattle.imports.specs.declared.note.Outside.TheVariants.{Nothing, Name, Text}
 use Rattle.imports.specs.declared.note.Specifier.{Specifier}
@@ -35,7 +31,7 @@ use Rattle.imports.specs.declared.note.Specifier.TheVariants.{Named, Default, Na
 pub record Framed (s : List ℕ) (at stop from : ℕ) : Type 0 where
   pub room : at + 3 ≤ stop
   pub fits : stop ≤ length s
-  pub fixed : fixed_at s (get_or s at 0) (at + 3) stop ≡ Upto from
+  pub fixed : fixed_at s (get_or s at 0) (at + 3) stop ≡ Some from
 
 -- ---- An exported name
 
@@ -88,11 +84,11 @@ pub record Behind (s : List ℕ) (at end : ℕ) : Type 0 where
 
 -- the id of a 22
 abbrev pub namespace_in : Field → Option (List ℕ)
-namespace_in f = cond (has 0x22 f) (some (fixed_of f)) nothing
+namespace_in f = cond (has 0x22 f) (Some (fixed_of f)) None
 
 abbrev pub namespace_by : Option Field → Option (List ℕ)
-namespace_by nothing = nothing
-namespace_by (some f) = namespace_in f
+namespace_by None = None
+namespace_by (Some f) = namespace_in f
 
 -- ---- What a record gets
 
@@ -110,20 +106,20 @@ pub record Extending (i : ℕ) (f : Field) (t t' : List ℕ) : Type 0 where
   pub next : {t'' : List ℕ} {cs : Fields} → Gathers i cs t' t'' → Gathers i (more f cs) t t''
 
 -- a record with such specifiers is collected, or refused with 8
-pub record Gathering (l : Literal) (cs : Fields) (t t' : List ℕ) (r : Room) : Type 0 where
+pub record Gathering (l : Literal) (cs : Fields) (t t' : List ℕ) (r : Result Unit TableFull) : Type 0 where
   pub good : Good t'
-  pub made : r ≡ Made → {y : Env} (s : State) (fs : Fields) (p : ℕ) → keep (has 0x22) fs ≡ keep (has 0x22) cs →
+  pub made : r ≡ Ok tt → {y : Env} (s : State) (fs : Fields) (p : ℕ) → keep (has 0x22) fs ≡ keep (has 0x22) cs →
       namespaces_in s.collected + count_namespaces cs ≤ 3641 → Shows y t s → Valued y l → Did y (collect (record { literal = literal_by y l; specifiers = fs }) p s) t'
-  pub full : r ≡ Full → {y : Env} (s : State) (fs : Fields) (p : ℕ) → Shows y t s → Valued y l → collect (record { literal = literal_by y l; specifiers = fs }) p s ≡ refused 8 p
+  pub full : (e : TableFull) → r ≡ Err e → {y : Env} (s : State) (fs : Fields) (p : ℕ) → Shows y t s → Valued y l → collect (record { literal = literal_by y l; specifiers = fs }) p s ≡ refused 8 p
 
 -- the same as a step that wrote up to p, where x is the literal of the import at `at` of s
 pub record Collected (s : List ℕ) (x : List ℕ) (cs : Fields) (at : ℕ) (t t' : List ℕ) (p : ℕ) (r : Step) : Type 0 where
   pub good : Good t'
-  pub place : (q : ℕ) → r ≡ Done q → q ≡ p
-  pub made : (q : ℕ) → r ≡ Done q → {y : Env} (u : State) (fs : Fields) → keep (has 0x22) fs ≡ keep (has 0x22) cs →
+  pub place : (q : ℕ) → r ≡ Ok q → q ≡ p
+  pub made : (q : ℕ) → r ≡ Ok q → {y : Env} (u : State) (fs : Fields) → keep (has 0x22) fs ≡ keep (has 0x22) cs →
       namespaces_in u.collected + count_namespaces cs ≤ 3641 → Shows y t u → Reads y s → Did y (collect (record { literal = x; specifiers = fs }) at u) t'
-  pub turned : (w : Why) (q : ℕ) → r ≡ Refused w q → {y : Env} (u : State) (fs : Fields) → Shows y t u → Reads y s →
-      collect (record { literal = x; specifiers = fs }) at u ≡ refused (refusal_of w) q
+  pub turned : (e : Refusal) → r ≡ Err e → {y : Env} (u : State) (fs : Fields) → Shows y t u → Reads y s →
+      collect (record { literal = x; specifiers = fs }) at u ≡ refused (refusal_of e.why) e.place
 
 -- an import that is not external, once its module is known
 unfoldable pub import_on : Option ℕ → List ℕ → Fields → ℕ → Act Field
@@ -131,6 +127,10 @@ import_on n x cs p = do
   fs ← note_specifiers n (specifiers_in cs) (inside p x)
   collect (record { literal = x; specifiers = fs }) p
   give (field 0x10 x (append fs (with_context n cs)))
+
+-- its bytes, with the specifiers fs
+abbrev pub import_with : Option ℕ → List ℕ → Fields → Fields → List ℕ
+import_with n x cs fs = encode (field 0x10 x (append fs (with_context n cs)))
 
 -- ---- What is written
 

@@ -1,7 +1,6 @@
 // An export specifier, in both passes.
 ghost use Rattle.std.specs.Prelude.{◌≡◌, ◌∷◌, ◌++◌, ◌+◌, ◌≤◌, length, get_or};
 ghost use Rattle.std.proofs.Math.Seq.{slice};
-ghost use Rattle.tree.specs.declared.layout.Reach.TheVariants.{Upto};
 ghost use Rattle.tree.specs.Layout.{two};
 ghost use Rattle.tree.specs.Tree.{encode, field, none, fixed_of};
 ghost use Rattle.tree.specs.Access.{fixed_at};
@@ -16,7 +15,7 @@ use scope::id::{Atom, Id, SyntaxContext};
 use state::forced::force_id;
 use state::ident::{id_at, put_id};
 use state::setting::own_module;
-use steps::{Step, Why};
+use steps::{Refusal, Step, Why};
 use tree::layout::atom_at;
 
 // The 23 at `at` up to stop, whose fixed bytes end at `from`: the original is forced, and 'exported name gets own local context, filling none'.
@@ -29,19 +28,19 @@ pub fn export_specifier(
     out: &mut [u8],
     o: usize,
 ) -> Step
-    requires { (at + 3 ≤ stop) × (stop ≤ length s.now) × (get_or s.now at 0 ≡ 0x23) × (fixed_at s.now 0x23 (at + 3) stop ≡ Upto from) × Good t.old }
+    requires { (at + 3 ≤ stop) × (stop ≤ length s.now) × (get_or s.now at 0 ≡ 0x23) × (fixed_at s.now 0x23 (at + 3) stop ≡ Some from) × Good t.old }
     ensures { Steps encode (λ x u. Unit {0}) (λ x. export_specifier x.setting (fixed_of (tree_at s.now at stop)) at) t.old
         out.old o t.new out.new result }
 {
-    if s[at + 3] == 2 {
-        return Step::Refused(Why::StringName, at);
-    }
-    if s[at + 10] == 2 {
-        return Step::Refused(Why::StringName, at);
+    if s[at + 3] == 2 || s[at + 10] == 2 {
+        return Err(Refusal {
+            why: Why::StringName,
+            place: at,
+        });
     }
     force_id(t, id_at(s, at + 4));
     let own = own_module(t);
-    Step::Done(put_exported(s, at, own.local_ctxt(), out, o))
+    Ok(put_exported(s, at, own.local_ctxt(), out, o))
 }
 
 // The exported name of the 23 at `at`, 'filling none'.

@@ -1,6 +1,5 @@
 // What the first pass notes of a resolved import, and writes of it.
 ghost use Rattle.std.specs.Prelude.{◌≡◌, false, List, ◌∷◌, ◌++◌, ℕ, ◌+◌, ◌≤◌, ◌<◌, length, get_or};
-ghost use Rattle.std.proofs.Math.Option.{some};
 ghost use Rattle.tree.specs.Layout.{two, four, id_at};
 ghost use Rattle.tree.specs.Tree.{encode, encodes, field, none};
 ghost use Rattle.tree.specs.Grammar.{rule_of};
@@ -14,15 +13,14 @@ ghost use Rattle.steps.specs.Step.{ReadAt, Steps};
 ghost use Rattle.imports.specs.Parts.{Framed, OutsideAt, OutsideIs, SpecifierIs, Specified, noting, Attributes};
 
 use scope::id::{Atom, Id, ModuleId, SyntaxContext};
-use state::Room;
 use state::ident::{id_at, put_id};
 use state::imported::note_id;
-use steps::{Step, Why};
+use steps::{Refusal, Step, Why};
 use tree::access::{extent, fixed};
-use tree::layout::{Reach, atom_at};
+use tree::layout::atom_at;
 
 // A named import's outside name: none, an identifier or a string.
-#[derive(Drop)]
+#[derive(Clone, Copy, PartialEq, Eq)]
 pub enum Outside {
     Nothing,
     Name(Atom),
@@ -30,7 +28,7 @@ pub enum Outside {
 }
 
 // A specifier of an import, with its local id.
-#[derive(Drop)]
+#[derive(Clone, Copy, PartialEq, Eq)]
 pub enum Specifier {
     Named(Id, Outside),
     Default(Id),
@@ -77,14 +75,11 @@ pub fn note_specifier(
         out.old o t.new out.new result }
 {
     let tag = s[at];
-    let Reach::Upto(_) = fixed(s, tag, at + 3, stop) else {
-        return Step::Done(o);
+    let Some(_) = fixed(s, tag, at + 3, stop) else {
+        return Ok(o);
     };
-    if tag < 0x20 {
-        return Step::Done(o);
-    }
-    if 0x22 < tag {
-        return Step::Done(o);
+    if tag < 0x20 || 0x22 < tag {
+        return Ok(o);
     }
     match specifier_at(s, at) {
         Specifier::Named(id, outside) => note_named(id, outside, at, n, t, out, o),
@@ -107,10 +102,11 @@ fn note_other(
     ensures { Steps encode (λ x u. ReadAt s.now at stop) (λ _. noting (record { id = id_at s.now (at + 3); context = four c.0 })
         (tree_at s.now at stop) at) t.old out.old o t.new out.new result }
 {
-    match note_id(t, id_at(s, at + 3), c) {
-        Room::Made => Step::Done(writer::copy(out, o, s, at, stop)),
-        Room::Full => Step::Refused(Why::TableFull, at),
-    }
+    note_id(t, id_at(s, at + 3), c).map_err(|_| Refusal {
+        why: Why::TableFull,
+        place: at,
+    })?;
+    Ok(writer::copy(out, o, s, at, stop))
 }
 
 // A 20: 'filling none with the local name'; a string name is refused.
@@ -130,7 +126,10 @@ fn note_named(
     match outside {
         Outside::Nothing => note_as(id, id.0, at, n, t, out, o),
         Outside::Name(name) => note_as(id, name, at, n, t, out, o),
-        Outside::Text(_) => Step::Refused(Why::StringName, at),
+        Outside::Text(_) => Err(Refusal {
+            why: Why::StringName,
+            place: at,
+        }),
     }
 }
 
@@ -150,10 +149,11 @@ fn note_as(
         at) t.old out.old o t.new out.new result }
 {
     let c = n.export_ctxt();
-    match note_id(t, id, c) {
-        Room::Made => Step::Done(put_outside(id, Id(name, c), out, o)),
-        Room::Full => Step::Refused(Why::TableFull, at),
-    }
+    note_id(t, id, c).map_err(|_| Refusal {
+        why: Why::TableFull,
+        place: at,
+    })?;
+    Ok(put_outside(id, Id(name, c), out, o))
 }
 
 // Writes a 20 with an outside name.
@@ -184,21 +184,14 @@ pub fn note_all(
 {
     let mut at = from;
     let mut to = o;
-    loop {
-        let Reach::Upto(stop) = extent(s, at, end) else {
-            return Step::Done(to);
-        };
+    while let Some(stop) = extent(s, at, end) {
         if s[at] == 0x2F {
-            return Step::Done(to);
+            return Ok(to);
         }
-        match note_specifier(s, at, stop, n, t, out, to) {
-            Step::Done(p) => {
-                to = p;
-                at = stop;
-            },
-            Step::Refused(why, place) => return Step::Refused(why, place),
-        }
+        to = note_specifier(s, at, stop, n, t, out, to)?;
+        at = stop;
     }
+    Ok(to)
 }
 
 // Writes a 2F with the attributes of the one at `at`, if there is one, and the export context of module n.
@@ -211,7 +204,7 @@ pub fn put_context_attributes(
     o: usize,
 ) -> usize
     requires { (at ≤ end) × (end ≤ length s.now) }
-    ensures { Attributes s.now at end (λ old. encode (with_metadata (record { injected = false; context = some (export n.0) }) old))
+    ensures { Attributes s.now at end (λ old. encode (with_metadata (record { injected = false; context = Some (export n.0) }) old))
         out.old o out.new result }
 {
     let content = writer::open_field(out, o, 0x2F);
@@ -227,7 +220,7 @@ fn put_attributes(s: &[u8], at: usize, end: usize, out: &mut [u8], o: usize) -> 
     ensures { Attributes s.now at end encodes out.old o out.new result }
 {
     match extent(s, at, end) {
-        Reach::Upto(stop) => writer::copy(out, o, s, at + 3, stop),
-        Reach::Short => o,
+        Some(stop) => writer::copy(out, o, s, at + 3, stop),
+        None => o,
     }
 }

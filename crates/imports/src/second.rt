@@ -9,19 +9,17 @@ ghost use Rattle.extraction_rules.specs.First.{external, attributes_in};
 ghost use Rattle.extraction_rules.specs.Second.{usages_of, specifiers_from, take_apart, import_second};
 ghost use Rattle.state.specs.Cells.{Good, id_by, uses, held, sources_in};
 ghost use Rattle.steps.specs.Step.{ReadAt, Steps};
-ghost use Rattle.steps.specs.declared.Step.TheVariants.{Done};
 ghost use Rattle.imports.specs.Parts.{Writes, usages_from, Usage};
 
 use crate::parts::{sole_namespace, specifiers_end};
 use scope::id::{Atom, Id};
-use state::Property;
 use state::forced::{force_source, is_forced};
 use state::ident::put_named;
 use state::imported::{count_usages, has_usages, usage_at};
 use state::setting::is_external;
-use steps::{Ident, Step, begin_field};
+use steps::{Step, begin_field};
 use tree::access::fixed;
-use tree::layout::{Reach, atom_at};
+use tree::layout::atom_at;
 
 // The import at `at` up to stop in the second pass: 'not external, unforced, with a sole 22'. The usages of the namespace become the import's
 // specifiers; without usages the source is forced.
@@ -41,19 +39,16 @@ pub fn import_second(
         (λ x. import_second x.setting (fixed_of (tree_at s.now at stop)) (parts_of (tree_at s.now at stop))) t.old
         out.old o t.new out.new result }
 {
-    let Reach::Upto(from) = fixed(s, 0x10, at + 3, stop) else {
-        return Step::Done(o);
+    let Some(from) = fixed(s, 0x10, at + 3, stop) else {
+        return Ok(o);
     };
     let source = Atom(atom_at(s, at + 3));
-    if is_external(t, source) {
-        return Step::Done(writer::copy(out, o, s, at, stop));
-    }
-    if is_forced(t, source) {
-        return Step::Done(writer::copy(out, o, s, at, stop));
+    if is_external(t, source) || is_forced(t, source) {
+        return Ok(writer::copy(out, o, s, at, stop));
     }
     match sole_namespace(s, from, stop) {
-        Ident::Is(id) => Step::Done(take_apart(s, at, stop, id, t, out, o)),
-        Ident::Other => Step::Done(writer::copy(out, o, s, at, stop)),
+        Some(id) => Ok(take_apart(s, at, stop, id, t, out, o)),
+        None => Ok(writer::copy(out, o, s, at, stop)),
     }
 }
 
@@ -71,7 +66,7 @@ fn take_apart(
     ensures { Steps encode
         (λ x u. ReadAt s.now at stop × (among (value_of (fixed_of (tree_at s.now at stop))) (sources_in u.collected) ≡ true))
         (λ _ u. take_apart (usages_of (id_by id) u.usages) (fixed_of (tree_at s.now at stop)) (parts_of (tree_at s.now at stop)) u)
-        t.old out.old o t.new out.new (Done result) }
+        t.old out.old o t.new out.new (Ok result) }
 {
     if has_usages(t, id) {
         return put_taken_apart(s, at, stop, id, t, out, o);
@@ -98,7 +93,7 @@ fn put_taken_apart(
         (append (specifiers_from (usages_of (id_by id) u.usages)) (attributes_in (parts_of (tree_at s.now at stop)))))) t.now
         out.old o out.new result }
 {
-    let Reach::Upto(from) = fixed(s, 0x10, at + 3, stop) else {
+    let Some(from) = fixed(s, 0x10, at + 3, stop) else {
         return o;
     };
     let content = begin_field(s, at, from, out, o);
@@ -114,11 +109,9 @@ fn put_usages(id: Id, t: &[u64], out: &mut [u8], o: usize) -> usize
     ensures { Writes (usages_from (id_by id) 0) t.now out.old o out.new result }
 {
     let n = count_usages(t);
-    let mut i = 0;
     let mut to = o;
-    while i < n {
+    for i in 0..n {
         to = put_usage(i, id, t, out, to);
-        i += 1;
     }
     to
 }
@@ -129,7 +122,7 @@ fn put_usage(i: usize, id: Id, t: &[u64], out: &mut [u8], o: usize) -> usize
     ensures { Usage (id_by id) i t.now out.old o out.new result }
 {
     match usage_at(t, i, id) {
-        Property::Is(property) => put_named(out, o, property),
-        Property::Other => o,
+        Some(property) => put_named(out, o, property),
+        None => o,
     }
 }

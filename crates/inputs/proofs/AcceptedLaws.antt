@@ -1,9 +1,9 @@
 -- What an accepted outcome says of the steps that gave it.
+use Rattle.std.specs.Prelude.{None}
 use Prim.Native.Nat.{ℕ}
 use mathlib.Core.Path.{◌≡◌, refl, sym}
 use mathlib.Core.Bool.{Bool, true, false, not}
 use mathlib.Core.List.{List}
-use mathlib.Core.Option.{none as nothing}
 use native.Mathlib.Omega.{arith}
 use Rattle.inputs.specs.Outcome.{Outcome, done, refused, onto, placeless, refuse_if, refusal_in}
 use Rattle.tree.specs.Tree.{Field, size}
@@ -18,7 +18,7 @@ pub done-refused : {A B : Type 0} {a : A} {n p : ℕ} → refused n p ≡ done a
 done-refused {a = a} e = absurd (let z : ◌≡◌ {A = ℕ} 0 1 = cc in omega arith)
 
 -- without a refusal there is a value
-pub refusal-none : {A : Type 0} (m : Outcome A) → refusal_in m ≡ nothing → (a : A) × (m ≡ done a)
+pub refusal-none : {A : Type 0} (m : Outcome A) → refusal_in m ≡ None → (a : A) × (m ≡ done a)
 refusal-none (done a) e = (a, refl)
 refusal-none (refused n p) e = absurd (let z : ◌≡◌ {A = ℕ} 0 1 = cc in omega arith)
 

@@ -1,21 +1,20 @@
 -- Which sources of a table were met. The code goes through the rows of each half of the sources (`names-by-halves`) and sets a bit for each
 -- row, so a source is named twice in the rows that are left where one of them has a bit that is set (`hits`), or where they name one twice
 -- among themselves (`repeats`): each row passed keeps that (`twice-on`, and `twice-past` for a row of the other half).
-use Prim.Native.Nat.{ℕ, suc, ◌+◌, ◌*◌, ◌/◌, ◌%◌, ◌≤◌, ◌<◌}
+use Rattle.std.specs.Prelude.{Option, Some}
+use Prim.Native.Nat.{ℕ, suc, ◌+◌, ◌*◌, ◌/◌, ◌%◌, ◌<◌}
 use native.Mathlib.Omega.{arith}
-use mathlib.Core.Path.{◌≡◌, refl, sym, ap}
+use mathlib.Core.Path.{◌≡◌, refl, sym, ap, ◌∙◌}
 use mathlib.Core.Bool.{Bool, true, false, cond, ◌||◌, or_assoc}
-use mathlib.Core.List.{List, [], ◌∷◌}
-use mathlib.Core.Option.{Option, some}
+use mathlib.Core.List.{List, [], ◌∷◌, ◌++◌}
 use lib.Dec.{eqb}
-use lib.ListN.{length, get_or, drop, replicate}
-use lib.Seq.{get_or-drop}
+use lib.ListN.{length, get_or, replicate}
 use borrow.Author.Tests.{eqb-true, eqb-false, eq-eqb, ne_eqb}
 use Rattle.tree.specs.Layout.{two, two_at}
 use Rattle.inputs.specs.Bitmap.{is_set, WithBit, half_of}
 use Rattle.inputs.specs.Lists.{find, filter, is_some}
 use Rattle.inputs.specs.Table.{Row, rows_in, row_of, repeats}
-use Rattle.inputs.proofs.TableLaws.{bytes-two, small, atom-is, rows-step, rows-end}
+use Rattle.inputs.proofs.TableLaws.{bytes-two, small, atom-is, row_in, rows-cons, short-rows}
 use Rattle.inputs.proofs.BitmapLaws.{none-set}
 
 -- one of these rows has a source whose bit, in its half, is set
@@ -36,7 +35,7 @@ no-hit n (r ∷ rows) = rw (none-set n (two_at r.source 0 % 32768), no-hit n row
 pub twice-first : (n : ℕ) (rows : List Row) → repeats rows ≡ twice_from (replicate n 0) rows
 twice-first n rows = rw (no-hit n rows)
 
-either : (p q x : Bool) (r : Row) (o : Option Row) → ((p || q) || (x || is_some o)) ≡ ((p || x) || is_some (cond q (some r) o))
+either : (p q x : Bool) (r : Row) (o : Option Row) → ((p || q) || (x || is_some o)) ≡ ((p || x) || is_some (cond q (Some r) o))
 either true q x r o = refl
 either false true true r o = refl
 either false true false r o = refl
@@ -73,36 +72,62 @@ module _ {cells cells' : List ℕ} {m half : ℕ} (w : WithBit cells (m % 32768)
   hits-more (x ∷ (y ∷ (z ∷ (v ∷ l)))) b =
       told-row x y (z * 256 + v) (half_of half (rows_in l)) (b 0) (b 1) (hits-more l (λ i. b (suc (suc (suc (suc i)))))) _ refl
 
--- the row at i has the source m
-module _ (l : List ℕ) (i m : ℕ) (h : i + 4 ≤ length l) (s : m ≡ two_at l i) (half : ℕ) (cells : List ℕ) where
-  pub twice-past : (m / 32768 ≡ half → ⊥) → half_of half (rows_in (drop i l)) ≡ half_of half (rows_in (drop (i + 4) l))
+-- the rows that are left of a table, four bytes each
+pub record Left (size : ℕ) (rest : List ℕ) : Type 0 where
+  pub by_four : size ≡ 4
+  pub bytes : (i : ℕ) → get_or rest i 0 < 256
+
+-- one row of them is taken
+pub record Taken (size : ℕ) (x l : List ℕ) : Type 0 where
+  pub whole : length x ≡ 4
+  pub high : get_or x 0 0 < 256
+  pub low : get_or x 1 0 < 256
+  pub left : Left size l
+
+pub taken : {size : ℕ} (x : List ℕ) {l rest : List ℕ} → Left size rest → rest ≡ x ++ l → length x ≡ size → Taken size x l
+taken {size} x {l} w e h = by x (h ∙ w.by_four) (λ i. rw e at (w.bytes i))
+  where
+    by : (x : List ℕ) → length x ≡ 4 → ((i : ℕ) → get_or (x ++ l) i 0 < 256) → Taken size x l
+    by [] h b = absurd (omega arith)
+    by (a ∷ []) h b = absurd (omega arith)
+    by (a ∷ (b ∷ [])) h w = absurd (omega arith)
+    by (a ∷ (b ∷ (c ∷ []))) h w = absurd (omega arith)
+    by (a ∷ (b ∷ (c ∷ (d ∷ [])))) h bs =
+        record { whole = refl; high = bs 0; low = bs 1; left = record { by_four = w.by_four; bytes = λ i. bs (suc (suc (suc (suc i)))) } }
+    by (a ∷ (b ∷ (c ∷ (d ∷ (e ∷ x))))) h w = absurd (omega arith)
+
+-- the row that is taken has the source m
+module _ {size : ℕ} {x l rest : List ℕ} (w : Taken size x l) (front : rest ≡ x ++ l) (m : ℕ) (s : m ≡ two_at x 0) (half : ℕ) (cells : List ℕ) where
+  first-row : rows_in rest ≡ row_in x ∷ rows_in l
+  first-row = ap rows_in front ∙ rows-cons x l w.whole
+
+  pub twice-past : (m / 32768 ≡ half → ⊥) → half_of half (rows_in rest) ≡ half_of half (rows_in l)
   unfolding half_of filter
-  twice-past d = rw (rows-step l i h, ne_eqb (two_at l i / 32768) half (λ e. d (rw s e)))
+  twice-past d = rw (first-row, ne_eqb (two_at x 0 / 32768) half (λ e. d (rw s e)))
 
   module _ (p : m / 32768 ≡ half) where
-    this-half : half_of half (rows_in (drop i l))
-        ≡ record { source = get_or l i 0 ∷ get_or l (i + 1) 0 ∷ []; file = two_at l (i + 2) } ∷ half_of half (rows_in (drop (i + 4) l))
+    this-half : half_of half (rows_in rest) ≡ row_in x ∷ half_of half (rows_in l)
     unfolding half_of filter
-    this-half = rw (rows-step l i h, eq-eqb (two_at l i / 32768) half (rw s at p))
+    this-half = rw (first-row, eq-eqb (two_at x 0 / 32768) half (rw s at p))
 
-    pub twice-here : is_set cells (m % 32768) ≡ true → twice_from cells (half_of half (rows_in (drop i l))) ≡ true
+    pub twice-here : is_set cells (m % 32768) ≡ true → twice_from cells (half_of half (rows_in rest)) ≡ true
     unfolding hits
     twice-here e = rw (this-half, rw s at e)
 
-    pub twice-on : {cells' : List ℕ} → ((j : ℕ) → get_or l j 0 < 256) → is_set cells (m % 32768) ≡ false → WithBit cells (m % 32768) cells' →
-        twice_from cells (half_of half (rows_in (drop i l))) ≡ twice_from cells' (half_of half (rows_in (drop (i + 4) l)))
+    pub twice-on : {cells' : List ℕ} → is_set cells (m % 32768) ≡ false → WithBit cells (m % 32768) cells' →
+        twice_from cells (half_of half (rows_in rest)) ≡ twice_from cells' (half_of half (rows_in l))
     unfolding hits repeats
-    twice-on b e w =
-        let rest = half_of half (rows_in (drop (i + 4) l)) in
-        let x = b i in
-        let y = b (i + 1) in
-        let more = hits-more w (rw s (small (get_or l i 0) (get_or l (i + 1) 0) x y)) p (drop (i + 4) l) (λ j. rw get_or-drop (b (i + 4 + j))) in
-        rw (this-half, rw s at e, bytes-two (get_or l i 0) (get_or l (i + 1) 0) x y, more, s)
-        (sym (or_assoc (hits cells rest) (is_some (row_of (two (two_at l i)) rest)) (repeats rest)))
+    twice-on e b =
+        let others = half_of half (rows_in l) in
+        let a = get_or x 0 0 in
+        let z = get_or x 1 0 in
+        let on = hits-more b (rw s (small a z w.high w.low)) p l w.left.bytes in
+        rw (this-half, rw s at e, bytes-two a z w.high w.low, on, s)
+        (sym (or_assoc (hits cells others) (is_some (row_of (two (two_at x 0)) others)) (repeats others)))
 
-pub twice-end : (l : List ℕ) (i half : ℕ) (cells : List ℕ) → length l < i + 4 → twice_from cells (half_of half (rows_in (drop i l))) ≡ false
+pub twice-end : (l : List ℕ) (half : ℕ) (cells : List ℕ) → length l < 4 → twice_from cells (half_of half (rows_in l)) ≡ false
 unfolding hits half_of filter repeats
-twice-end l i half cells h = rw (rows-end l i h)
+twice-end l half cells h = rw (short-rows l h)
 
 -- ---- Both halves
 

@@ -1,7 +1,6 @@
 -- What a call, or a step of one, gives: a value, or a refusal with its number and its place.
 -- Document 01, 'Where a call turns back'.
-use Rattle.std.specs.Prelude.{ℕ, Bool, cond}
-use Rattle.std.proofs.Math.Option.{Option, none as nothing, some}
+use Rattle.std.specs.Prelude.{ℕ, Bool, cond, Option, None, Some}
 
 pub data Outcome (A : Type 0) : Type 0 where
   done : A → Outcome A
@@ -31,14 +30,14 @@ placeless (refused n p) = refused n 0
 
 -- a refusal's number and place; none where the call is accepted
 abbrev pub refusal_in : {A : Type 0} → Outcome A → Option (ℕ × ℕ)
-refusal_in (done a) = nothing
-refusal_in (refused n p) = some (n, p)
+refusal_in (done a) = None
+refusal_in (refused n p) = Some (n, p)
 
 -- the two of a refusal, 0 and 0 of none
 abbrev pub number_in : Option (ℕ × ℕ) → ℕ
-number_in nothing = 0
-number_in (some r) = r.0
+number_in None = 0
+number_in (Some r) = r.0
 
 abbrev pub place_in : Option (ℕ × ℕ) → ℕ
-place_in nothing = 0
-place_in (some r) = r.1
+place_in None = 0
+place_in (Some r) = r.1

@@ -1,9 +1,7 @@
--- How the code answers: what its enum stands for.
-use Rattle.std.specs.Prelude.{ℕ}
-use Rattle.std.proofs.Math.Option.{Option, none, some}
-use Rattle.inputs.specs.declared.Resolved.{Resolved}
-use Rattle.inputs.specs.declared.Resolved.TheVariants.{File, Nowhere}
+-- How the code answers: the number of the file that it found.
+use Rattle.std.specs.Prelude.{ℕ, Option, None, Some}
+use Rattle.scope.specs.declared.id.FileName.{FileName}
 
-abbrev pub file_by : Resolved → Option ℕ
-file_by (File f) = some f.0
-file_by Nowhere = none
+abbrev pub file_by : Option FileName → Option ℕ
+file_by (Some f) = Some f.0
+file_by None = None

@@ -1,6 +1,5 @@
 -- The lent lists of atoms and of sources with their files. Document 01, 'Where a call turns back', rows 1 and 2.
-use Rattle.std.specs.Prelude.{ℕ, ◌+◌, ◌*◌, ◌%◌, Bool, false, not, ◌||◌, List, [], ◌∷◌, ltb, eqb, length}
-use Rattle.std.proofs.Math.Option.{Option}
+use Rattle.std.specs.Prelude.{ℕ, ◌+◌, ◌*◌, ◌%◌, Bool, false, not, ◌||◌, List, [], ◌∷◌, ltb, eqb, length, Option}
 use Rattle.tree.specs.Layout.{same}
 use Rattle.inputs.specs.Lists.{find, is_some, mapped}
 use Rattle.inputs.specs.Outcome.{Outcome, done, ◌>>◌, refuse_if}

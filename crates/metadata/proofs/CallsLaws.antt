@@ -1,4 +1,5 @@
 -- Lent attributes that are read: what stands in their bytes, and what each call makes of them.
+use Rattle.std.specs.Prelude.{Option, Some, Ok, Err}
 use Prim.Native.Nat.{ℕ, ◌+◌, ◌-◌, ◌≤◌}
 use mathlib.Core.Path.{◌≡◌, refl, sym, ap, subst, ◌∙◌}
 use mathlib.Core.Bool.{Bool, true, false, cond}
@@ -12,13 +13,10 @@ use Rattle.writer.specs.Wrote.{Wrote}
 use Rattle.writer.specs.Finished.{has_room, zeroed, Finished}
 use Rattle.writer.proofs.Wrote.{wrote-as, wrote-end}
 use Rattle.writer.proofs.Finished.{delivers, room-true}
-use Rattle.tree.specs.declared.layout.Reach.{Reach}
-use Rattle.tree.specs.declared.layout.Reach.TheVariants.{Upto}
 use Rattle.tree.specs.declared.grammar.Set.TheVariants.{Attributes}
 use Rattle.tree.specs.declared.grammar.Piece.TheVariants.{Plain}
 use Rattle.tree.specs.declared.grammar.Value.TheVariants.{Empty}
-use Rattle.tree.specs.declared.read.Why.{Why}
-use Rattle.tree.specs.declared.read.Verdict.TheVariants.{Good, Refused}
+use Rattle.tree.specs.declared.read.Unread.{Unread}
 use Rattle.tree.specs.Layout.{Bytes, skip_at}
 use Rattle.tree.specs.Tree.{Field, field, Fields, none, parts_of, framed as framed_field, encode, encodes, depth, depths}
 use Rattle.tree.specs.Grammar.{within, rule_of, pieces_of, holds_at}
@@ -30,7 +28,7 @@ use Rattle.tree.proofs.TreeLaws.{depth-parts}
 use Rattle.tree.proofs.ReadLaws.{mapped-fine, fine-inj, good-fine, verdict-mapped, verdict-refused}
 use Rattle.tree.proofs.StandingLaws.{read-standing}
 use Rattle.tree.proofs.SoundLaws.{read-sound}
-use Rattle.metadata.specs.declared.Encoded.TheVariants.{Done, Broken, NoRoom}
+use Rattle.metadata.specs.declared.EncodeError.TheVariants.{Broken, NoRoom}
 use Rattle.metadata.specs.Metadata.{Metadata, append, attributes_for, with_metadata, decode}
 use Rattle.metadata.specs.MetadataValue.{written_bytes}
 use Rattle.metadata.specs.Calls.{attributes_in, lent, decode_call, answer_on, out_on, encode_answer, encode_out, Encoding}
@@ -43,7 +41,7 @@ row-past : (s : List ℕ) (at end : ℕ) → end ≤ at → row_at s at end ≡ 
 unfolding row_at row row_on extent_at
 row-past s at end h = rw (lt-leb 3 (end - at) (omega arith))
 
-pub skip-none : (at stop : ℕ) → skip_at at 0 stop ≡ Upto (at + 0)
+pub skip-none : (at stop : ℕ) → skip_at at 0 stop ≡ Some (at + 0)
 unfolding skip_at
 skip-none at stop = rw (le-leb 0 (stop - at) (omega arith))
 
@@ -52,7 +50,7 @@ fixed-none : (x : List ℕ) → Exact 0x2F x → x ≡ []
 unfolding fixed_at then_piece pieces_of piece_at value_at
 fixed-none [] e = refl
 fixed-none (b ∷ x) e =
-    let f = ap (λ (r : Reach). then_piece r (b ∷ x) (Plain Empty) (length (b ∷ x))) (skip-none 0 (length (b ∷ x))) ∙ skip-none (0 + 0) (length (b ∷ x)) in
+    let f = ap (λ (r : Option ℕ). then_piece r (b ∷ x) (Plain Empty) (length (b ∷ x))) (skip-none 0 (length (b ∷ x))) ∙ skip-none (0 + 0) (length (b ∷ x)) in
     let z : 0 + 0 + 0 ≡ length (b ∷ x) = cc in
     absurd (omega arith)
 
@@ -111,7 +109,7 @@ module _ (s : List ℕ) where
 
 -- ---- The verdict on them
 
-pub lent-empty : (s : List ℕ) → length s ≡ 0 → verdict (lent s) ≡ Good
+pub lent-empty : (s : List ℕ) → length s ≡ 0 → verdict (lent s) ≡ Ok tt
 unfolding lent
 lent-empty s e = rw (eq-eqb (length s) 0 e)
 
@@ -122,20 +120,20 @@ lent-read s e = rw (ne_eqb (length s) 0 e) (verdict-mapped attributes_in (read A
 -- ---- The calls, by the verdict
 
 module _ (s : List ℕ) where
-  pub decode-good : verdict (lent s) ≡ Good → fine (decode (attributes_in (row_at s 0 (length s)))) ≡ decode_call s
+  pub decode-good : verdict (lent s) ≡ Ok tt → fine (decode (attributes_in (row_at s 0 (length s)))) ≡ decode_call s
   unfolding decode_call
   decode-good v =
       let g = good-fine (lent s) v in
       ap (λ (old : Fields). fine (decode old)) (lent-stands s g.0 g.1) ∙ sym (ap (mapped decode) g.1)
 
-  pub decode-refused : (w : Why) (p : ℕ) → verdict (lent s) ≡ Refused w p → refused w p ≡ decode_call s
+  pub decode-refused : (u : Unread) → verdict (lent s) ≡ Err u → refused u.why u.place ≡ decode_call s
   unfolding decode_call
-  decode-refused w p v = sym (ap (mapped decode) (verdict-refused (lent s) v))
+  decode-refused u v = sym (ap (mapped decode) (verdict-refused (lent s) v))
 
   module _ (m : Metadata) where
-    pub encode-refused : {l k : List ℕ} → k ≡ zeroed l → (w : Why) (p : ℕ) → verdict (lent s) ≡ Refused w p → Encoding m s l (Broken w p) k
+    pub encode-refused : {l k : List ℕ} → k ≡ zeroed l → (u : Unread) → verdict (lent s) ≡ Err u → Encoding m s l (Err (Broken u)) k
     unfolding encode_answer encode_out answer_on out_on zeroed
-    encode-refused {l} z w p v =
+    encode-refused {l} z u v =
         let e = verdict-refused (lent s) v in
         record {
           answer = sym (ap (λ (r : Reading Fields). answer_on r m (length l)) e);
@@ -149,7 +147,7 @@ module _ (s : List ℕ) where
         ap (framed 0x2F) (ap (λ (x : List ℕ). x ++ encodes (attributes_for m)) (sym (lent-sound s old bs e).bytes) ∙ sym (encodes-append old (attributes_for m)))
         ∙ framed-field 0x2F [] (append old (attributes_for m))
 
-    module _ {l mid k : List ℕ} {n : ℕ} {r : Bool} (bs : Bytes s) (v : verdict (lent s) ≡ Good)
+    module _ {l mid k : List ℕ} {n : ℕ} {r : Bool} (bs : Bytes s) (v : verdict (lent s) ≡ Ok tt)
         (w : Wrote l 0 (written_bytes m s) mid n) (f : Finished n mid r k) where
       old : Fields
       old = (good-fine (lent s) v).0
@@ -169,18 +167,18 @@ module _ (s : List ℕ) where
       unfolding new encode_out out_on
       out-given = (delivers wrote f).buffer ∙ sym (ap (λ (x : Reading Fields). out_on x m (length l)) is_lent)
 
-      answer-by : (b : Bool) → has_room (length new) (length l) ≡ b → cond b (Done (length new)) NoRoom ≡ encode_answer m s (length l)
+      answer-by : (b : Bool) → has_room (length new) (length l) ≡ b → cond b (Ok (length new)) (Err NoRoom) ≡ encode_answer m s (length l)
       unfolding new encode_answer answer_on
       answer-by b e = sym (ap (λ (x : Reading Fields). answer_on x m (length l)) is_lent ∙ rw e)
 
       -- what was written had room
-      pub encode-done : r ≡ true → Encoding m s l (Done n) k
+      pub encode-done : r ≡ true → Encoding m s l (Ok n) k
       encode-done t =
           let h = room-true n (length mid) (sym f.room ∙ t) in
           let g = wrote-end wrote h.0 in
           let e : n ≡ length new = omega arith in
-          record { answer = ap Done e ∙ answer-by true (sym (delivers wrote f).room ∙ t); buffer = out-given }
+          record { answer = ap Ok e ∙ answer-by true (sym (delivers wrote f).room ∙ t); buffer = out-given }
 
       -- it had none
-      pub encode-short : r ≡ false → Encoding m s l NoRoom k
+      pub encode-short : r ≡ false → Encoding m s l (Err NoRoom) k
       encode-short t = record { answer = answer-by false (sym (delivers wrote f).room ∙ t); buffer = out-given }

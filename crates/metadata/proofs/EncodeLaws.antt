@@ -1,16 +1,16 @@
 -- One row behind another, and the bytes of attributes: of each that is written, and of rows.
+use Rattle.std.specs.Prelude.{Option, None, Some}
 use Prim.Native.Nat.{ℕ, ◌+◌}
 use mathlib.Core.Path.{◌≡◌, refl, sym, ap, ◌∙◌}
 use mathlib.Core.Bool.{Bool, true, false}
 use mathlib.Core.List.{List, [], ◌++◌, append-nil, append_assoc}
-use mathlib.Core.Option.{Option, none as nothing, some}
 use native.Mathlib.Omega.{arith}
 use lib.ListN.{length}
 use Rattle.writer.specs.Bytes.{framed}
 use Rattle.tree.specs.Tree.{field, Fields, none, more, framed as framed_field, encode, encodes, size, fixed_of}
 use Rattle.tree.proofs.TreeLaws.{encodes-one}
-use Rattle.metadata.specs.Decimal.{decimal}
-use Rattle.metadata.specs.Metadata.{context_key, header, injected_attribute, context_attribute, injected_attributes, context_attributes, append, attributes_for}
+use Rattle.metadata.specs.Decimal.{decimal_by, decimal}
+use Rattle.metadata.specs.Metadata.{injected_key, context_key, header, injected_attribute, context_attribute, injected_attributes, context_attributes, append, attributes_for}
 
 -- a field's bytes, as the writer frames them
 pub framed-field : (t : ℕ) (x : List ℕ) (cs : Fields) → framed t (x ++ encodes cs) ≡ encode (field t x cs)
@@ -37,8 +37,8 @@ unfolding encode append
 encodes-append none gs = refl
 encodes-append (more f fs) gs = ap (λ (l : List ℕ). encode f ++ l) (encodes-append fs gs) ∙ sym (append_assoc (encode f) (encodes fs) (encodes gs))
 
-pub injected-bytes : (b : Bool) → b ≡ true → framed 0x30 (fixed_of injected_attribute) ≡ encodes (injected_attributes b)
-unfolding injected_attribute
+pub injected-bytes : (b : Bool) → b ≡ true → framed 0x30 (header injected_key ++ decimal 1) ≡ encodes (injected_attributes b)
+unfolding injected_attribute decimal decimal_by
 injected-bytes true e = framed-leaf 0x30 (fixed_of injected_attribute) ∙ sym (encodes-one injected_attribute)
 injected-bytes false e = absurd (let z : ◌≡◌ {A = ℕ} 0 1 = cc in omega arith)
 
@@ -52,15 +52,15 @@ unfolding context_attribute
 context-bytes c = framed-leaf 0x30 (header context_key ++ decimal c)
 
 -- the attributes of metadata: with a context, and without
-pub with-context : (b : Bool) (x : Option ℕ) (c : ℕ) → x ≡ some c →
+pub with-context : (b : Bool) (x : Option ℕ) (c : ℕ) → x ≡ Some c →
     encodes (injected_attributes b) ++ encode (context_attribute c) ≡ encodes (attributes_for (record { injected = b; context = x }))
 unfolding attributes_for
 with-context b x c e =
     ap (λ (l : List ℕ). encodes (injected_attributes b) ++ l) (sym (encodes-one (context_attribute c)))
-    ∙ sym (encodes-append (injected_attributes b) (context_attributes (some c)))
+    ∙ sym (encodes-append (injected_attributes b) (context_attributes (Some c)))
     ∙ ap (λ (y : Option ℕ). encodes (append (injected_attributes b) (context_attributes y))) (sym e)
 
-pub without-context : (b : Bool) (x : Option ℕ) → x ≡ nothing → encodes (injected_attributes b) ≡ encodes (attributes_for (record { injected = b; context = x }))
+pub without-context : (b : Bool) (x : Option ℕ) → x ≡ None → encodes (injected_attributes b) ≡ encodes (attributes_for (record { injected = b; context = x }))
 unfolding attributes_for encode
 without-context b x e =
     sym (append-nil (encodes (injected_attributes b)))

@@ -1,4 +1,5 @@
 -- A broken 2F gives 3: attributes hold no field with parts, so that none is ever too deep.
+use Rattle.std.specs.Prelude.{Option, None, Some}
 use Prim.Native.Nat.{ℕ, zero, suc, ◌+◌, ◌-◌, ◌<◌}
 use mathlib.Core.Path.{◌≡◌, refl, sym, subst}
 use mathlib.Core.Bool.{true, cond}
@@ -9,13 +10,9 @@ use lib.Dec.{eqb}
 use lib.ListN.{length, get_or}
 use lib.Seq.{slice}
 use borrow.Author.Tests.{lt-ltb, eqb-true}
-use Rattle.tree.specs.declared.layout.Reach.{Reach}
-use Rattle.tree.specs.declared.layout.Reach.TheVariants.{Upto, Short}
 use Rattle.tree.specs.declared.grammar.Set.TheVariants.{Attributes, Attribute}
 use Rattle.tree.specs.declared.grammar.Slot.TheVariants.{Nothing}
 use Rattle.tree.specs.declared.grammar.Rule.{Rule}
-use Rattle.tree.specs.declared.grammar.Step.{Step}
-use Rattle.tree.specs.declared.grammar.Step.TheVariants.{Go, No}
 use Rattle.tree.specs.declared.read.Why.{Why}
 use Rattle.tree.specs.declared.read.Head.{Head}
 use Rattle.tree.specs.declared.read.Head.TheVariants.{Done, Missing, Bad, Child}
@@ -44,8 +41,8 @@ three-both f (refused w p) t h g = h
 
 -- fields by this rule nest at most k deep
 abbrev Flat : ℕ → Rule → Type 0
-Flat zero q = (t : ℕ) (q' : Rule) → step_at q t ≡ Go q' → ⊥
-Flat (suc k) q = (t : ℕ) (q' : Rule) → step_at q t ≡ Go q' → Flat k (rule_of t) × ((q' ≡ q) ⊎ (q' ≡ parts0))
+Flat zero q = (t : ℕ) (q' : Rule) → step_at q t ≡ Some q' → ⊥
+Flat (suc k) q = (t : ℕ) (q' : Rule) → step_at q t ≡ Some q' → Flat k (rule_of t) × ((q' ≡ q) ⊎ (q' ≡ parts0))
 
 none-flat : (k : ℕ) → Flat k parts0
 none-flat zero = λ t q e. no-step t e
@@ -61,15 +58,15 @@ Shallow Missing = Unit
 Shallow (Bad w) = refusal_of w ≡ 3
 Shallow (Child q stop) = Unit
 
-extent-shallow : (r : Reach) (q : Rule) (d : ℕ) → d < 64 → Shallow (on_extent r q d)
+extent-shallow : (r : Option ℕ) (q : Rule) (d : ℕ) → d < 64 → Shallow (on_extent r q d)
 unfolding on_extent
-extent-shallow Short q d h = refl
-extent-shallow (Upto stop) q d h = rw (lt-ltb d 64 h) tt
+extent-shallow None q d h = refl
+extent-shallow (Some stop) q d h = rw (lt-ltb d 64 h) tt
 
-step-shallow : (x : Step) (s : List ℕ) (at end d : ℕ) → d < 64 → Shallow (on_step x s at end d)
+step-shallow : (x : Option Rule) (s : List ℕ) (at end d : ℕ) → d < 64 → Shallow (on_step x s at end d)
 unfolding on_step
-step-shallow No s at end d h = refl
-step-shallow (Go q) s at end d h = extent-shallow (extent_at s at end) q d h
+step-shallow None s at end d h = refl
+step-shallow (Some q) s at end d h = extent-shallow (extent_at s at end) q d h
 
 head-shallow : (s : List ℕ) (at end d : ℕ) (q : Rule) → d < 64 → Shallow (head_at s at end d q)
 unfolding head_at
@@ -82,10 +79,10 @@ head-shallow s at end d q h =
 abbrev AllThree : Kids → ℕ → ℕ → Type 0
 AllThree k d j = (s : List ℕ) (at end : ℕ) (q : Rule) (p : ℕ) → Flat j q → Three (k s at end d q p)
 
-fixed-three : (r : Reach) (k : Kids) (s : List ℕ) (at stop d j : ℕ) → Flat j (rule_of (get_or s at 0)) → AllThree k d j → Three (on_fixed r k s at stop d)
+fixed-three : (r : Option ℕ) (k : Kids) (s : List ℕ) (at stop d j : ℕ) → Flat j (rule_of (get_or s at 0)) → AllThree k d j → Three (on_fixed r k s at stop d)
 unfolding on_fixed
-fixed-three Short k s at stop d j f g = refl
-fixed-three (Upto b) k s at stop d j f g =
+fixed-three None k s at stop d j f g = refl
+fixed-three (Some b) k s at stop d j f g =
     three-mapped (field (get_or s at 0) (slice (at + 3) b s)) (k s b stop d (rule_of (get_or s at 0)) at) (g s b stop (rule_of (get_or s at 0)) at f)
 
 head-three : (h : Head) (k : Kids) (s : List ℕ) (at end d j : ℕ) (q : Rule) (p : ℕ) → Shallow h → Says s at end q h → Flat (suc j) q →

@@ -1,9 +1,9 @@
 -- What is written is read back: metadata onto attributes, on trees and on the bytes that the calls lend and hand back.
+use Rattle.std.specs.Prelude.{Option, None, Some, Ok, Err}
 use Prim.Native.Nat.{ℕ, ◌-◌, ◌≤◌}
 use mathlib.Core.Path.{◌≡◌, refl, sym, ap, ◌∙◌}
 use mathlib.Core.Bool.{Bool, true, false, cond, ◌||◌, or-false}
 use mathlib.Core.List.{List, []}
-use mathlib.Core.Option.{Option, none as nothing, some}
 use native.Mathlib.Omega.{arith}
 use lib.ListN.{length, replicate}
 use borrow.Author.Tests.{ne_eqb}
@@ -17,9 +17,9 @@ use Rattle.tree.specs.Within.{Within}
 use Rattle.tree.proofs.TreeLaws.{size-encode, encode-front}
 use Rattle.tree.proofs.ReadLaws.{fine-inj}
 use Rattle.tree.proofs.CompleteLaws.{read-complete}
+use Rattle.metadata.specs.declared.EncodeError.TheVariants.{NoRoom}
 use Rattle.metadata.specs.Metadata.{Metadata, Small, injected_attribute, context_attribute, injected_attributes, context_attributes, append}
 use Rattle.metadata.specs.Metadata.{attributes_for, with_metadata, starts_with, context_in, told, newer, merged, decode_from, unset, decode}
-use Rattle.metadata.specs.declared.Encoded.TheVariants.{Done, NoRoom}
 use Rattle.metadata.specs.Calls.{attributes_in, lent, decode_call, answer_on, out_on, encode_answer, encode_out}
 use Rattle.metadata.specs.RoundTrip.{WrittenAlone, WrittenOnto}
 use Rattle.metadata.proofs.DecimalLaws.{decimal-parses}
@@ -31,11 +31,11 @@ metadata b x = record { injected = b; context = x }
 
 -- ---- On trees
 
-told-injected : told (fixed_of injected_attribute) ≡ metadata true nothing
+told-injected : told (fixed_of injected_attribute) ≡ metadata true None
 unfolding told injected_attribute same context_in starts_with
 told-injected = refl
 
-told-context : (c : ℕ) → c ≤ 4294967295 → told (fixed_of (context_attribute c)) ≡ metadata false (some c)
+told-context : (c : ℕ) → c ≤ 4294967295 → told (fixed_of (context_attribute c)) ≡ metadata false (Some c)
 unfolding told injected_attribute context_attribute same context_in starts_with
 told-context c h = ap (metadata false) (decimal-parses c h)
 
@@ -46,15 +46,15 @@ decode-append none gs m = refl
 decode-append (more f fs) gs m = decode-append fs gs (merged m (told (fixed_of f)))
 
 module _ (m : Metadata) where
-  decode-injected : (b : Bool) → decode_from m (injected_attributes b) ≡ merged m (metadata b nothing)
+  decode-injected : (b : Bool) → decode_from m (injected_attributes b) ≡ merged m (metadata b None)
   unfolding decode_from
   decode-injected true = ap (merged m) told-injected
   decode-injected false = ap (λ (b : Bool). metadata b m.context) (sym (or-false m.injected))
 
   decode-context : (x : Option ℕ) → Small x → decode_from m (context_attributes x) ≡ merged m (metadata false x)
   unfolding decode_from
-  decode-context nothing h = ap (λ (b : Bool). metadata b m.context) (sym (or-false m.injected))
-  decode-context (some c) h = ap (merged m) (told-context c h)
+  decode-context None h = ap (λ (b : Bool). metadata b m.context) (sym (or-false m.injected))
+  decode-context (Some c) h = ap (merged m) (told-context c h)
 
 -- what metadata adds tells just that
 decode-added : (m new : Metadata) → Small new.context → decode_from m (attributes_for new) ≡ merged m new
@@ -64,7 +64,7 @@ decode-added m new h =
     let c = context_attributes new.context in
     decode-append i c m
     ∙ ap (λ (x : Metadata). decode_from x c) (decode-injected m new.injected)
-    ∙ decode-context (merged m (metadata new.injected nothing)) new.context h
+    ∙ decode-context (merged m (metadata new.injected None)) new.context h
     ∙ ap (λ (b : Bool). metadata b (newer new.context m.context)) (or-false (m.injected || new.injected))
 
 -- written onto older attributes, injected is old or new, and the context is the new one, else the old
@@ -75,9 +75,9 @@ older-merged m old h = decode-append old (attributes_for m) unset ∙ decode-add
 merged-unset : (m : Metadata) → merged unset m ≡ m
 merged-unset m = newer-nothing m.context
   where
-    newer-nothing : (x : Option ℕ) → metadata m.injected (newer x nothing) ≡ metadata m.injected x
-    newer-nothing nothing = refl
-    newer-nothing (some c) = refl
+    newer-nothing : (x : Option ℕ) → metadata m.injected (newer x None) ≡ metadata m.injected x
+    newer-nothing None = refl
+    newer-nothing (Some c) = refl
 
 -- written where no attributes stood, it is told as it was
 pub written-told : (m : Metadata) → Small m.context → decode (parts_of (with_metadata m none)) ≡ m
@@ -105,7 +105,7 @@ record Accepted (m : Metadata) (s : List ℕ) (room n : ℕ) (old : Fields) : Ty
 
 module _ (m : Metadata) (s : List ℕ) (room n : ℕ) where
   room-accepted : (old : Fields) (b : Bool) → lent s ≡ fine old → has_room (length (encode (with_metadata m old))) room ≡ b →
-      cond b (Done (length (encode (with_metadata m old)))) NoRoom ≡ Done n → Accepted m s room n old
+      cond b (Ok (length (encode (with_metadata m old)))) (Err NoRoom) ≡ Ok n → Accepted m s room n old
   unfolding encode_out out_on
   room-accepted old true e r a =
       let bs = encode (with_metadata m old) in
@@ -119,12 +119,12 @@ module _ (m : Metadata) (s : List ℕ) (room n : ℕ) where
       }
   room-accepted old false e r a = absurd (let z : ◌≡◌ {A = ℕ} 0 1 = cc in omega arith)
 
-  answer-accepted : (r : Reading Fields) → lent s ≡ r → answer_on r m room ≡ Done n → (old : Fields) × Accepted m s room n old
+  answer-accepted : (r : Reading Fields) → lent s ≡ r → answer_on r m room ≡ Ok n → (old : Fields) × Accepted m s room n old
   unfolding answer_on
   answer-accepted (fine old) e a = (old, room-accepted old (has_room (length (encode (with_metadata m old))) room) e refl a)
   answer-accepted (refused w p) e a = absurd (let z : ◌≡◌ {A = ℕ} 0 1 = cc in omega arith)
 
-  accepted-decodes : Bytes s → Small m.context → encode_answer m s room ≡ Done n →
+  accepted-decodes : Bytes s → Small m.context → encode_answer m s room ≡ Ok n →
       (o : Metadata) × (decode_call s ≡ fine o) × (decode_call (field_in (encode_out m s room)) ≡ fine (merged o m))
   unfolding encode_answer decode_call
   accepted-decodes bs h a =

@@ -1,20 +1,17 @@
 -- Attributes with metadata are within the grammar, so that they can be read back.
+use Rattle.std.specs.Prelude.{Option, None, Some}
 use Prim.Native.Nat.{ℕ, ◌+◌, ◌-◌, ◌≤◌}
 use mathlib.Core.Path.{◌≡◌, refl, sym, ap, subst, ◌∙◌}
 use mathlib.Core.Bool.{Bool, true, false, cond}
 use mathlib.Core.List.{List, [], ◌∷◌, ◌++◌}
-use mathlib.Core.Option.{Option, none as nothing, some}
 use native.Mathlib.Omega.{arith}
 use lib.ListN.{length, length-append}
 use borrow.Author.Tests.{le-leb, le-ltb}
-use Rattle.tree.specs.declared.layout.Reach.{Reach}
-use Rattle.tree.specs.declared.layout.Reach.TheVariants.{Upto}
 use Rattle.tree.specs.declared.grammar.Set.TheVariants.{Attributes, Attribute}
 use Rattle.tree.specs.declared.grammar.Piece.TheVariants.{Plain}
 use Rattle.tree.specs.declared.grammar.Value.TheVariants.{Empty}
 use Rattle.tree.specs.declared.grammar.Slot.TheVariants.{Nothing, Many}
 use Rattle.tree.specs.declared.grammar.Rule.{Rule}
-use Rattle.tree.specs.declared.grammar.Step.TheVariants.{Go}
 use Rattle.tree.specs.Layout.{skip_at}
 use Rattle.tree.specs.Tree.{field, Fields, none, more, tag_of, encode, size, depth, depths}
 use Rattle.tree.specs.Grammar.{within, holds_at, parts0, parts1, slot_at, step_by, step_at, rule_of, pieces_of}
@@ -37,10 +34,10 @@ unfolding rule_of within
 rule-is = refl
 
 -- in a 2F only attributes follow, any number
-pub attributes-step : (t : ℕ) (q : Rule) → step_at attributes t ≡ Go q → (holds_at Attribute t ≡ true) × (q ≡ attributes)
+pub attributes-step : (t : ℕ) (q : Rule) → step_at attributes t ≡ Some q → (holds_at Attribute t ≡ true) × (q ≡ attributes)
 attributes-step t q e = by (holds_at Attribute t) refl (sym (many-slot Attribute Nothing Nothing Nothing t) ∙ e)
   where
-    by : (b : Bool) → holds_at Attribute t ≡ b → cond b (Go attributes) (step_at parts0 t) ≡ Go q → (holds_at Attribute t ≡ true) × (q ≡ attributes)
+    by : (b : Bool) → holds_at Attribute t ≡ b → cond b (Some attributes) (step_at parts0 t) ≡ Some q → (holds_at Attribute t ≡ true) × (q ≡ attributes)
     by true h e = (h, cc)
     by false h e = absurd (no-step t e)
 
@@ -49,11 +46,11 @@ unfolding append
 formed-append none gs v w = w
 formed-append (more f fs) gs v w =
     let s = (attributes-step (tag_of f) v.0 v.1).1 in
-    (attributes, v.1 ∙ ap Go s, v.2, formed-append fs gs (subst (FormedAll fs) s v.3) w)
+    (attributes, v.1 ∙ ap Some s, v.2, formed-append fs gs (subst (FormedAll fs) s v.3) w)
 
 -- ---- One attribute
 
-key-whole : (key value : List ℕ) → key_at (header key ++ value) 0 (length (header key ++ value)) ≡ Upto (length (header key ++ value))
+key-whole : (key value : List ℕ) → key_at (header key ++ value) 0 (length (header key ++ value)) ≡ Some (length (header key ++ value))
 unfolding key_at
 key-whole key value =
     let n = length (header key ++ value) in
@@ -65,7 +62,7 @@ unfolding fixed_at then_piece pieces_of piece_at value_at
 attribute-exact key value =
     let x = header key ++ value in
     let e : length x + 0 ≡ length x = omega arith in
-    ap (λ (r : Reach). then_piece r x (Plain Empty) (length x)) (key-whole key value) ∙ skip-none (length x) (length x) ∙ ap Upto e
+    ap (λ (r : Option ℕ). then_piece r x (Plain Empty) (length x)) (key-whole key value) ∙ skip-none (length x) (length x) ∙ ap Some e
 
 attribute-formed : (key value : List ℕ) → length key + length value ≤ 65532 → Formed (attribute key value)
 unfolding rule_of within size
@@ -89,8 +86,8 @@ injected-formed false = refl
 
 context-formed : (x : Option ℕ) → Small x → FormedAll (context_attributes x) attributes
 unfolding context_attribute
-context-formed nothing h = refl
-context-formed (some c) h = row-formed context_key (decimal c) (let e = decimal-short c h in omega arith)
+context-formed None h = refl
+context-formed (Some c) h = row-formed context_key (decimal c) (let e = decimal-short c h in omega arith)
 
 added-formed : (m : Metadata) → Small m.context → FormedAll (attributes_for m) attributes
 unfolding attributes_for
@@ -116,8 +113,8 @@ injected-shallow false = none-shallow
 
 context-shallow : (x : Option ℕ) → depths (context_attributes x) ≤ 63
 unfolding context_attribute
-context-shallow nothing = none-shallow
-context-shallow (some c) = row-shallow context_key (decimal c)
+context-shallow None = none-shallow
+context-shallow (Some c) = row-shallow context_key (decimal c)
 
 added-shallow : (m : Metadata) → depths (attributes_for m) ≤ 63
 unfolding attributes_for

@@ -1,6 +1,5 @@
 -- What metadata adds to attributes, and what attributes tell of it. Document 01, 'Metadata and detection'.
-use Rattle.std.specs.Prelude.{ℕ, ◌≤◌, Bool, true, false, ◌||◌, cond, List, [], ◌∷◌, ◌++◌, length, take, drop}
-use Rattle.std.proofs.Math.Option.{Option, none as nothing, some}
+use Rattle.std.specs.Prelude.{ℕ, ◌≤◌, Bool, true, false, ◌||◌, cond, List, [], ◌∷◌, ◌++◌, length, take, drop, Option, None, Some}
 use Rattle.tree.specs.Layout.{same}
 use Rattle.tree.specs.Tree.{Field, field, Fields, none, more, fixed_of}
 use Rattle.metadata.specs.Decimal.{decimal, parsed}
@@ -38,8 +37,8 @@ pub record Metadata : Type 0 where
 
 -- a context that four bytes hold, as every one in the code
 abbrev pub Small : Option ℕ → Type 0
-Small nothing = Unit
-Small (some c) = c ≤ 4294967295
+Small None = Unit
+Small (Some c) = c ≤ 4294967295
 
 -- ---- Encode
 
@@ -48,8 +47,8 @@ injected_attributes true = more injected_attribute none
 injected_attributes false = none
 
 abbrev pub context_attributes : Option ℕ → Fields
-context_attributes nothing = none
-context_attributes (some c) = more (context_attribute c) none
+context_attributes None = none
+context_attributes (Some c) = more (context_attribute c) none
 
 unfoldable pub append : Fields → Fields → Fields
 append none gs = gs
@@ -71,15 +70,15 @@ starts_with h x = same (take (length h) x) h
 
 -- the context that an attribute with the content x tells: what is parsable behind the key, and 'needs kinds 1'
 unfoldable pub context_in : List ℕ → Option ℕ
-context_in x = cond (starts_with (header context_key) x) (parsed (drop (length (header context_key)) x)) nothing
+context_in x = cond (starts_with (header context_key) x) (parsed (drop (length (header context_key)) x)) None
 
 -- what an attribute with the content x tells
 unfoldable pub told : List ℕ → Metadata
 told x = record { injected = same x (fixed_of injected_attribute); context = context_in x }
 
 abbrev pub newer : Option ℕ → Option ℕ → Option ℕ
-newer nothing old = old
-newer (some c) old = some c
+newer None old = old
+newer (Some c) old = Some c
 
 -- 'injected is old or new, and the context is the new one, else the old'
 abbrev pub merged : Metadata → Metadata → Metadata
@@ -91,7 +90,7 @@ decode_from m none = m
 decode_from m (more f fs) = decode_from (merged m (told (fixed_of f))) fs
 
 abbrev pub unset : Metadata
-unset = record { injected = false; context = nothing }
+unset = record { injected = false; context = None }
 
 unfoldable pub decode : Fields → Metadata
 decode fs = decode_from unset fs

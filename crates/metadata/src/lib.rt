@@ -3,142 +3,107 @@
 
 mod decimal;
 
-ghost use Rattle.std.specs.Prelude.{◌≡◌, ◌||◌, ◌+◌, ◌≤◌, length};
-ghost use Rattle.std.proofs.Math.Seq.{slice};
+ghost use Rattle.std.specs.Prelude.{◌≡◌, ◌++◌, ◌+◌, ◌≤◌, length};
+ghost use Rattle.writer.specs.Bytes.{framed};
 ghost use Rattle.writer.specs.Wrote.{Wrote};
 ghost use Rattle.tree.specs.Layout.{same};
 ghost use Rattle.tree.specs.Tree.{size, encode, encodes, fixed_of};
 ghost use Rattle.tree.specs.Read.{verdict};
 ghost use Rattle.tree.specs.Standing.{tree_at, row_at};
-ghost use Rattle.metadata.specs.Metadata.{injected_attribute, context_attribute, injected_attributes, attributes_for, starts_with, context_in, told, newer as newer_of, merged, unset, decode};
+ghost use Rattle.metadata.specs.declared.EncodeError.TheVariants.{Broken as broken};
+ghost use Rattle.metadata.specs.Metadata.{injected_attribute, context_attribute, injected_attributes, attributes_for, context_in, told, merged, unset, decode};
+ghost use Rattle.metadata.specs.Decimal.{decimal};
 ghost use Rattle.metadata.specs.MetadataValue.{context_of, metadata_of, written_bytes};
 ghost use Rattle.metadata.specs.Calls.{attributes_in, lent, decoded, decode_call, Encoding};
 
-use decimal::Parsed;
+use decimal::{parse, put_decimal};
 use scope::id::SyntaxContext;
 use tree::access::{extent, fixed, pieces_end};
 use tree::grammar::Set;
-use tree::layout::{Reach, same_run};
-use tree::read::{Verdict, Why, read_tree};
+use tree::read::{Unread, read_tree};
 
-// The content of the attribute of an injected export: kinds, key length, key and value.
-const INJECTED: [u8; 29] = *b"\x01\x01\x19__swc_bundler__injected__1";
+// What stands before the value in the attribute of an injected export: kinds, key length and key.
+const INJECTED: [u8; 28] = *b"\x01\x01\x19__swc_bundler__injected__";
 
-// The content of an export context's attribute up to its value.
+// The same in the attribute of an export's context.
 const CONTEXT: [u8; 31] = *b"\x01\x01\x1C__swc_bundler__export_ctxt__";
 
-// An export's context, where one is known.
-#[derive(Drop)]
-pub enum ExportCtxt {
-    None,
-    Some(SyntaxContext),
-}
-
-#[derive(Drop)]
+#[derive(Clone, Copy, PartialEq, Eq)]
 pub struct ExportMetadata {
     pub injected: bool,
-    pub export_ctxt: ExportCtxt,
+    // where one is known
+    pub export_ctxt: Option<SyntaxContext>,
 }
 
-#[derive(Drop)]
-pub enum Encoded {
-    // How many bytes the attributes take.
-    Done(usize),
-    // Why the lent attributes are broken, and the offset of the field.
-    Broken(Why, usize),
+// Why metadata is not added.
+#[derive(Clone, Copy, PartialEq, Eq)]
+pub enum EncodeError {
+    // The lent attributes are broken.
+    Broken(Unread),
     // The buffer is too short, or the content too long.
     NoRoom,
 }
 
-#[derive(Drop)]
-pub enum Decoded {
-    Done(ExportMetadata),
-    // Why the lent attributes are broken, and the offset of the field.
-    Broken(Why, usize),
+impl From<Unread> for EncodeError {
+    ghost from_gives = { λ u e. e ≡ broken u };
+
+    fn from(unread: Unread) -> EncodeError {
+        EncodeError::Broken(unread)
+    }
 }
 
-// Writes the attribute of an injected export at o, and answers the position behind it, as each of these does.
+// Writes an attribute with a number as its value at o, and answers the position behind it, as each of these does.
+fn put_attribute(out: &mut [u8], o: usize, header: &[u8], value: u32) -> usize
+    ensures { Wrote out.old o (framed 0x30 (header.now ++ decimal value)) out.new result }
+{
+    let content = writer::open_field(out, o, 0x30);
+    let text = writer::put_all(out, content, header);
+    let p = put_decimal(out, text, value);
+    writer::close_field(out, o, p);
+    p
+}
+
+// Writes the attribute of an injected export.
 fn put_injected(out: &mut [u8], o: usize, injected: bool) -> usize
     ensures { Wrote out.old o (encodes (injected_attributes injected)) out.new result }
 {
     if injected {
-        let content = writer::open_field(out, o, 0x30);
-        let p = writer::put_all(out, content, &INJECTED);
-        writer::close_field(out, o, p);
-        return p;
+        put_attribute(out, o, &INJECTED, 1)
+    } else {
+        o
     }
-    o
 }
 
 // Writes the attribute of an export context.
 pub fn put_context(out: &mut [u8], o: usize, ctxt: SyntaxContext) -> usize
     ensures { Wrote out.old o (encode (context_attribute ctxt.0)) out.new result }
 {
-    let content = writer::open_field(out, o, 0x30);
-    let value = writer::put_all(out, content, &CONTEXT);
-    let p = decimal::put_decimal(out, value, ctxt.0);
-    writer::close_field(out, o, p);
-    p
+    put_attribute(out, o, &CONTEXT, ctxt.0)
 }
 
-// Whether the content from `from` up to end starts with h.
-fn starts_with(s: &[u8], from: usize, end: usize, h: &[u8]) -> bool
-    requires { (from ≤ end) × (end ≤ length s.now) }
-    ensures { result ≡ starts_with h.now (slice from end s.now) }
+// Whether the content of an attribute tells that the export is injected.
+fn tells_injected(content: &[u8]) -> bool
+    ensures { result ≡ same content.now (fixed_of injected_attribute) }
 {
-    if end - from < h.len() {
-        return false;
-    }
-    same_run(s, from, h, 0, h.len())
+    content
+        .strip_prefix(&INJECTED)
+        .is_some_and(|value| value == b"1".as_slice())
 }
 
-// Whether the content tells that the export is injected.
-fn tells_injected(s: &[u8], from: usize, end: usize) -> bool
-    requires { (from ≤ end) × (end ≤ length s.now) }
-    ensures { result ≡ same (slice from end s.now) (fixed_of injected_attribute) }
+// The context that the content of an attribute tells.
+fn context_in(content: &[u8]) -> Option<SyntaxContext>
+    ensures { context_of result ≡ context_in content.now }
 {
-    if end - from != 29 {
-        return false;
-    }
-    same_run(s, from, &INJECTED, 0, 29)
-}
-
-// The context that the content tells.
-fn context_in(s: &[u8], from: usize, end: usize) -> ExportCtxt
-    requires { (from ≤ end) × (end ≤ length s.now) }
-    ensures { context_of result ≡ context_in (slice from end s.now) }
-{
-    if !starts_with(s, from, end, &CONTEXT) {
-        return ExportCtxt::None;
-    }
-    match decimal::parse(s, from + 31, end) {
-        Parsed::Number(n) => ExportCtxt::Some(SyntaxContext(n)),
-        Parsed::Nothing => ExportCtxt::None,
-    }
-}
-
-fn either(a: bool, b: bool) -> bool
-    ensures { result ≡ a || b }
-{
-    if a { true } else { b }
-}
-
-// The newer of two contexts.
-fn newer(new: ExportCtxt, old: ExportCtxt) -> ExportCtxt
-    ensures { context_of result ≡ newer_of (context_of new) (context_of old) }
-{
-    match new {
-        ExportCtxt::Some(c) => ExportCtxt::Some(c),
-        ExportCtxt::None => old,
-    }
+    let value = content.strip_prefix(&CONTEXT)?;
+    Some(SyntaxContext(parse(value)?))
 }
 
 // Reads lent attributes, empty bytes for none.
-fn read_lent(attributes: &[u8]) -> Verdict
+fn read_lent(attributes: &[u8]) -> Result<(), Unread>
     ensures { result ≡ verdict (lent attributes.now) }
 {
-    if attributes.len() == 0 {
-        return Verdict::Good;
+    if attributes.is_empty() {
+        return Ok(());
     }
     read_tree(attributes, Set::Attributes)
 }
@@ -149,7 +114,7 @@ impl ExportMetadata {
     {
         ExportMetadata {
             injected: false,
-            export_ctxt: ExportCtxt::None,
+            export_ctxt: None,
         }
     }
 
@@ -157,11 +122,9 @@ impl ExportMetadata {
     fn merge(self, later: ExportMetadata) -> ExportMetadata
         ensures { metadata_of result ≡ merged (metadata_of self) (metadata_of later) }
     {
-        let old = self.export_ctxt;
-        let new = later.export_ctxt;
         ExportMetadata {
-            injected: either(self.injected, later.injected),
-            export_ctxt: newer(new, old),
+            injected: self.injected || later.injected,
+            export_ctxt: later.export_ctxt.or(self.export_ctxt),
         }
     }
 
@@ -170,12 +133,13 @@ impl ExportMetadata {
         requires { (at + 3 ≤ stop) × (stop ≤ length s.now) }
         ensures { metadata_of result ≡ told (fixed_of (tree_at s.now at stop)) }
     {
-        match pieces_end(s, s[at], at + 3, stop) {
-            Reach::Upto(end) => ExportMetadata {
-                injected: tells_injected(s, at + 3, end),
-                export_ctxt: context_in(s, at + 3, end),
-            },
-            Reach::Short => ExportMetadata::unset(),
+        let Some(end) = pieces_end(s, s[at], at + 3, stop) else {
+            return ExportMetadata::unset();
+        };
+        let content = &s[at + 3..end];
+        ExportMetadata {
+            injected: tells_injected(content),
+            export_ctxt: context_in(content),
         }
     }
 
@@ -186,38 +150,32 @@ impl ExportMetadata {
     {
         let mut m = ExportMetadata::unset();
         let mut at = from;
-        loop {
-            match extent(s, at, end) {
-                Reach::Upto(stop) => {
-                    m = m.merge(ExportMetadata::told_at(s, at, stop));
-                    at = stop;
-                }
-                Reach::Short => return m,
-            }
+        while let Some(stop) = extent(s, at, end) {
+            m = m.merge(ExportMetadata::told_at(s, at, stop));
+            at = stop;
         }
+        m
     }
 
     // What the parts of the field at 0 tell; nothing where there is none.
     fn decode_parts(s: &[u8]) -> ExportMetadata
         ensures { metadata_of result ≡ decode (attributes_in (row_at s.now 0 (length s.now))) }
     {
-        let Reach::Upto(stop) = extent(s, 0, s.len()) else {
+        let Some(stop) = extent(s, 0, s.len()) else {
             return ExportMetadata::unset();
         };
         match fixed(s, s[0], 3, stop) {
-            Reach::Upto(from) => ExportMetadata::decode_row(s, from, stop),
-            Reach::Short => ExportMetadata::unset(),
+            Some(from) => ExportMetadata::decode_row(s, from, stop),
+            None => ExportMetadata::unset(),
         }
     }
 
     // The metadata in lent attributes, empty bytes for none.
-    pub fn decode(attributes: &[u8]) -> Decoded
+    pub fn decode(attributes: &[u8]) -> Result<ExportMetadata, Unread>
         ensures { decoded result ≡ decode_call attributes.now }
     {
-        match read_lent(attributes) {
-            Verdict::Good => Decoded::Done(ExportMetadata::decode_parts(attributes)),
-            Verdict::Refused(why, place) => Decoded::Broken(why, place),
-        }
+        read_lent(attributes)?;
+        Ok(ExportMetadata::decode_parts(attributes))
     }
 
     // Writes the attributes that the metadata adds.
@@ -225,10 +183,9 @@ impl ExportMetadata {
         ensures { Wrote out.old o (encodes (attributes_for (metadata_of self))) out.new result }
     {
         let p = put_injected(out, o, self.injected);
-        let ctxt = self.export_ctxt;
-        match ctxt {
-            ExportCtxt::Some(c) => put_context(out, p, c),
-            ExportCtxt::None => p,
+        match self.export_ctxt {
+            Some(c) => put_context(out, p, c),
+            None => p,
         }
     }
 
@@ -244,22 +201,18 @@ impl ExportMetadata {
     }
 
     // Adds the metadata to lent attributes, empty bytes for none.
-    pub fn encode(self, attributes: &[u8], out: &mut [u8]) -> Encoded
+    pub fn encode(self, attributes: &[u8], out: &mut [u8]) -> Result<usize, EncodeError>
         ensures { Encoding (metadata_of self) attributes.now out.old result out.new }
     {
-        match read_lent(attributes) {
-            Verdict::Good => {
-                let n = self.write(attributes, out);
-                if writer::finish(out, n) {
-                    Encoded::Done(n)
-                } else {
-                    Encoded::NoRoom
-                }
-            }
-            Verdict::Refused(why, place) => {
-                writer::clear(out);
-                Encoded::Broken(why, place)
-            }
+        if let Err(unread) = read_lent(attributes) {
+            writer::clear(out);
+            return Err(EncodeError::Broken(unread));
+        }
+        let n = self.write(attributes, out);
+        if writer::finish(out, n) {
+            Ok(n)
+        } else {
+            Err(EncodeError::NoRoom)
         }
     }
 }

@@ -1,10 +1,10 @@
 -- In a well placed tree no default import has the id of a namespace: which ids have usages.
+use Rattle.std.specs.Prelude.{Some}
 use Prim.Native.Nat.{ℕ, zero, suc}
 use mathlib.Core.Path.{◌≡◌, refl, sym, ap, subst, ◌∙◌}
 use mathlib.Core.Logic.{inl, inr}
 use mathlib.Core.Bool.{Bool, true, false, not, cond, ◌||◌, true≢false}
 use mathlib.Core.List.{List}
-use mathlib.Core.Option.{some}
 use native.Mathlib.Omega.{arith}
 use borrow.Author.Tests.{eqb-true}
 use Rattle.scope.specs.Id.{local}
@@ -23,41 +23,41 @@ use Rattle.placement.proofs.PlacedLaws.{EachImport, EachBut, Apart, shares-apart
 
 -- ---- Each, by place
 
-each-from : (P : Field → Type 0) (fs : Fields) → ((k : ℕ) (f : Field) → item_at k fs ≡ some f → P f) → Each P fs
+each-from : (P : Field → Type 0) (fs : Fields) → ((k : ℕ) (f : Field) → item_at k fs ≡ Some f → P f) → Each P fs
 each-from P none h = tt
 each-from P (more f fs) h = (h zero f refl, each-from P fs (λ k g e. h (suc k) g e))
 
-but-fill : (P : Field → Type 0) (k : ℕ) (fs : Fields) (f : Field) → EachBut P k fs → item_at k fs ≡ some f → P f → EachImport P fs
+but-fill : (P : Field → Type 0) (k : ℕ) (fs : Fields) (f : Field) → EachBut P k fs → item_at k fs ≡ Some f → P f → EachImport P fs
 but-fill P k none f h e w = tt
 but-fill P zero (more g fs) f h e w = let q : f ≡ g = cc in ((λ _. subst P q w), h)
 but-fill P (suc k) (more g fs) f h e w = (h.0, but-fill P k fs f h.1 e w)
 
 -- ---- A namespace is sole
 
-kept-found : (fs : Fields) (m : ℕ) (s : Field) → item_at m (specifiers_in fs) ≡ some s → has 0x22 s ≡ true → is_some (find_field (has 0x22) fs) ≡ true
+kept-found : (fs : Fields) (m : ℕ) (s : Field) → item_at m (specifiers_in fs) ≡ Some s → has 0x22 s ≡ true → is_some (find_field (has 0x22) fs) ≡ true
 unfolding keep find_field
 kept-found none m s e q = absurd (let z : ◌≡◌ {A = ℕ} 0 1 = cc in omega arith)
 kept-found (more f fs) m s e q = go (has 0x22 f) (has 0x2F f) refl e (kept-found fs)
   where
-    go : (a b : Bool) → has 0x22 f ≡ a → item_at m (cond (not b) (more f (specifiers_in fs)) (specifiers_in fs)) ≡ some s →
-        ((m : ℕ) (s : Field) → item_at m (specifiers_in fs) ≡ some s → has 0x22 s ≡ true → is_some (find_field (has 0x22) fs) ≡ true) →
-        is_some (cond a (some f) (find_field (has 0x22) fs)) ≡ true
+    go : (a b : Bool) → has 0x22 f ≡ a → item_at m (cond (not b) (more f (specifiers_in fs)) (specifiers_in fs)) ≡ Some s →
+        ((m : ℕ) (s : Field) → item_at m (specifiers_in fs) ≡ Some s → has 0x22 s ≡ true → is_some (find_field (has 0x22) fs) ≡ true) →
+        is_some (cond a (Some f) (find_field (has 0x22) fs)) ≡ true
     go true b w e ih = refl
     go false true w e ih = ih m s e q
     go false false w e ih = by m e
       where
-        by : (m : ℕ) → item_at m (more f (specifiers_in fs)) ≡ some s → is_some (find_field (has 0x22) fs) ≡ true
+        by : (m : ℕ) → item_at m (more f (specifiers_in fs)) ≡ Some s → is_some (find_field (has 0x22) fs) ≡ true
         by zero e = absurd (let r : f ≡ s = cc in true≢false (sym q ∙ ap (has 0x22) (sym r) ∙ w))
         by (suc m) e = ih m s e q
 
-sole-one : (fs : Fields) (m : ℕ) (s : Field) → is_some (sole fs) ≡ true → item_at m fs ≡ some s → fs ≡ more s none
+sole-one : (fs : Fields) (m : ℕ) (s : Field) → is_some (sole fs) ≡ true → item_at m fs ≡ Some s → fs ≡ more s none
 unfolding sole
 sole-one none m s h e = absurd (true≢false (sym h))
 sole-one (more f none) zero s h e = let q : f ≡ s = cc in ap (λ (g : Field). more g none) q
 sole-one (more f none) (suc m) s h e = absurd (let z : ◌≡◌ {A = ℕ} 0 1 = cc in omega arith)
 sole-one (more f (more g gs)) m s h e = absurd (true≢false (sym h))
 
-namespace-sole : (f : Field) (m : ℕ) (s : Field) → sole_namespace f ≡ true → item_at m (specifiers_in (parts_of f)) ≡ some s → has 0x22 s ≡ true →
+namespace-sole : (f : Field) (m : ℕ) (s : Field) → sole_namespace f ≡ true → item_at m (specifiers_in (parts_of f)) ≡ Some s → has 0x22 s ≡ true →
     specifiers_in (parts_of f) ≡ more s none
 unfolding sole_namespace
 namespace-sole f m s h e q = sole-one (specifiers_in (parts_of f)) m s (go (is_some (find_field (has 0x22) (parts_of f))) (kept-found (parts_of f) m s e q) h) e
@@ -87,8 +87,8 @@ apart-default j a f t h k = go (specifiers_in (parts_of f)) (import-parts (parts
 
 module _ (own : ℕ) (items : Fields) (shape : Each Shaped items) (share : shares_none (imports_in items) ≡ true) where
   -- the namespace s of the import f at the place k
-  space-of : (k : ℕ) (f : Field) (m : ℕ) (s : Field) → item_at k items ≡ some f → tag_of f ≡ 0x10 → own_locals own f ≡ true → sole_namespace f ≡ true →
-      item_at m (specifiers_in (parts_of f)) ≡ some s → has 0x22 s ≡ true → Shaped s → SpaceIn own items (fixed_of s)
+  space-of : (k : ℕ) (f : Field) (m : ℕ) (s : Field) → item_at k items ≡ Some f → tag_of f ≡ 0x10 → own_locals own f ≡ true → sole_namespace f ≡ true →
+      item_at m (specifiers_in (parts_of f)) ≡ Some s → has 0x22 s ≡ true → Shaped s → SpaceIn own items (fixed_of s)
   unfolding own_locals local_ids among
   space-of k f m s e t own-f sole-f es q hs =
       let one = namespace-sole f m s sole-f es q in
@@ -110,7 +110,7 @@ module _ (own : ℕ) (items : Fields) (shape : Each Shaped items) (share : share
   specifier-shaped none h = tt
   specifier-shaped (more f fs) h = (h.0.1, specifier-shaped fs h.1)
 
-  of-import : (k : ℕ) (f : Field) → item_at k items ≡ some f → tag_of f ≡ 0x10 → own_locals own f ≡ true → sole_namespace f ≡ true →
+  of-import : (k : ℕ) (f : Field) → item_at k items ≡ Some f → tag_of f ≡ 0x10 → own_locals own f ≡ true → sole_namespace f ≡ true →
       Each (OfImport (SpaceIn own items) own (space-local own items)) (specifiers_in (parts_of f))
   of-import k f e t own-f sole-f =
       let hs = specifier-shaped (specifiers_in (parts_of f)) (import-parts (parts_of f) (shaped-parts f 0x10 (each-at Shaped k items f shape e) t)).0 in

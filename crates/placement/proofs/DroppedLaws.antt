@@ -1,11 +1,11 @@
 -- Items that are dropped at the end of a pass hold no id: what stays has all ways to stand. An empty 41, or a 40, has neither parts nor an
 -- id of its own.
+use Rattle.std.specs.Prelude.{Some}
 use Prim.Native.Nat.{ℕ, zero, suc}
 use mathlib.Core.Path.{◌≡◌, refl, sym, ap, ◌∙◌}
 use mathlib.Core.Logic.{◌⊎◌, inl, inr}
 use mathlib.Core.Bool.{Bool, true, false, not, cond, ◌||◌, true≢false}
 use mathlib.Core.List.{List, [], ◌++◌}
-use mathlib.Core.Option.{some}
 use native.Mathlib.Omega.{arith}
 use lib.Dec.{eqb}
 use borrow.Author.Tests.{eqb-true}
@@ -72,7 +72,7 @@ place_kept zero (more f fs) = 0
 place_kept (suc k) (more f fs) = cond (stays f) (suc (place_kept k fs)) (place_kept k fs)
 
 -- behind imports alone it is the same
-pub place-front : (k : ℕ) (fs : Fields) (f : Field) → item_at k fs ≡ some f → Front k fs → place_kept k fs ≡ k
+pub place-front : (k : ℕ) (fs : Fields) (f : Field) → item_at k fs ≡ Some f → Front k fs → place_kept k fs ≡ k
 unfolding place_kept
 place-front k none f e h = absurd (let z : ◌≡◌ {A = ℕ} 0 1 = cc in omega arith)
 place-front zero (more g fs) f e h = refl

@@ -1,11 +1,11 @@
 -- What each clause of 'well placed' says item by item: of each import, of each but one, and of the namespace that one of them declares. That
 -- imports precede other items is the premise of one law, `front-imports`: in front of an import stand imports.
+use Rattle.std.specs.Prelude.{Option, None, Some}
 use Prim.Native.Nat.{ℕ, zero, suc}
 use mathlib.Core.Path.{◌≡◌, refl, sym, ap, subst, ◌∙◌}
 use mathlib.Core.Logic.{◌⊎◌, inl, inr}
 use mathlib.Core.Bool.{Bool, true, false, not, cond, ◌&&◌, ◌||◌, true≢false}
 use mathlib.Core.List.{List, [], ◌∷◌}
-use mathlib.Core.Option.{Option, none as nothing, some}
 use native.Mathlib.Omega.{arith}
 use borrow.Author.Tests.{eqb-true, eq-eqb, not-true}
 use Rattle.scope.specs.Id.{require_atom, local}
@@ -36,9 +36,9 @@ use Rattle.placement.proofs.LocalsLaws.{locals-all, whole-specifier}
 pub item-regular : (f : Field) (fs : Fields) → ShapedAll (more f fs) (rule_of 0x01) → has 0x10 f ≡ false → Regular f
 item-regular f fs h q = regular f (item-outer (tag_of f) (item-step (tag_of f) h.0 h.1).0 q) h.2
 
-not-some : {A : Type 0} (o : Option A) → not (is_some o) ≡ true → o ≡ nothing
-not-some nothing h = refl
-not-some (some a) h = absurd (true≢false (sym h))
+not-some : {A : Type 0} (o : Option A) → not (is_some o) ≡ true → o ≡ None
+not-some None h = refl
+not-some (Some a) h = absurd (true≢false (sym h))
 
 -- ---- Imports and other items
 
@@ -52,7 +52,7 @@ EachBut P zero (more f fs) = EachImport P fs
 EachBut P (suc k) (more f fs) = (tag_of f ≡ 0x10 → P f) × EachBut P k fs
 
 -- what is known of the item at a place
-pub each-at : (P : Field → Type 0) (k : ℕ) (fs : Fields) (f : Field) → Each P fs → item_at k fs ≡ some f → P f
+pub each-at : (P : Field → Type 0) (k : ℕ) (fs : Fields) (f : Field) → Each P fs → item_at k fs ≡ Some f → P f
 each-at P k none f h e = absurd (let z : ◌≡◌ {A = ℕ} 0 1 = cc in omega arith)
 each-at P zero (more g fs) f h e = let q : g ≡ f = cc in subst P q h.0
 each-at P (suc k) (more g fs) f h e = each-at P k fs f h.1 e
@@ -83,32 +83,32 @@ Front (suc k) (more f fs) = (tag_of f ≡ 0x10) × Front k fs
 
 -- 'imports precede other items'
 precede-cases : (f : Field) (fs : Fields) → imports_precede (more f fs) ≡ true →
-    ((tag_of f ≡ 0x10) × (imports_precede fs ≡ true)) ⊎ ((has 0x10 f ≡ false) × (find_field (has 0x10) fs ≡ nothing))
+    ((tag_of f ≡ 0x10) × (imports_precede fs ≡ true)) ⊎ ((has 0x10 f ≡ false) × (find_field (has 0x10) fs ≡ None))
 unfolding imports_precede
 precede-cases f fs h = go (has 0x10 f) refl h
   where
     go : (b : Bool) → has 0x10 f ≡ b → cond b (imports_precede fs) (not (is_some (find_field (has 0x10) fs))) ≡ true →
-        ((tag_of f ≡ 0x10) × (imports_precede fs ≡ true)) ⊎ ((has 0x10 f ≡ false) × (find_field (has 0x10) fs ≡ nothing))
+        ((tag_of f ≡ 0x10) × (imports_precede fs ≡ true)) ⊎ ((has 0x10 f ≡ false) × (find_field (has 0x10) fs ≡ None))
     go true q h = inl (eqb-true (tag_of f) 0x10 q, h)
     go false q h = inr (q, not-some (find_field (has 0x10) fs) h)
 
-found-at : (k : ℕ) (fs : Fields) (x : List ℕ) (cs : Fields) → item_at k fs ≡ some (field 0x10 x cs) → find_field (has 0x10) fs ≡ nothing → ⊥
+found-at : (k : ℕ) (fs : Fields) (x : List ℕ) (cs : Fields) → item_at k fs ≡ Some (field 0x10 x cs) → find_field (has 0x10) fs ≡ None → ⊥
 unfolding find_field
 found-at k none x cs e h = let z : ◌≡◌ {A = ℕ} 0 1 = cc in omega arith
-found-at zero (more f fs) x cs e h = let q : f ≡ field 0x10 x cs = cc in let w : find_field (has 0x10) (more f fs) ≡ some f = rw q in let z : ◌≡◌ {A = ℕ} 0 1 = cc in omega arith
+found-at zero (more f fs) x cs e h = let q : f ≡ field 0x10 x cs = cc in let w : find_field (has 0x10) (more f fs) ≡ Some f = rw q in let z : ◌≡◌ {A = ℕ} 0 1 = cc in omega arith
 found-at (suc k) (more f fs) x cs e h = go (has 0x10 f) h (found-at k fs x cs e)
   where
-    go : (b : Bool) → cond b (some f) (find_field (has 0x10) fs) ≡ nothing → (find_field (has 0x10) fs ≡ nothing → ⊥) → ⊥
+    go : (b : Bool) → cond b (Some f) (find_field (has 0x10) fs) ≡ None → (find_field (has 0x10) fs ≡ None → ⊥) → ⊥
     go true h j = let z : ◌≡◌ {A = ℕ} 0 1 = cc in omega arith
     go false h j = j h
 
 -- The one law that needs it: in front of an import stand imports. By induction on the place: an item that is none would have no import behind it
-pub front-imports : (k : ℕ) (fs : Fields) (x : List ℕ) (cs : Fields) → imports_precede fs ≡ true → item_at k fs ≡ some (field 0x10 x cs) → Front k fs
+pub front-imports : (k : ℕ) (fs : Fields) (x : List ℕ) (cs : Fields) → imports_precede fs ≡ true → item_at k fs ≡ Some (field 0x10 x cs) → Front k fs
 front-imports k none x cs h e = tt
 front-imports zero (more f fs) x cs h e = tt
 front-imports (suc k) (more f fs) x cs h e = go (precede-cases f fs h) (λ v. front-imports k fs x cs v e)
   where
-    go : ((tag_of f ≡ 0x10) × (imports_precede fs ≡ true)) ⊎ ((has 0x10 f ≡ false) × (find_field (has 0x10) fs ≡ nothing)) →
+    go : ((tag_of f ≡ 0x10) × (imports_precede fs ≡ true)) ⊎ ((has 0x10 f ≡ false) × (find_field (has 0x10) fs ≡ None)) →
         (imports_precede fs ≡ true → Front k fs) → (tag_of f ≡ 0x10) × Front k fs
     go (inl v) ih = (v.0, ih v.1)
     go (inr v) ih = absurd (found-at k fs x cs e v.1)
@@ -146,7 +146,7 @@ all-among t i (j ∷ l) h k = let a = both-true (t j) (all t l) h in go (same i 
     go false q k h ih = ih k
 
 -- the import at the place k is among the imports
-has-at : (i : List ℕ) (k : ℕ) (fs : Fields) (f : Field) → item_at k fs ≡ some f → tag_of f ≡ 0x10 → among i (locals_of f) ≡ true →
+has-at : (i : List ℕ) (k : ℕ) (fs : Fields) (f : Field) → item_at k fs ≡ Some f → tag_of f ≡ 0x10 → among i (locals_of f) ≡ true →
     (has_source (value_of (fixed_of f)) (imports_in fs) ≡ true) × (has_local i (imports_in fs) ≡ true)
 unfolding imports_in has_source has_local
 has-at i k none f e t m = absurd (let z : ◌≡◌ {A = ℕ} 0 1 = cc in omega arith)
@@ -165,7 +165,7 @@ has-at i (suc k) (more g fs) f e t m = go (has 0x10 g) (has-at i k fs f e t m)
 has-source : (b : List ℕ) (a : List ℕ) (l : List Field) → same b a ≡ true → has_source a l ≡ has_source b l
 has-source b a l q = ap (λ (x : List ℕ). has_source x l) (sym (same-equal b a q))
 
-pub shares-apart : (i : List ℕ) (k : ℕ) (fs : Fields) (f : Field) → shares_none (imports_in fs) ≡ true → item_at k fs ≡ some f → tag_of f ≡ 0x10 →
+pub shares-apart : (i : List ℕ) (k : ℕ) (fs : Fields) (f : Field) → shares_none (imports_in fs) ≡ true → item_at k fs ≡ Some f → tag_of f ≡ 0x10 →
     among i (locals_of f) ≡ true → EachBut (Apart i (value_of (fixed_of f))) k fs
 unfolding imports_in shares_none
 shares-apart i k none f h e t m = tt
@@ -252,7 +252,7 @@ pub record Mine (own : ℕ) (items : Fields) (i : List ℕ) : Type 0 where
   pub fit : fit_namespace (stands items i) i ≡ true
 
 pub mine-of : (own : ℕ) (items : Fields) (k : ℕ) (x i : List ℕ) (cs : Fields) → ShapedAll items (rule_of 0x01) → Well own items →
-    item_at k items ≡ some (field 0x10 x cs) → specifiers_in cs ≡ more (field 0x22 i none) none → Mine own items i
+    item_at k items ≡ Some (field 0x10 x cs) → specifiers_in cs ≡ more (field 0x22 i none) none → Mine own items i
 unfolding own_locals fit_namespaces local_ids all
 mine-of own items k x i cs shape w e q =
     let f = field 0x10 x cs in

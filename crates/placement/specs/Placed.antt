@@ -1,6 +1,6 @@
 -- 'Well placed', clause by clause. Document 01, 'Records and resolving'.
+use Rattle.std.specs.Prelude.{Option, None, Some}
 use Rattle.std.specs.Prelude.{ℕ, zero, suc, Bool, true, false, not, cond, ◌&&◌, ◌||◌, List, [], ◌∷◌}
-use Rattle.std.proofs.Math.Option.{Option, none as nothing, some}
 use Rattle.scope.specs.Id.{require_atom, local}
 use Rattle.tree.specs.Layout.{two, four, same, id_at, name_of, context_of, value_of}
 use Rattle.tree.specs.Tree.{Field, Fields, none, more, fixed_of, parts_of}
@@ -15,8 +15,8 @@ all p (a ∷ l) = p a && all p l
 
 -- the item at a place
 abbrev pub item_at : ℕ → Fields → Option Field
-item_at k none = nothing
-item_at zero (more f fs) = some f
+item_at k none = None
+item_at zero (more f fs) = Some f
 item_at (suc k) (more f fs) = item_at k fs
 
 -- the imports among the items, in order

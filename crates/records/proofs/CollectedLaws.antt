@@ -1,4 +1,5 @@
 -- Collected records as they are written: the imports of their source, what was made of those with their literal, one after another.
+use Rattle.std.specs.Prelude.{None, Some}
 use Prim.Native.Nat.{ℕ, ◌+◌, ◌-◌, ◌≤◌, ◌<◌}
 use native.Mathlib.Omega.{arith}
 use mathlib.Core.Path.{◌≡◌, refl, sym, ap, ap₂, ◌∙◌}
@@ -7,7 +8,6 @@ use mathlib.Core.List.{List, [], ◌++◌, map}
 use lib.Dec.{eqb}
 use lib.ListN.{length, get_or, drop}
 use borrow.Author.Tests.{eq-eqb, ne_eqb, lt-leb}
-use Rattle.tree.specs.declared.layout.Reach.TheVariants.{Upto, Short}
 use Rattle.tree.specs.Layout.{Bytes, same, two, value_of, literal_value, literal_at, same_literal}
 use Rattle.tree.specs.Tree.{Field, field, Fields, none, more, tag_of, fixed_of, parts_of, encode, encodes}
 use Rattle.tree.specs.Access.{fixed_at, extent_at}
@@ -58,7 +58,7 @@ unfolding row_at row row_on extent_at
 row-past s at end h = rw (lt-leb 3 (end - at) (omega arith)) refl
 
 -- the parts of a field that was read
-pub parts-read : {s : List ℕ} {at stop b : ℕ} → fixed_at s (get_or s at 0) (at + 3) stop ≡ Upto b → ReadAt s at stop → RowRead s b stop
+pub parts-read : {s : List ℕ} {at stop b : ℕ} → fixed_at s (get_or s at 0) (at + 3) stop ≡ Some b → ReadAt s at stop → RowRead s b stop
 parts-read e r = (_, read-parts r e)
 
 -- ---- The imports of a source
@@ -94,12 +94,12 @@ module _ (b : Bool) (v : List ℕ) (s : List ℕ) (at end : ℕ) where
   unfolding gathered
   imports-past h = sieve-nothing b (gathered v (row_at s at end)) (ap (gathered v) (row-past s at end h))
 
-  pub imports-none : at ≤ end → extent_at s at end ≡ Short → encodes (sieve b (gathered v (row_at s at end))) ≡ []
+  pub imports-none : at ≤ end → extent_at s at end ≡ None → encodes (sieve b (gathered v (row_at s at end))) ≡ []
   unfolding gathered
   imports-none le e = sieve-nothing b (gathered v (row_at s at end)) (ap (gathered v) (row-none s at end le e))
 
 module _ (b : Bool) (v : List ℕ) (s : List ℕ) (at : ℕ) where
-  pub imports-more : (stop : ℕ) → at ≤ length s → extent_at s at (length s) ≡ Upto stop →
+  pub imports-more : (stop : ℕ) → at ≤ length s → extent_at s at (length s) ≡ Some stop →
       encodes (sieve b (gathered v (row_at s at (length s)))) ≡ encodes (sieve b (gathered_of v (item_at s at))) ++ encodes (sieve b (gathered v (row_at s stop (length s))))
   unfolding gathered
   imports-more stop le e =
@@ -127,16 +127,16 @@ module _ (s : List ℕ) (at : ℕ) (l : List ℕ) where
     whole-differs e = sym (by-literal ∙ ap (λ (c : Bool). c && is_namespace (sole (specifiers_in (row_at s (at + 9) stop)))) e)
 
 module _ (b : Bool) (s : List ℕ) (at : ℕ) where
-  pub named-nowhere : extent_at s at (length s) ≡ Short → encodes (sieve b (named_parts (item_at s at))) ≡ []
+  pub named-nowhere : extent_at s at (length s) ≡ None → encodes (sieve b (named_parts (item_at s at))) ≡ []
   unfolding named_parts keep
   named-nowhere e = sieve-nothing b (named_parts (item_at s at)) (ap named_parts (item-none s at e))
 
-  module _ (stop : ℕ) (x : extent_at s at (length s) ≡ Upto stop) where
-    pub named-short : fixed_at s (get_or s at 0) (at + 3) stop ≡ Short → encodes (sieve b (named_parts (item_at s at))) ≡ []
+  module _ (stop : ℕ) (x : extent_at s at (length s) ≡ Some stop) where
+    pub named-short : fixed_at s (get_or s at 0) (at + 3) stop ≡ None → encodes (sieve b (named_parts (item_at s at))) ≡ []
     unfolding named_parts keep
     named-short e = sieve-nothing b (named_parts (item_at s at)) (ap named_parts (item-is s at stop x ∙ tree-short s at stop e))
 
-    module _ (c : ℕ) (e : fixed_at s (get_or s at 0) (at + 3) stop ≡ Upto c) where
+    module _ (c : ℕ) (e : fixed_at s (get_or s at 0) (at + 3) stop ≡ Some c) where
       by-start : named_parts (item_at s at) ≡ cond (starts_named (specifiers_in (row_at s c stop))) (specifiers_in (row_at s c stop)) none
       unfolding named_parts
       by-start = ap named_parts (item-is s at stop x ∙ tree-upto s at stop c e)
@@ -180,15 +180,15 @@ module _ (b : Bool) (l : List ℕ) (s : List ℕ) (at end : ℕ) (r : List ℕ) 
   pub taken-past-out : end' < at' → encodes (sieve b (taken l (row_at s at end) (row_at r at' end'))) ≡ []
   taken-past-out h = sieve-nothing b (taken l (row_at s at end) (row_at r at' end')) (ap (taken l (row_at s at end)) (row-past r at' end' h) ∙ taken-end l (row_at s at end))
 
-  pub taken-none : at ≤ end → extent_at s at end ≡ Short → encodes (sieve b (taken l (row_at s at end) (row_at r at' end'))) ≡ []
+  pub taken-none : at ≤ end → extent_at s at end ≡ None → encodes (sieve b (taken l (row_at s at end) (row_at r at' end'))) ≡ []
   taken-none le e = sieve-nothing b (taken l (row_at s at end) (row_at r at' end')) (ap (λ (ws : Fields). taken l ws (row_at r at' end')) (row-none s at end le e)
       ∙ taken-start l (row_at r at' end'))
 
-  pub taken-none-out : at' ≤ end' → extent_at r at' end' ≡ Short → encodes (sieve b (taken l (row_at s at end) (row_at r at' end'))) ≡ []
+  pub taken-none-out : at' ≤ end' → extent_at r at' end' ≡ None → encodes (sieve b (taken l (row_at s at end) (row_at r at' end'))) ≡ []
   taken-none-out le e = sieve-nothing b (taken l (row_at s at end) (row_at r at' end')) (ap (taken l (row_at s at end)) (row-none r at' end' le e) ∙ taken-end l (row_at s at end))
 
 module _ (b : Bool) (l : List ℕ) (s : List ℕ) (at : ℕ) (r : List ℕ) (at' : ℕ) where
-  pub taken-more : (stop stop' : ℕ) → at ≤ length s → extent_at s at (length s) ≡ Upto stop → at' ≤ length r → extent_at r at' (length r) ≡ Upto stop' →
+  pub taken-more : (stop stop' : ℕ) → at ≤ length s → extent_at s at (length s) ≡ Some stop → at' ≤ length r → extent_at r at' (length r) ≡ Some stop' →
       encodes (sieve b (taken l (row_at s at (length s)) (row_at r at' (length r)))) ≡ encodes (sieve b (taken_of l (item_at s at) (item_at r at'))) ++
       encodes (sieve b (taken l (row_at s stop (length s)) (row_at r stop' (length r))))
   unfolding taken

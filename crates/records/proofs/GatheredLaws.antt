@@ -1,9 +1,9 @@
 -- After the first pass each collected record has the specifiers that the imports of its source have in the walked tree.
+use Rattle.std.specs.Prelude.{Option, None, Some}
 use Prim.Native.Nat.{ℕ, ◌+◌}
 use mathlib.Core.Path.{◌≡◌, refl, sym, ap, subst, ◌∙◌}
 use mathlib.Core.Bool.{Bool, true, false, cond, ◌&&◌, true≢false}
 use mathlib.Core.List.{List, [], ◌∷◌}
-use mathlib.Core.Option.{Option, none as nothing, some}
 use lib.Dec.{eqb}
 use lib.ListN.{get_or}
 use borrow.Author.Tests.{eqb-true, eqb-false, ne_eqb}
@@ -146,8 +146,8 @@ module _ (e : Setting) where
       after-bind (note_all n fs (p + size f) s) _ (λ gs s'. Meets not_attributes gs) (λ gs s'. Meets not_attributes gs) (all-meet n fs (p + size f) s h.1) λ gs s w. (k, w)
 
   noted-meet : (o : Option ℕ) (fs : Fields) (p : ℕ) (s : State) → Meets not_attributes fs → After (note_specifiers o fs p s) (λ gs s'. Meets not_attributes gs)
-  noted-meet nothing fs p s h = h
-  noted-meet (some n) fs p s h = all-meet n fs p s h
+  noted-meet None fs p s h = h
+  noted-meet (Some n) fs p s h = all-meet n fs p s h
 
   module _ (v : List ℕ) (own : among v e.externals ≡ false) where
     -- the record of the source gets what the item g gathers

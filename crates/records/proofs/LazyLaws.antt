@@ -1,14 +1,13 @@
 -- Lazy records and forced sources, one by one as they are written.
+use Rattle.std.specs.Prelude.{Option, None, Some}
 use Prim.Native.Nat.{ℕ, ◌+◌, ◌-◌, ◌/◌, ◌%◌, ◌≤◌, ◌<◌}
 use native.Mathlib.Omega.{arith}
 use mathlib.Core.Path.{◌≡◌, refl, sym, ap, ap₂, ◌∙◌}
-use mathlib.Core.Bool.{Bool, cond}
+use mathlib.Core.Bool.{Bool, true, false, cond}
 use mathlib.Core.List.{List, [], ◌∷◌, ◌++◌}
-use lib.Dec.{ltb}
+use lib.Dec.{leb, ltb}
 use lib.ListN.{length, drop}
 use borrow.Author.Tests.{le-leb, lt-leb, eq-eqb, ne_eqb, lt-ltb, le-ltb}
-use Rattle.tree.specs.declared.layout.Reach.{Reach}
-use Rattle.tree.specs.declared.layout.Reach.TheVariants.{Upto, Short}
 use Rattle.tree.specs.Layout.{two}
 use Rattle.tree.specs.Tree.{Field, field, none, framed as framed_field, encode, encodes}
 use Rattle.tree.specs.Access.{extent_at}
@@ -27,22 +26,23 @@ use Rattle.records.specs.Writes.{pattern_on, pattern_at, placed, literal_in, Pla
 -- ---- The pattern at a place
 
 module _ (s : List ℕ) (at : ℕ) where
-  pub pattern-past : {l : List ℕ} {o : ℕ} → length s < at → Wrote l o (encodes (pattern_at s at)) l o
-  unfolding pattern_at encodes
-  pattern-past h = wrote-as wrote-none (sym (ap (λ (b : Bool). encodes (cond b (pattern_on (extent_at s at (length s)) s at) none)) (lt-leb at (length s) h)))
-
-  here : at ≤ length s → (r : Reach) → extent_at s at (length s) ≡ r → pattern_at s at ≡ pattern_on r s at
+  here : at ≤ length s → (r : Option ℕ) → extent_at s at (length s) ≡ r → pattern_at s at ≡ pattern_on r s at
   unfolding pattern_at
-  here h r e = ap (λ (b : Bool). cond b (pattern_on (extent_at s at (length s)) s at) none) (le-leb at (length s) h) ∙ ap (λ (k : Reach). pattern_on k s at) e
+  here h r e = ap (λ (b : Bool). cond b (pattern_on (extent_at s at (length s)) s at) none) (le-leb at (length s) h) ∙ ap (λ (k : Option ℕ). pattern_on k s at) e
 
-  pub pattern-none : {l : List ℕ} {o : ℕ} → at ≤ length s → extent_at s at (length s) ≡ Short → Wrote l o (encodes (pattern_at s at)) l o
-  unfolding pattern_on encodes
-  pattern-none h e = wrote-as wrote-none (sym (ap encodes (here h Short e)))
+  pub pattern-none : {l : List ℕ} {o : ℕ} → extent_at s at (length s) ≡ None → Wrote l o (encodes (pattern_at s at)) l o
+  unfolding pattern_at pattern_on encodes
+  pattern-none e =
+      wrote-as wrote-none (sym (ap (λ (k : Option ℕ). encodes (cond (leb at (length s)) (pattern_on k s at) none)) e ∙ by (leb at (length s))))
+    where
+      by : (b : Bool) → encodes (cond b (pattern_on None s at) none) ≡ []
+      by true = refl
+      by false = refl
 
-  pub pattern-here : {l l' : List ℕ} {o p stop : ℕ} → at ≤ length s → extent_at s at (length s) ≡ Upto stop →
+  pub pattern-here : {l l' : List ℕ} {o p stop : ℕ} → at ≤ length s → extent_at s at (length s) ≡ Some stop →
       Wrote l o (encodes (bindings (tree_at s at stop))) l' p → Wrote l o (encodes (pattern_at s at)) l' p
   unfolding pattern_on
-  pattern-here {stop = stop} h e w = wrote-as w (sym (ap encodes (here h (Upto stop) e)))
+  pattern-here {stop = stop} h e w = wrote-as w (sym (ap encodes (here h (Some stop) e)))
 
 module _ (tree work : List ℕ) (q : ℕ) where
   pub placed-none : {l : List ℕ} {o : ℕ} → q ≡ 0 → Wrote l o (encodes (placed tree work q)) l o
@@ -53,11 +53,11 @@ module _ (tree work : List ℕ) (q : ℕ) where
   unfolding placed
   behind n = ap (λ (b : Bool). cond b none (cond (ltb q 65536) (pattern_at tree q) (pattern_at work (q - 65536)))) (ne_eqb q 0 n)
 
-  pub placed-tree : {l l' : List ℕ} {o p : ℕ} → (q ≡ 0 → ⊥) → q < 65536 → Wrote l o (encodes (pattern_at tree q)) l' p → Wrote l o (encodes (placed tree work q)) l' p
-  placed-tree n h w = wrote-as w (sym (ap encodes (behind n ∙ ap (λ (b : Bool). cond b (pattern_at tree q) (pattern_at work (q - 65536))) (lt-ltb q 65536 h))))
+  pub placed-tree : (q ≡ 0 → ⊥) → q < 65536 → placed tree work q ≡ pattern_at tree q
+  placed-tree n h = behind n ∙ ap (λ (b : Bool). cond b (pattern_at tree q) (pattern_at work (q - 65536))) (lt-ltb q 65536 h)
 
-  pub placed-work : {l l' : List ℕ} {o p : ℕ} → (q ≡ 0 → ⊥) → 65536 ≤ q → Wrote l o (encodes (pattern_at work (q - 65536))) l' p → Wrote l o (encodes (placed tree work q)) l' p
-  placed-work n h w = wrote-as w (sym (ap encodes (behind n ∙ ap (λ (b : Bool). cond b (pattern_at tree q) (pattern_at work (q - 65536))) (le-ltb q 65536 h))))
+  pub placed-work : (q ≡ 0 → ⊥) → 65536 ≤ q → placed tree work q ≡ pattern_at work (q - 65536)
+  placed-work n h = behind n ∙ ap (λ (b : Bool). cond b (pattern_at tree q) (pattern_at work (q - 65536))) (le-ltb q 65536 h)
 
 -- ---- One entry more
 

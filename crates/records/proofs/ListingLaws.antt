@@ -1,15 +1,15 @@
 -- The places of imports that a sweep lists: what stands there, and that listing an import, or passing another item, keeps the list true.
+use Rattle.std.specs.Prelude.{Option, None, Some}
+use Rattle.std.proofs.lemmas.List.{length-map}
 use Prim.Native.Nat.{ℕ, zero, suc, ◌+◌, ◌*◌, ◌/◌, ◌%◌, ◌≤◌, ◌<◌}
 use native.Mathlib.Omega.{arith}
 use mathlib.Core.Path.{◌≡◌, refl, sym, ap, ap₂, subst, ◌∙◌}
 use mathlib.Core.Bool.{Bool, true, false, cond, ◌&&◌}
-use mathlib.Core.List.{List, [], ◌∷◌, ◌++◌, append_assoc, append-nil}
+use mathlib.Core.List.{List, [], ◌∷◌, ◌++◌, append_assoc, append-nil, map-append}
 use lib.Dec.{leb, eqb}
-use lib.ListN.{length, get_or, set, take, replicate, length-set, length-append, length-replicate, get_or-replicate, get_or-append}
-use lib.Seq.{slice, drop-cons, get_or-take, length-take-le, get_or-append_seam, get_or-set_same, get_or-set_other}
+use lib.ListN.{length, get_or, get_or-map, take, replicate, length-replicate, get_or-replicate}
+use lib.Seq.{slice, drop-cons, get_or-take, length-take-le}
 use borrow.Author.Tests.{le-leb, leb-true, leb-false, eqb-true, eqb-false}
-use Rattle.tree.specs.declared.layout.Reach.{Reach}
-use Rattle.tree.specs.declared.layout.Reach.TheVariants.{Upto, Short}
 use Rattle.tree.specs.Layout.{same, two, value_of, literal_value, same_literal}
 use Rattle.tree.specs.Tree.{Field, none, tag_of, fixed_of, parts_of, encodes}
 use Rattle.tree.specs.Access.{extent_at}
@@ -23,43 +23,43 @@ use Rattle.extraction_rules.specs.First.{specifiers_in}
 use Rattle.steps.proofs.SoundLaws.{row-read}
 use Rattle.records.specs.Model.{gathered_of, gathered, is_namespace, whole_of, taken_of, taken}
 use Rattle.records.specs.Writes.{WroteIf, RowRead, sieve, items_in, item_at, ItemRead}
-use Rattle.records.specs.Listing.{Place, work_of, out_of, import_bytes, pair_bytes, spread, EachRead, Listed, Paired, chain_at, chain_in, place_in, places_in, Unchained, Lists}
+use Rattle.records.specs.declared.places.Import.{Import}
+use Rattle.records.specs.Listing.{
+  Place,
+  work_of,
+  out_of,
+  import_bytes,
+  pair_bytes,
+  spread,
+  EachRead,
+  Listed,
+  Paired,
+  chain_at,
+  chain_in,
+  no_import,
+  place_of,
+  place_in,
+  places_in,
+  Unchained,
+  Lists,
+}
 use Rattle.records.proofs.SpecifierLaws.{item-is, item-none, item-read, extent-past, tag-import, import-is}
 use Rattle.records.proofs.CollectedLaws.{sieve-nothing, imports-more, pair-other, taken-more}
 
--- ---- The places in the array
+-- ---- The places in the list
 
 abbrev pub nowhere : Place
 nowhere = (0, 0)
 
-pub places-length : (a : List ℕ) (n : ℕ) → length (places_in a n) ≡ n
-unfolding places_in
-places-length a zero = refl
-places-length a (suc n) = let z = places-length a n in let y = length-append (places_in a n) (place_in a n ∷ []) in omega arith
+pub places-length : (l : List Import) → length (places_in l) ≡ length l
+places-length l = length-map l place_of
 
-pub places-at : (a : List ℕ) (n i : ℕ) → i < n → get_or (places_in a n) i nowhere ≡ place_in a i
-unfolding places_in
-places-at a zero i h = absurd (omega arith)
-places-at a (suc n) i h = by (eqb i n) refl (places-at a n i)
-  where
-    by : (c : Bool) → eqb i n ≡ c → (i < n → get_or (places_in a n) i nowhere ≡ place_in a i) → get_or (places_in a n ++ (place_in a n ∷ [])) i nowhere ≡ place_in a i
-    by true q r =
-        let e = eqb-true i n q in
-        ap (λ (j : ℕ). get_or (places_in a n ++ (place_in a n ∷ [])) j nowhere) (e ∙ sym (places-length a n))
-        ∙ get_or-append_seam (places_in a n) (place_in a n) [] nowhere ∙ ap (place_in a) (sym e)
-    by false q r =
-        let e = eqb-false i n q in
-        let l = places-length a n in
-        get_or-append (places_in a n) (place_in a n ∷ []) nowhere i (omega arith) ∙ r (omega arith)
+pub places-at : (l : List Import) (i : ℕ) → get_or (places_in l) i nowhere ≡ place_in l i
+places-at l i = get_or-map place_of l i no_import
 
-pub places-agree : (a b : List ℕ) (n : ℕ) → ((i : ℕ) → i < n → place_in a i ≡ place_in b i) → places_in a n ≡ places_in b n
-unfolding places_in
-places-agree a b zero h = refl
-places-agree a b (suc n) h = ap₂ (λ (ps : List Place) (p : Place). ps ++ (p ∷ [])) (places-agree a b n (λ i k. h i (omega arith))) (h n (omega arith))
-
--- arrays that agree in the cells of a place
-pub place-agree : (a b : List ℕ) (i : ℕ) → get_or a (2049 + 3 * i) 0 ≡ get_or b (2049 + 3 * i) 0 → get_or a (2050 + 3 * i) 0 ≡ get_or b (2050 + 3 * i) 0 → place_in a i ≡ place_in b i
-place-agree a b i e f = ap₂ (λ (x y : ℕ). (x, y)) e f
+-- an import more
+places-more : (l : List Import) (i : Import) → places_in (l ++ (i ∷ [])) ≡ places_in l ++ (place_of i ∷ [])
+places-more l i = map-append place_of l (i ∷ [])
 
 -- ---- The source of an import by its bytes
 
@@ -80,7 +80,7 @@ SourceAt s at f = (at + 9 ≤ length s) × (value_of (fixed_of f) ≡ get_or s (
 item-source : (s : List ℕ) (at : ℕ) → tag_of (item_at s at) ≡ 0x10 → SourceAt s at (item_at s at)
 item-source s at h = by (extent_at s at (length s)) refl
   where
-    some : (b : Bool) (stop : ℕ) → leb at (length s) ≡ b → extent_at s at (length s) ≡ Upto stop → SourceAt s at (item_at s at)
+    some : (b : Bool) (stop : ℕ) → leb at (length s) ≡ b → extent_at s at (length s) ≡ Some stop → SourceAt s at (item_at s at)
     some true stop q e =
         let i = import-is s at stop (leb-true at (length s) q) e (sym (ap tag_of (item-is s at stop e)) ∙ h) in
         let u = i.inside in
@@ -91,9 +91,9 @@ item-source s at h = by (extent_at s at (length s)) refl
         )
     some false stop q e = absurd (no-upto (sym (extent-past s at (length s) (leb-false at (length s) q)) ∙ e))
 
-    by : (r : Reach) → extent_at s at (length s) ≡ r → SourceAt s at (item_at s at)
-    by (Upto stop) e = some (leb at (length s)) stop refl e
-    by Short e = absurd (let z : 0 ≡ 0x10 = sym (ap tag_of (item-none s at e)) ∙ h in omega arith)
+    by : (r : Option ℕ) → extent_at s at (length s) ≡ r → SourceAt s at (item_at s at)
+    by (Some stop) e = some (leb at (length s)) stop refl e
+    by None e = absurd (let z : 0 ≡ 0x10 = sym (ap tag_of (item-none s at e)) ∙ h in omega arith)
 
 -- ---- Items of which nothing is written
 
@@ -189,9 +189,9 @@ paired-start : (work out : List ℕ) → Paired work out [] 3 3
 unfolding spread
 paired-start work out = record { is = λ b l. refl; read = λ r. (tt, r) }
 
-module _ (work : List ℕ) (at stop : ℕ) (le : at ≤ length work) (e : extent_at work at (length work) ≡ Upto stop) where
-  no_import : (get_or work at 0 ≡ 0x10 → ⊥) → tag_of (item_at work at) ≡ 0x10 → ⊥
-  no_import h t = h (tag-import work at stop (sym (ap tag_of (item-is work at stop e)) ∙ t))
+module _ (work : List ℕ) (at stop : ℕ) (le : at ≤ length work) (e : extent_at work at (length work) ≡ Some stop) where
+  not_import : (get_or work at 0 ≡ 0x10 → ⊥) → tag_of (item_at work at) ≡ 0x10 → ⊥
+  not_import h t = h (tag-import work at stop (sym (ap tag_of (item-is work at stop e)) ∙ t))
 
   listed-more : (ps : List Place) (made : ℕ) → Listed work ps at → Listed work (ps ++ ((at, made) ∷ [])) stop
   unfolding import_bytes
@@ -209,11 +209,11 @@ module _ (work : List ℕ) (at stop : ℕ) (le : at ≤ length work) (e : extent
       record {
         is = λ b v.
             spread-pass (import_bytes b v work) ps _ _ _ _ (i.is b v) (imports-more b v work at stop le e)
-            (import-absent b v (item_at work at) (λ t _. no_import h t));
+            (import-absent b v (item_at work at) (λ t _. not_import h t));
         read = λ r. let a = i.read r in let b = row-read a.1.0 le (omega arith) a.1.1 e in (a.0, (b.1.0, b.1.2));
       }
 
-  module _ (out : List ℕ) (made until : ℕ) (le' : made ≤ length out) (e' : extent_at out made (length out) ≡ Upto until) where
+  module _ (out : List ℕ) (made until : ℕ) (le' : made ≤ length out) (e' : extent_at out made (length out) ≡ Some until) where
     paired-more : (ps : List Place) → Paired work out ps at made → Paired work out (ps ++ ((at, made) ∷ [])) stop until
     unfolding pair_bytes
     paired-more ps i =
@@ -230,86 +230,27 @@ module _ (work : List ℕ) (at stop : ℕ) (le : at ≤ length work) (e : extent
         record {
           is = λ b l.
               spread-pass (pair_bytes b l work out) ps _ _ _ _ (i.is b l) (taken-more b l work at out made stop until le e le' e')
-              (pair-absent b l (item_at work at) (item_at out made) (λ t _. no_import h t));
+              (pair-absent b l (item_at work at) (item_at out made) (λ t _. not_import h t));
           read = λ r. let a = i.read r in let b = row-read a.1.0 le' (omega arith) a.1.1 e' in (a.0, (b.1.0, b.1.2));
         }
 
-    -- a place more in the array
-    module _ (a : List ℕ) (n : ℕ) (few : n < 3641) (u : Unchained a) where
-      abbrev put1 : List ℕ
-      put1 = set a (2049 + 3 * n) at
+    -- an import more in the list, or an item that is none
+    pub lists-more : (l : List Import) (i : Import) → place_of i ≡ (at, made) → Lists work out l at made → Lists work out (l ++ (i ∷ [])) stop until
+    lists-more l i q w =
+        let e : places_in (l ++ (i ∷ [])) ≡ places_in l ++ ((at, made) ∷ []) = places-more l i ∙ ap (λ (p : Place). places_in l ++ (p ∷ [])) q in
+        record {
+          listed = subst (λ (ps : List Place). Listed work ps stop) (sym e) (listed-more (places_in l) made w.listed);
+          paired = subst (λ (ps : List Place). Paired work out ps stop until) (sym e) (paired-more (places_in l) w.paired);
+        }
 
-      abbrev put2 : List ℕ
-      put2 = set put1 (2050 + 3 * n) made
+    pub lists-pass : (l : List Import) → (get_or work at 0 ≡ 0x10 → ⊥) → Lists work out l at made → Lists work out l stop until
+    lists-pass l h w = record { listed = listed-pass (places_in l) h w.listed; paired = paired-pass (places_in l) h w.paired }
 
-      put-other : (j : ℕ) → (j ≡ 2049 + 3 * n → ⊥) → (j ≡ 2050 + 3 * n → ⊥) → get_or put2 j 0 ≡ get_or a j 0
-      put-other j x y = get_or-set_other put1 (2050 + 3 * n) j made 0 y ∙ get_or-set_other a (2049 + 3 * n) j at 0 x
+pub lists-start : (work out : List ℕ) → Lists work out [] 3 3
+lists-start work out = record { listed = listed-start work; paired = paired-start work out }
 
-      put-cells : length put2 ≡ 12974
-      put-cells = length-set put1 (2050 + 3 * n) made ∙ length-set a (2049 + 3 * n) at ∙ u.cells
-
-      put-unchained : Unchained put2
-      put-unchained = record { cells = put-cells; ends = λ k h. put-other k (λ z. omega arith) (λ z. omega arith) ∙ u.ends k h }
-
-      put-places : places_in put2 (n + 1) ≡ places_in a n ++ ((at, made) ∷ [])
-      unfolding places_in
-      put-places =
-          let l = u.cells in
-          let m = length-set a (2049 + 3 * n) at in
-          let z : n + 1 ≡ suc n = omega arith in
-          ap (places_in put2) z
-          ∙ ap₂ (λ (ps : List Place) (p : Place). ps ++ (p ∷ []))
-          (places-agree put2 a n (λ i h. place-agree put2 a i (put-other (2049 + 3 * i) (λ e. omega arith) (λ e. omega arith)) (put-other (2050 + 3 * i) (λ e. omega arith) (λ e. omega arith))))
-          (ap₂ (λ (x y : ℕ). (x, y))
-          (get_or-set_other put1 (2050 + 3 * n) (2049 + 3 * n) made 0 (λ e. omega arith) ∙ get_or-set_same a (2049 + 3 * n) at 0 (omega arith))
-          (get_or-set_same put1 (2050 + 3 * n) made 0 (omega arith)))
-
-    pub lists-step : (a a' : List ℕ) (n n' : ℕ) → n < 3641 → stop ≤ 65536 → until ≤ 65536 → Unchained a → Lists work out a n at made →
-        (get_or work at 0 ≡ 0x10 → (n' ≡ n + 1) × (a' ≡ set (set a (2049 + 3 * n) at) (2050 + 3 * n) made)) ×
-        ((get_or work at 0 ≡ 0x10 → ⊥) → (n' ≡ n) × (a' ≡ a)) → Lists work out a' n' stop until × Unchained a'
-    lists-step a a' n n' few low low' u i w = by (eqb (get_or work at 0) 0x10) refl
-      where
-        reached : Lists work out a n at made → (3 ≤ stop) × (stop ≤ 65536)
-        reached l = let x = extent-upto work at (length work) le e in let y = l.low.0 in let z = x.0 in (omega arith, low)
-
-        reached_out : Lists work out a n at made → (3 ≤ until) × (until ≤ 65536)
-        reached_out l = let x = extent-upto out made (length out) le' e' in let y = l.low_out.0 in let z = x.0 in (omega arith, low')
-
-        by : (c : Bool) → eqb (get_or work at 0) 0x10 ≡ c → Lists work out a' n' stop until × Unchained a'
-        by true q =
-            let k = w.0 (eqb-true (get_or work at 0) 0x10 q) in
-            subst (λ (m : ℕ). Lists work out a' m stop until × Unchained a') (sym k.0)
-            (subst (λ (l : List ℕ). Lists work out l (n + 1) stop until × Unchained l) (sym k.1) (
-              record {
-                few = omega arith;
-                low = reached i;
-                low_out = reached_out i;
-                listed = subst (λ (ps : List Place). Listed work ps stop) (sym (put-places a n few u)) (listed-more (places_in a n) made i.listed);
-                paired = subst (λ (ps : List Place). Paired work out ps stop until) (sym (put-places a n few u)) (paired-more (places_in a n) i.paired);
-              },
-              put-unchained a n few u,
-            ))
-        by false q =
-            let h = eqb-false (get_or work at 0) 0x10 q in
-            let k = w.1 h in
-            subst (λ (m : ℕ). Lists work out a' m stop until × Unchained a') (sym k.0)
-            (subst (λ (l : List ℕ). Lists work out l n stop until × Unchained l) (sym k.1) (
-              record {
-                few = i.few;
-                low = reached i;
-                low_out = reached_out i;
-                listed = listed-pass (places_in a n) h i.listed;
-                paired = paired-pass (places_in a n) h i.paired;
-              },
-              u,
-            ))
-
-pub lists-start : (work out a : List ℕ) → Lists work out a 0 3 3
-unfolding places_in
-lists-start work out a = record { few = omega arith; low = (omega arith, omega arith); low_out = (omega arith, omega arith); listed = listed-start work; paired = paired-start work out }
-
-pub unchained-start : Unchained (replicate 12974 3641)
-unchained-start = record { cells = length-replicate {A = ℕ} 12974 3641; ends = λ k h. get_or-replicate 12974 k 3641 0 (omega arith) }
+pub unchained-start : Unchained (replicate 2048 3641)
+unchained-start = record { cells = length-replicate {A = ℕ} 2048 3641; ends = λ k h. get_or-replicate 2048 k 3641 0 (omega arith) }
 
 -- ---- With the items behind, all
 

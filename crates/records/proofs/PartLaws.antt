@@ -1,8 +1,8 @@
 -- The specifiers of an import, read back from what is written of it.
+use Rattle.std.specs.Prelude.{Option}
 use Prim.Native.Nat.{ℕ}
 use mathlib.Core.Path.{◌≡◌, refl}
 use mathlib.Core.List.{List, [], ◌∷◌}
-use mathlib.Core.Option.{Option}
 use Rattle.tree.specs.Tree.{Fields}
 use Rattle.metadata.specs.Metadata.{append}
 use Rattle.extraction_rules.specs.State.{Usage}

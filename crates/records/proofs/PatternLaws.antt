@@ -1,4 +1,5 @@
 -- The binding ids of the pattern that stands in bytes, and their bytes: way by way through the code that writes them.
+use Rattle.std.specs.Prelude.{None, Some}
 use Prim.Native.Nat.{ℕ, ◌+◌, ◌≤◌}
 use mathlib.Core.Path.{◌≡◌, refl, sym, ap, ◌∙◌}
 use mathlib.Core.Logic.{◌⊎◌, inl, inr}
@@ -7,7 +8,6 @@ use native.Mathlib.Omega.{arith}
 use lib.ListN.{length, get_or}
 use lib.Seq.{slice}
 use borrow.Author.Tests.{ne_eqb}
-use Rattle.tree.specs.declared.layout.Reach.TheVariants.{Upto, Short}
 use Rattle.tree.specs.Layout.{id_at}
 use Rattle.tree.specs.Tree.{Field, field, Fields, none, more, encode, encodes}
 use Rattle.tree.specs.Access.{fixed_at, extent_at}
@@ -45,11 +45,11 @@ below-other t a b c = rw (ne_eqb t 0x50 a, ne_eqb t 0x54 b, ne_eqb t 0x55 c)
 
 module _ (s : List ℕ) (at stop : ℕ) where
   -- a field that is not whole
-  pub bindings-short : {l : List ℕ} {o : ℕ} → fixed_at s (get_or s at 0) (at + 3) stop ≡ Short → Wrote l o (encodes (bindings (tree_at s at stop))) l o
+  pub bindings-short : {l : List ℕ} {o : ℕ} → fixed_at s (get_or s at 0) (at + 3) stop ≡ None → Wrote l o (encodes (bindings (tree_at s at stop))) l o
   unfolding bindings binding_of encodes
   bindings-short e = wrote-as wrote-none (sym (ap (λ (f : Field). encodes (bindings f)) (tree-short s at stop e)))
 
-  module _ (b : ℕ) (e : fixed_at s (get_or s at 0) (at + 3) stop ≡ Upto b) where
+  module _ (b : ℕ) (e : fixed_at s (get_or s at 0) (at + 3) stop ≡ Some b) where
     by-tag : (k : Binding) → binding_of (get_or s at 0) ≡ k → bindings (tree_at s at stop) ≡ bindings_by k (slice (at + 3) b s) (row_at s b stop)
     by-tag k h = ap bindings (tree-upto s at stop b e) ∙ bindings-by (get_or s at 0) (slice (at + 3) b s) (row_at s b stop) k h
 
@@ -84,20 +84,20 @@ module _ (s : List ℕ) (at stop : ℕ) where
 -- ---- Rows
 
 module _ (s : List ℕ) (at end : ℕ) (le : at ≤ end) where
-  pub first-none : {l : List ℕ} {o : ℕ} → extent_at s at end ≡ Short → Wrote l o (encodes (bindings_first (row_at s at end))) l o
+  pub first-none : {l : List ℕ} {o : ℕ} → extent_at s at end ≡ None → Wrote l o (encodes (bindings_first (row_at s at end))) l o
   unfolding bindings_first encodes
   first-none e = wrote-as wrote-none (sym (ap (λ (fs : Fields). encodes (bindings_first fs)) (row-none s at end le e)))
 
-  pub first-more : {l l' : List ℕ} {o p stop : ℕ} → extent_at s at end ≡ Upto stop → Wrote l o (encodes (bindings (tree_at s at stop))) l' p →
+  pub first-more : {l l' : List ℕ} {o p stop : ℕ} → extent_at s at end ≡ Some stop → Wrote l o (encodes (bindings (tree_at s at stop))) l' p →
       Wrote l o (encodes (bindings_first (row_at s at end))) l' p
   unfolding bindings_first
   first-more {stop = stop} e v = wrote-as v (sym (ap (λ (fs : Fields). encodes (bindings_first fs)) (row-more s at end stop le e)))
 
-  pub all-none : {l : List ℕ} {o : ℕ} → extent_at s at end ≡ Short → Wrote l o (encodes (bindings_all (row_at s at end))) l o
+  pub all-none : {l : List ℕ} {o : ℕ} → extent_at s at end ≡ None → Wrote l o (encodes (bindings_all (row_at s at end))) l o
   unfolding bindings_all encodes
   all-none e = wrote-as wrote-none (sym (ap (λ (fs : Fields). encodes (bindings_all fs)) (row-none s at end le e)))
 
-  pub all-more : {l l' l'' : List ℕ} {o p q stop : ℕ} → extent_at s at end ≡ Upto stop → Wrote l o (encodes (bindings (tree_at s at stop))) l' p →
+  pub all-more : {l l' l'' : List ℕ} {o p q stop : ℕ} → extent_at s at end ≡ Some stop → Wrote l o (encodes (bindings (tree_at s at stop))) l' p →
       Wrote l' p (encodes (bindings_all (row_at s stop end))) l'' q → Wrote l o (encodes (bindings_all (row_at s at end))) l'' q
   unfolding bindings_all
   all-more {stop = stop} e v w =

@@ -1,8 +1,8 @@
 -- The collected records of a run are those that the trees after both passes tell.
+use Rattle.std.specs.Prelude.{Option, None, Some}
 use Prim.Native.Nat.{ℕ}
 use mathlib.Core.Path.{◌≡◌, refl, sym, ap, ap₂, ◌∙◌}
 use mathlib.Core.List.{List, [], ◌∷◌, map}
-use mathlib.Core.Option.{Option, none as nothing, some}
 use Rattle.scope.specs.Modules.{Modules}
 use Rattle.tree.specs.Layout.{value_of}
 use Rattle.tree.specs.Tree.{Fields}
@@ -33,8 +33,8 @@ AsBefore s s' = (s'.collected ≡ s.collected) × (s'.forced ≡ s.forced)
 
 wrap-stays : (o : Option ℕ) (s : State) → After (wrap_module o s) (λ _ s'. AsBefore s s')
 unfolding wrap_module
-wrap-stays nothing s = (refl, refl)
-wrap-stays (some n) s = (refl, refl)
+wrap-stays None s = (refl, refl)
+wrap-stays (Some n) s = (refl, refl)
 
 wraps-stay : (e : Setting) (l : List (List ℕ)) (s : State) → After (wrap_all e l s) (λ _ s'. AsBefore s s')
 unfolding wrap_all

@@ -1,9 +1,9 @@
 -- The second pass appends to each collected record what it makes of the namespace imports with the record's literal, and drops no item.
+use Rattle.std.specs.Prelude.{Option, None, Some}
 use Prim.Native.Nat.{ℕ, ◌+◌}
 use mathlib.Core.Path.{◌≡◌, refl, sym, ap, subst, ◌∙◌}
 use mathlib.Core.Bool.{Bool, true, false, cond, ◌&&◌, ◌||◌, true≢false}
 use mathlib.Core.List.{List, [], ◌∷◌, map}
-use mathlib.Core.Option.{Option, none as nothing, some}
 use lib.Dec.{eqb}
 use borrow.Author.Tests.{eqb-true, eqb-false, ne_eqb}
 use Rattle.tree.specs.Layout.{same, value_of, same_literal}
@@ -166,8 +166,8 @@ module _ (e : Setting) (two : e.pass ≡ second) where
   sole-takes : (F : List ℕ → Fields) (o : Option Field) (x : List ℕ) (cs : Fields) (s : State) → sole (specifiers_in cs) ≡ o →
       Written F s.collected → After (on_sole o x cs s) (Takes F (field 0x10 x cs))
   unfolding on_sole
-  sole-takes F nothing x cs s q h = same-takes F x cs s h
-  sole-takes F (some f) x cs s q h =
+  sole-takes F None x cs s q h = same-takes F x cs s h
+  sole-takes F (Some f) x cs s q h =
       after-if (has 0x22 f) _ (give (field 0x10 x cs)) s (Takes F (field 0x10 x cs))
       (λ b. apart-takes F (usages_of (fixed_of f) s.usages) x cs s (ap is_namespace q ∙ b) h) (λ _. same-takes F x cs s h)
 

@@ -1,4 +1,5 @@
 -- For callers: items that were read, places of patterns and literals, and the records of a run as they are written.
+use Rattle.std.specs.Prelude.{Option, None, Some}
 use Prim.Native.Nat.{ℕ, ◌+◌, ◌-◌, ◌≤◌, ◌<◌}
 use native.Mathlib.Omega.{arith}
 use mathlib.Core.Path.{◌≡◌, refl, sym, ap, ap₂, ◌∙◌}
@@ -8,8 +9,6 @@ use lib.Dec.{leb, ltb}
 use lib.ListN.{length}
 use borrow.Author.Tests.{leb-true, le-leb, ne_eqb, lt-ltb, le-ltb}
 use Rattle.scope.specs.Modules.{Modules}
-use Rattle.tree.specs.declared.layout.Reach.{Reach}
-use Rattle.tree.specs.declared.layout.Reach.TheVariants.{Upto, Short}
 use Rattle.tree.specs.declared.grammar.Set.TheVariants.{Module}
 use Rattle.tree.specs.Layout.{skip_at, literal_at}
 use Rattle.tree.specs.Tree.{field, Fields, none, more}
@@ -45,12 +44,12 @@ items-read s fs e = let m = read-module s (more (module_with fs) none) e in (sym
 -- ---- Places
 
 -- a field ends where it ends, whatever follows
-pub extent-further : (s : List ℕ) (at end e stop : ℕ) → end ≤ e → extent_at s at end ≡ Upto stop → extent_at s at e ≡ Upto stop
+pub extent-further : (s : List ℕ) (at end e stop : ℕ) → end ≤ e → extent_at s at end ≡ Some stop → extent_at s at e ≡ Some stop
 unfolding extent_at skip_at
 extent-further s at end e stop le h = go (leb 3 (end - at)) (leb (length_at s at) (end - (at + 3))) refl refl h
   where
-    go : (a b : Bool) → leb 3 (end - at) ≡ a → leb (length_at s at) (end - (at + 3)) ≡ b → cond a (cond b (Upto (at + 3 + length_at s at)) Short) Short ≡ Upto stop →
-        cond (leb 3 (e - at)) (cond (leb (length_at s at) (e - (at + 3))) (Upto (at + 3 + length_at s at)) Short) Short ≡ Upto stop
+    go : (a b : Bool) → leb 3 (end - at) ≡ a → leb (length_at s at) (end - (at + 3)) ≡ b → cond a (cond b (Some (at + 3 + length_at s at)) None) None ≡ Some stop →
+        cond (leb 3 (e - at)) (cond (leb (length_at s at) (e - (at + 3))) (Some (at + 3 + length_at s at)) None) None ≡ Some stop
     go true true p q h =
         let x = leb-true 3 (end - at) p in
         let y = leb-true (length_at s at) (end - (at + 3)) q in
@@ -58,11 +57,11 @@ extent-further s at end e stop le h = go (leb 3 (end - at)) (leb (length_at s at
     go true false p q h = absurd (no-upto h)
     go false b p q h = absurd (no-upto h)
 
-pub pattern-is : (s : List ℕ) (at end stop : ℕ) → at ≤ end → end ≤ length s → extent_at s at end ≡ Upto stop → pattern_at s at ≡ bindings (tree_at s at stop)
+pub pattern-is : (s : List ℕ) (at end stop : ℕ) → at ≤ end → end ≤ length s → extent_at s at end ≡ Some stop → pattern_at s at ≡ bindings (tree_at s at stop)
 unfolding pattern_at pattern_on
 pattern-is s at end stop le fits e =
     ap (λ (b : Bool). cond b (pattern_on (extent_at s at (length s)) s at) none) (le-leb at (length s) (omega arith))
-    ∙ ap (λ (r : Reach). pattern_on r s at) (extent-further s at end (length s) stop fits e)
+    ∙ ap (λ (r : Option ℕ). pattern_on r s at) (extent-further s at end (length s) stop fits e)
 
 module _ (tree work : List ℕ) where
   -- no initialiser
@@ -71,7 +70,7 @@ module _ (tree work : List ℕ) where
   placed-0 = refl
 
   -- a pattern of the lent tree
-  pub placed-first : (at end stop : ℕ) → 0 < at → at < 65536 → at ≤ end → end ≤ length tree → extent_at tree at end ≡ Upto stop →
+  pub placed-first : (at end stop : ℕ) → 0 < at → at < 65536 → at ≤ end → end ≤ length tree → extent_at tree at end ≡ Some stop →
       placed tree work at ≡ bindings (tree_at tree at stop)
   unfolding placed
   placed-first at end stop n l le fits e =
@@ -79,7 +78,7 @@ module _ (tree work : List ℕ) where
       ∙ ap (λ (b : Bool). cond b (pattern_at tree at) (pattern_at work (at - 65536))) (lt-ltb at 65536 l) ∙ pattern-is tree at end stop le fits e
 
   -- and one of the tree after the first pass
-  pub placed-second : (at end stop : ℕ) → at ≤ end → end ≤ length work → extent_at work at end ≡ Upto stop → placed tree work (65536 + at) ≡ bindings (tree_at work at stop)
+  pub placed-second : (at end stop : ℕ) → at ≤ end → end ≤ length work → extent_at work at end ≡ Some stop → placed tree work (65536 + at) ≡ bindings (tree_at work at stop)
   unfolding placed
   placed-second at end stop le fits e =
       let z : 65536 + at - 65536 ≡ at = omega arith in

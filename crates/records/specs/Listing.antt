@@ -1,9 +1,13 @@
--- How the records find their imports: an array has where these stand in the trees after both passes, and chains through them. A model of the
+-- How the records find their imports: a list has where these stand in the trees after both passes, and chains through them. A model of the
 -- code's own: the contract of `put_records` does not speak of it.
-use Rattle.std.specs.Prelude.{ℕ, zero, suc, ◌+◌, ◌*◌, ◌%◌, ◌≤◌, ◌<◌, ◌≡◌, Bool, cond, List, [], ◌∷◌, ◌++◌, leb, eqb, length, get_or, drop}
+use Rattle.std.specs.Prelude.{ℕ, ◌+◌, ◌%◌, ◌≤◌, ◌<◌, ◌≡◌, Bool, cond, Option, None, Some, List, [], ◌∷◌, ◌++◌, map, leb, eqb, length, get_or, drop}
 use Rattle.tree.specs.Layout.{literal_value}
 use Rattle.tree.specs.Tree.{encodes}
 use Rattle.tree.specs.Standing.{row_at}
+use Rattle.records.specs.declared.places.Pair.{Pair}
+use Rattle.records.specs.declared.places.Import.{Import}
+use Rattle.records.specs.declared.places.Imports.{Imports}
+use Rattle.records.specs.declared.places.Chain.{Chain}
 use Rattle.records.specs.Model.{gathered_of, gathered, taken_of, taken}
 use Rattle.records.specs.Writes.{RowRead, sieve, items_in, item_at, ItemRead}
 
@@ -66,59 +70,75 @@ unfoldable pub chained : (Place → ℕ) → ℕ → List Place → List Place
 chained g k [] = []
 chained g k (p ∷ ps) = cond (eqb (g p) k) (p ∷ ps) (chained g k ps)
 
--- ---- The array
+-- ---- The list
 
--- the first import of each of 2,048 chains; then three cells for each import: the next of its chain, and its place; and then how many there
--- are, and where the items behind them start, counted from the first item
-abbrev pub next_in : List ℕ → ℕ → ℕ
-next_in a i = get_or a (2048 + 3 * i) 0
+-- where none is listed
+abbrev pub no_import : Import
+no_import = record { at = 0; made = 0; next = 0 }
 
-abbrev pub place_in : List ℕ → ℕ → Place
-place_in a i = (get_or a (2049 + 3 * i) 0, get_or a (2050 + 3 * i) 0)
+-- the place of an import, of the one with a number, and of all, in order
+abbrev pub place_of : Import → Place
+place_of i = (i.at, i.made)
 
-abbrev pub count_in : List ℕ → ℕ
-count_in a = get_or a 12971 0
+abbrev pub place_in : List Import → ℕ → Place
+place_in l i = place_of (get_or l i no_import)
 
-abbrev pub behind_in : List ℕ → ℕ
-behind_in a = 3 + get_or a 12972 0
+abbrev pub places_in : List Import → List Place
+places_in l = map place_of l
 
-abbrev pub behind_out : List ℕ → ℕ
-behind_out a = 3 + get_or a 12973 0
-
--- the first n places
-unfoldable pub places_in : List ℕ → ℕ → List Place
-places_in a zero = []
-places_in a (suc n) = places_in a n ++ (place_in a n ∷ [])
-
-abbrev pub imports_in : List ℕ → List Place
-imports_in a = places_in a (count_in a)
+-- the next one of its chain
+abbrev pub next_in : List Import → ℕ → ℕ
+next_in l i = (get_or l i no_import).next
 
 -- no chain has begun
-pub record Unchained (a : List ℕ) : Type 0 where
-  pub cells : length a ≡ 12974
-  pub ends : (k : ℕ) → k < 2048 → get_or a k 0 ≡ 3641
+pub record Unchained (first : List ℕ) : Type 0 where
+  pub cells : length first ≡ 2048
+  pub ends : (k : ℕ) → k < 2048 → get_or first k 0 ≡ 3641
 
--- the first n places are those of the imports in front of `at` and `made`
-pub record Lists (work out a : List ℕ) (n at made : ℕ) : Type 0 where
-  pub few : n ≤ 3641
-  pub low : (3 ≤ at) × (at ≤ 65536)
-  pub low_out : (3 ≤ made) × (made ≤ 65536)
-  pub listed : Listed work (places_in a n) at
-  pub paired : Paired work out (places_in a n) at made
+-- the listed imports are those in front of `at` and `made`
+pub record Lists (work out : List ℕ) (l : List Import) (at made : ℕ) : Type 0 where
+  pub listed : Listed work (places_in l) at
+  pub paired : Paired work out (places_in l) at made
 
--- the first n places, from i on, are chained: where each chain starts, and where the one of a place goes on
-pub record Linked (work a : List ℕ) (n i : ℕ) : Type 0 where
-  pub cells : length a ≡ 12974
-  pub starts : (k : ℕ) → k < 2048 → drop (get_or a k 0) (places_in a n) ≡ chained (chain_in work) k (drop i (places_in a n))
-  pub goes : (j : ℕ) → i ≤ j → j < n → drop (next_in a j) (places_in a n) ≡ chained (chain_in work) (chain_in work (place_in a j)) (drop (j + 1) (places_in a n))
+-- the imports from i on are chained: where each chain starts, and where the one of an import goes on
+pub record Linked (work first : List ℕ) (l : List Import) (i : ℕ) : Type 0 where
+  pub cells : length first ≡ 2048
+  pub starts : (k : ℕ) → k < 2048 → drop (get_or first k 0) (places_in l) ≡ chained (chain_in work) k (drop i (places_in l))
+  pub goes : (j : ℕ) → i ≤ j → j < length l → drop (next_in l j) (places_in l) ≡ chained (chain_in work) (chain_in work (place_in l j)) (drop (j + 1) (places_in l))
+
+-- ---- With the first of each chain, and where the items behind start
+
+abbrev pub listed_in : Imports → List Import
+listed_in a = a.listed.now
+
+abbrev pub imports_in : Imports → List Place
+imports_in a = places_in (listed_in a)
+
+abbrev pub behind_in : Imports → ℕ
+behind_in a = a.behind.at
+
+abbrev pub behind_out : Imports → ℕ
+behind_out a = a.behind.made
 
 -- the imports of a tree are listed and chained
-pub record Charted (work a : List ℕ) : Type 0 where
-  pub few : count_in a ≤ 3641
+pub record Charted (work : List ℕ) (a : Imports) : Type 0 where
   pub listed : Listed work (imports_in a) (behind_in a)
-  pub linked : Linked work a (count_in a) 0
+  pub linked : Linked work a.first.now (listed_in a) 0
 
 -- and paired off with what they became
-pub record ChartedBoth (work out a : List ℕ) : Type 0 where
+pub record ChartedBoth (work out : List ℕ) (a : Imports) : Type 0 where
   pub charted : Charted work a
   pub paired : Paired work out (imports_in a) (behind_in a) (behind_out a)
+
+-- ---- Along a chain
+
+-- each import leads to a later one
+abbrev pub LeadsOn : List Import → Type 0
+LeadsOn l = (i : ℕ) → i < length l → i < next_in l i
+
+-- a chain gave r and goes on as d: an import and the next one, or none
+abbrev pub GivesNext : Chain → Option Pair → Chain → Type 0
+GivesNext c None d = (length c.listed.now ≤ c.next) × (d.listed.now ≡ c.listed.now)
+GivesNext c (Some p) d =
+    (c.next < length c.listed.now) × ((p.at, p.made) ≡ place_in c.listed.now c.next) × (d.next ≡ next_in c.listed.now c.next)
+    × (d.listed.now ≡ c.listed.now)

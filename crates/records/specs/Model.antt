@@ -1,7 +1,6 @@
 -- A collected record as the trees after both passes tell it: the specifiers that the imports of its source have after the first pass, and
 -- those that the second pass made of the namespace imports with its literal.
-use Rattle.std.specs.Prelude.{ℕ, Bool, false, cond, ◌&&◌, List}
-use Rattle.std.proofs.Math.Option.{Option, none as nothing, some}
+use Rattle.std.specs.Prelude.{ℕ, Option, None, Some, Bool, false, cond, ◌&&◌, List}
 use Rattle.tree.specs.Layout.{same, value_of, same_literal}
 use Rattle.tree.specs.Tree.{Field, Fields, none, more, fixed_of, parts_of}
 use Rattle.metadata.specs.Metadata.{append}
@@ -21,8 +20,8 @@ gathered v (more f fs) = append (gathered_of v f) (gathered v fs)
 
 -- 'a sole 22'
 abbrev pub is_namespace : Option Field → Bool
-is_namespace nothing = false
-is_namespace (some f) = has 0x22 f
+is_namespace None = false
+is_namespace (Some f) = has 0x22 f
 
 -- the first is a 20
 abbrev pub starts_named : Fields → Bool

@@ -1,8 +1,6 @@
 -- What the functions that write records say: which binding ids a lazy record's place stands for, and what is written for every state that
 -- the array shows.
-use Rattle.std.specs.Prelude.{ℕ, ◌+◌, ◌-◌, ◌≤◌, ◌≡◌, Bool, true, false, not, cond, List, [], map, leb, ltb, eqb, length, get_or}
-use Rattle.tree.specs.declared.layout.Reach.{Reach}
-use Rattle.tree.specs.declared.layout.Reach.TheVariants.{Upto, Short}
+use Rattle.std.specs.Prelude.{ℕ, ◌+◌, ◌-◌, ◌≤◌, ◌≡◌, Option, None, Some, Bool, true, false, not, cond, List, [], map, leb, ltb, eqb, length, get_or}
 use Rattle.tree.specs.declared.grammar.Rule.{Rule}
 use Rattle.tree.specs.Tree.{Field, field, Fields, none, more, tag_of, parts_of}
 use Rattle.tree.specs.Access.{fixed_at, extent_at}
@@ -22,9 +20,9 @@ use Rattle.records.specs.Model.{starts_named, rebuilt}
 -- ---- Lazy records
 
 -- the binding ids of the pattern that stands at a place
-unfoldable pub pattern_on : Reach → List ℕ → ℕ → Fields
-pattern_on Short s at = none
-pattern_on (Upto stop) s at = bindings (tree_at s at stop)
+unfoldable pub pattern_on : Option ℕ → List ℕ → ℕ → Fields
+pattern_on None s at = none
+pattern_on (Some stop) s at = bindings (tree_at s at stop)
 
 unfoldable pub pattern_at : List ℕ → ℕ → Fields
 pattern_at s at = cond (leb at (length s)) (pattern_on (extent_at s at (length s)) s at) none
@@ -90,30 +88,41 @@ abbrev pub is_none : Fields → Bool
 is_none none = true
 is_none (more f fs) = false
 
+-- the first of these specifiers, of the fields up to end, has a tag and ends at stop
+pub record FirstAt (s : List ℕ) (end : ℕ) (fs : Fields) (tag stop : ℕ) : Type 0 where
+  pub first : Field
+  pub is : fs ≡ more first (specifiers_in (row_at s stop end))
+  pub tagged : tag ≡ tag_of first
+  pub inside : stop ≤ end
+
+abbrev pub FirstIs : List ℕ → ℕ → Fields → Option (ℕ × ℕ) → Type 0
+FirstIs s end fs None = fs ≡ none
+FirstIs s end fs (Some r) = FirstAt s end fs r.0 r.1
+
 -- ---- The item at a place
 
-unfoldable pub item_on : Reach → List ℕ → ℕ → Field
-item_on Short s at = field 0 [] none
-item_on (Upto stop) s at = tree_at s at stop
+unfoldable pub item_on : Option ℕ → List ℕ → ℕ → Field
+item_on None s at = field 0 [] none
+item_on (Some stop) s at = tree_at s at stop
 
 unfoldable pub item_at : List ℕ → ℕ → Field
 item_at s at = item_on (extent_at s at (length s)) s at
 
 -- it is read
 abbrev pub ItemRead : List ℕ → ℕ → Type 0
-ItemRead s at = (stop : ℕ) → extent_at s at (length s) ≡ Upto stop → ReadAt s at stop
+ItemRead s at = (stop : ℕ) → extent_at s at (length s) ≡ Some stop → ReadAt s at stop
 
 -- it is an import and ends at stop
 pub record ImportIs (s : List ℕ) (at stop : ℕ) : Type 0 where
   pub inside : at + 9 ≤ stop
   pub fits : stop ≤ length s
-  pub extent : extent_at s at (length s) ≡ Upto stop
-  pub fixed : fixed_at s (get_or s at 0) (at + 3) stop ≡ Upto (at + 9)
+  pub extent : extent_at s at (length s) ≡ Some stop
+  pub fixed : fixed_at s (get_or s at 0) (at + 3) stop ≡ Some (at + 9)
   pub item : item_at s at ≡ field 0x10 (literal_at s (at + 3)) (row_at s (at + 9) stop)
 
-pub record ImportAt (s : List ℕ) (at : ℕ) (r : Reach) : Type 0 where
-  pub is : (stop : ℕ) → r ≡ Upto stop → ImportIs s at stop
-  pub other : r ≡ Short → tag_of (item_at s at) ≡ 0x10 → ⊥
+pub record ImportAt (s : List ℕ) (at : ℕ) (r : Option ℕ) : Type 0 where
+  pub is : (stop : ℕ) → r ≡ Some stop → ImportIs s at stop
+  pub other : r ≡ None → tag_of (item_at s at) ≡ 0x10 → ⊥
 
 -- what a record is written for has the value of the literal at its place
 abbrev pub Valued : List ℕ → List ℕ → Wanted → Type 0

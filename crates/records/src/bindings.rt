@@ -7,7 +7,6 @@ ghost use Rattle.extraction_rules.specs.First.{bindings, bindings_all, bindings_
 
 use state::ident::{id_at, put_named};
 use tree::access::{extent, fixed};
-use tree::layout::Reach;
 
 // Writes the binding ids of the pattern at `at` up to stop.
 #[cycle(put_below_put_bindings_put_left)]
@@ -16,7 +15,7 @@ pub fn put_bindings(s: &[u8], at: usize, stop: usize, records: &mut [u8], o: usi
     ensures { Wrote records.old o (encodes (bindings (tree_at s.now at stop))) records.new result }
 {
     let tag = s[at];
-    let Reach::Upto(from) = fixed(s, tag, at + 3, stop) else {
+    let Some(from) = fixed(s, tag, at + 3, stop) else {
         return o;
     };
     match tag {
@@ -33,8 +32,8 @@ fn put_left(s: &[u8], from: usize, end: usize, records: &mut [u8], o: usize) -> 
     ensures { Wrote records.old o (encodes (bindings_first (row_at s.now from end))) records.new result }
 {
     match extent(s, from, end) {
-        Reach::Upto(stop) => put_bindings(s, from, stop, records, o),
-        Reach::Short => o,
+        Some(stop) => put_bindings(s, from, stop, records, o),
+        None => o,
     }
 }
 
@@ -46,11 +45,9 @@ fn put_below(s: &[u8], from: usize, end: usize, records: &mut [u8], o: usize) ->
 {
     let mut at = from;
     let mut to = o;
-    loop {
-        let Reach::Upto(stop) = extent(s, at, end) else {
-            return to;
-        };
+    while let Some(stop) = extent(s, at, end) {
         to = put_bindings(s, at, stop, records, to);
         at = stop;
     }
+    to
 }

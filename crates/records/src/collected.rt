@@ -9,7 +9,7 @@ ghost use Rattle.records.specs.Listing.{ChartedBoth};
 
 use crate::literals::{Wanted, put_literal};
 use crate::namespaces::put_taken;
-use crate::places::chart_imports;
+use crate::places::{CHAINS, Import, Imports, ROOM, link_imports, list_imports};
 use crate::sources::put_gathered;
 use state::collected::{count_records, record_literal};
 use state::forced::is_forced;
@@ -28,9 +28,17 @@ pub fn put_collected(
         (λ s. encodes (record_fields 0x80 (retold work.now out.now s))) t.now records.old o
         records.new result }
 {
-    let mut imports = [3641u16; 12974];
-    chart_imports(work, out, &mut imports);
-    put_each(tree, work, out, &imports, t, records, o)
+    let mut first = [ROOM as u16; CHAINS];
+    let mut listed = [Import::NONE; ROOM];
+    let swept = list_imports(work, out, &mut listed);
+    let listed = &mut listed[..swept.count];
+    link_imports(work, &mut first, listed);
+    let imports = Imports {
+        first: &first,
+        listed,
+        behind: swept.behind,
+    };
+    put_each(tree, work, out, imports, t, records, o)
 }
 
 // Writes them with the imports listed and chained.
@@ -38,30 +46,25 @@ fn put_each(
     tree: &[u8],
     work: &[u8],
     out: &[u8],
-    imports: &[u16; 12974],
+    imports: Imports,
     t: &[u64],
     records: &mut [u8],
     o: usize,
 ) -> usize
-    requires { Good t.now × ChartedBoth work.now out.now imports.now }
+    requires { Good t.now × ChartedBoth work.now out.now imports }
     ensures { WroteFor (λ x. Placing tree.now work.now x × BothRead work.now out.now)
         (λ s. encodes (record_fields 0x80 (retold work.now out.now s))) t.now records.old o
         records.new result }
 {
-    let n = count_records(t);
-    let mut i = 0;
     let mut to = o;
-    while i < n {
+    for i in 0..count_records(t) {
         let literal = record_literal(t, i);
-        let value = literal.value;
-        let namespaces = is_forced(t, value);
         let wanted = Wanted {
-            value,
+            value: literal.value,
             place: literal.place,
-            namespaces,
+            namespaces: is_forced(t, literal.value),
         };
         to = put_record(tree, work, out, imports, wanted, records, to);
-        i += 1;
     }
     to
 }
@@ -71,12 +74,12 @@ fn put_record(
     tree: &[u8],
     work: &[u8],
     out: &[u8],
-    imports: &[u16; 12974],
+    imports: Imports,
     wanted: Wanted,
     records: &mut [u8],
     o: usize,
 ) -> usize
-    requires { ChartedBoth work.now out.now imports.now }
+    requires { ChartedBoth work.now out.now imports }
     ensures { WroteIf (BothRead work.now out.now × Valued tree.now work.now wanted)
         (encode
         (field 0x80 (literal_in tree.now work.now wanted.place)

@@ -1,75 +1,65 @@
 // Where the imports stand in the trees after both passes: listed in one sweep over the items, and chained by their source modulo 2048, so
 // that a record finds its own without a look at all items. Atoms are 16 bits wide, so at most 32 sources share a chain.
-// One array has it all: the first import of each chain; for each import the next of its chain, and its places in both trees; then how many
-// there are, and where the items behind them start.
-ghost use Rattle.std.specs.Prelude.{◌≡◌, true, ◌+◌, ◌*◌, ◌%◌, ◌≤◌, ◌<◌, length, get_or, set};
-ghost use Rattle.records.specs.Listing.{chain_at, next_in, count_in, behind_in, behind_out, places_in, Unchained, Lists, Linked, ChartedBoth};
+ghost use Rattle.std.specs.Prelude.{◌≡◌, true, [], ◌∷◌, ◌++◌, ◌+◌, ◌%◌, ◌≤◌, ◌<◌, length, get_or, take};
+ghost use Rattle.records.specs.Listing.{chain_at, places_in, Unchained, Lists, Linked};
 
+use scope::id::Atom;
 use tree::access::extent;
-use tree::layout::{Reach, literal_value};
+use tree::layout::literal_value;
 
 // Where the items of a module start.
 const ITEMS: usize = 3;
 
-// How many imports the array has room for: a tree of 32,768 bytes has no more.
-const ROOM: usize = 3641;
+// How many chains there are.
+pub const CHAINS: usize = 2048;
 
-// The cells of the first import: the next of its chain, and its places in both trees. 2,048 chains stand in front of them.
-const NEXT: usize = 2048;
-
-const AT: usize = 2049;
-
-const MADE: usize = 2050;
-
-// The cells behind all imports: how many are listed, and where the items behind them start in both trees, counted from the first item, so
-// that the end of a tree of 65,536 bytes has room.
-const COUNT: usize = 12971;
-
-const BEHIND: usize = 12972;
-
-const BEHIND_OUT: usize = 12973;
+// How many imports there is room for: a tree of 32,768 bytes has no more.
+pub const ROOM: usize = 3641;
 
 // An item of `work`, and the one of `out` that it pairs off with.
-#[derive(Drop)]
+#[derive(Clone, Copy)]
 pub struct Pair {
     pub at: usize,
     pub made: usize,
 }
 
+// A listed import: its places in both trees, and the number of the next one of its chain.
+#[derive(Clone, Copy)]
+pub struct Import {
+    at: u16,
+    made: u16,
+    next: u16,
+}
+
+impl Import {
+    // What stands where none is listed yet.
+    pub const NONE: Import = Import {
+        at: 0,
+        made: 0,
+        next: 0,
+    };
+}
+
 // A sweep over the items of both trees: how many imports it listed, and where the items behind them start.
-#[derive(Drop)]
+#[derive(Clone, Copy)]
 pub struct Swept {
-    count: usize,
-    at: usize,
-    made: usize,
+    pub count: usize,
+    pub behind: Pair,
 }
 
-// Lists and chains the imports of `work`, each with the item of `out` that it pairs off with.
-pub fn chart_imports(work: &[u8], out: &[u8], imports: &mut [u16; 12974])
-    requires { Unchained imports.old }
-    ensures { ChartedBoth work.now out.now imports.new }
+// Lists the imports of `work`, each with the item of `out` that it pairs off with. Ends where either tree does, or where the list is full.
+pub fn list_imports(work: &[u8], out: &[u8], listed: &mut [Import; ROOM]) -> Swept
+    ensures { (result.count ≤ 3641) × Lists work.now out.now (take result.count listed.new) result.behind.at result.behind.made }
 {
-    let swept = list_imports(work, out, imports);
-    link_imports(work, imports, swept.count);
-    imports[COUNT] = swept.count as u16;
-    imports[BEHIND] = (swept.at - ITEMS) as u16;
-    imports[BEHIND_OUT] = (swept.made - ITEMS) as u16;
-}
-
-// Lists them. Ends where either tree does, or where the list is full.
-pub fn list_imports(work: &[u8], out: &[u8], imports: &mut [u16; 12974]) -> Swept
-    requires { Unchained imports.old }
-    ensures { Lists work.now out.now imports.new result.count result.at result.made × Unchained imports.new }
-{
-    if has_places(work) {
-        if has_places(out) {
-            return sweep(work, out, imports);
-        }
+    if has_places(work) && has_places(out) {
+        return sweep(work, out, listed);
     }
     Swept {
         count: 0,
-        at: ITEMS,
-        made: ITEMS,
+        behind: Pair {
+            at: ITEMS,
+            made: ITEMS,
+        },
     }
 }
 
@@ -77,61 +67,50 @@ pub fn list_imports(work: &[u8], out: &[u8], imports: &mut [u16; 12974]) -> Swep
 fn has_places(s: &[u8]) -> bool
     ensures { result ≡ true → (3 ≤ length s.now) × (length s.now ≤ 65536) }
 {
-    if s.len() < ITEMS {
-        return false;
-    }
-    s.len() <= 65536
+    ITEMS <= s.len() && s.len() <= 65536
 }
 
 // The sweep over trees that have places.
-fn sweep(work: &[u8], out: &[u8], imports: &mut [u16; 12974]) -> Swept
-    requires { Unchained imports.old × (3 ≤ length work.now) × (length work.now ≤ 65536)
-        × (3 ≤ length out.now) × (length out.now ≤ 65536) }
-    ensures { Lists work.now out.now imports.new result.count result.at result.made × Unchained imports.new }
+fn sweep(work: &[u8], out: &[u8], listed: &mut [Import; ROOM]) -> Swept
+    requires { (3 ≤ length work.now) × (length work.now ≤ 65536) × (3 ≤ length out.now) × (length out.now ≤ 65536) }
+    ensures { (result.count ≤ 3641) × Lists work.now out.now (take result.count listed.new) result.behind.at result.behind.made }
 {
+    let mut count = 0;
     let mut at = ITEMS;
     let mut made = ITEMS;
-    let mut n = 0;
-    while n < ROOM {
-        let Reach::Upto(stop) = extent(work, at, work.len()) else {
-            return Swept { count: n, at, made };
+    while count < ROOM {
+        let Some(stop) = extent(work, at, work.len()) else {
+            break;
         };
-        let Reach::Upto(until) = extent(out, made, out.len()) else {
-            return Swept { count: n, at, made };
+        let Some(until) = extent(out, made, out.len()) else {
+            break;
         };
-        n = list_item(work[at], at, made, imports, n);
+        if work[at] == 0x10 {
+            listed[count] = Import {
+                at: at as u16,
+                made: made as u16,
+                next: 0,
+            };
+            count += 1;
+        }
         at = stop;
         made = until;
     }
-    Swept { count: n, at, made }
-}
-
-// Lists an item, if it is an import, and answers how many are listed then.
-fn list_item(tag: u8, at: usize, made: usize, imports: &mut [u16; 12974], n: usize) -> usize
-    requires { (n < 3641) × (at < 65536) × (made < 65536) }
-    ensures { (tag ≡ 0x10 → (result ≡ n + 1) × (imports.new ≡ set (set imports.old (2049 + 3 * n) at) (2050 + 3 * n) made))
-        × ((tag ≡ 0x10 → ⊥) → (result ≡ n) × (imports.new ≡ imports.old)) }
-{
-    if tag == 0x10 {
-        imports[AT + 3 * n] = at as u16;
-        imports[MADE + 3 * n] = made as u16;
-        n + 1
-    } else {
-        n
+    Swept {
+        count,
+        behind: Pair { at, made },
     }
 }
 
-// Chains the n listed imports, the last first. What is not below n ends a chain.
-pub fn link_imports(work: &[u8], imports: &mut [u16; 12974], n: usize)
-    requires { (n ≤ 3641) × Unchained imports.old }
-    ensures { Linked work.now imports.new n 0 × (places_in imports.new n ≡ places_in imports.old n) }
+// Chains the listed imports, the last first. A number that no import has ends a chain.
+pub fn link_imports(work: &[u8], first: &mut [u16; CHAINS], listed: &mut [Import])
+    requires { Unchained first.old × (length listed.old ≤ 3641) }
+    ensures { Linked work.now first.new listed.new 0 × (places_in listed.new ≡ places_in listed.old) }
 {
-    let mut i = n;
-    while 0 < i {
-        i -= 1;
-        let chain = chain_of(work, imports[AT + 3 * i]);
-        imports[NEXT + 3 * i] = imports[chain];
-        imports[chain] = i as u16;
+    for i in (0..listed.len()).rev() {
+        let chain = chain_of(work, listed[i].at);
+        listed[i].next = first[chain];
+        first[chain] = i as u16;
     }
 }
 
@@ -139,59 +118,60 @@ pub fn link_imports(work: &[u8], imports: &mut [u16; 12974], n: usize)
 fn chain_of(work: &[u8], place: u16) -> usize
     ensures { (result ≡ chain_at work.now place) × (result < 2048) }
 {
-    let at = place as usize;
+    let at = usize::from(place);
     if work.len() < at + 9 {
         return 0;
     }
-    (literal_value(work, at + 3) % 2048) as usize
+    usize::from(literal_value(work, at + 3)) % CHAINS
 }
 
-// A cell as a place.
-pub fn wide(cell: u16) -> usize
-    ensures { result ≡ cell }
-{
-    cell as usize
+// The listed imports, with the first one of each chain, and where the items behind them start.
+#[derive(Clone, Copy)]
+pub struct Imports<'a> {
+    pub first: &'a [u16; CHAINS],
+    pub listed: &'a [Import],
+    pub behind: Pair,
 }
 
-// How many imports are listed.
-pub fn count_imports(imports: &[u16; 12974]) -> usize
-    ensures { result ≡ count_in imports.now }
-{
-    wide(imports[COUNT])
-}
-
-// The first import of the chain of a source.
-pub fn first_of(imports: &[u16; 12974], source: u16) -> usize
-    ensures { result ≡ get_or imports.now (source % 2048) 0 }
-{
-    wide(imports[(source % 2048) as usize])
-}
-
-// The next one of the chain of an import.
-pub fn next_of(imports: &[u16; 12974], i: usize) -> usize
-    requires { i < 3641 }
-    ensures { result ≡ next_in imports.now i }
-{
-    wide(imports[NEXT + 3 * i])
-}
-
-// The places of an import.
-pub fn pair_at(imports: &[u16; 12974], i: usize) -> Pair
-    requires { i < 3641 }
-    ensures { (result.at ≡ get_or imports.now (2049 + 3 * i) 0) × (result.made ≡ get_or imports.now (2050 + 3 * i) 0) }
-{
-    Pair {
-        at: wide(imports[AT + 3 * i]),
-        made: wide(imports[MADE + 3 * i]),
+impl<'a> Imports<'a> {
+    // The imports of the chain of a source.
+    pub fn chain(&self, source: Atom) -> Chain<'a>
+        ensures { (result.listed.now ≡ self.now.listed.now) × (result.next ≡ get_or self.now.first.now (source.0 % 2048) 0) }
+    {
+        Chain {
+            listed: self.listed,
+            next: usize::from(self.first[usize::from(source.0) % CHAINS]),
+        }
     }
 }
 
-// Where the items behind the listed imports start.
-pub fn behind(imports: &[u16; 12974]) -> Pair
-    ensures { (result.at ≡ behind_in imports.now) × (result.made ≡ behind_out imports.now) }
-{
-    Pair {
-        at: ITEMS + wide(imports[BEHIND]),
-        made: ITEMS + wide(imports[BEHIND_OUT]),
+// The imports of a chain from one on.
+#[derive(Clone, Copy)]
+pub struct Chain<'a> {
+    listed: &'a [Import],
+    next: usize,
+}
+
+impl Iterator for Chain<'_> {
+    ghost use Rattle.std.specs.Prelude.{◌-◌};
+    ghost use Rattle.std.specs.Iterator.{at_most};
+    ghost use Rattle.records.specs.Listing.{LeadsOn, GivesNext};
+
+    type Item = Pair;
+
+    // Each link leads to a later import, so a chain ends.
+    ghost can_next = { λ s. LeadsOn s.listed.now };
+
+    ghost next_gives = { GivesNext };
+
+    ghost remaining = { λ s. at_most (length s.listed.now - s.next) };
+
+    fn next(&mut self) -> Option<Pair> {
+        let import = self.listed.get(self.next)?;
+        self.next = usize::from(import.next);
+        Some(Pair {
+            at: usize::from(import.at),
+            made: usize::from(import.made),
+        })
     }
 }

@@ -1,1 +1,3 @@
-pub mod Places
+-- What one field spells (Spelled), and what the fields of a request ask (Asked).
+pub mod Spelled
+pub mod Asked

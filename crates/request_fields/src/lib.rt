@@ -1,124 +1,243 @@
-// What the fields of a request ask for, beside plain bytes and plain numbers: flags, files, contexts, lengths of buffers.
+// The requests of the vectors: what each asks, read from its fields.
 #![tactic(auto)]
 
-pub mod lists;
+pub mod fields; // what one field spells
 
-ghost use Rattle.std.specs.Prelude.{◌≡◌, ◌≤◌, ◌<◌, length};
-ghost use Rattle.request_fields.specs.Places.{RoomIn};
+ghost use Rattle.std.specs.Prelude.{◌≡◌, ◌==◌, IfOk};
+ghost use Rattle.std.specs.List.{slice_split};
+ghost use Rattle.request_fields.specs.Asked.{values, AsksExtract, AsksResolve, AsksBoth, AsksDetect, AsksEncode, AsksDecode, Asks};
 
-use text::decimal::{Number, number_at};
-use text::fields::{Span, field};
-use text::hex::{Bytes, bytes_at};
+use fields::{context_in, file_in, flag_in, length_in, modes_in};
+use std::alloc::{AllocError, Global};
+use text::hex::{BytesError, read_bytes};
 
-// Whether there are more than k fields.
-pub fn has(s: &[u8], to: usize, k: usize) -> bool
-    requires { to ≤ length s.now }
-{
-    let Span::At(_, _) = field(s, 0, to, k) else {
-        return false;
-    };
-    true
+// Why a request is not answered.
+#[derive(Clone, Copy, Debug, PartialEq, Eq)]
+pub enum ParseError {
+    // It has no word, or its fields are not those of its word.
+    Malformed,
+    // Its word is none that is known.
+    Unknown,
+    OutOfMemory,
 }
 
+impl From<BytesError> for ParseError {
+    fn from(e: BytesError) -> ParseError {
+        match e {
+            BytesError::Malformed => ParseError::Malformed,
+            BytesError::OutOfMemory => ParseError::OutOfMemory,
+        }
+    }
+}
+
+impl From<AllocError> for ParseError {
+    fn from(_e: AllocError) -> ParseError {
+        ParseError::OutOfMemory
+    }
+}
+
+// FILES OWN CONFIG EXTERNALS TABLE TREE WORKLEN OUTLEN RECLEN
 #[derive(Drop)]
-pub enum Flag {
-    Is(bool),
-    Bad,
+pub struct ExtractRequest {
+    pub files: Vec<u8>,
+    pub own: u16,
+    pub modes: u32,
+    pub externals: Vec<u8>,
+    pub table: Vec<u8>,
+    pub tree: Vec<u8>,
+    // how long the buffers are
+    pub work: usize,
+    pub out: usize,
+    pub records: usize,
 }
 
-// The field k, 0 or 1.
-pub fn flag_at(s: &[u8], to: usize, k: usize) -> Flag
-    requires { to ≤ length s.now }
-{
-    let Number::Of(n) = number_at(s, to, k) else {
-        return Flag::Bad;
-    };
-    match n {
-        0 => Flag::Is(false),
-        1 => Flag::Is(true),
-        _ => Flag::Bad,
+impl ExtractRequest {
+    fn parse(alloc: Global, fields: &[&[u8]]) -> Result<Self, ParseError>
+        ensures { IfOk result (AsksExtract (values fields.now)) }
+    {
+        let [
+            files,
+            own,
+            modes,
+            externals,
+            table,
+            tree,
+            work,
+            out,
+            records,
+        ] = fields
+        else {
+            return Err(ParseError::Malformed);
+        };
+        Ok(ExtractRequest {
+            files: read_bytes(alloc, files)?,
+            own: file_in(alloc, own)?,
+            modes: modes_in(modes)?,
+            externals: read_bytes(alloc, externals)?,
+            table: read_bytes(alloc, table)?,
+            tree: read_bytes(alloc, tree)?,
+            work: length_in(work)?,
+            out: length_in(out)?,
+            records: length_in(records)?,
+        })
     }
 }
 
-#[derive(Clone, Copy)]
-pub enum Modes {
-    Are(u32),
-    Bad,
-}
-
-// The field k, modes as bits.
-pub fn modes_at(s: &[u8], to: usize, k: usize) -> Modes
-    requires { to ≤ length s.now }
-{
-    let Number::Of(n) = number_at(s, to, k) else {
-        return Modes::Bad;
-    };
-    if 4294967295 < n {
-        return Modes::Bad;
-    }
-    Modes::Are(n as u32)
-}
-
-// The field k, a length of at most `most` bytes.
-pub fn room_at(s: &[u8], to: usize, k: usize, most: usize) -> Number
-    requires { to ≤ length s.now }
-    ensures { RoomIn most result }
-{
-    let Number::Of(n) = number_at(s, to, k) else {
-        return Number::Bad;
-    };
-    if most < n {
-        return Number::Bad;
-    }
-    Number::Of(n)
-}
-
-fn wide(x: u8) -> u32
-    ensures { (result ≡ x) × (result < 256) }
-{
-    x as u32
-}
-
+// FILES TABLE RECORDS LISTLEN
 #[derive(Drop)]
-pub enum Own {
-    Is(u16),
-    Bad,
+pub struct ResolveRequest {
+    pub files: Vec<u8>,
+    pub table: Vec<u8>,
+    pub records: Vec<u8>,
+    // how long the buffer is
+    pub list: usize,
 }
 
-// The field k, a file in two bytes.
-pub fn own_file(s: &[u8], to: usize, k: usize, lent: &mut [u8]) -> Own
-    requires { to ≤ length s.now }
-{
-    let Bytes::Upto(n) = bytes_at(s, to, k, lent, 0) else {
-        return Own::Bad;
-    };
-    if n != 2 {
-        return Own::Bad;
+impl ResolveRequest {
+    fn parse(alloc: Global, fields: &[&[u8]]) -> Result<Self, ParseError>
+        ensures { IfOk result (AsksResolve (values fields.now)) }
+    {
+        let [files, table, records, list] = fields else {
+            return Err(ParseError::Malformed);
+        };
+        Ok(ResolveRequest {
+            files: read_bytes(alloc, files)?,
+            table: read_bytes(alloc, table)?,
+            records: read_bytes(alloc, records)?,
+            list: length_in(list)?,
+        })
     }
-    Own::Is((wide(lent[0]) * 256 + wide(lent[1])) as u16)
 }
 
+// The fields of an extract, and LISTLEN
 #[derive(Drop)]
-pub enum Context {
-    Is(u32),
-    Nothing,
-    Bad,
+pub struct BothRequest {
+    pub extract: ExtractRequest,
+    // how long the buffer for the list is
+    pub list: usize,
 }
 
-// The field k, a context or `-`.
-pub fn context_of(s: &[u8], to: usize, k: usize, lent: &mut [u8]) -> Context
-    requires { to ≤ length s.now }
+impl BothRequest {
+    fn parse(alloc: Global, fields: &[&[u8]]) -> Result<Self, ParseError>
+        ensures { IfOk result (AsksBoth (values fields.now)) }
+    {
+        let [extract @ .., list] = fields else {
+            return Err(ParseError::Malformed);
+        };
+        Ok(BothRequest {
+            extract: ExtractRequest::parse(alloc, extract)?,
+            list: length_in(list)?,
+        })
+    }
+}
+
+// CONFIG TREE
+#[derive(Drop)]
+pub struct DetectRequest {
+    pub modes: u32,
+    pub tree: Vec<u8>,
+}
+
+impl DetectRequest {
+    fn parse(alloc: Global, fields: &[&[u8]]) -> Result<Self, ParseError>
+        ensures { IfOk result (AsksDetect (values fields.now)) }
+    {
+        let [modes, tree] = fields else {
+            return Err(ParseError::Malformed);
+        };
+        Ok(DetectRequest {
+            modes: modes_in(modes)?,
+            tree: read_bytes(alloc, tree)?,
+        })
+    }
+}
+
+// INJECTED CTX ATTRS OUTLEN
+#[derive(Drop)]
+pub struct EncodeRequest {
+    pub injected: bool,
+    pub context: Option<u32>,
+    pub attributes: Vec<u8>,
+    // how long the buffer is
+    pub out: usize,
+}
+
+impl EncodeRequest {
+    fn parse(alloc: Global, fields: &[&[u8]]) -> Result<Self, ParseError>
+        ensures { IfOk result (AsksEncode (values fields.now)) }
+    {
+        let [injected, context, attributes, out] = fields else {
+            return Err(ParseError::Malformed);
+        };
+        Ok(EncodeRequest {
+            injected: flag_in(injected)?,
+            context: context_in(alloc, context)?,
+            attributes: read_bytes(alloc, attributes)?,
+            out: length_in(out)?,
+        })
+    }
+}
+
+// ATTRS
+#[derive(Drop)]
+pub struct DecodeRequest {
+    pub attributes: Vec<u8>,
+}
+
+impl DecodeRequest {
+    fn parse(alloc: Global, fields: &[&[u8]]) -> Result<Self, ParseError>
+        ensures { IfOk result (AsksDecode (values fields.now)) }
+    {
+        let [attributes] = fields else {
+            return Err(ParseError::Malformed);
+        };
+        Ok(DecodeRequest {
+            attributes: read_bytes(alloc, attributes)?,
+        })
+    }
+}
+
+// A request by its word, the first field.
+#[derive(Drop)]
+pub enum Request {
+    Extract(ExtractRequest),
+    Resolve(ResolveRequest),
+    Both(BothRequest),
+    Detect(DetectRequest),
+    Encode(EncodeRequest),
+    Decode(DecodeRequest),
+}
+
+impl Request {
+    pub fn parse(alloc: Global, request: &[u8]) -> Result<Self, ParseError>
+        ensures { IfOk result (Asks (slice_split (λ b. b == 32) request.now)) }
+    {
+        let fields = fields_of(alloc, request)?;
+        Self::by_word(alloc, &fields)
+    }
+
+    fn by_word(alloc: Global, fields: &[&[u8]]) -> Result<Self, ParseError>
+        ensures { IfOk result (Asks (values fields.now)) }
+    {
+        let Some((word, fields)) = fields.split_first() else {
+            return Err(ParseError::Malformed);
+        };
+        match *word {
+            b"extract" => Ok(Request::Extract(ExtractRequest::parse(alloc, fields)?)),
+            b"resolve" => Ok(Request::Resolve(ResolveRequest::parse(alloc, fields)?)),
+            b"both" => Ok(Request::Both(BothRequest::parse(alloc, fields)?)),
+            b"detect" => Ok(Request::Detect(DetectRequest::parse(alloc, fields)?)),
+            b"encode" => Ok(Request::Encode(EncodeRequest::parse(alloc, fields)?)),
+            b"decode" => Ok(Request::Decode(DecodeRequest::parse(alloc, fields)?)),
+            [] => Err(ParseError::Malformed),
+            _ => Err(ParseError::Unknown),
+        }
+    }
+}
+
+// The fields, apart by single spaces.
+fn fields_of(alloc: Global, request: &[u8]) -> Result<Vec<&[u8]>, AllocError>
+    ensures { IfOk result (λ v. values v.items ≡ slice_split (λ b. b == 32) request.now) }
 {
-    let Bytes::Upto(n) = bytes_at(s, to, k, lent, 0) else {
-        return Context::Bad;
-    };
-    if n == 0 {
-        return Context::Nothing;
-    }
-    if n != 4 {
-        return Context::Bad;
-    }
-    let high = wide(lent[0]) * 256 + wide(lent[1]);
-    let low = wide(lent[2]) * 256 + wide(lent[3]);
-    Context::Is(high * 65536 + low)
+    request.split(|b| *b == b' ').collect(alloc)
 }

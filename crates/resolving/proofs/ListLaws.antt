@@ -1,18 +1,20 @@
 -- Resolved records, one by one as they are written.
+use Rattle.std.specs.Prelude.{Option, None, Some, unwrap_or, Result, Ok, Err, IsOk}
 use Prim.Native.Nat.{ℕ, ◌+◌, ◌/◌, ◌%◌, ◌<◌}
 use native.Mathlib.Omega.{arith}
-use mathlib.Core.Path.{◌≡◌, sym, ap, ap₂, subst, ◌∙◌}
+use mathlib.Core.Path.{◌≡◌, refl, sym, ap, ap₂, subst, ◌∙◌}
 use mathlib.Core.Bool.{Bool}
 use mathlib.Core.List.{List, [], ◌∷◌, ◌++◌}
-use mathlib.Core.Option
-use mathlib.Core.Option.{Option, none as nothing, some}
 use lib.ListN.{length, get_or}
 use lib.Seq.{slice, length-slice}
 use Rattle.scope.specs.Id.{local, export}
-use Rattle.scope.specs.Modules.{Modules, Generated, gen}
+use Rattle.scope.specs.Modules.{Modules, Generated, generated_by, gen}
+use Rattle.scope.specs.ScopeValue.{modules_of, generated}
+use Rattle.scope.specs.declared.Gen.{Gen}
+use Rattle.scope.specs.declared.Numbers.{Numbers as Given}
+use Rattle.scope.specs.declared.TooManyFiles.{TooManyFiles}
 use Rattle.scope.specs.declared.id.FileName.{FileName}
 use Rattle.scope.proofs.Laws.{gen-known}
-use Rattle.tree.specs.declared.layout.Reach.TheVariants.{Upto, Short}
 use Rattle.tree.specs.Layout.{two, four, literal_value}
 use Rattle.tree.specs.Tree.{Field, field, Fields, none}
 use Rattle.tree.specs.Standing.{tree_at, row_at}
@@ -21,6 +23,7 @@ use Rattle.inputs.specs.Outcome.{done, refused, onto}
 use Rattle.inputs.specs.Lists.{among}
 use Rattle.inputs.specs.Table.{Row, file_of}
 use Rattle.resolving_rules.specs.Resolve.{source_of, sources_in, kind_byte, module_of, heading, resolved_specifiers, resolved_record, resolved_all}
+use Rattle.resolving.proofs.NumbersLaws.{generated_as}
 use Rattle.resolving.specs.Records.{RecordsFrom, SourceRead, source_end}
 use Rattle.resolving.specs.Numbers.{Numbers, NumbersAll}
 use Rattle.resolving.proofs.RecordsLaws.{source-stands, sources-end}
@@ -51,25 +54,35 @@ heading-bytes kind n file l e x h k u v =
 
 -- ---- A record
 
--- the number that asking again gives
-pub module-again : (rows : List Row) (ms : Modules) (f : Field) {file : FileName} {g : Generated} → Numbers rows ms f → file_of (source_of f) rows ≡ some file.0 → g ≡ gen file ms →
-    g.id.0 ≡ module_of file.0 ms
-module-again rows ms f {file} {g} w h e =
-    let n = w.given file.0 h in
-    ap (λ (k : Generated). k.id.0) (e ∙ gen-known file ms n.1) ∙ sym (ap (λ (o : Option ℕ). Option.get_or o 0) n.1)
+-- asking again gives the number that the file has
+module _ (rows : List Row) (ms : Modules) (f : Field) {file : FileName} (g : Gen) (w : Numbers rows ms f) (h : file_of (source_of f) rows ≡ Some file.0) (e : generated g ≡ gen file ms) where
+  again : generated g ≡ generated_by (Some ((w.given file.0 h).0, ms)) ms
+  again = e ∙ gen-known file ms (w.given file.0 h).1
+
+  pub number-known : IsOk g.answer
+  number-known = by g.answer again
+    where
+      by : (r : Result Given TooManyFiles) → generated_as r (modules_of g.scope) ≡ generated_by (Some ((w.given file.0 h).0, ms)) ms → IsOk r
+      by (Ok n) q = refl
+      by (Err t) q = let z = ap (λ (k : Generated). k.refusal) q in absurd (let y : ◌≡◌ {A = ℕ} 0 1 = cc in omega arith)
+
+  pub module-again : {n : Given} → g.answer ≡ Ok n → n.id.0 ≡ module_of file.0 ms
+  module-again z =
+      ap (λ (k : Generated). k.id.0) (sym (ap (λ (r : Result Given TooManyFiles). generated_as r (modules_of g.scope)) z) ∙ again)
+      ∙ sym (ap (λ (o : Option ℕ). unwrap_or o 0) (w.given file.0 h).1)
 
 module _ (rows : List Row) (forced : List (List ℕ)) (ms : Modules) {s : List ℕ} {at stop v : ℕ} (r : SourceRead s at stop) (l : v ≡ literal_value s (at + 3)) where
   pub source-file : {o : Option ℕ} → file_of (two v) rows ≡ o → file_of (source_of (tree_at s at stop)) rows ≡ o
   source-file q = ap (λ (a : List ℕ). file_of a rows) (source-value r ∙ ap two (sym l)) ∙ q
 
-  pub record-nowhere : file_of (two v) rows ≡ nothing → resolved_record (file_of (source_of (tree_at s at stop)) rows) forced ms (tree_at s at stop) at ≡ refused 11 at
+  pub record-nowhere : file_of (two v) rows ≡ None → resolved_record (file_of (source_of (tree_at s at stop)) rows) forced ms (tree_at s at stop) at ≡ refused 11 at
   unfolding resolved_record
   record-nowhere q = ap (λ (o : Option ℕ). resolved_record o forced ms (tree_at s at stop) at) (source-file q)
 
   abbrev head : ℕ → ℕ → ℕ → List ℕ
   head kind m file = kind ∷ two m ++ two file ++ four (local m) ++ four (export m) ++ slice (at + 3) (at + 9) s
 
-  pub record-file : {kind m file : ℕ} {all : Bool} → file_of (two v) rows ≡ some file → kind ≡ kind_byte (get_or s at 0) → m ≡ module_of file ms → all ≡ among (two v) forced →
+  pub record-file : {kind m file : ℕ} {all : Bool} → file_of (two v) rows ≡ Some file → kind ≡ kind_byte (get_or s at 0) → m ≡ module_of file ms → all ≡ among (two v) forced →
       resolved_record (file_of (source_of (tree_at s at stop)) rows) forced ms (tree_at s at stop) at
       ≡ onto (resolved_specifiers all (row_at s (at + 9) stop) (at + 9)) (λ gs. done (field 0x90 (head kind m file) gs))
   unfolding resolved_record heading
@@ -80,7 +93,7 @@ module _ (rows : List Row) (forced : List (List ℕ)) (ms : Modules) {s : List �
       let z : at + 3 + length (slice (at + 3) (at + 9) s) ≡ at + 9 = omega arith in
       let t : source_of (field (get_or s at 0) (slice (at + 3) (at + 9) s) (row_at s (at + 9) stop)) ≡ two v = sym (ap source_of r.tree) ∙ source-value r ∙ ap two (sym l) in
       ap (λ (o : Option ℕ). resolved_record o forced ms (tree_at s at stop) at) (source-file q)
-      ∙ ap (λ (g : Field). resolved_record (some file) forced ms g at) r.tree
+      ∙ ap (λ (g : Field). resolved_record (Some file) forced ms g at) r.tree
       ∙ ap₂ (λ (b : Bool) (p : ℕ). onto (resolved_specifiers b (row_at s (at + 9) stop) p) (λ gs. done (field 0x90 (head (kind_byte (get_or s at 0)) (module_of file ms) file) gs)))
       (ap (λ (x : List ℕ). among x forced) t ∙ sym a) z
       ∙ ap₂ (λ (i j : ℕ). onto (resolved_specifiers all (row_at s (at + 9) stop) (at + 9)) (λ gs. done (field 0x90 (head i j file) gs))) (sym k) (sym n)
@@ -88,11 +101,11 @@ module _ (rows : List Row) (forced : List (List ℕ)) (ms : Modules) {s : List �
 -- ---- All of them
 
 module _ (rows : List Row) (forced : List (List ℕ)) (ms : Modules) {s : List ℕ} {at : ℕ} (r : RecordsFrom s at) where
-  pub list-end : source_end s at ≡ Short → resolved_all rows forced ms (sources_in (row_at s at (length s))) at ≡ done none
+  pub list-end : source_end s at ≡ None → resolved_all rows forced ms (sources_in (row_at s at (length s))) at ≡ done none
   unfolding resolved_all
   list-end e = ap (λ (fs : Fields). resolved_all rows forced ms fs at) (sources-end r e)
 
-  module _ {stop : ℕ} (e : source_end s at ≡ Upto stop) where
+  module _ {stop : ℕ} (e : source_end s at ≡ Some stop) where
     pub list-more : Cons (resolved_all rows forced ms (sources_in (row_at s at (length s))) at) (resolved_record (file_of (source_of (tree_at s at stop)) rows) forced ms (tree_at s at stop) at)
         (resolved_all rows forced ms (sources_in (row_at s stop (length s))) stop)
     unfolding resolved_all

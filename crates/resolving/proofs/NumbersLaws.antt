@@ -1,14 +1,17 @@
 -- Numbering, source by source, and that every source that resolves then has its number.
+use Rattle.std.specs.Prelude.{Option, None, Some, Result, Ok, Err}
 use Prim.Native.Nat.{ℕ, ◌+◌}
 use native.Mathlib.Omega.{arith}
 use mathlib.Core.Path.{◌≡◌, refl, sym, ap, ap₂, subst, ◌∙◌}
 use mathlib.Core.List.{List}
-use mathlib.Core.Option.{Option, none as nothing, some}
 use lib.ListN.{length}
 use Rattle.scope.specs.Modules.{Modules, too_many_files, Generated, generated_by, number_of, request, gen}
+use Rattle.scope.specs.ScopeValue.{modules_of, numbers_by, file_refusal, generated}
+use Rattle.scope.specs.declared.Gen.{Gen}
+use Rattle.scope.specs.declared.Numbers.{Numbers}
+use Rattle.scope.specs.declared.TooManyFiles.{TooManyFiles}
 use Rattle.scope.specs.declared.id.FileName.{FileName}
 use Rattle.scope.proofs.Laws.{request-numbers}
-use Rattle.tree.specs.declared.layout.Reach.TheVariants.{Upto, Short}
 use Rattle.tree.specs.Layout.{two, literal_value, value_of}
 use Rattle.tree.specs.Tree.{Field, Fields, none, more, fixed_of, size}
 use Rattle.tree.specs.Standing.{tree_at, row_at}
@@ -23,31 +26,48 @@ use Rattle.resolving.specs.Records.{RecordsFrom, SourceRead, source_end}
 use Rattle.resolving.specs.Numbers.{NumbersAll}
 use Rattle.resolving.proofs.RecordsLaws.{source-stands, sources-end}
 
+-- what a request stands for whose answer is r, where the modules are then ms
+abbrev pub generated_as : Result Numbers TooManyFiles → Modules → Generated
+generated_as r ms =
+    record {
+      modules = ms;
+      id = (numbers_by r).id;
+      local_ctxt = (numbers_by r).local_ctxt;
+      export_ctxt = (numbers_by r).export_ctxt;
+      refusal = file_refusal r;
+    }
+
 -- ---- One source
 
 module _ (rows : List Row) (a : List ℕ) (ms : Modules) (p : ℕ) where
-  pub number-nowhere : file_of a rows ≡ nothing → done ms ≡ number_one (file_of a rows) ms p
+  pub number-nowhere : file_of a rows ≡ None → done ms ≡ number_one (file_of a rows) ms p
   unfolding number_one
   number-nowhere e = sym (ap (λ (o : Option ℕ). number_one o ms p) e)
 
-  given : (o : Option (ℕ × Modules)) → (generated_by o ms).refusal ≡ nothing → done (generated_by o ms).modules ≡ requested o p
-  given (some r) e = refl
-  given nothing e = absurd (let z : ◌≡◌ {A = ℕ} 0 1 = cc in omega arith)
+  given : (o : Option (ℕ × Modules)) → (generated_by o ms).refusal ≡ None → done (generated_by o ms).modules ≡ requested o p
+  given (Some r) e = refl
+  given None e = absurd (let z : ◌≡◌ {A = ℕ} 0 1 = cc in omega arith)
 
-  over : (o : Option (ℕ × Modules)) → (generated_by o ms).refusal ≡ some too_many_files → refused 5 p ≡ requested o p
-  over (some r) e = absurd (let z : ◌≡◌ {A = ℕ} 0 1 = cc in omega arith)
-  over nothing e = refl
+  over : (o : Option (ℕ × Modules)) → (generated_by o ms).refusal ≡ Some too_many_files → refused 5 p ≡ requested o p
+  over (Some r) e = absurd (let z : ◌≡◌ {A = ℕ} 0 1 = cc in omega arith)
+  over None e = refl
 
-  module _ {file : FileName} {g : Generated} (h : file_of a rows ≡ some file.0) (e : g ≡ gen file ms) where
-    pub number-given : g.refusal ≡ nothing → done g.modules ≡ number_one (file_of a rows) ms p
-    unfolding gen number_one
+  module _ {file : FileName} (g : Gen) (h : file_of a rows ≡ Some file.0) (e : generated g ≡ gen file ms) where
+    answered : {r : Result Numbers TooManyFiles} → g.answer ≡ r → generated_as r (modules_of g.scope) ≡ generated_by (request file.0 ms) ms
+    unfolding gen
+    answered z = subst (λ (r : Result Numbers TooManyFiles). generated_as r (modules_of g.scope) ≡ generated_by (request file.0 ms) ms) z e
+
+    numbered : number_one (file_of a rows) ms p ≡ requested (request file.0 ms) p
+    unfolding number_one
+    numbered = ap (λ (o : Option ℕ). number_one o ms p) h
+
+    pub number-given : {n : Numbers} → g.answer ≡ Ok n → done (modules_of g.scope) ≡ number_one (file_of a rows) ms p
     number-given z =
-        ap (λ (k : Generated). done k.modules) e ∙ given (request file.0 ms) (sym (ap (λ (k : Generated). k.refusal) e) ∙ z)
-        ∙ sym (ap (λ (o : Option ℕ). number_one o ms p) h)
+        let k = answered z in
+        ap (λ (x : Generated). done x.modules) k ∙ given (request file.0 ms) (sym (ap (λ (x : Generated). x.refusal) k)) ∙ sym numbered
 
-    pub number-over : g.refusal ≡ some too_many_files → refused 5 p ≡ number_one (file_of a rows) ms p
-    unfolding gen number_one
-    number-over z = over (request file.0 ms) (sym (ap (λ (k : Generated). k.refusal) e) ∙ z) ∙ sym (ap (λ (o : Option ℕ). number_one o ms p) h)
+    pub number-over : {t : TooManyFiles} → g.answer ≡ Err t → refused 5 p ≡ number_one (file_of a rows) ms p
+    number-over z = over (request file.0 ms) (sym (ap (λ (x : Generated). x.refusal) (answered z))) ∙ sym numbered
 
 -- ---- All sources
 
@@ -63,11 +83,11 @@ pub source-after : {s : List ℕ} {at stop : ℕ} → SourceRead s at stop → a
 source-after r = let w = r.wide in let l = r.long in omega arith
 
 module _ (rows : List Row) {s : List ℕ} {at : ℕ} (ms : Modules) (r : RecordsFrom s at) where
-  pub numbers-end : source_end s at ≡ Short → done ms ≡ number_all rows (sources_in (row_at s at (length s))) ms at
+  pub numbers-end : source_end s at ≡ None → done ms ≡ number_all rows (sources_in (row_at s at (length s))) ms at
   unfolding number_all
   numbers-end e = sym (ap (λ (fs : Fields). number_all rows fs ms at) (sources-end r e))
 
-  module _ {stop v : ℕ} (e : source_end s at ≡ Upto stop) (l : v ≡ literal_value s (at + 3)) where
+  module _ {stop v : ℕ} (e : source_end s at ≡ Some stop) (l : v ≡ literal_value s (at + 3)) where
     numbers-step : {o : Outcome Modules} → number_one (file_of (two v) rows) ms at ≡ o →
         number_all rows (sources_in (row_at s at (length s))) ms at ≡ onto o (λ new. number_all rows (sources_in (row_at s stop (length s))) new stop)
     unfolding number_all
@@ -88,13 +108,13 @@ module _ (rows : List Row) {s : List ℕ} {at : ℕ} (ms : Modules) (r : Records
 
 -- ---- Once numbered, each has its number
 
-number-has : (o : Option ℕ) (ms new : Modules) (p file : ℕ) → number_one o ms p ≡ done new → o ≡ some file → (n : ℕ) × (number_of file new ≡ some n)
+number-has : (o : Option ℕ) (ms new : Modules) (p file : ℕ) → number_one o ms p ≡ done new → o ≡ Some file → (n : ℕ) × (number_of file new ≡ Some n)
 unfolding number_one
 number-has o ms new p file e h = go (request file ms) refl (sym (ap (λ (q : Option ℕ). number_one q ms p) h) ∙ e)
   where
-    go : (r : Option (ℕ × Modules)) → request file ms ≡ r → requested r p ≡ done new → (n : ℕ) × (number_of file new ≡ some n)
-    go nothing w e = done-refused e
-    go (some r) w e = (r.0, subst (λ (m : Modules). number_of file m ≡ some r.0) (done-inj e) (request-numbers file ms w))
+    go : (r : Option (ℕ × Modules)) → request file ms ≡ r → requested r p ≡ done new → (n : ℕ) × (number_of file new ≡ Some n)
+    go None w e = done-refused e
+    go (Some r) w e = (r.0, subst (λ (m : Modules). number_of file m ≡ Some r.0) (done-inj e) (request-numbers file ms w))
 
 pub numbers-all : (rows : List Row) (fs : Fields) (ms new : Modules) (p : ℕ) → number_all rows fs ms p ≡ done new → NumbersAll rows new fs
 unfolding number_all

@@ -1,4 +1,5 @@
 -- Records that were read, one by one: those with a source come first, the forced ones behind them.
+use Rattle.std.specs.Prelude.{Option, None, Some}
 use Prim.Native.Nat.{ℕ, zero, suc, ◌+◌, ◌-◌, ◌≤◌, ◌<◌}
 use native.Mathlib.Omega.{arith}
 use mathlib.Core.Path.{◌≡◌, refl, sym, ap, subst, ◌∙◌}
@@ -8,14 +9,11 @@ use lib.Dec.{eqb}
 use lib.ListN.{length, get_or}
 use lib.Seq.{slice, length-slice}
 use borrow.Author.Tests.{eq-eqb, ne_eqb, eqb-true, eqb-false}
-use Rattle.tree.specs.declared.layout.Reach.{Reach}
-use Rattle.tree.specs.declared.layout.Reach.TheVariants.{Upto, Short}
 use Rattle.tree.specs.declared.grammar.Set.{Set}
 use Rattle.tree.specs.declared.grammar.Set.TheVariants.{Records, Collected, Lazy, Dynamic, Forced}
 use Rattle.tree.specs.declared.grammar.Slot.{Slot}
 use Rattle.tree.specs.declared.grammar.Slot.TheVariants.{Nothing, Many}
 use Rattle.tree.specs.declared.grammar.Rule.{Rule}
-use Rattle.tree.specs.declared.grammar.Step.TheVariants.{Go}
 use Rattle.tree.specs.declared.grammar.Value.TheVariants.{Empty, Atom, Literal}
 use Rattle.tree.specs.Layout.{Bytes, two, two_at, same}
 use Rattle.tree.specs.Grammar.{parts3, parts4, within, holds_at, rule_of, step_at}
@@ -42,11 +40,11 @@ use Rattle.resolving.specs.Records.{FieldRead, FieldsRead, records_in, left_rule
 -- ---- The rules that are left
 
 -- a slot for many takes a tag of its set and stays, or is passed over
-many-step : (x : Set) (a b c : Slot) (t : ℕ) (q : Rule) (P : Type 0) → step_at (parts4 (Many x) a b c) t ≡ Go q →
-    (holds_at x t ≡ true → q ≡ parts4 (Many x) a b c → P) → (step_at (parts3 a b c) t ≡ Go q → P) → P
+many-step : (x : Set) (a b c : Slot) (t : ℕ) (q : Rule) (P : Type 0) → step_at (parts4 (Many x) a b c) t ≡ Some q →
+    (holds_at x t ≡ true → q ≡ parts4 (Many x) a b c → P) → (step_at (parts3 a b c) t ≡ Some q → P) → P
 many-step x a b c t q P e here past = go (holds_at x t) refl (sym (many-slot x a b c t) ∙ e)
   where
-    go : (y : Bool) → holds_at x t ≡ y → cond y (Go (parts4 (Many x) a b c)) (step_at (parts3 a b c) t) ≡ Go q → P
+    go : (y : Bool) → holds_at x t ≡ y → cond y (Some (parts4 (Many x) a b c)) (step_at (parts3 a b c) t) ≡ Some q → P
     go true w z = here w (sym (go-inj z))
     go false w z = past z
 
@@ -58,28 +56,28 @@ record Kind (t : ℕ) (q : Rule) : Type 0 where
   rule : q ≡ left_rule kind
 
 -- behind a forced source all are
-only-forced : (t : ℕ) (q : Rule) → step_at (left_rule 3) t ≡ Go q → (t ≡ 0x83) × (q ≡ left_rule 3)
+only-forced : (t : ℕ) (q : Rule) → step_at (left_rule 3) t ≡ Some q → (t ≡ 0x83) × (q ≡ left_rule 3)
 unfolding holds_at
 only-forced t q e =
     many-step Forced Nothing Nothing Nothing t q ((t ≡ 0x83) × (q ≡ left_rule 3)) e
     (λ h r. (eqb-true t 0x83 h, r)) (λ z. absurd (no-step t z))
 
-kind-3 : (t : ℕ) (q : Rule) → step_at (left_rule 3) t ≡ Go q → Kind t q
+kind-3 : (t : ℕ) (q : Rule) → step_at (left_rule 3) t ≡ Some q → Kind t q
 kind-3 t q e = let o = only-forced t q e in record { kind = 3; most = omega arith; tag = o.0; rule = o.1 }
 
-kind-2 : (t : ℕ) (q : Rule) → step_at (left_rule 2) t ≡ Go q → Kind t q
+kind-2 : (t : ℕ) (q : Rule) → step_at (left_rule 2) t ≡ Some q → Kind t q
 unfolding holds_at
 kind-2 t q e =
     many-step Dynamic (Many Forced) Nothing Nothing t q (Kind t q) e
     (λ h r. record { kind = 2; most = omega arith; tag = eqb-true t 0x82 h; rule = r }) (λ z. kind-3 t q z)
 
-kind-1 : (t : ℕ) (q : Rule) → step_at (left_rule 1) t ≡ Go q → Kind t q
+kind-1 : (t : ℕ) (q : Rule) → step_at (left_rule 1) t ≡ Some q → Kind t q
 unfolding holds_at
 kind-1 t q e =
     many-step Lazy (Many Dynamic) (Many Forced) Nothing t q (Kind t q) e
     (λ h r. record { kind = 1; most = omega arith; tag = eqb-true t 0x81 h; rule = r }) (λ z. kind-2 t q z)
 
-kind-of : (k t : ℕ) (q : Rule) → step_at (left_rule k) t ≡ Go q → Kind t q
+kind-of : (k t : ℕ) (q : Rule) → step_at (left_rule k) t ≡ Some q → Kind t q
 unfolding holds_at
 kind-of zero t q e =
     many-step Collected (Many Lazy) (Many Dynamic) (Many Forced) t q (Kind t q) e
@@ -111,14 +109,14 @@ forced-rest (more f fs) w =
 -- ---- Fields in bytes
 
 -- a field is as long as the rules count
-field-long : (s : List ℕ) (at end stop : ℕ) → Bytes s → at ≤ end → end ≤ length s → extent_at s at end ≡ Upto stop → Whole s at stop →
+field-long : (s : List ℕ) (at end stop : ℕ) → Bytes s → at ≤ end → end ≤ length s → extent_at s at end ≡ Some stop → Whole s at stop →
     size (tree_at s at stop) ≡ stop - at
 field-long s at end stop bs le fits e w =
     let i = extent-upto s at end le e in
     size-encode (tree_at s at stop) ∙ ap length (whole-sound s at end stop bs le fits e w).0 ∙ length-slice at stop s (omega arith)
 
-module _ {s : List ℕ} {at end stop : ℕ} (r : FieldsRead s at end) (e : extent_at s at end ≡ Upto stop) where
-  next-field : (q : Rule) × (step_at r.rule (get_or s at 0) ≡ Go q) × FieldRead s at stop × Row s stop end q
+module _ {s : List ℕ} {at end stop : ℕ} (r : FieldsRead s at end) (e : extent_at s at end ≡ Some stop) where
+  next-field : (q : Rule) × (step_at r.rule (get_or s at 0) ≡ Some q) × FieldRead s at stop × Row s stop end q
   next-field =
       let i = extent-upto s at end r.inside e in
       let f = row-next s at end r.rule r.inside r.row (λ z. omega arith) in
@@ -147,10 +145,10 @@ record Next (s : List ℕ) (at stop : ℕ) : Type 0 where
   tag : get_or s at 0 ≡ 0x80 + kind
   row : Row s stop (length s) (left_rule kind)
   fixed : ℕ
-  fixes : fixed_at s (get_or s at 0) (at + 3) stop ≡ Upto fixed
+  fixes : fixed_at s (get_or s at 0) (at + 3) stop ≡ Some fixed
   parts : Row s fixed stop (rule_of (get_or s at 0))
 
-module _ {s : List ℕ} {at stop : ℕ} (r : RecordsFrom s at) (e : extent_at s at (length s) ≡ Upto stop) where
+module _ {s : List ℕ} {at stop : ℕ} (r : RecordsFrom s at) (e : extent_at s at (length s) ≡ Some stop) where
   next-record : Next s at stop
   next-record =
       let f = next-field (record { bytes = r.bytes; inside = r.inside; fits = omega arith; rule = left_rule r.kind; row = r.row }) e in
@@ -234,32 +232,32 @@ pub record Standing (s : List ℕ) (at stop : ℕ) : Type 0 where
   pub row : sources_in (row_at s at (length s)) ≡ more (tree_at s at stop) (sources_in (row_at s stop (length s)))
 
 module _ {s : List ℕ} {at : ℕ} (r : RecordsFrom s at) where
-  pub source-stands : {stop : ℕ} → source_end s at ≡ Upto stop → Standing s at stop
+  pub source-stands : {stop : ℕ} → source_end s at ≡ Some stop → Standing s at stop
   unfolding source_end source_on
   source-stands {stop} e = on (extent_at s at (length s)) refl e
     where
-      by : (b : Bool) (i : ℕ) → extent_at s at (length s) ≡ Upto i → eqb (get_or s at 0) 0x83 ≡ b → cond b Short (Upto i) ≡ Upto stop → Standing s at stop
+      by : (b : Bool) (i : ℕ) → extent_at s at (length s) ≡ Some i → eqb (get_or s at 0) 0x83 ≡ b → cond b None (Some i) ≡ Some stop → Standing s at stop
       by true i x t q = absurd (no-upto q)
       by false i x t q =
-          let y : extent_at s at (length s) ≡ Upto stop = x ∙ q in
+          let y : extent_at s at (length s) ≡ Some stop = x ∙ q in
           let h = eqb-false (get_or s at 0) 0x83 t in
           record { source = source-here r y h; rest = records-next r y; row = source-more r y h }
 
-      on : (k : Reach) → extent_at s at (length s) ≡ k → source_on k (get_or s at 0) ≡ Upto stop → Standing s at stop
-      on Short x q = absurd (no-upto q)
-      on (Upto i) x q = by (eqb (get_or s at 0) 0x83) i x refl q
+      on : (k : Option ℕ) → extent_at s at (length s) ≡ k → source_on k (get_or s at 0) ≡ Some stop → Standing s at stop
+      on None x q = absurd (no-upto q)
+      on (Some i) x q = by (eqb (get_or s at 0) 0x83) i x refl q
 
-  pub sources-end : source_end s at ≡ Short → sources_in (row_at s at (length s)) ≡ none
+  pub sources-end : source_end s at ≡ None → sources_in (row_at s at (length s)) ≡ none
   unfolding source_end source_on
   sources-end e = on (extent_at s at (length s)) refl e
     where
-      by : (b : Bool) (i : ℕ) → extent_at s at (length s) ≡ Upto i → eqb (get_or s at 0) 0x83 ≡ b → cond b Short (Upto i) ≡ Short → sources_in (row_at s at (length s)) ≡ none
+      by : (b : Bool) (i : ℕ) → extent_at s at (length s) ≡ Some i → eqb (get_or s at 0) 0x83 ≡ b → cond b None (Some i) ≡ None → sources_in (row_at s at (length s)) ≡ none
       by true i x t q = source-gone r x (eqb-true (get_or s at 0) 0x83 t)
       by false i x t q = absurd (no-upto (sym q))
 
-      on : (k : Reach) → extent_at s at (length s) ≡ k → source_on k (get_or s at 0) ≡ Short → sources_in (row_at s at (length s)) ≡ none
-      on Short x q = ap sources_in (row-none s at (length s) r.inside x) ∙ source-end
-      on (Upto i) x q = by (eqb (get_or s at 0) 0x83) i x refl q
+      on : (k : Option ℕ) → extent_at s at (length s) ≡ k → source_on k (get_or s at 0) ≡ None → sources_in (row_at s at (length s)) ≡ none
+      on None x q = ap sources_in (row-none s at (length s) r.inside x) ∙ source-end
+      on (Some i) x q = by (eqb (get_or s at 0) 0x83) i x refl q
 
 -- ---- Forced sources
 
@@ -273,11 +271,11 @@ module _ (a : ℕ) (small : a < 65536) where
   among-past f fs h = ap (λ (b : Bool). among (two a) (cond b (fixed_of f ∷ forced_in fs) (forced_in fs))) (ne_eqb (tag_of f) 0x83 h)
 
   module _ {s : List ℕ} {at : ℕ} (r : RecordsFrom s at) where
-    pub forced-end : extent_at s at (length s) ≡ Short → among (two a) (forced_in (row_at s at (length s))) ≡ false
+    pub forced-end : extent_at s at (length s) ≡ None → among (two a) (forced_in (row_at s at (length s))) ≡ false
     unfolding forced_in among
     forced-end e = ap (λ (fs : Fields). among (two a) (forced_in fs)) (row-none s at (length s) r.inside e)
 
-    module _ {stop : ℕ} (e : extent_at s at (length s) ≡ Upto stop) where
+    module _ {stop : ℕ} (e : extent_at s at (length s) ≡ Some stop) where
       forced-fixed : get_or s at 0 ≡ 0x83 → (next-record r e).fixed ≡ at + 5
       forced-fixed h =
           let n = next-record r e in

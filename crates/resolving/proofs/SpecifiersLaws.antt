@@ -1,18 +1,17 @@
 -- Specifiers, one by one as they are written.
+use Rattle.std.specs.Prelude.{Option, None, Some, IsSome}
 use Prim.Native.Nat.{ℕ, ◌+◌, ◌≤◌, ◌<◌}
 use native.Mathlib.Omega.{arith}
 use mathlib.Core.Path.{◌≡◌, refl, sym, ap, subst, ◌∙◌}
 use mathlib.Core.Bool.{Bool, true, false, cond, true≢false}
 use mathlib.Core.List.{List, [], ◌∷◌, ◌++◌, append_assoc}
+use mir.Val.{bool_byte}
 use lib.Dec.{eqb, ltb}
 use lib.ListN.{get_or}
 use lib.Seq.{slice}
 use borrow.Author.Tests.{ne_eqb, eqb-true, ltb-true}
-use Rattle.tree.specs.declared.layout.Reach.{Reach}
-use Rattle.tree.specs.declared.layout.Reach.TheVariants.{Upto, Short}
 use Rattle.tree.specs.declared.grammar.Piece.TheVariants.{Outside}
-use Rattle.tree.specs.declared.access.Choice.{Choice}
-use Rattle.tree.specs.declared.access.Choice.TheVariants.{Take, Bad}
+use Rattle.tree.specs.declared.grammar.Value.{Value}
 use Rattle.tree.specs.Layout.{skip_at, two, four}
 use Rattle.tree.specs.Grammar.{pieces_of}
 use Rattle.tree.specs.Tree.{Field, field, Fields, none, encode, size}
@@ -23,7 +22,6 @@ use Rattle.tree.proofs.FixedLaws.{no-upto}
 use Rattle.tree.proofs.SliceLaws.{get_d-slice}
 use Rattle.tree.proofs.StandingLaws.{row-more, row-none, tree-upto, whole-step}
 use Rattle.tree.proofs.WidthLaws.{skip-ends}
-use Rattle.writer.specs.Bytes.{two_bytes, four_bytes, framed}
 use Rattle.inputs.specs.Outcome.{Outcome, done, refused}
 use Rattle.resolving_rules.specs.Resolve.{resolved_named, resolved_default, resolved_namespace, resolved_specifier, resolved_specifiers}
 use Rattle.resolving.specs.declared.specifiers.Outside.TheVariants.{Nothing, Name, Text}
@@ -31,31 +29,31 @@ use Rattle.resolving.specs.declared.specifiers.Specifier.{Specifier}
 use Rattle.resolving.specs.declared.specifiers.Specifier.TheVariants.{Named, Default, Namespace}
 use Rattle.resolving.specs.Records.{FieldRead}
 use Rattle.resolving.specs.Specifiers.{outside_of, specifier_at, named_by}
-use Rattle.resolving.proofs.WritesLaws.{framed-leaf, consed, Cons}
+use Rattle.resolving.proofs.WritesLaws.{consed, Cons}
 
 -- ---- A 20
 
-choice-ends : (c : Choice) (at stop b : ℕ) → at ≤ stop → on_choice c at stop ≡ Upto b → at ≤ b
+choice-ends : (c : Option Value) (at stop b : ℕ) → at ≤ stop → on_choice c at stop ≡ Some b → at ≤ b
 unfolding on_choice
-choice-ends Bad at stop b h e = absurd (no-upto e)
-choice-ends (Take v) at stop b h e = (subst (ReachIn at stop) e (value_in v at stop h)).0
+choice-ends None at stop b h e = absurd (no-upto e)
+choice-ends (Some v) at stop b h e = (subst (ReachIn at stop) e (value_in v at stop h)).0
 
-kind-ends : (s : List ℕ) (at stop b : ℕ) → kind_at s Outside at stop ≡ Upto b → at + 1 ≤ b
+kind-ends : (s : List ℕ) (at stop b : ℕ) → kind_at s Outside at stop ≡ Some b → at + 1 ≤ b
 unfolding kind_at
 kind-ends s at stop b =
-    cond-ind (λ (r : Reach). r ≡ Upto b → at + 1 ≤ b) (ltb at stop) (on_choice (choice_of Outside (get_or s at 0)) (at + 1) stop) Short
+    cond-ind (λ (r : Option ℕ). r ≡ Some b → at + 1 ≤ b) (ltb at stop) (on_choice (choice_of Outside (get_or s at 0)) (at + 1) stop) None
     (λ q e. let h = ltb-true at stop q in choice-ends (choice_of Outside (get_or s at 0)) (at + 1) stop b (omega arith) e) (λ _ e. absurd (no-upto e))
 
-outside-ends : (n at stop b : ℕ) (s : List ℕ) (r : Reach) → skip_at at n stop ≡ r → then_piece r s Outside stop ≡ Upto b → at + n + 1 ≤ b
+outside-ends : (n at stop b : ℕ) (s : List ℕ) (r : Option ℕ) → skip_at at n stop ≡ r → then_piece r s Outside stop ≡ Some b → at + n + 1 ≤ b
 unfolding then_piece piece_at
-outside-ends n at stop b s Short w e = absurd (no-upto e)
-outside-ends n at stop b s (Upto c) w e = let i = skip-ends at n stop c w in let j = kind-ends s c stop b e in omega arith
+outside-ends n at stop b s None w e = absurd (no-upto e)
+outside-ends n at stop b s (Some c) w e = let i = skip-ends at n stop c w in let j = kind-ends s c stop b e in omega arith
 
 -- it has its id and a kind byte
-ends-20 : (s : List ℕ) (t at stop b : ℕ) → t ≡ 0x20 → fixed_at s t at stop ≡ Upto b → at + 7 ≤ b
+ends-20 : (s : List ℕ) (t at stop b : ℕ) → t ≡ 0x20 → fixed_at s t at stop ≡ Some b → at + 7 ≤ b
 unfolding fixed_at piece_at value_at pieces_of
 ends-20 s t at stop b h e =
-    let z = outside-ends 6 at stop b s (skip_at at 6 stop) refl (subst (λ (k : ℕ). fixed_at s k at stop ≡ Upto b) h e) in omega arith
+    let z = outside-ends 6 at stop b s (skip_at at 6 stop) refl (subst (λ (k : ℕ). fixed_at s k at stop ≡ Some b) h e) in omega arith
 
 -- by its outside name
 by-outside : (x : List ℕ) (p k : ℕ) → get_or x 6 0 ≡ k → resolved_named x p ≡ named_by (outside_of k) x p
@@ -70,8 +68,14 @@ by-outside x p k e = ap (λ (b : ℕ). cond (eqb b 2) (refused 6 p) (done (field
 
 -- ---- A 21
 
-pub default-bytes : (x : List ℕ) → framed 0x91 (x ++ ((1 ∷ []) ++ (two_bytes 3 ++ four_bytes 0))) ≡ encode (resolved_default x)
-default-bytes x = framed-leaf 0x91 (x ++ ((1 ∷ []) ++ (two_bytes 3 ++ four_bytes 0))) ∙ ap (λ (y : List ℕ). encode (field 0x91 y none)) (sym (append_assoc x (1 ∷ two 3) (four 0)))
+pub default-bytes : (x : List ℕ) → encode (field 0x91 (x ++ (1 ∷ 0 ∷ 3 ∷ 0 ∷ 0 ∷ 0 ∷ 0 ∷ [])) none) ≡ encode (resolved_default x)
+default-bytes x = ap (λ (y : List ℕ). encode (field 0x91 y none)) (sym (append_assoc x (1 ∷ two 3) (four 0)))
+
+-- ---- A 22
+
+pub namespace-bytes : (all : Bool) (x : List ℕ) → encode (field 0x92 (x ++ (bool_byte all ∷ [])) none) ≡ encode (resolved_namespace all x)
+namespace-bytes true x = refl
+namespace-bytes false x = refl
 
 -- ---- By the code's test
 
@@ -81,7 +85,7 @@ resolved_by (Named outside) all x p = named_by outside x p
 resolved_by Default all x p = done (resolved_default x)
 resolved_by Namespace all x p = done (resolved_namespace all x)
 
-module _ (all : Bool) (s : List ℕ) (at stop b : ℕ) (e : fixed_at s (get_or s at 0) (at + 3) stop ≡ Upto b) where
+module _ (all : Bool) (s : List ℕ) (at stop b : ℕ) (e : fixed_at s (get_or s at 0) (at + 3) stop ≡ Some b) where
   -- a 20 has its kind byte
   pub named-inside : get_or s at 0 ≡ 0x20 → at + 9 < b
   named-inside h = let z = ends-20 s (get_or s at 0) (at + 3) stop b h e in omega arith
@@ -107,17 +111,17 @@ module _ (all : Bool) (s : List ℕ) (at stop b : ℕ) (e : fixed_at s (get_or s
       go false false t = refl
 
 -- the fixed bytes of a field that was read are whole
-pub read-short : {A : Type 0} {s : List ℕ} {at stop : ℕ} → FieldRead s at stop → fixed_at s (get_or s at 0) (at + 3) stop ≡ Short → A
-read-short {s = s} {at} {stop} r e = absurd (let w = whole-step s at stop r.whole in no-upto (sym e ∙ w.1))
+pub read-fixed : {s : List ℕ} {at stop : ℕ} → FieldRead s at stop → {o : Option ℕ} → o ≡ fixed_at s (get_or s at 0) (at + 3) stop → IsSome o
+read-fixed {s = s} {at} {stop} r e = let w = whole-step s at stop r.whole in rw (e ∙ w.1)
 
 -- ---- All of them
 
 module _ (all : Bool) (s : List ℕ) (at end : ℕ) (le : at ≤ end) where
-  pub specifiers-end : extent_at s at end ≡ Short → resolved_specifiers all (row_at s at end) at ≡ done none
+  pub specifiers-end : extent_at s at end ≡ None → resolved_specifiers all (row_at s at end) at ≡ done none
   unfolding resolved_specifiers
   specifiers-end e = ap (λ (fs : Fields). resolved_specifiers all fs at) (row-none s at end le e)
 
-  pub specifiers-more : {stop : ℕ} → extent_at s at end ≡ Upto stop → FieldRead s at stop →
+  pub specifiers-more : {stop : ℕ} → extent_at s at end ≡ Some stop → FieldRead s at stop →
       Cons (resolved_specifiers all (row_at s at end) at) (resolved_specifier all (tree_at s at stop) at) (resolved_specifiers all (row_at s stop end) stop)
   unfolding resolved_specifiers
   specifiers-more {stop} e r =

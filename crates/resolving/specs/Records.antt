@@ -1,8 +1,6 @@
 -- Records that were read: those from a place on, one with a source, and its parts. Document 01, 'Records and resolving'.
-use Rattle.std.specs.Prelude.{ℕ, zero, suc, ◌+◌, ◌-◌, ◌≤◌, ◌≡◌, Bool, false, cond, List, eqb, length, get_or}
+use Rattle.std.specs.Prelude.{ℕ, zero, suc, ◌+◌, ◌-◌, ◌≤◌, ◌≡◌, Bool, false, cond, List, eqb, length, get_or, Option, None, Some}
 use Rattle.std.proofs.Math.Seq.{slice}
-use Rattle.tree.specs.declared.layout.Reach.{Reach}
-use Rattle.tree.specs.declared.layout.Reach.TheVariants.{Upto, Short}
 use Rattle.tree.specs.declared.grammar.Set.TheVariants.{Collected, Lazy, Dynamic, Forced}
 use Rattle.tree.specs.declared.grammar.Slot.TheVariants.{Many}
 use Rattle.tree.specs.declared.grammar.Rule.{Rule}
@@ -61,11 +59,11 @@ pub record SourceRead (s : List ℕ) (at stop : ℕ) : Type 0 where
   pub parts : FieldsRead s (at + 9) stop
 
 -- where the record with a source at `at` ends; forced sources stand behind all of them
-unfoldable pub source_on : Reach → ℕ → Reach
-source_on Short t = Short
-source_on (Upto stop) t = cond (eqb t 0x83) Short (Upto stop)
+unfoldable pub source_on : Option ℕ → ℕ → Option ℕ
+source_on None t = None
+source_on (Some stop) t = cond (eqb t 0x83) None (Some stop)
 
-unfoldable pub source_end : List ℕ → ℕ → Reach
+unfoldable pub source_end : List ℕ → ℕ → Option ℕ
 source_end s at = source_on (extent_at s at (length s)) (get_or s at 0)
 
 -- the record at `at` forces a source

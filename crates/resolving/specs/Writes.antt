@@ -1,12 +1,14 @@
 -- What is written of the rules' values, and where they refuse.
-use Rattle.std.specs.Prelude.{ℕ, ◌≡◌, List, [], length}
+use Rattle.std.specs.Prelude.{ℕ, ◌≡◌, List, [], length, Result, Ok, Err}
 use Rattle.tree.specs.Tree.{Field, field, Fields, encodes}
 use Rattle.writer.specs.Wrote.{Wrote}
 use Rattle.inputs.specs.Outcome.{Outcome, done, refused, onto}
-use Rattle.resolving.specs.declared.specifiers.Why.{Why}
-use Rattle.resolving.specs.declared.specifiers.Step.{Step}
-use Rattle.resolving.specs.declared.specifiers.Step.TheVariants.{Done, Refused}
+use Rattle.resolving.specs.declared.specifiers.Refusal.{Refusal}
 use Rattle.resolving.specs.Answer.{why_number}
+
+-- the position behind what was written, or a refusal
+abbrev pub Step : Type 0
+Step = Result ℕ Refusal
 
 -- the rules give a value, and its bytes were written at o
 pub record Put {A : Type 0} (bytes : A → List ℕ) (m : Outcome A) (l : List ℕ) (o : ℕ) (l' : List ℕ) (p : ℕ) : Type 0 where
@@ -17,8 +19,8 @@ pub record Put {A : Type 0} (bytes : A → List ℕ) (m : Outcome A) (l : List �
 -- they do, or they refuse
 pub record Puts {A : Type 0} (bytes : A → List ℕ) (m : Outcome A) (l : List ℕ) (o : ℕ) (l' : List ℕ) (k : Step) : Type 0 where
   pub size : length l' ≡ length l
-  pub put : (p : ℕ) → k ≡ Done p → Put bytes m l o l' p
-  pub turned : (w : Why) (q : ℕ) → k ≡ Refused w q → m ≡ refused (why_number w) q
+  pub put : (p : ℕ) → k ≡ Ok p → Put bytes m l o l' p
+  pub turned : (e : Refusal) → k ≡ Err e → m ≡ refused (why_number e.why) e.place
 
 -- with the fields n that are left, from here on, all of m are written
 pub record Onward (m n : Outcome Fields) (l : List ℕ) (o : ℕ) (l' : List ℕ) (p : ℕ) : Type 0 where

@@ -13,8 +13,9 @@ ghost use Rattle.resolving_rules.specs.Call.{resolving};
 ghost use Rattle.resolving_rules.specs.Resolve.{sources_in};
 ghost use Rattle.resolving.specs.Records.{RecordsRead, records_in};
 ghost use Rattle.resolving.specs.Numbers.{NumbersAll};
-ghost use Rattle.resolving.specs.Answer.{lent_as, left, UnreadAs};
-ghost use Rattle.resolving.specs.Stages.{lists_of, left_in, list_answer, listed_left};
+ghost use Rattle.resolving.specs.declared.ResolveError.TheVariants.{Unread as unread, TooManyFiles as too_many};
+ghost use Rattle.resolving.specs.Answer.{lent_as, left, left_by, UnreadAs};
+ghost use Rattle.resolving.specs.Stages.{lists_of, NumberedBy, listed_left};
 
 mod sources; // the records with a source, and their numbers
 pub mod specifiers; // specifiers, resolved
@@ -24,27 +25,42 @@ use list::put_list;
 use modes::Modes;
 use report::{Report, no_counts};
 use scope::Scope;
-use sources::{NumberAnswer, number_sources};
-use specifiers::{Step, Why};
+use sources::{TooManyFilesAt, number_sources};
+use specifiers::Refusal;
 use tree::grammar::Set;
-use tree::read::{Verdict, read_tree};
+use tree::read::{Unread, read_tree};
 
-// What a call answers.
-#[derive(Drop)]
-pub enum ResolveAnswer {
-    Listed,
+// Why a call refuses.
+#[derive(Clone, Copy, PartialEq, Eq)]
+pub enum ResolveError {
     // the table is too long, or none
     BadTable,
     // the table names a source twice
     NamedTwice,
-    // no records: why, and where
-    Unread(tree::read::Why, usize),
+    // no records
+    Unread(Unread),
     // a 257th file, at this record
     TooManyFiles(usize),
-    // the list turned back: why, and where
-    Refused(Why, usize),
+    // the list turned back
+    Refused(Refusal),
     // the buffer is too short, or the list too long
     NoRoom,
+}
+
+impl From<Unread> for ResolveError {
+    ghost from_gives = { λ u e. e ≡ unread u };
+
+    fn from(unread: Unread) -> ResolveError {
+        ResolveError::Unread(unread)
+    }
+}
+
+impl From<TooManyFilesAt> for ResolveError {
+    ghost from_gives = { λ refused e. e ≡ too_many refused.0 };
+
+    fn from(refused: TooManyFilesAt) -> ResolveError {
+        ResolveError::TooManyFiles(refused.0)
+    }
 }
 
 // What a call gives: the scope, the counts, and the answer.
@@ -52,26 +68,7 @@ pub enum ResolveAnswer {
 pub struct Resolution {
     pub scope: Scope,
     pub report: Report,
-    pub answer: ResolveAnswer,
-}
-
-// What the tests of the table and of the records give.
-#[derive(Drop)]
-enum Tested {
-    Good,
-    BadTable,
-    NamedTwice,
-    // no records: why, and where
-    Unread(tree::read::Why, usize),
-}
-
-// What the list gives, held to its buffer.
-#[derive(Drop)]
-enum Listed {
-    Fits,
-    // the list turned back: why, and where
-    Refused(Why, usize),
-    NoRoom,
+    pub answer: Result<(), ResolveError>,
 }
 
 // Resolves records: each source that resolves gets its number, and `list` then holds the resolved list. No rule asks the modes yet.
@@ -85,83 +82,65 @@ pub fn resolve_imports(
     ensures { (left result list.new ≡ resolving (lent_as modes table.now records.now) (length list.old) (modules_of scope))
         × UnreadAs result.answer (read records-set records.now) }
 {
-    match lists(table, records) {
-        Tested::Good => {}
-        Tested::BadTable => return refuse(scope, ResolveAnswer::BadTable, list),
-        Tested::NamedTwice => return refuse(scope, ResolveAnswer::NamedTwice, list),
-        Tested::Unread(why, place) => return refuse(scope, ResolveAnswer::Unread(why, place), list),
-    }
-    let n = number_sources(scope, table, records);
-    let new = n.scope;
-    let answer = n.answer;
-    match answer {
-        NumberAnswer::Given => {}
-        NumberAnswer::TooManyFiles(place) => return refuse(
-            scope,
-            ResolveAnswer::TooManyFiles(place),
-            list,
-        ),
-    }
-    let listed = listing(new, table, records, list);
-    Resolution {
-        scope: new,
-        report: no_counts(),
-        answer: list_answer(listed),
+    match numbered(scope, table, records) {
+        Ok(new) => Resolution {
+            scope: new,
+            report: no_counts(),
+            answer: listing(new, table, records, list),
+        },
+        Err(error) => refuse(scope, error, list),
     }
 }
 
 // What a refused call gives whose scope is as it was: the buffer is zeroed.
-fn refuse(scope: Scope, answer: ResolveAnswer, list: &mut [u8]) -> Resolution
-    ensures { (result ≡ record { scope = scope; report = no_counts; answer = answer }) × (list.new ≡ zeroed list.old) }
+fn refuse(scope: Scope, error: ResolveError, list: &mut [u8]) -> Resolution
+    ensures { (result ≡ record { scope = scope; report = no_counts; answer = Err error }) × (list.new ≡ zeroed list.old) }
 {
     writer::clear(list);
     Resolution {
         scope,
         report: no_counts(),
-        answer,
+        answer: Err(error),
     }
 }
 
 // The table is tested, and the records are read.
-fn lists(table: &[u8], records: &[u8]) -> Tested
+fn lists(table: &[u8], records: &[u8]) -> Result<(), ResolveError>
     ensures { result ≡ lists_of table.now records.now }
 {
     if inputs::bad_table(table) {
-        return Tested::BadTable;
+        return Err(ResolveError::BadTable);
     }
     if inputs::names_twice(table) {
-        return Tested::NamedTwice;
+        return Err(ResolveError::NamedTwice);
     }
-    match read_tree(records, Set::Records) {
-        Verdict::Good => Tested::Good,
-        Verdict::Refused(why, place) => Tested::Unread(why, place),
-    }
+    read_tree(records, Set::Records)?;
+    Ok(())
+}
+
+// The tests, and then the sources get their numbers.
+fn numbered(scope: Scope, table: &[u8], records: &[u8]) -> Result<Scope, ResolveError>
+    ensures { NumberedBy table.now records.now (modules_of scope) result }
+{
+    lists(table, records)?;
+    Ok(number_sources(scope, table, records)?)
 }
 
 // The list is made, and held to its buffer.
-fn listing(scope: Scope, table: &[u8], records: &[u8], list: &mut [u8]) -> Listed
+fn listing(scope: Scope, table: &[u8], records: &[u8], list: &mut [u8]) -> Result<(), ResolveError>
     requires { RecordsRead records.now × NumbersAll (rows_in table.now) (modules_of scope) (sources_in (records_in records.now)) }
-    ensures { left_in result (modules_of scope) list.new ≡ listed_left table.now records.now (length list.old) (modules_of scope) }
+    ensures list { left_by result (modules_of scope) no_counts list.new ≡ listed_left table.now records.now (length list.old) (modules_of scope) }
+    ensures read { UnreadAs result (read records-set records.now) }
 {
     match put_list(scope, table, records, list) {
-        Step::Done(n) => if writer::finish(list, n) {
-            Listed::Fits
+        Ok(n) => if writer::finish(list, n) {
+            Ok(())
         } else {
-            Listed::NoRoom
+            Err(ResolveError::NoRoom)
         },
-        Step::Refused(why, place) => {
+        Err(refusal) => {
             writer::clear(list);
-            Listed::Refused(why, place)
-        },
-    }
-}
-
-fn list_answer(r: Listed) -> ResolveAnswer
-    ensures { result ≡ list_answer r }
-{
-    match r {
-        Listed::Fits => ResolveAnswer::Listed,
-        Listed::Refused(why, place) => ResolveAnswer::Refused(why, place),
-        Listed::NoRoom => ResolveAnswer::NoRoom,
+            Err(ResolveError::Refused(refusal))
+        }
     }
 }

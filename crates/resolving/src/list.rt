@@ -1,6 +1,5 @@
 // The resolved list: a 90 for each record with a source.
-ghost use Rattle.std.specs.Prelude.{◌≡◌, ◌∷◌, ◌++◌, ◌+◌, ◌≤◌, length};
-ghost use Rattle.std.proofs.Math.Seq.{slice};
+ghost use Rattle.std.specs.Prelude.{◌≡◌, ◌∷◌, ◌++◌};
 ghost use Rattle.scope.specs.Id.{local, export};
 ghost use Rattle.scope.specs.ScopeValue.{modules_of};
 ghost use Rattle.tree.specs.Layout.{two, four};
@@ -14,10 +13,10 @@ ghost use Rattle.resolving.specs.Numbers.{Numbers, NumbersAll};
 ghost use Rattle.resolving.specs.Writes.{Puts, list_with};
 
 use crate::sources::{START, is_forced, source_end};
-use crate::specifiers::{Step, Why, put_specifiers};
+use crate::specifiers::{Refusal, Step, Why, put_specifiers};
 use scope::Scope;
 use scope::id::{Atom, FileName, ModuleId};
-use tree::layout::{Reach, literal_value};
+use tree::layout::literal_value;
 
 // 'byte (3 collected, 1 lazy, 0 dynamic)'
 fn kind_of(tag: u8) -> u8
@@ -30,28 +29,24 @@ fn kind_of(tag: u8) -> u8
     }
 }
 
-// What stands in a 90 before its specifiers; the literal stands from `from` up to `end`.
+// What stands in a 90 before its specifiers.
 fn put_heading(
     kind: u8,
     id: ModuleId,
     file: FileName,
-    records: &[u8],
-    from: usize,
-    end: usize,
+    literal: &[u8],
     list: &mut [u8],
     o: usize,
 ) -> usize
-    requires { end ≤ length records.now }
     ensures { Wrote list.old o
-        (kind ∷ two id.0 ++ two file.0 ++ four (local id.0) ++ four (export id.0) ++ slice from end records.now) list.new
-        result }
+        (kind ∷ two id.0 ++ two file.0 ++ four (local id.0) ++ four (export id.0) ++ literal.now) list.new result }
 {
     let a = writer::put(list, o, kind);
     let b = writer::put_u16(list, a, id.0);
     let c = writer::put_u16(list, b, file.0);
     let d = writer::put_u32(list, c, id.local_ctxt().0);
     let e = writer::put_u32(list, d, id.export_ctxt().0);
-    writer::copy(list, e, records, from, end)
+    writer::put_all(list, e, literal)
 }
 
 // The record at `at` up to stop.
@@ -71,21 +66,26 @@ fn put_record(
         list.new result }
 {
     let source = Atom(literal_value(records, at + 3));
-    let inputs::Resolved::File(file) = inputs::resolve(table, source) else {
-        return Step::Refused(Why::Unresolved, at);
+    let Some(file) = inputs::resolve(table, source) else {
+        return Err(Refusal {
+            why: Why::Unresolved,
+            place: at,
+        });
     };
     let content = writer::open_field(list, o, 0x90);
-    let g = scope.gen_id(file);
-    let id = g.id;
+    let numbers = scope.gen_id(file).answer.unwrap();
     let kind = kind_of(records[at]);
-    let c = put_heading(kind, id, file, records, at + 3, at + 9, list, content);
-    match put_specifiers(records, at + 9, stop, is_forced(records, source), list, c) {
-        Step::Done(p) => {
-            writer::close_field(list, o, p);
-            Step::Done(p)
-        },
-        Step::Refused(why, place) => Step::Refused(why, place),
-    }
+    let c = put_heading(
+        kind,
+        numbers.id,
+        file,
+        &records[at + 3..at + 9],
+        list,
+        content,
+    );
+    let p = put_specifiers(records, at + 9, stop, is_forced(records, source), list, c)?;
+    writer::close_field(list, o, p);
+    Ok(p)
 }
 
 // All records with a source, in order.
@@ -97,18 +97,11 @@ fn put_records(scope: Scope, table: &[u8], records: &[u8], list: &mut [u8], o: u
 {
     let mut at = START;
     let mut to = o;
-    loop {
-        let Reach::Upto(stop) = source_end(records, at) else {
-            return Step::Done(to);
-        };
-        match put_record(scope, table, records, at, stop, list, to) {
-            Step::Done(p) => {
-                to = p;
-                at = stop;
-            },
-            Step::Refused(why, place) => return Step::Refused(why, place),
-        }
+    while let Some(stop) = source_end(records, at) {
+        to = put_record(scope, table, records, at, stop, list, to)?;
+        at = stop;
     }
+    Ok(to)
 }
 
 // Writes the list at 0.
@@ -120,11 +113,7 @@ pub fn put_list(scope: Scope, table: &[u8], records: &[u8], list: &mut [u8]) -> 
         (sources_in (records_in records.now)) 3)) list.old 0 list.new result }
 {
     let content = writer::open_field(list, 0, 0x03);
-    match put_records(scope, table, records, list, content) {
-        Step::Done(p) => {
-            writer::close_field(list, 0, p);
-            Step::Done(p)
-        },
-        Step::Refused(why, place) => Step::Refused(why, place),
-    }
+    let p = put_records(scope, table, records, list, content)?;
+    writer::close_field(list, 0, p);
+    Ok(p)
 }

@@ -8,108 +8,74 @@ ghost use Rattle.resolving_rules.specs.Resolve.{sources_in, forced_in, number_on
 ghost use Rattle.resolving.specs.Records.{RecordsRead, records_in, source_end, forces_at};
 ghost use Rattle.resolving.specs.Numbers.{number_by};
 
+use scope::Scope;
 use scope::id::Atom;
-use scope::{FileAnswer, Scope};
 use tree::access::extent;
-use tree::layout::{Reach, atom_at, literal_value};
+use tree::layout::{atom_at, literal_value};
 
 // Where the records start.
 pub const START: usize = 3;
 
-// Has every source its number? A 257th file is refused, at the record that asks for it.
-#[derive(Drop)]
-pub enum NumberAnswer {
-    Given,
-    TooManyFiles(usize),
-}
-
-// What numbering gives: the scope, and the answer.
-#[derive(Drop)]
-pub struct Numbering {
-    pub scope: Scope,
-    pub answer: NumberAnswer,
-}
+// A 257th file is refused, at the place of the record that asks for it.
+#[derive(Clone, Copy, PartialEq, Eq)]
+pub struct TooManyFilesAt(pub usize);
 
 // The end of the record with a source that stands at `at`, if there is one: forced sources stand behind all of them.
-pub fn source_end(records: &[u8], at: usize) -> Reach
+pub fn source_end(records: &[u8], at: usize) -> Option<usize>
     requires { at ≤ length records.now }
     ensures { result ≡ source_end records.now at }
 {
-    match extent(records, at, records.len()) {
-        Reach::Upto(stop) => if records[at] == 0x83 {
-            Reach::Short
-        } else {
-            Reach::Upto(stop)
-        },
-        Reach::Short => Reach::Short,
+    let stop = extent(records, at, records.len())?;
+    if records[at] == 0x83 {
+        None
+    } else {
+        Some(stop)
     }
 }
 
 // Gives a source its number, if it resolves; the record stands at place.
-fn number_source(scope: Scope, table: &[u8], source: Atom, place: usize) -> Numbering
+fn number_source(
+    scope: Scope,
+    table: &[u8],
+    source: Atom,
+    place: usize,
+) -> Result<Scope, TooManyFilesAt>
     ensures { number_by result ≡ number_one (file_of (two source.0) (rows_in table.now)) (modules_of scope) place }
 {
-    match inputs::resolve(table, source) {
-        inputs::Resolved::File(file) => {
-            let g = scope.gen_id(file);
-            let new = g.scope;
-            let given = g.answer;
-            match given {
-                FileAnswer::Given => Numbering {
-                    scope: new,
-                    answer: NumberAnswer::Given,
-                },
-                FileAnswer::TooManyFiles => Numbering {
-                    scope,
-                    answer: NumberAnswer::TooManyFiles(place),
-                },
-            }
-        },
-        inputs::Resolved::Nowhere => Numbering {
-            scope,
-            answer: NumberAnswer::Given,
-        },
+    let Some(file) = inputs::resolve(table, source) else {
+        return Ok(scope);
+    };
+    let g = scope.gen_id(file);
+    match g.answer {
+        Ok(_) => Ok(g.scope),
+        Err(_) => Err(TooManyFilesAt(place)),
     }
 }
 
 // 'Resolving numbers every resolvable source in that order.'
-pub fn number_sources(mut scope: Scope, table: &[u8], records: &[u8]) -> Numbering
+pub fn number_sources(
+    mut scope: Scope,
+    table: &[u8],
+    records: &[u8],
+) -> Result<Scope, TooManyFilesAt>
     requires { RecordsRead records.now }
     ensures { number_by result ≡ number_all (rows_in table.now) (sources_in (records_in records.now)) (modules_of scope) 3 }
 {
     let mut at = START;
-    loop {
-        let Reach::Upto(stop) = source_end(records, at) else {
-            return Numbering {
-                scope,
-                answer: NumberAnswer::Given,
-            };
-        };
-        let n = number_source(scope, table, Atom(literal_value(records, at + 3)), at);
-        scope = n.scope;
-        let answer = n.answer;
-        match answer {
-            NumberAnswer::Given => at = stop,
-            NumberAnswer::TooManyFiles(place) => {
-                return Numbering {
-                    scope,
-                    answer: NumberAnswer::TooManyFiles(place),
-                };
-            }
-        }
+    while let Some(stop) = source_end(records, at) {
+        scope = number_source(scope, table, Atom(literal_value(records, at + 3)), at)?;
+        at = stop;
     }
+    Ok(scope)
 }
 
 // Whether the record at `at` forces a source.
+#[tactic(auto, unfolding(crate::specs::Records::forces_at))]
 fn forces_at(records: &[u8], at: usize, source: Atom) -> bool
     requires { at + 5 ≤ length records.now }
     ensures { result ≡ forces_at records.now at source.0 }
 {
-    if records[at] == 0x83 {
-        source.0 == atom_at(records, at + 3)
-    } else {
-        false
-    }
+    records[at] == 0x83 && source.0 == atom_at(records, at + 3)
 }
 
 // Whether a source is forced.
@@ -118,13 +84,11 @@ pub fn is_forced(records: &[u8], source: Atom) -> bool
     ensures { result ≡ among (two source.0) (forced_in (records_in records.now)) }
 {
     let mut at = START;
-    loop {
-        let Reach::Upto(stop) = extent(records, at, records.len()) else {
-            return false;
-        };
+    while let Some(stop) = extent(records, at, records.len()) {
         if forces_at(records, at, source) {
             return true;
         }
         at = stop;
     }
+    false
 }

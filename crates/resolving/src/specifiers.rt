@@ -1,20 +1,17 @@
 // The specifiers of a record, as the resolved list has them.
-ghost use Rattle.std.specs.Prelude.{◌≡◌, cond, ◌+◌, ◌≤◌, ◌<◌, length, get_or};
-ghost use Rattle.std.proofs.Math.Seq.{slice};
+ghost use Rattle.std.specs.Prelude.{◌≡◌, ◌++◌, ◌+◌, ◌≤◌, ◌<◌, length, get_or};
 ghost use Rattle.tree.specs.Tree.{field, none, encode, encodes};
 ghost use Rattle.tree.specs.Standing.{tree_at, row_at};
 ghost use Rattle.writer.specs.Wrote.{Wrote};
-ghost use Rattle.resolving_rules.specs.Resolve.{resolved_default, resolved_namespace, resolved_specifier, resolved_specifiers};
+ghost use Rattle.resolving_rules.specs.Resolve.{resolved_specifier, resolved_specifiers};
 ghost use Rattle.resolving.specs.Records.{FieldRead, FieldsRead};
 ghost use Rattle.resolving.specs.Specifiers.{outside_of, specifier_at, named_by};
 ghost use Rattle.resolving.specs.Writes.{Puts};
 
-use scope::id::Atom;
 use tree::access::{extent, fixed};
-use tree::layout::Reach;
 
 // Why a list turns back.
-#[derive(Drop)]
+#[derive(Clone, Copy, PartialEq, Eq)]
 pub enum Why {
     // a source that the table does not name
     Unresolved,
@@ -22,12 +19,15 @@ pub enum Why {
     StringName,
 }
 
-// The position behind what was written, or why not and where.
-#[derive(Drop)]
-pub enum Step {
-    Done(usize),
-    Refused(Why, usize),
+// Why a list turns back, and at which field.
+#[derive(Clone, Copy, PartialEq, Eq)]
+pub struct Refusal {
+    pub why: Why,
+    pub place: usize,
 }
+
+// The position behind what was written.
+pub type Step = Result<usize, Refusal>;
 
 // A named import's outside name.
 #[derive(Drop)]
@@ -46,51 +46,22 @@ pub enum Specifier {
     Namespace,
 }
 
-// Writes the bytes from `from` up to `end`, an id and its outside name, as a 91.
-fn put_plain(s: &[u8], from: usize, end: usize, list: &mut [u8], o: usize) -> usize
-    requires { end ≤ length s.now }
-    ensures { Wrote list.old o (encode (field 0x91 (slice from end s.now) none)) list.new result }
-{
-    let content = writer::open_field(list, o, 0x91);
-    let p = writer::copy(list, content, s, from, end);
-    writer::close_field(list, o, p);
-    p
-}
+// A default's alias, '(default, 0)': the byte of an alias, then the atom `default` and the context of no module.
+const DEFAULT_ALIAS: [u8; 7] = [1, 0, 3, 0, 0, 0, 0];
 
-// The id from `from` up to `end` as a 91: 'Default's alias is (default, 0).'
-fn put_default(s: &[u8], from: usize, end: usize, list: &mut [u8], o: usize) -> usize
-    requires { end ≤ length s.now }
-    ensures { Wrote list.old o (encode (resolved_default (slice from end s.now))) list.new result }
+// Writes a field without parts, of these bytes and those behind them.
+fn put_leaf(list: &mut [u8], o: usize, tag: u8, bytes: &[u8], behind: &[u8]) -> usize
+    ensures { Wrote list.old o (encode (field tag (bytes.now ++ behind.now) none)) list.new result }
 {
-    let content = writer::open_field(list, o, 0x91);
-    let alias = writer::copy(list, content, s, from, end);
-    let name = writer::put(list, alias, 1);
-    let context = writer::put_u16(list, name, Atom::DEFAULT.0);
-    let p = writer::put_u32(list, context, 0);
-    writer::close_field(list, o, p);
-    p
-}
-
-// '92 (I; all byte, 1 if forced)'
-fn all_byte(all: bool) -> u8
-    ensures { result ≡ cond all 1 0 }
-{
-    if all { 1 } else { 0 }
-}
-
-// The id from `from` up to `end` as a 92, with the all byte.
-fn put_namespace(s: &[u8], from: usize, end: usize, all: bool, list: &mut [u8], o: usize) -> usize
-    requires { end ≤ length s.now }
-    ensures { Wrote list.old o (encode (resolved_namespace all (slice from end s.now))) list.new result }
-{
-    let content = writer::open_field(list, o, 0x92);
-    let byte = writer::copy(list, content, s, from, end);
-    let p = writer::put(list, byte, all_byte(all));
+    let content = writer::open_field(list, o, tag);
+    let rest = writer::put_all(list, content, bytes);
+    let p = writer::put_all(list, rest, behind);
     writer::close_field(list, o, p);
     p
 }
 
 // The outside name whose kind byte stands at `at`.
+#[tactic(auto, unfolding(crate::specs::Specifiers::outside_of))]
 fn outside_at(s: &[u8], at: usize) -> Outside
     requires { at < length s.now }
     ensures { result ≡ outside_of (get_or s.now at 0) }
@@ -103,6 +74,7 @@ fn outside_at(s: &[u8], at: usize) -> Outside
 }
 
 // The specifier at `at`, whose fixed bytes end at `end`.
+#[tactic(auto, unfolding(crate::specs::Specifiers::specifier_at))]
 fn specifier_at(s: &[u8], at: usize, end: usize) -> Specifier
     requires { (at < end) × (get_or s.now at 0 ≡ 0x20 → at + 9 < end) × (end ≤ length s.now) }
     ensures { result ≡ specifier_at s.now at }
@@ -114,38 +86,30 @@ fn specifier_at(s: &[u8], at: usize, end: usize) -> Specifier
     }
 }
 
-// The bytes from `from` up to `end` as a 91; a string name is refused, at the 20 at place.
-fn put_named(
-    s: &[u8],
-    from: usize,
-    end: usize,
-    outside: Outside,
-    place: usize,
-    list: &mut [u8],
-    o: usize,
-) -> Step
-    requires { end ≤ length s.now }
-    ensures { Puts encode (named_by outside (slice from end s.now) place) list.old o list.new result }
+// A named import's bytes, an id and its outside name, as a 91; a string name is refused, at the 20 at place.
+fn put_named(bytes: &[u8], outside: Outside, place: usize, list: &mut [u8], o: usize) -> Step
+    ensures { Puts encode (named_by outside bytes.now place) list.old o list.new result }
 {
     match outside {
-        Outside::Nothing => Step::Done(put_plain(s, from, end, list, o)),
-        Outside::Name => Step::Done(put_plain(s, from, end, list, o)),
-        Outside::Text => Step::Refused(Why::StringName, place),
+        Outside::Nothing | Outside::Name => Ok(put_leaf(list, o, 0x91, bytes, &[])),
+        Outside::Text => Err(Refusal {
+            why: Why::StringName,
+            place,
+        }),
     }
 }
 
-// The specifier at `at` up to stop.
+// The specifier at `at` up to stop: a default's and a namespace's bytes are their ids, and a namespace is told whether it is all of a module.
 fn put_specifier(s: &[u8], at: usize, stop: usize, all: bool, list: &mut [u8], o: usize) -> Step
     requires { FieldRead s.now at stop }
     ensures { Puts encode (resolved_specifier all (tree_at s.now at stop) at) list.old o list.new result }
 {
-    let Reach::Upto(end) = fixed(s, s[at], at + 3, stop) else {
-        return Step::Done(o);
-    };
+    let end = fixed(s, s[at], at + 3, stop).unwrap();
+    let bytes = &s[at + 3..end];
     match specifier_at(s, at, end) {
-        Specifier::Named(outside) => put_named(s, at + 3, end, outside, at, list, o),
-        Specifier::Default => Step::Done(put_default(s, at + 3, end, list, o)),
-        Specifier::Namespace => Step::Done(put_namespace(s, at + 3, end, all, list, o)),
+        Specifier::Named(outside) => put_named(bytes, outside, at, list, o),
+        Specifier::Default => Ok(put_leaf(list, o, 0x91, bytes, &DEFAULT_ALIAS)),
+        Specifier::Namespace => Ok(put_leaf(list, o, 0x92, bytes, &[u8::from(all)])),
     }
 }
 
@@ -163,16 +127,9 @@ pub fn put_specifiers(
 {
     let mut at = from;
     let mut to = o;
-    loop {
-        let Reach::Upto(stop) = extent(s, at, end) else {
-            return Step::Done(to);
-        };
-        match put_specifier(s, at, stop, all, list, to) {
-            Step::Done(p) => {
-                to = p;
-                at = stop;
-            },
-            Step::Refused(why, place) => return Step::Refused(why, place),
-        }
+    while let Some(stop) = extent(s, at, end) {
+        to = put_specifier(s, at, stop, all, list, to)?;
+        at = stop;
     }
+    Ok(to)
 }

@@ -1,9 +1,9 @@
 -- What the steps of an accepted resolving give: numbers that stay, and each record and specifier of the list.
+use Rattle.std.specs.Prelude.{Option, None, Some}
 use Prim.Native.Nat.{ℕ, ◌+◌}
 use mathlib.Core.Path.{◌≡◌, refl, sym, ap, subst, ◌∙◌}
 use mathlib.Core.Bool.{Bool, true, false, cond}
 use mathlib.Core.List.{List, [], ◌∷◌}
-use mathlib.Core.Option.{Option, none as nothing, some}
 use lib.Dec.{eqb}
 use lib.ListN.{get_or}
 use Rattle.scope.specs.Modules.{Modules, number_of, request}
@@ -20,18 +20,18 @@ use Rattle.resolving_rules.specs.Resolve.{resolved_specifiers, module_of, headin
 -- ---- 'Resolving numbers every resolvable source': a number once given stays
 
 module _ (rows : List Row) (g k : ℕ) where
-  number_one-keeps : (o : Option ℕ) (ms new : Modules) (p : ℕ) → number_one o ms p ≡ done new → number_of g ms ≡ some k → number_of g new ≡ some k
+  number_one-keeps : (o : Option ℕ) (ms new : Modules) (p : ℕ) → number_one o ms p ≡ done new → number_of g ms ≡ Some k → number_of g new ≡ Some k
   unfolding number_one
-  number_one-keeps nothing ms new p e h = subst (λ (m : Modules). number_of g m ≡ some k) (done-inj e) h
-  number_one-keeps (some file) ms new p e h = go (request file ms) refl e
+  number_one-keeps None ms new p e h = subst (λ (m : Modules). number_of g m ≡ Some k) (done-inj e) h
+  number_one-keeps (Some file) ms new p e h = go (request file ms) refl e
     where
-      go : (r : Option (ℕ × Modules)) → request file ms ≡ r → requested r p ≡ done new → number_of g new ≡ some k
-      go nothing w e = done-refused e
-      go (some r) w e = subst (λ (m : Modules). number_of g m ≡ some k) (done-inj e) (request-keeps-numbers file ms w g k h)
+      go : (r : Option (ℕ × Modules)) → request file ms ≡ r → requested r p ≡ done new → number_of g new ≡ Some k
+      go None w e = done-refused e
+      go (Some r) w e = subst (λ (m : Modules). number_of g m ≡ Some k) (done-inj e) (request-keeps-numbers file ms w g k h)
 
-  pub number_all-keeps : (fs : Fields) (ms new : Modules) (p : ℕ) → number_all rows fs ms p ≡ done new → number_of g ms ≡ some k → number_of g new ≡ some k
+  pub number_all-keeps : (fs : Fields) (ms new : Modules) (p : ℕ) → number_all rows fs ms p ≡ done new → number_of g ms ≡ Some k → number_of g new ≡ Some k
   unfolding number_all
-  number_all-keeps none ms new p e h = subst (λ (m : Modules). number_of g m ≡ some k) (done-inj e) h
+  number_all-keeps none ms new p e h = subst (λ (m : Modules). number_of g m ≡ Some k) (done-inj e) h
   number_all-keeps (more f fs) ms new p e h =
       let w = onto-done (number_one (file_of (source_of f) rows) ms p) _ new e in
       number_all-keeps fs w.0 new (p + size f) w.2 (number_one-keeps (file_of (source_of f) rows) ms w.0 p w.1 h)
@@ -41,7 +41,7 @@ module _ (rows : List Row) (g k : ℕ) where
 -- an accepted record: its source resolves, its specifiers are accepted, and this is its 90
 pub record Made (o : Option ℕ) (forced : List (List ℕ)) (ms : Modules) (f : Field) (p : ℕ) (g : Field) : Type 0 where
   pub file : ℕ
-  pub resolves : o ≡ some file
+  pub resolves : o ≡ Some file
   pub parts : Fields
   pub specifiers : resolved_specifiers (among (source_of f) forced) (parts_of f) (inside p (fixed_of f)) ≡ done parts
   pub made : g ≡ field 0x90 (heading f (module_of file ms) file) parts
@@ -49,8 +49,8 @@ pub record Made (o : Option ℕ) (forced : List (List ℕ)) (ms : Modules) (f : 
 pub record-made : (o : Option ℕ) (forced : List (List ℕ)) (ms : Modules) (f : Field) (p : ℕ) (g : Field) →
     resolved_record o forced ms f p ≡ done g → Made o forced ms f p g
 unfolding resolved_record
-record-made nothing forced ms f p g e = done-refused e
-record-made (some file) forced ms f p g e =
+record-made None forced ms f p g e = done-refused e
+record-made (Some file) forced ms f p g e =
     let w = onto-done (resolved_specifiers (among (source_of f) forced) (parts_of f) (inside p (fixed_of f))) _ g e in
     record { file = file; resolves = refl; parts = w.0; specifiers = w.1; made = sym (done-inj w.2) }
 

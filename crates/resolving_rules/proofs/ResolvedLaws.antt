@@ -1,9 +1,9 @@
 -- What an accepted call is made of.
+use Rattle.std.specs.Prelude.{Some}
 use Prim.Native.Nat.{ℕ}
 use mathlib.Core.Path.{◌≡◌, refl, sym, ap, subst, ◌∙◌}
 use mathlib.Core.Bool.{true}
 use mathlib.Core.List.{List, []}
-use mathlib.Core.Option.{some}
 use Rattle.modes.specs.declared.Modes.{Modes}
 use Rattle.scope.specs.Modules.{Modules, number_of}
 use Rattle.tree.specs.declared.grammar.Set.TheVariants.{Records}
@@ -80,12 +80,12 @@ call-modules l room ms q e =
 
 -- no accepted call changes a number that was given
 pub call-keeps-numbers : (l : Lent) (room : ℕ) (ms : Modules) (q : Resolved) → resolved l room ms ≡ done q →
-    (g k : ℕ) → number_of g ms ≡ some k → number_of g q.modules ≡ some k
+    (g k : ℕ) → number_of g ms ≡ Some k → number_of g q.modules ≡ Some k
 unfolding resolved
 call-keeps-numbers l room ms q e g k h =
     let a = onto-done (numbered l ms) _ q e in
     let n = numbered-made l ms a.0 a.1 in
-    subst (λ (m : Modules). number_of g m ≡ some k) (sym (listed-made a.0 room q a.2).0)
+    subst (λ (m : Modules). number_of g m ≡ Some k) (sym (listed-made a.0 room q a.2).0)
     (number_all-keeps a.0.rows g k (sources_in a.0.records) ms a.0.modules 3 n.2 h)
 
 abbrev left_with : Modes → List ℕ → List ℕ → ℕ → Modules → Left

@@ -1,7 +1,6 @@
 -- The whole call: from the lent slices and the scope to the answer, the scope and the list's buffer to the last byte.
 -- Document 01, 'Where a call turns back': "resolving tests 1, 2, 10, 5, then 11 or 6, then 9".
-use Rattle.std.specs.Prelude.{ℕ, List, []}
-use Rattle.std.proofs.Math.Option.{Option}
+use Rattle.std.specs.Prelude.{ℕ, List, [], Option}
 use Rattle.modes.specs.declared.Modes.{Modes}
 use Rattle.report.specs.declared.Report.{Report}
 use Rattle.report.specs.Counts.{no_counts}

@@ -1,6 +1,5 @@
 -- The cards of document 01 that ask for resolving, each with what the card says it gives, and one sentence: the rules give that.
-use Rattle.std.specs.Prelude.{ℕ, ◌≡◌, refl, List, [], ◌∷◌, ◌++◌, map, replicate}
-use Rattle.std.proofs.Math.Option.{none as nothing, some}
+use Rattle.std.specs.Prelude.{ℕ, ◌≡◌, refl, List, [], ◌∷◌, ◌++◌, map, replicate, None, Some}
 use Rattle.modes.specs.Bits.{modes_of}
 use Rattle.report.specs.Counts.{no_counts}
 use Rattle.scope.specs.Modules.{Modules, unmarked}
@@ -37,7 +36,7 @@ pub card2 : Case
 card2 = record {
   lent = lending records2;
   modules = unmarked 9 ∷ unmarked 10 ∷ [];
-  left = record { refusal = nothing; modules = unmarked 9 ∷ unmarked 10 ∷ []; report = no_counts; list = list2 ++ replicate 215 0 };
+  left = record { refusal = None; modules = unmarked 9 ∷ unmarked 10 ∷ []; report = no_counts; list = list2 ++ replicate 215 0 };
 }
 
 -- First source unresolved, second not: 11, the second keeps its number
@@ -45,7 +44,7 @@ pub card12 : Case
 card12 = record {
   lent = lending (encode (field 0x02 [] (more (field 0x80 (two 30 ++ four 1) none) (more (field 0x80 (two 20 ++ four 2) none) none))));
   modules = [];
-  left = record { refusal = some (11, 3); modules = unmarked 10 ∷ []; report = no_counts; list = replicate 250 0 };
+  left = record { refusal = Some (11, 3); modules = unmarked 10 ∷ []; report = no_counts; list = replicate 250 0 };
 }
 
 pub cards : List Case

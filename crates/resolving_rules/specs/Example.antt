@@ -1,6 +1,5 @@
 -- Worked cases of our own, beside the cards, for what the cards do not show.
-use Rattle.std.specs.Prelude.{ℕ, ◌≡◌, refl, List, [], ◌∷◌, ◌++◌, replicate}
-use Rattle.std.proofs.Math.Option.{none as nothing, some}
+use Rattle.std.specs.Prelude.{ℕ, ◌≡◌, refl, List, [], ◌∷◌, ◌++◌, replicate, None, Some}
 use Rattle.report.specs.Counts.{no_counts}
 use Rattle.scope.specs.Modules.{unmarked}
 use Rattle.tree.specs.Layout.{two, four}
@@ -37,25 +36,25 @@ all_kinds = field 0x02 [] (more (field 0x80 literal specifiers) (more (leaf 0x81
 abbrev all_listed : Field
 all_listed = field 0x03 [] (more (field 0x90 (heading 3) resolved_as) (more (leaf 0x90 (heading 1)) (more (leaf 0x90 (heading 0)) none)))
 
-kinds : resolving (lending (encode all_kinds)) 111 [] ≡ record { refusal = nothing; modules = unmarked 10 ∷ []; report = no_counts; list = encode all_listed }
+kinds : resolving (lending (encode all_kinds)) 111 [] ≡ record { refusal = None; modules = unmarked 10 ∷ []; report = no_counts; list = encode all_listed }
 unfolding computing
 kinds = refl
 
 -- a string name in a record that resolves is 6 at the 20, and the file keeps its number
 string-name :
     resolving (lending (encode (field 0x02 [] (more (field 0x80 literal (more (leaf 0x20 (id 22 ++ 2 ∷ two 23)) none)) none)))) 100 [] ≡
-    record { refusal = some (6, 12); modules = unmarked 10 ∷ []; report = no_counts; list = replicate 100 0 }
+    record { refusal = Some (6, 12); modules = unmarked 10 ∷ []; report = no_counts; list = replicate 100 0 }
 unfolding computing
 string-name = refl
 
 -- one byte too short is 9, and the file keeps its number
 too_short :
     resolving (lending (encode (field 0x02 [] (more (leaf 0x82 literal) none)))) 24 [] ≡
-    record { refusal = some (9, 0); modules = unmarked 10 ∷ []; report = no_counts; list = replicate 24 0 }
+    record { refusal = Some (9, 0); modules = unmarked 10 ∷ []; report = no_counts; list = replicate 24 0 }
 unfolding computing
 too_short = refl
 
 -- records off the grammar are 10, and the scope is as it was
-off-grammar : resolving (lending (0x02 ∷ 0 ∷ 3 ∷ 0x40 ∷ 0 ∷ 0 ∷ [])) 10 [] ≡ record { refusal = some (10, 3); modules = []; report = no_counts; list = replicate 10 0 }
+off-grammar : resolving (lending (0x02 ∷ 0 ∷ 3 ∷ 0x40 ∷ 0 ∷ 0 ∷ [])) 10 [] ≡ record { refusal = Some (10, 3); modules = []; report = no_counts; list = replicate 10 0 }
 unfolding computing
 off-grammar = refl

@@ -1,7 +1,5 @@
 -- From records to the resolved list. Document 01, 'Records and resolving'; the Rust's `resolve_imports`.
-use Rattle.std.specs.Prelude.{ℕ, ◌+◌, Bool, not, cond, List, [], ◌∷◌, ◌++◌, eqb, get_or}
-use Rattle.std.proofs.Math.Option
-use Rattle.std.proofs.Math.Option.{Option, none as nothing, some}
+use Rattle.std.specs.Prelude.{ℕ, ◌+◌, Bool, not, cond, List, [], ◌∷◌, ◌++◌, eqb, get_or, Option, None, Some, unwrap_or}
 use Rattle.scope.specs.Id.{default_atom, empty, local, export}
 use Rattle.scope.specs.Modules.{Modules, number_of, request}
 use Rattle.tree.specs.Layout.{two, four, value_of}
@@ -28,12 +26,12 @@ source_of f = value_of (fixed_of f)
 
 -- 5: 'a 257th file', at the record
 abbrev pub requested : Option (ℕ × Modules) → ℕ → Outcome Modules
-requested nothing p = refused 5 p
-requested (some r) p = done r.1
+requested None p = refused 5 p
+requested (Some r) p = done r.1
 
 unfoldable pub number_one : Option ℕ → Modules → ℕ → Outcome Modules
-number_one nothing ms p = done ms
-number_one (some file) ms p = requested (request file ms) p
+number_one None ms p = done ms
+number_one (Some file) ms p = requested (request file ms) p
 
 unfoldable pub number_all : List Row → Fields → Modules → ℕ → Outcome Modules
 number_all rows none ms p = done ms
@@ -73,7 +71,7 @@ kind_byte t = cond (eqb t 0x80) 3 (cond (eqb t 0x81) 1 0)
 
 -- the module of a file that has been numbered
 abbrev pub module_of : ℕ → Modules → ℕ
-module_of file ms = Option.get_or (number_of file ms) 0
+module_of file ms = unwrap_or (number_of file ms) 0
 
 -- 'byte .., module 2 bytes, file 2, C local, C export, L'
 unfoldable pub heading : Field → ℕ → ℕ → List ℕ
@@ -81,8 +79,8 @@ heading f n file = kind_byte (tag_of f) ∷ two n ++ two file ++ four (local n) 
 
 -- 11: 'source unresolved', at the record
 unfoldable pub resolved_record : Option ℕ → List (List ℕ) → Modules → Field → ℕ → Outcome Field
-resolved_record nothing forced ms f p = refused 11 p
-resolved_record (some file) forced ms f p = do
+resolved_record None forced ms f p = refused 11 p
+resolved_record (Some file) forced ms f p = do
   gs ← resolved_specifiers (among (source_of f) forced) (parts_of f) (inside p (fixed_of f))
   done (field 0x90 (heading f (module_of file ms) file) gs)
 

@@ -6,7 +6,7 @@ use native.Mathlib.Nat.{add-zero}
 use mathlib.Core.Path.{◌≡◌, refl, sym, ap, subst, ◌∙◌}
 use mathlib.Core.Bool.{Bool, true, false, cond}
 use mathlib.Core.List.{List, [], ◌∷◌, ◌++◌, map}
-use mathlib.Core.Option.{Option, none, some}
+use Rattle.std.specs.Prelude.{Option, None, Some}
 use lib.Dec.{ltb, eqb}
 use lib.ListN.{length, length-append, get_or, set, length-set}
 use lib.Seq.{get_or-set_same, get_or-set_other}
@@ -40,39 +40,39 @@ export-not-empty n e = omega arith
 
 -- ---- Places of files
 
-pub none-some : {A B : Type 0} {b : B} → none ≡ some b → A
+pub none-some : {A B : Type 0} {b : B} → None ≡ Some b → A
 none-some {b = b} e = absurd (let z : ◌≡◌ {A = ℕ} 0 1 = cc in omega arith)
 
 -- the first place, or one behind a place further on
-here-or-on : (P : ℕ → Type 0) (b : Bool) (o : Option ℕ) → P zero → ((m : ℕ) → o ≡ some m → P (suc m)) → {n : ℕ} → cond b (some zero) (next o) ≡ some n → P n
+here-or-on : (P : ℕ → Type 0) (b : Bool) (o : Option ℕ) → P zero → ((m : ℕ) → o ≡ Some m → P (suc m)) → {n : ℕ} → cond b (Some zero) (next o) ≡ Some n → P n
 here-or-on P true o z s {n} e = subst P (let q : zero ≡ n = cc in q) z
-here-or-on P false none z s e = none-some e
-here-or-on P false (some m) z s {n} e = subst P (let q : suc m ≡ n = cc in q) (s m refl)
+here-or-on P false None z s e = none-some e
+here-or-on P false (Some m) z s {n} e = subst P (let q : suc m ≡ n = cc in q) (s m refl)
 
 -- a file's place is below the number of files
-pub place-below : (f : ℕ) (l : List ℕ) {n : ℕ} → place_of f l ≡ some n → n < length l
+pub place-below : (f : ℕ) (l : List ℕ) {n : ℕ} → place_of f l ≡ Some n → n < length l
 unfolding place_of
 place-below f [] e = none-some e
 place-below f (g ∷ l) e = here-or-on (λ n. n < suc (length l)) (eqb f g) (place_of f l) (omega arith) (λ m q. let h = place-below f l q in omega arith) e
 
-placed-on : (b : Bool) (o o' : Option ℕ) → ((n : ℕ) → o ≡ some n → o' ≡ some n) → {n : ℕ} → cond b (some zero) (next o) ≡ some n → cond b (some zero) (next o') ≡ some n
+placed-on : (b : Bool) (o o' : Option ℕ) → ((n : ℕ) → o ≡ Some n → o' ≡ Some n) → {n : ℕ} → cond b (Some zero) (next o) ≡ Some n → cond b (Some zero) (next o') ≡ Some n
 placed-on true o o' h e = e
-placed-on false none o' h e = none-some e
-placed-on false (some m) o' h e = ap next (h m refl) ∙ e
+placed-on false None o' h e = none-some e
+placed-on false (Some m) o' h e = ap next (h m refl) ∙ e
 
 -- a place stays where files are appended
-pub place-stays : (f : ℕ) (l r : List ℕ) {n : ℕ} → place_of f l ≡ some n → place_of f (l ++ r) ≡ some n
+pub place-stays : (f : ℕ) (l r : List ℕ) {n : ℕ} → place_of f l ≡ Some n → place_of f (l ++ r) ≡ Some n
 unfolding place_of
 place-stays f [] r e = none-some e
 place-stays f (g ∷ l) r e = placed-on (eqb f g) (place_of f l) (place_of f (l ++ r)) (λ n q. place-stays f l r q) e
 
-placed-last : (b : Bool) (o o' : Option ℕ) (n : ℕ) → (o ≡ none → o' ≡ some n) → cond b (some zero) (next o) ≡ none → cond b (some zero) (next o') ≡ some (suc n)
+placed-last : (b : Bool) (o o' : Option ℕ) (n : ℕ) → (o ≡ None → o' ≡ Some n) → cond b (Some zero) (next o) ≡ None → cond b (Some zero) (next o') ≡ Some (suc n)
 placed-last true o o' n h e = none-some (sym e)
-placed-last false none o' n h e = ap next (h refl)
-placed-last false (some m) o' n h e = none-some (sym e)
+placed-last false None o' n h e = ap next (h refl)
+placed-last false (Some m) o' n h e = none-some (sym e)
 
 -- a file that stands nowhere stands where it is appended
-pub place-last : (f : ℕ) (l : List ℕ) → place_of f l ≡ none → place_of f (l ++ (f ∷ [])) ≡ some (length l)
+pub place-last : (f : ℕ) (l : List ℕ) → place_of f l ≡ None → place_of f (l ++ (f ∷ [])) ≡ Some (length l)
 unfolding place_of
 place-last f [] e = rw (eq-eqb f f refl)
 place-last f (g ∷ l) e = placed-last (eqb f g) (place_of f l) (place_of f (l ++ (f ∷ []))) (length l) (λ q. place-last f l q) e
@@ -88,65 +88,65 @@ files-length [] = refl
 files-length (m ∷ ms) = ap suc (files-length ms)
 
 -- a number is below the count
-pub number-below : (f : ℕ) (ms : Modules) {n : ℕ} → number_of f ms ≡ some n → n < length ms
+pub number-below : (f : ℕ) (ms : Modules) {n : ℕ} → number_of f ms ≡ Some n → n < length ms
 unfolding number_of
 number-below f ms e = let h = place-below f (map (λ m. m.file) ms) e in let l = files-length ms in omega arith
 
 -- a request finds the file's number, or gives the next one, or is refused: whatever holds in these three cases holds of it
 request_by-cases : (o : Option ℕ) (f : ℕ) (ms : Modules) (P : Option (ℕ × Modules) → Type 0) →
-    ((n : ℕ) → o ≡ some n → P (some (n, ms))) →
-    (o ≡ none → length ms < 256 → P (some (length ms, ms ++ (unmarked f ∷ [])))) →
-    (o ≡ none → 256 ≤ length ms → P none) → P (request_by o f ms)
-request_by-cases (some n) f ms P found more full = found n refl
-request_by-cases none f ms P found more full = room (ltb (length ms) 256) refl
+    ((n : ℕ) → o ≡ Some n → P (Some (n, ms))) →
+    (o ≡ None → length ms < 256 → P (Some (length ms, ms ++ (unmarked f ∷ [])))) →
+    (o ≡ None → 256 ≤ length ms → P None) → P (request_by o f ms)
+request_by-cases (Some n) f ms P found more full = found n refl
+request_by-cases None f ms P found more full = room (ltb (length ms) 256) refl
   where
-    room : (b : Bool) → ltb (length ms) 256 ≡ b → P (cond b (some (length ms, ms ++ (unmarked f ∷ []))) none)
+    room : (b : Bool) → ltb (length ms) 256 ≡ b → P (cond b (Some (length ms, ms ++ (unmarked f ∷ []))) None)
     room true t = more refl (ltb-true (length ms) 256 t)
     room false t = full refl (ltb-false (length ms) 256 t)
 
 pub request-cases : (f : ℕ) (ms : Modules) (P : Option (ℕ × Modules) → Type 0) →
-    ((n : ℕ) → number_of f ms ≡ some n → P (some (n, ms))) →
-    (number_of f ms ≡ none → length ms < 256 → P (some (length ms, ms ++ (unmarked f ∷ [])))) →
-    (number_of f ms ≡ none → 256 ≤ length ms → P none) → P (request f ms)
+    ((n : ℕ) → number_of f ms ≡ Some n → P (Some (n, ms))) →
+    (number_of f ms ≡ None → length ms < 256 → P (Some (length ms, ms ++ (unmarked f ∷ [])))) →
+    (number_of f ms ≡ None → 256 ≤ length ms → P None) → P (request f ms)
 unfolding request
 request-cases f ms P found more full = request_by-cases (number_of f ms) f ms P found more full
 
 -- a law of an accepted request: it is shown for a file that has a number and for one that gets the next
 accepted : (f : ℕ) (ms : Modules) (Q : ℕ → Modules → Type 0) →
-    ((n : ℕ) → number_of f ms ≡ some n → Q n ms) →
-    (number_of f ms ≡ none → length ms < 256 → Q (length ms) (ms ++ (unmarked f ∷ []))) → {n : ℕ} {ms' : Modules} → request f ms ≡ some (n, ms') → Q n ms'
+    ((n : ℕ) → number_of f ms ≡ Some n → Q n ms) →
+    (number_of f ms ≡ None → length ms < 256 → Q (length ms) (ms ++ (unmarked f ∷ []))) → {n : ℕ} {ms' : Modules} → request f ms ≡ Some (n, ms') → Q n ms'
 accepted f ms Q found more {n} {ms'} =
-    request-cases f ms (λ r. r ≡ some (n, ms') → Q n ms')
+    request-cases f ms (λ r. r ≡ Some (n, ms') → Q n ms')
     (λ m e q. subst (λ (x : ℕ × Modules). Q x.0 x.1) (let z : (m, ms) ≡ (n, ms') = cc in z) (found m e))
     (λ e h q. subst (λ (x : ℕ × Modules). Q x.0 x.1) (let z : (length ms, ms ++ (unmarked f ∷ [])) ≡ (n, ms') = cc in z) (more e h))
     (λ e h q. absurd (let z : ◌≡◌ {A = ℕ} 0 1 = cc in omega arith))
 
 -- a number given is below the count, and the count at most 256
-pub request-below : (f : ℕ) (ms : Modules) {n : ℕ} {ms' : Modules} → request f ms ≡ some (n, ms') → n < length ms'
+pub request-below : (f : ℕ) (ms : Modules) {n : ℕ} {ms' : Modules} → request f ms ≡ Some (n, ms') → n < length ms'
 request-below f ms =
     accepted f ms (λ n ms'. n < length ms') (λ n e. number-below f ms e) (λ e h. let l = length-append ms (unmarked f ∷ []) in omega arith)
 
-pub request-count : (f : ℕ) (ms : Modules) {n : ℕ} {ms' : Modules} → request f ms ≡ some (n, ms') → length ms ≤ 256 → length ms' ≤ 256
+pub request-count : (f : ℕ) (ms : Modules) {n : ℕ} {ms' : Modules} → request f ms ≡ Some (n, ms') → length ms ≤ 256 → length ms' ≤ 256
 request-count f ms =
     accepted f ms (λ n ms'. length ms ≤ 256 → length ms' ≤ 256) (λ n e b. b) (λ e h b. let l = length-append ms (unmarked f ∷ []) in omega arith)
 
 -- a request never renumbers
-pub request-keeps-numbers : (f : ℕ) (ms : Modules) {n : ℕ} {ms' : Modules} → request f ms ≡ some (n, ms') → (g k : ℕ) → number_of g ms ≡ some k → number_of g ms' ≡ some k
+pub request-keeps-numbers : (f : ℕ) (ms : Modules) {n : ℕ} {ms' : Modules} → request f ms ≡ Some (n, ms') → (g k : ℕ) → number_of g ms ≡ Some k → number_of g ms' ≡ Some k
 unfolding number_of
 request-keeps-numbers f ms =
-    accepted f ms (λ n ms'. (g k : ℕ) → number_of g ms ≡ some k → number_of g ms' ≡ some k)
+    accepted f ms (λ n ms'. (g k : ℕ) → number_of g ms ≡ Some k → number_of g ms' ≡ Some k)
     (λ n e g k q. q)
     (λ e h g k q. rw (files-append ms (unmarked f)) (place-stays g (map (λ m. m.file) ms) (f ∷ []) q))
 
 -- a requested file is found again with the same number, and asking again changes nothing
-pub request-numbers : (f : ℕ) (ms : Modules) {n : ℕ} {ms' : Modules} → request f ms ≡ some (n, ms') → number_of f ms' ≡ some n
+pub request-numbers : (f : ℕ) (ms : Modules) {n : ℕ} {ms' : Modules} → request f ms ≡ Some (n, ms') → number_of f ms' ≡ Some n
 unfolding number_of
 request-numbers f ms =
-    accepted f ms (λ n ms'. number_of f ms' ≡ some n)
+    accepted f ms (λ n ms'. number_of f ms' ≡ Some n)
     (λ n e. e)
-    (λ e h. rw (files-append ms (unmarked f)) (place-last f (map (λ m. m.file) ms) e ∙ ap some (files-length ms)))
+    (λ e h. rw (files-append ms (unmarked f)) (place-last f (map (λ m. m.file) ms) e ∙ ap Some (files-length ms)))
 
-pub request-again : (f : ℕ) (ms : Modules) {n : ℕ} → number_of f ms ≡ some n → request f ms ≡ some (n, ms)
+pub request-again : (f : ℕ) (ms : Modules) {n : ℕ} → number_of f ms ≡ Some n → request f ms ≡ Some (n, ms)
 unfolding request
 request-again f ms e = rw e
 
@@ -163,7 +163,7 @@ marks-append k zero (m ∷ ms) f = refl
 marks-append k (suc n) (m ∷ ms) f = marks-append k n ms f
 
 -- a request keeps marks
-pub request-keeps-marks : (f : ℕ) (ms : Modules) {n : ℕ} {ms' : Modules} → request f ms ≡ some (n, ms') → (k : Mark) (m : ℕ) → is_marked k m ms' ≡ is_marked k m ms
+pub request-keeps-marks : (f : ℕ) (ms : Modules) {n : ℕ} {ms' : Modules} → request f ms ≡ Some (n, ms') → (k : Mark) (m : ℕ) → is_marked k m ms' ≡ is_marked k m ms
 request-keeps-marks f ms =
     accepted f ms (λ n ms'. (k : Mark) (m : ℕ) → is_marked k m ms' ≡ is_marked k m ms) (λ n e k m. refl) (λ e h k m. marks-append k m ms f)
 
@@ -237,42 +237,42 @@ mark-keeps-kinds k j (suc n) (suc i) (m ∷ ms) d = mark-keeps-kinds k j n i ms 
 
 -- ---- The calls, case by case
 
-pub gen-known : (f : FileName) (ms : Modules) {n : ℕ} → number_of f.0 ms ≡ some n → gen f ms ≡ generated_by (some (n, ms)) ms
+pub gen-known : (f : FileName) (ms : Modules) {n : ℕ} → number_of f.0 ms ≡ Some n → gen f ms ≡ generated_by (Some (n, ms)) ms
 unfolding gen request
 gen-known f ms e = rw e
 
-pub gen-added : (f : FileName) (ms : Modules) → number_of f.0 ms ≡ none → length ms < 256 → gen f ms ≡ generated_by (some (length ms, ms ++ (unmarked f.0 ∷ []))) ms
+pub gen-added : (f : FileName) (ms : Modules) → number_of f.0 ms ≡ None → length ms < 256 → gen f ms ≡ generated_by (Some (length ms, ms ++ (unmarked f.0 ∷ []))) ms
 unfolding gen request
 gen-added f ms e h = rw (e, lt-ltb (length ms) 256 h)
 
-pub gen-refused : (f : FileName) (ms : Modules) → number_of f.0 ms ≡ none → 256 ≤ length ms → gen f ms ≡ generated_by none ms
+pub gen-refused : (f : FileName) (ms : Modules) → number_of f.0 ms ≡ None → 256 ≤ length ms → gen f ms ≡ generated_by None ms
 unfolding gen request
 gen-refused f ms e h = rw (e, le-ltb (length ms) 256 h)
 
 -- a list of files goes on behind a file that is given, and ends at one that is refused
-onward : (o : Option (ℕ × Modules)) (rest : Modules → Left) (ms : Modules) → (generated_by o ms).refusal ≡ none → go_on o rest ms ≡ rest (generated_by o ms).modules
-onward (some r) rest ms e = refl
-onward none rest ms e = absurd (let z : ◌≡◌ {A = ℕ} 0 1 = cc in omega arith)
+onward : (o : Option (ℕ × Modules)) (rest : Modules → Left) (ms : Modules) → (generated_by o ms).refusal ≡ None → go_on o rest ms ≡ rest (generated_by o ms).modules
+onward (Some r) rest ms e = refl
+onward None rest ms e = absurd (let z : ◌≡◌ {A = ℕ} 0 1 = cc in omega arith)
 
-pub request-all-more : (f : FileName) (fs : List ℕ) (ms : Modules) → (gen f ms).refusal ≡ none → request_all (f.0 ∷ fs) ms ≡ request_all fs (gen f ms).modules
+pub request-all-more : (f : FileName) (fs : List ℕ) (ms : Modules) → (gen f ms).refusal ≡ None → request_all (f.0 ∷ fs) ms ≡ request_all fs (gen f ms).modules
 unfolding request_all gen
 request-all-more f fs ms e = onward (request f.0 ms) (λ r. request_all fs r) ms e
 
-stopped : (o : Option (ℕ × Modules)) (rest : Modules → Left) (ms : Modules) → (generated_by o ms).refusal ≡ some too_many_files →
-    go_on o rest ms ≡ record { modules = (generated_by o ms).modules; refusal = some too_many_files }
-stopped (some r) rest ms e = absurd (let z : ◌≡◌ {A = ℕ} 0 1 = cc in omega arith)
-stopped none rest ms e = refl
+stopped : (o : Option (ℕ × Modules)) (rest : Modules → Left) (ms : Modules) → (generated_by o ms).refusal ≡ Some too_many_files →
+    go_on o rest ms ≡ record { modules = (generated_by o ms).modules; refusal = Some too_many_files }
+stopped (Some r) rest ms e = absurd (let z : ◌≡◌ {A = ℕ} 0 1 = cc in omega arith)
+stopped None rest ms e = refl
 
-pub request-all-stops : (f : FileName) (fs : List ℕ) (ms : Modules) → (gen f ms).refusal ≡ some too_many_files →
-    request_all (f.0 ∷ fs) ms ≡ record { modules = (gen f ms).modules; refusal = some too_many_files }
+pub request-all-stops : (f : FileName) (fs : List ℕ) (ms : Modules) → (gen f ms).refusal ≡ Some too_many_files →
+    request_all (f.0 ∷ fs) ms ≡ record { modules = (gen f ms).modules; refusal = Some too_many_files }
 unfolding request_all gen
 request-all-stops f fs ms e = stopped (request f.0 ms) (λ r. request_all fs r) ms e
 
-pub marking-given : (k : Mark) (m : ModuleId) (ms : Modules) → m.0 < length ms → marking k m ms ≡ record { modules = set_mark k m.0 ms; refusal = none }
+pub marking-given : (k : Mark) (m : ModuleId) (ms : Modules) → m.0 < length ms → marking k m ms ≡ record { modules = set_mark k m.0 ms; refusal = None }
 unfolding marking
 marking-given k m ms h = rw (lt-ltb m.0 (length ms) h)
 
-pub marking-refused : (k : Mark) (m : ModuleId) (ms : Modules) → length ms ≤ m.0 → marking k m ms ≡ record { modules = ms; refusal = some not_given }
+pub marking-refused : (k : Mark) (m : ModuleId) (ms : Modules) → length ms ≤ m.0 → marking k m ms ≡ record { modules = ms; refusal = Some not_given }
 unfolding marking
 marking-refused k m ms h = rw (le-ltb m.0 (length ms) h)
 

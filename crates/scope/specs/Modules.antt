@@ -1,7 +1,7 @@
 -- A scope as its modules in the order of their numbers, each with its file and its marks, and one definition for each call on it.
 -- Document 01, 'Scope', and the rows 5 and 12 of 'Where a call turns back': place 0 for both.
 use Rattle.std.specs.Prelude.{ℕ, zero, suc, ◌+◌, ◌*◌, Bool, true, false, cond, ◌&&◌, List, [], ◌∷◌, ◌++◌, map, ltb, eqb, length}
-use Rattle.std.proofs.Math.Option.{Option, none, some}
+use Rattle.std.specs.Prelude.{Option, None, Some}
 use Rattle.scope.specs.Id.{empty, mod_atom, atom, context, module_id, local_ctxt, export_ctxt}
 use Rattle.scope.specs.declared.id.SyntaxContext.{SyntaxContext}
 use Rattle.scope.specs.declared.id.ModuleId.{ModuleId}
@@ -26,12 +26,12 @@ Modules = List Module
 
 -- the place of a file among files, from 0
 abbrev pub next : Option ℕ → Option ℕ
-next none = none
-next (some n) = some (suc n)
+next None = None
+next (Some n) = Some (suc n)
 
 unfoldable pub place_of : ℕ → List ℕ → Option ℕ
-place_of f [] = none
-place_of f (g ∷ gs) = cond (eqb f g) (some zero) (next (place_of f gs))
+place_of f [] = None
+place_of f (g ∷ gs) = cond (eqb f g) (Some zero) (next (place_of f gs))
 
 -- the number that a file has
 unfoldable pub number_of : ℕ → Modules → Option ℕ
@@ -43,8 +43,8 @@ unmarked f = record { file = f; loaded = false; stored = false; cjs = false; wra
 
 -- 'The first request for a file gives it the next module number n from 0; later ones give the same.' None: a 257th file
 abbrev pub request_by : Option ℕ → ℕ → Modules → Option (ℕ × Modules)
-request_by (some n) f ms = some (n, ms)
-request_by none f ms = cond (ltb (length ms) 256) (some (length ms, ms ++ (unmarked f ∷ []))) none
+request_by (Some n) f ms = Some (n, ms)
+request_by None f ms = cond (ltb (length ms) 256) (Some (length ms, ms ++ (unmarked f ∷ []))) None
 
 unfoldable pub request : ℕ → Modules → Option (ℕ × Modules)
 request f ms = request_by (number_of f ms) f ms
@@ -66,9 +66,9 @@ pub record Generated : Type 0 where
   pub refusal : Refusal
 
 abbrev pub generated_by : Option (ℕ × Modules) → Modules → Generated
-generated_by (some r) ms =
-    record { modules = r.1; id = module_id r.0; local_ctxt = local_ctxt (module_id r.0); export_ctxt = export_ctxt (module_id r.0); refusal = none }
-generated_by none ms = record { modules = ms; id = module_id 0; local_ctxt = context empty; export_ctxt = context empty; refusal = some too_many_files }
+generated_by (Some r) ms =
+    record { modules = r.1; id = module_id r.0; local_ctxt = local_ctxt (module_id r.0); export_ctxt = export_ctxt (module_id r.0); refusal = None }
+generated_by None ms = record { modules = ms; id = module_id 0; local_ctxt = context empty; export_ctxt = context empty; refusal = Some too_many_files }
 
 unfoldable pub gen : FileName → Modules → Generated
 gen f ms = generated_by (request f.0 ms) ms
@@ -86,11 +86,11 @@ pub record Left : Type 0 where
 
 -- the files in order, up to the first that is refused
 abbrev pub go_on : Option (ℕ × Modules) → (Modules → Left) → Modules → Left
-go_on (some r) rest ms = rest r.1
-go_on none rest ms = record { modules = ms; refusal = some too_many_files }
+go_on (Some r) rest ms = rest r.1
+go_on None rest ms = record { modules = ms; refusal = Some too_many_files }
 
 unfoldable pub request_all : List ℕ → Modules → Left
-request_all [] ms = record { modules = ms; refusal = none }
+request_all [] ms = record { modules = ms; refusal = None }
 request_all (f ∷ fs) ms = go_on (request f ms) (λ r. request_all fs r) ms
 
 -- ---- Marks
@@ -129,7 +129,7 @@ given m ms = ltb m.0 (length ms)
 
 -- a mark is set
 unfoldable pub marking : Mark → ModuleId → Modules → Left
-marking k m ms = cond (given m ms) (record { modules = set_mark k m.0 ms; refusal = none }) (record { modules = ms; refusal = some not_given })
+marking k m ms = cond (given m ms) (record { modules = set_mark k m.0 ms; refusal = None }) (record { modules = ms; refusal = Some not_given })
 
 -- what a reading call answers: a value, or a refusal's number and place
 pub data Outcome (A : Type 0) : Type 0 where
@@ -142,7 +142,7 @@ read_mark k m ms = cond (given m ms) (done (is_marked k m.0 ms)) (refused not_gi
 
 -- '`wrapped_esm_id` gives (mod, export context) for wrapped stored modules, else none.'
 abbrev pub esm_id : Bool → Bool → ModuleId → Option Id
-esm_id wrapping stored m = cond (wrapping && stored) (some (record { 0 = atom mod_atom; 1 = export_ctxt m })) none
+esm_id wrapping stored m = cond (wrapping && stored) (Some (record { 0 = atom mod_atom; 1 = export_ctxt m })) None
 
 unfoldable pub wrapped_esm_id : ModuleId → Modules → Outcome (Option Id)
 wrapped_esm_id m ms = cond (given m ms) (done (esm_id (is_marked Wrapping m.0 ms) (is_marked Stored m.0 ms) m)) (refused not_given)

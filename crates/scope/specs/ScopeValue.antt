@@ -1,24 +1,19 @@
 -- How the code keeps a scope: the modules that a `Scope` stands for, and document 01's number and values for each answer.
 use Rattle.std.specs.Prelude.{ℕ, zero, suc, ◌+◌, ◌*◌, ◌/◌, ◌%◌, ◌<◌, ◌≤◌, min, ◌≡◌, Bool, false, List, [], ◌∷◌, eqb, length, get_or, set}
-use Rattle.std.proofs.Math.Option.{Option, none, some}
+use Rattle.std.specs.Prelude.{Option, None, Some, Result, Ok, Err}
+use Rattle.scope.specs.Id.{empty, context, module_id}
 use Rattle.scope.specs.Modules.{Module, Modules, Refusal, too_many_files, Generated, Left, not_given, Outcome, done, refused}
+use Rattle.scope.specs.declared.id.FileName.{FileName}
 use Rattle.scope.specs.declared.id.Id.{Id}
 use Rattle.scope.specs.declared.Mark.{Mark}
 use Rattle.scope.specs.declared.Mark.TheVariants.{Loaded, Stored, Cjs, Wrapping}
 use Rattle.scope.specs.declared.Scope.{Scope}
-use Rattle.scope.specs.declared.Place.{Place}
-use Rattle.scope.specs.declared.Place.TheVariants.{At, Nowhere}
 use Rattle.scope.specs.declared.Gen.{Gen}
+use Rattle.scope.specs.declared.Numbers.{Numbers}
 use Rattle.scope.specs.declared.Requested.{Requested}
 use Rattle.scope.specs.declared.Marked.{Marked}
-use Rattle.scope.specs.declared.FileAnswer.{FileAnswer}
-use Rattle.scope.specs.declared.FileAnswer.TheVariants.{Given, TooManyFiles}
-use Rattle.scope.specs.declared.SetAnswer.{SetAnswer}
-use Rattle.scope.specs.declared.SetAnswer.TheVariants.{Set, NoSuchModule}
-use Rattle.scope.specs.declared.ReadAnswer.{ReadAnswer}
-use Rattle.scope.specs.declared.ReadAnswer.TheVariants.{Is, NoSuchModule as NotRead}
-use Rattle.scope.specs.declared.EsmAnswer.{EsmAnswer}
-use Rattle.scope.specs.declared.EsmAnswer.TheVariants.{Wrapped, NotWrapped, NoSuchModule as NotKnown}
+use Rattle.scope.specs.declared.TooManyFiles.{TooManyFiles}
+use Rattle.scope.specs.declared.NoSuchModule.{NoSuchModule}
 
 -- where mark k of module n stands
 abbrev pub rank_of : Mark → ℕ
@@ -30,10 +25,13 @@ rank_of Wrapping = 3
 abbrev pub slot_of : Mark → ℕ → ℕ
 slot_of k n = 256 * rank_of k + n
 
-abbrev pub module_at : List ℕ → List Bool → ℕ → Module
+abbrev pub file_number : FileName → ℕ
+file_number f = f.0
+
+abbrev pub module_at : List FileName → List Bool → ℕ → Module
 module_at files marks n =
     record {
-      file = get_or files n 0;
+      file = file_number (get_or files n (record { 0 = 0 }));
       loaded = get_or marks (slot_of Loaded n) false;
       stored = get_or marks (slot_of Stored n) false;
       cjs = get_or marks (slot_of Cjs n) false;
@@ -45,7 +43,7 @@ abbrev pub stored : Scope → Mark → ℕ → Bool → Scope
 stored s k n on = record { count = s.count; files = s.files; marks = set s.marks (slot_of k n) on }
 
 -- k modules from number n on
-unfoldable pub modules_from : ℕ → ℕ → List ℕ → List Bool → Modules
+unfoldable pub modules_from : ℕ → ℕ → List FileName → List Bool → Modules
 modules_from zero n files marks = []
 modules_from (suc k) n files marks = module_at files marks n ∷ modules_from k (suc n) files marks
 
@@ -68,22 +66,30 @@ pub record Rewrites (lo hi : ℕ) (t t' : List ℕ) : Type 0 where
   pub below : (i : ℕ) → i < lo → get_or t' i 0 ≡ get_or t i 0
   pub above : (i : ℕ) → hi ≤ i → get_or t' i 0 ≡ get_or t i 0
 
-abbrev pub place_by : Place → Option ℕ
-place_by (At i) = some i
-place_by Nowhere = none
-
 -- numbers and places of the refusals
-abbrev pub file_refusal : FileAnswer → Refusal
-file_refusal Given = none
-file_refusal TooManyFiles = some too_many_files
+abbrev pub file_refusal : {A : Type 0} → Result A TooManyFiles → Refusal
+file_refusal (Ok _) = None
+file_refusal (Err _) = Some too_many_files
 
-abbrev pub set_refusal : SetAnswer → Refusal
-set_refusal Set = none
-set_refusal NoSuchModule = some not_given
+abbrev pub set_refusal : Result Unit NoSuchModule → Refusal
+set_refusal (Ok _) = None
+set_refusal (Err _) = Some not_given
+
+-- the numbers that an answer gives: refused, number 0 and the context of no module
+abbrev pub numbers_by : Result Numbers TooManyFiles → Numbers
+numbers_by (Ok n) = n
+numbers_by (Err _) = record { id = module_id 0; local_ctxt = context empty; export_ctxt = context empty }
 
 -- what the answers stand for
 abbrev pub generated : Gen → Generated
-generated r = record { modules = modules_of r.scope; id = r.id; local_ctxt = r.local_ctxt; export_ctxt = r.export_ctxt; refusal = file_refusal r.answer }
+generated r =
+    record {
+      modules = modules_of r.scope;
+      id = (numbers_by r.answer).id;
+      local_ctxt = (numbers_by r.answer).local_ctxt;
+      export_ctxt = (numbers_by r.answer).export_ctxt;
+      refusal = file_refusal r.answer;
+    }
 
 abbrev pub requested : Requested → Left
 requested r = record { modules = modules_of r.scope; refusal = file_refusal r.answer }
@@ -91,11 +97,10 @@ requested r = record { modules = modules_of r.scope; refusal = file_refusal r.an
 abbrev pub marked_by : Marked → Left
 marked_by r = record { modules = modules_of r.scope; refusal = set_refusal r.answer }
 
-abbrev pub read_by : ReadAnswer → Outcome Bool
-read_by (Is b) = done b
-read_by NotRead = refused not_given
+abbrev pub read_by : Result Bool NoSuchModule → Outcome Bool
+read_by (Ok b) = done b
+read_by (Err _) = refused not_given
 
-abbrev pub esm_by : EsmAnswer → Outcome (Option Id)
-esm_by (Wrapped i) = done (some i)
-esm_by NotWrapped = done none
-esm_by NotKnown = refused not_given
+abbrev pub esm_by : Result (Option Id) NoSuchModule → Outcome (Option Id)
+esm_by (Ok i) = done i
+esm_by (Err _) = refused not_given

@@ -4,23 +4,23 @@ ghost use Rattle.std.specs.Prelude.{◌≡◌};
 ghost use Rattle.scope.specs.Id.{empty, context, local_ctxt, export_ctxt};
 
 // A name; equal names have equal atoms.
-#[derive(Clone, Copy)]
+#[derive(Clone, Copy, PartialEq, Eq)]
 pub struct Atom(pub u16);
 
 // A context of identifiers.
-#[derive(Clone, Copy)]
+#[derive(Clone, Copy, PartialEq, Eq)]
 pub struct SyntaxContext(pub u32);
 
 // A module's number in a scope.
-#[derive(Clone, Copy)]
+#[derive(Clone, Copy, PartialEq, Eq)]
 pub struct ModuleId(pub u16);
 
 // A file's number.
-#[derive(Clone, Copy)]
+#[derive(Clone, Copy, PartialEq, Eq)]
 pub struct FileName(pub u16);
 
 // A name in a context.
-#[derive(Clone, Copy)]
+#[derive(Clone, Copy, PartialEq, Eq)]
 pub struct Id(pub Atom, pub SyntaxContext);
 
 impl Atom {

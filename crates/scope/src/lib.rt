@@ -5,16 +5,15 @@
 
 pub mod id;
 
-ghost use Rattle.std.specs.Prelude.{◌≡◌, [], ◌∷◌, ◌++◌, ℕ, ◌+◌, ◌*◌, ◌/◌, ◌%◌, ◌<◌, ◌≤◌, min, eqb, length, take, get_or, false, cond};
-ghost use Rattle.std.proofs.Math.Option.{some};
+ghost use Rattle.std.specs.Prelude.{◌≡◌, [], ◌∷◌, ◌++◌, ℕ, ◌+◌, ◌*◌, ◌/◌, ◌%◌, ◌<◌, ◌≤◌, min, eqb, map, length, take, get_or, false, Some};
 ghost use Rattle.scope.specs.declared.Mark.TheVariants.{Loaded, Stored, Cjs, Wrapping};
 ghost use Rattle.scope.specs.Modules.{place_of, unmarked, generated_by, gen, files_in, request_all, marking, read_mark, wrapped_esm_id};
-ghost use Rattle.scope.specs.ScopeValue.{rank_of, slot_of, modules_from, modules_of, stored, generated, requested, marked_by, read_by, esm_by, place_by, modules_in, Rewrites};
+ghost use Rattle.scope.specs.ScopeValue.{slot_of, file_number, modules_from, modules_of, stored, generated, requested, marked_by, read_by, esm_by, modules_in, Rewrites};
 
 use id::{Atom, FileName, Id, ModuleId, SyntaxContext};
 
 // The marks of a module.
-#[derive(Drop)]
+#[derive(Clone, Copy, PartialEq, Eq)]
 pub enum Mark {
     Loaded,
     Stored,
@@ -25,105 +24,61 @@ pub enum Mark {
 #[derive(Clone, Copy)]
 pub struct Scope {
     count: usize,
-    files: [u16; 256],
+    files: [FileName; 256],
     // Mark k of module n stands at 256 * k + n.
     marks: [bool; 1024],
 }
 
-// Was a file's number given? A 257th file is refused.
-#[derive(Clone, Copy)]
-pub enum FileAnswer {
-    Given,
-    TooManyFiles,
-}
+// A 257th file is refused.
+#[derive(Clone, Copy, PartialEq, Eq)]
+pub struct TooManyFiles;
 
-// What a request for a file gives: the scope, and the file's module and contexts.
+// A module number that no request gave is refused.
+#[derive(Clone, Copy, PartialEq, Eq)]
+pub struct NoSuchModule;
+
+// A file's module and its contexts.
 #[derive(Clone, Copy)]
-pub struct Gen {
-    pub scope: Scope,
+pub struct Numbers {
     pub id: ModuleId,
     pub local_ctxt: SyntaxContext,
     pub export_ctxt: SyntaxContext,
-    pub answer: FileAnswer,
+}
+
+// What a request for a file gives: the scope, and the file's numbers.
+#[derive(Clone, Copy)]
+pub struct Gen {
+    pub scope: Scope,
+    pub answer: Result<Numbers, TooManyFiles>,
 }
 
 // What requests for a list of files give.
-#[derive(Drop)]
+#[derive(Clone, Copy)]
 pub struct Requested {
     pub scope: Scope,
-    pub answer: FileAnswer,
+    pub answer: Result<(), TooManyFiles>,
 }
 
-// Was a mark set? A number that no request gave is refused.
-#[derive(Drop)]
-pub enum SetAnswer {
-    Set,
-    NoSuchModule,
-}
-
-#[derive(Drop)]
+// What setting a mark gives.
+#[derive(Clone, Copy)]
 pub struct Marked {
     pub scope: Scope,
-    pub answer: SetAnswer,
-}
-
-#[derive(Drop)]
-pub enum ReadAnswer {
-    Is(bool),
-    NoSuchModule,
-}
-
-// The id of a module that is wrapped and stored.
-#[derive(Drop)]
-pub enum EsmAnswer {
-    Wrapped(Id),
-    NotWrapped,
-    NoSuchModule,
-}
-
-#[derive(Drop)]
-enum Place {
-    At(usize),
-    Nowhere,
-}
-
-fn wide(byte: u8) -> u16
-    ensures { (result ≡ byte) × (result < 256) }
-{
-    byte as u16
+    pub answer: Result<(), NoSuchModule>,
 }
 
 // A count over 256 stands for 256, so that every scope is one.
 fn counted(count: usize) -> usize
     ensures { (result ≡ min count 256) × (result ≤ 256) }
 {
-    if count < 256 { count } else { 256 }
+    count.min(256)
 }
 
 // Where a file first stands among the first n.
-fn find_file(files: &[u16; 256], n: usize, file: u16) -> Place
+fn find_file(files: &[FileName; 256], n: usize, file: FileName) -> Option<usize>
     requires { (n ≤ 256) × (n ≤ length files.now) }
-    ensures { place_by result ≡ place_of file (take n files.now) }
+    ensures { result ≡ place_of file.0 (map file_number (take n files.now)) }
 {
-    let mut i = 0;
-    while i < n {
-        if file == files[i] {
-            return Place::At(i);
-        }
-        i += 1;
-    }
-    Place::Nowhere
-}
-
-fn rank(kind: Mark) -> usize
-    ensures { (result ≡ rank_of kind) × (result < 4) }
-{
-    match kind {
-        Mark::Loaded => 0,
-        Mark::Stored => 1,
-        Mark::Cjs => 2,
-        Mark::Wrapping => 3,
-    }
+    files[..n].iter().position(|f| file == *f)
 }
 
 // Where a mark of module n stands.
@@ -131,20 +86,7 @@ fn slot(kind: Mark, n: usize) -> usize
     requires { n < 256 }
     ensures { (result ≡ slot_of kind n) × (result < 1024) }
 {
-    256 * rank(kind) + n
-}
-
-fn wide_file(file: u16) -> u64
-    ensures { (result ≡ file) × (result < 65536) }
-{
-    file as u64
-}
-
-// A number's last two bytes.
-fn low_file(cell: u64) -> u16
-    ensures { result ≡ cell % 65536 }
-{
-    (cell % 65536) as u16
+    256 * kind as usize + n
 }
 
 // Is a number's last bit set?
@@ -154,31 +96,26 @@ fn last_bit(m: u64) -> bool
     m % 2 == 1
 }
 
-fn as_bit(on: bool) -> u64
-    ensures { (result ≡ cond on 1 0) × (result ≤ 1) }
-{
-    if on { 1 } else { 0 }
-}
-
 // The number with these four last bits, the lowest first.
 fn four_bits(a: bool, b: bool, c: bool, d: bool) -> u64
     ensures { (eqb (result % 2) 1 ≡ a) × (eqb (result / 2 % 2) 1 ≡ b) × (eqb (result / 4 % 2) 1 ≡ c) × (eqb (result / 8 % 2) 1 ≡ d) × (result < 16) }
 {
-    as_bit(a) + 2 * as_bit(b) + 4 * as_bit(c) + 8 * as_bit(d)
+    a as u64 + 2 * b as u64 + 4 * c as u64 + 8 * d as u64
 }
 
 // The answer to a request that module n meets.
 fn numbered(scope: Scope, n: usize) -> Gen
     requires { n < 256 }
-    ensures { generated result ≡ generated_by (some (n, modules_of scope)) [] }
+    ensures { generated result ≡ generated_by (Some (n, modules_of scope)) [] }
 {
     let id = ModuleId(n as u16);
     Gen {
         scope,
-        id,
-        local_ctxt: id.local_ctxt(),
-        export_ctxt: id.export_ctxt(),
-        answer: FileAnswer::Given,
+        answer: Ok(Numbers {
+            id,
+            local_ctxt: id.local_ctxt(),
+            export_ctxt: id.export_ctxt(),
+        }),
     }
 }
 
@@ -189,7 +126,7 @@ impl Scope {
     {
         Scope {
             count: 0,
-            files: [0; 256],
+            files: [FileName(0); 256],
             marks: [false; 1024],
         }
     }
@@ -200,12 +137,11 @@ impl Scope {
         requires { (n ≤ 256) × (base + 2 * n ≤ length cells.now) }
         ensures { modules_of result ≡ modules_in n base cells.now }
     {
-        let mut files = [0u16; 256];
+        let mut files = [FileName(0); 256];
         let mut marks = [false; 1024];
-        let mut k = 0;
-        while k < n {
+        for k in 0..n {
             let at = base + 2 * k;
-            files[k] = low_file(cells[at]);
+            files[k] = FileName((cells[at] % 65536) as u16);
             let m = cells[at + 1];
             let loaded = slot(Mark::Loaded, k);
             marks[loaded] = last_bit(m);
@@ -215,7 +151,6 @@ impl Scope {
             marks[cjs] = last_bit(m / 4);
             let wrapping = slot(Mark::Wrapping, k);
             marks[wrapping] = last_bit(m / 8);
-            k += 1;
         }
         Scope {
             count: n,
@@ -233,21 +168,19 @@ impl Scope {
             (get_or cells.new (base + 2 * i) 0 < 65536) × (get_or cells.new (base + 2 * i + 1) 0 < 16)) }
     {
         let n = counted(self.count);
-        let mut k = 0;
-        while k < n {
+        for k in 0..n {
             let at = base + 2 * k;
             let loaded = slot(Mark::Loaded, k);
             let stored = slot(Mark::Stored, k);
             let cjs = slot(Mark::Cjs, k);
             let wrapping = slot(Mark::Wrapping, k);
-            cells[at] = wide_file(self.files[k]);
+            cells[at] = self.files[k].0 as u64;
             cells[at + 1] = four_bits(
                 self.marks[loaded],
                 self.marks[stored],
                 self.marks[cjs],
                 self.marks[wrapping],
             );
-            k += 1;
         }
         n
     }
@@ -280,7 +213,7 @@ impl Scope {
         self = self.put_mark(Mark::Stored, n, false);
         self = self.put_mark(Mark::Cjs, n, false);
         self = self.put_mark(Mark::Wrapping, n, false);
-        self.files[n] = file.0;
+        self.files[n] = file;
         self.count = n + 1;
         self
     }
@@ -290,17 +223,14 @@ impl Scope {
         ensures { generated result ≡ gen file (modules_of self) }
     {
         let n = counted(self.count);
-        match find_file(&self.files, n, file.0) {
-            Place::At(i) => numbered(self, i),
-            Place::Nowhere => if n < 256 {
+        match find_file(&self.files, n, file) {
+            Some(i) => numbered(self, i),
+            None => if n < 256 {
                 numbered(self.add(n, file), n)
             } else {
                 Gen {
                     scope: self,
-                    id: ModuleId(0),
-                    local_ctxt: SyntaxContext::empty(),
-                    export_ctxt: SyntaxContext::empty(),
-                    answer: FileAnswer::TooManyFiles,
+                    answer: Err(TooManyFiles),
                 }
             },
         }
@@ -310,25 +240,19 @@ impl Scope {
     pub fn gen_ids(mut self, files: &[u8]) -> Requested
         ensures { requested result ≡ request_all (files_in files.now) (modules_of self) }
     {
-        let mut i = 0;
-        while 2 <= files.len() - i {
-            let g = self.gen_id(FileName(wide(files[i]) * 256 + wide(files[i + 1])));
+        for i in 0..files.len() / 2 {
+            let g = self.gen_id(FileName(files[2 * i] as u16 * 256 + files[2 * i + 1] as u16));
             self = g.scope;
-            let answer = g.answer;
-            match answer {
-                FileAnswer::Given => {}
-                FileAnswer::TooManyFiles => {
-                    return Requested {
-                        scope: self,
-                        answer: FileAnswer::TooManyFiles,
-                    };
-                }
+            if let Err(refused) = g.answer {
+                return Requested {
+                    scope: self,
+                    answer: Err(refused),
+                };
             }
-            i += 2;
         }
         Requested {
             scope: self,
-            answer: FileAnswer::Given,
+            answer: Ok(()),
         }
     }
 
@@ -339,24 +263,24 @@ impl Scope {
         if n < counted(self.count) {
             Marked {
                 scope: self.put_mark(kind, n, true),
-                answer: SetAnswer::Set,
+                answer: Ok(()),
             }
         } else {
             Marked {
                 scope: self,
-                answer: SetAnswer::NoSuchModule,
+                answer: Err(NoSuchModule),
             }
         }
     }
 
-    fn has_mark(self, kind: Mark, id: ModuleId) -> ReadAnswer
+    fn has_mark(self, kind: Mark, id: ModuleId) -> Result<bool, NoSuchModule>
         ensures { read_by result ≡ read_mark kind id (modules_of self) }
     {
         let n = id.0 as usize;
         if n < counted(self.count) {
-            ReadAnswer::Is(self.get_mark(kind, n))
+            Ok(self.get_mark(kind, n))
         } else {
-            ReadAnswer::NoSuchModule
+            Err(NoSuchModule)
         }
     }
 
@@ -385,46 +309,40 @@ impl Scope {
         self.set_mark(Mark::Wrapping, id)
     }
 
-    pub fn is_loaded(self, id: ModuleId) -> ReadAnswer
+    pub fn is_loaded(self, id: ModuleId) -> Result<bool, NoSuchModule>
         ensures { read_by result ≡ read_mark Loaded id (modules_of self) }
     {
         self.has_mark(Mark::Loaded, id)
     }
 
-    pub fn is_stored(self, id: ModuleId) -> ReadAnswer
+    pub fn is_stored(self, id: ModuleId) -> Result<bool, NoSuchModule>
         ensures { read_by result ≡ read_mark Stored id (modules_of self) }
     {
         self.has_mark(Mark::Stored, id)
     }
 
-    pub fn is_cjs(self, id: ModuleId) -> ReadAnswer
+    pub fn is_cjs(self, id: ModuleId) -> Result<bool, NoSuchModule>
         ensures { read_by result ≡ read_mark Cjs id (modules_of self) }
     {
         self.has_mark(Mark::Cjs, id)
     }
 
-    pub fn should_be_wrapped_with_a_fn(self, id: ModuleId) -> ReadAnswer
+    pub fn should_be_wrapped_with_a_fn(self, id: ModuleId) -> Result<bool, NoSuchModule>
         ensures { read_by result ≡ read_mark Wrapping id (modules_of self) }
     {
         self.has_mark(Mark::Wrapping, id)
     }
 
     // The id of a module that is wrapped with a function and stored.
-    pub fn wrapped_esm_id(self, id: ModuleId) -> EsmAnswer
+    pub fn wrapped_esm_id(self, id: ModuleId) -> Result<Option<Id>, NoSuchModule>
         ensures { esm_by result ≡ wrapped_esm_id id (modules_of self) }
     {
-        let ReadAnswer::Is(wrapping) = self.should_be_wrapped_with_a_fn(id) else {
-            return EsmAnswer::NoSuchModule;
-        };
-        let ReadAnswer::Is(stored) = self.is_stored(id) else {
-            return EsmAnswer::NoSuchModule;
-        };
-        if wrapping {
-            if stored {
-                return EsmAnswer::Wrapped(Id(Atom::MOD, id.export_ctxt()));
-            }
-            return EsmAnswer::NotWrapped;
-        }
-        EsmAnswer::NotWrapped
+        let wrapping = self.should_be_wrapped_with_a_fn(id)?;
+        let stored = self.is_stored(id)?;
+        Ok(if wrapping && stored {
+            Some(Id(Atom::MOD, id.export_ctxt()))
+        } else {
+            None
+        })
     }
 }

@@ -1,132 +1,93 @@
 // extract FILES OWN CONFIG EXTERNALS TABLE TREE WORKLEN OUTLEN RECLEN
-ghost use Rattle.std.specs.Prelude.{◌≤◌, length};
-ghost use Rattle.answer_text.specs.Answer.{AnswerIn};
-ghost use Rattle.request_fields.specs.Places.{EndsIn};
+ghost use Rattle.std.specs.Prelude.{◌≡◌, IfOk, Some, string_bytes, vec_len};
+ghost use Rattle.scoped_requests.specs.Texts.{extracted_text, extract_refused, extract_text};
 
-use answer_text::modules::put_scope;
-use answer_text::{Answer, prefill, put_field, refused};
-use request_fields::has;
-use request_fields::lists::{Asked, Asking, Rooms, read_asked};
-use show::buffer::is_zero;
-use text::write::put_all;
+use answer_text::modules::ScopeBytes;
+use answer_text::{FILL, Left, Refusal, outcome, refused};
+use request_fields::ExtractRequest;
+use std::alloc::{AllocError, Global};
+use std::fmt;
 
-// Answers the request before `to`.
-pub fn extract(
-    s: &[u8],
-    to: usize,
-    lent: &mut [u8],
-    work: &mut [u8],
-    out: &mut [u8],
-    records: &mut [u8],
-    text: &mut [u8],
-) -> Answer
-    requires { to ≤ length s.now }
-    ensures { AnswerIn (length text.old) result }
-{
-    if has(s, to, 10) {
-        return Answer::Malformed;
-    }
-    let most = Rooms {
-        work: work.len(),
-        out: out.len(),
-        records: records.len(),
-    };
-    let Asking::For(a) = read_asked(s, to, lent, most) else {
-        return Answer::Malformed;
-    };
-    let rooms = a.rooms;
-    let w = rooms.work;
-    let o = rooms.out;
-    let r = rooms.records;
-    extract_into(
-        a,
-        lent,
-        &mut work[0..w],
-        &mut out[0..o],
-        &mut records[0..r],
-        text,
-    )
+// What an extraction answered and left. Displays as WORK OUT RECORDS.
+#[derive(Drop)]
+pub struct Extracted {
+    pub outcome: Result<u32, Refusal>,
+    pub scope: ScopeBytes,
+    pub work: Vec<u8>,
+    pub out: Vec<u8>,
+    pub records: Vec<u8>,
 }
 
-fn extract_into(
-    a: Asked,
-    lent: &[u8],
-    work: &mut [u8],
-    out: &mut [u8],
-    records: &mut [u8],
-    text: &mut [u8],
-) -> Answer
-    requires { EndsIn (length lent.now) a.ends }
-    ensures { AnswerIn (length text.old) result }
-{
-    let mut scope = [170u8; 770];
-    let r = call(a, lent, &mut scope, work, out, records);
-    let n = put_extracted(text, b"no", r, work, out, records);
-    Answer::Text(put_scope(text, n, scope))
+impl Extracted {
+    // Makes the call.
+    pub fn call(alloc: Global, asked: &ExtractRequest) -> Result<Self, AllocError>
+        ensures work { IfOk result (λ l. vec_len l.work ≡ asked.now.work) }
+        ensures out { IfOk result (λ l. vec_len l.out ≡ asked.now.out) }
+        ensures records { IfOk result (λ l. vec_len l.records ≡ asked.now.records) }
+    {
+        let mut scope = ScopeBytes::filled();
+        let mut report = [FILL; 32];
+        let mut work = vec![in alloc; FILL; asked.work]?;
+        let mut out = vec![in alloc; FILL; asked.out]?;
+        let mut records = vec![in alloc; FILL; asked.records]?;
+        let answer = tychodrel::tychodrel_extract(
+            &asked.files,
+            asked.own,
+            asked.modes,
+            &asked.externals,
+            &asked.table,
+            &asked.tree,
+            &mut scope.0,
+            &mut report,
+            &mut work,
+            &mut out,
+            &mut records,
+        );
+        Ok(Extracted {
+            outcome: outcome(answer),
+            scope,
+            work,
+            out,
+            records,
+        })
+    }
+
+    // `ok WORK OUT RECORDS SCOPE` or `no NUMBER PLACE SCOPE`
+    pub fn answer(&self, alloc: Global) -> Result<String, AllocError>
+        ensures { IfOk result (λ s. string_bytes s ≡ extract_text self.now) }
+    {
+        match self.outcome {
+            Ok(_) => format!(in alloc; "ok {self} {}", self.scope),
+            Err(refusal) => self.refused(alloc, "no", refusal),
+        }
+    }
+
+    // `WORD NUMBER PLACE SCOPE`
+    pub fn refused(&self, alloc: Global, word: &str, refusal: Refusal) -> Result<String, AllocError>
+        ensures { IfOk result (λ s. string_bytes s ≡ extract_refused word.now self.now refusal) }
+    {
+        let buffers = [self.work.as_slice(), &self.out, &self.records];
+        refused(alloc, word, refusal, &buffers, &self.scope)
+    }
 }
 
-// Makes the call.
-pub fn call(
-    a: Asked,
-    lent: &[u8],
-    scope: &mut [u8; 770],
-    work: &mut [u8],
-    out: &mut [u8],
-    records: &mut [u8],
-) -> u64
-    requires { EndsIn (length lent.now) a.ends }
-{
-    let ends = a.ends;
-    let files = ends.files;
-    let externals = ends.externals;
-    let table = ends.table;
-    let tree = ends.tree;
-    prefill(work);
-    prefill(out);
-    prefill(records);
-    let mut report = [170u8; 32];
-    tychodrel::tychodrel_extract(
-        &lent[0..files],
-        a.own,
-        a.modes,
-        &lent[files..externals],
-        &lent[externals..table],
-        &lent[table..tree],
-        scope,
-        &mut report,
-        work,
-        out,
-        records,
-    )
+impl fmt::Display for Extracted {
+    ghost output = { λ l. Some (extracted_text l) };
+
+    fn fmt<W: fmt::Write>(&self, f: &mut fmt::Formatter<W>) -> fmt::Result {
+        write!(
+            f,
+            "{} {} {}",
+            Left(&self.work),
+            Left(&self.out),
+            Left(&self.records)
+        )
+    }
 }
 
-// `ok WORK OUT RECORDS` or `WORD NUMBER PLACE`: all of an answer but its scope.
-pub fn put_extracted(
-    text: &mut [u8],
-    word: &[u8],
-    r: u64,
-    work: &[u8],
-    out: &[u8],
-    records: &[u8],
-) -> usize
-    ensures { result ≤ length text.old }
+// Answers the request.
+pub fn extract(alloc: Global, asked: &ExtractRequest) -> Result<String, AllocError>
+    ensures { IfOk result (λ s. (l : Extracted) × (string_bytes s ≡ extract_text l)) }
 {
-    if r != 0 {
-        return refused(text, word, r, is_clear(work, out, records));
-    }
-    let n = put_all(text, 0, b"ok");
-    let n = put_field(text, n, work);
-    let n = put_field(text, n, out);
-    put_field(text, n, records)
-}
-
-// Whether all three buffers are zero.
-fn is_clear(work: &[u8], out: &[u8], records: &[u8]) -> bool {
-    if !is_zero(work, 0) {
-        return false;
-    }
-    if !is_zero(out, 0) {
-        return false;
-    }
-    is_zero(records, 0)
+    Extracted::call(alloc, asked)?.answer(alloc)
 }

@@ -1,5 +1,4 @@
-// The requests with a scope: each reads its fields, makes its calls in buffers that are filled before, and writes the answer.
-// `lent` gets the bytes that a request spells; `work`, `out`, `records` and `list` lend a call its buffers.
+// The requests with a scope: each makes its calls in buffers that are filled before, and answers their text.
 #![tactic(auto)]
 
 pub mod extracting; // extract

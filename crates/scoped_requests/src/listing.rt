@@ -1,96 +1,74 @@
 // resolve FILES TABLE RECORDS LISTLEN
-ghost use Rattle.std.specs.Prelude.{◌≤◌, length};
-ghost use Rattle.answer_text.specs.Answer.{AnswerIn};
+ghost use Rattle.std.specs.Prelude.{◌≡◌, IfOk, Some, string_bytes, vec_len};
+ghost use Rattle.scoped_requests.specs.Texts.{resolved_text, resolve_refused, resolve_text};
 
-use answer_text::modules::{marked, put_scope};
-use answer_text::{Answer, prefill, put_field, refused};
-use request_fields::{has, room_at};
-use show::buffer::is_zero;
-use text::decimal::Number;
-use text::hex::{Bytes, bytes_at};
-use text::write::put_all;
+use answer_text::modules::ScopeBytes;
+use answer_text::{FILL, Left, Refusal, outcome, refused};
+use request_fields::ResolveRequest;
+use std::alloc::{AllocError, Global};
+use std::fmt;
 
-// Answers the request before `to`.
-pub fn resolve(s: &[u8], to: usize, lent: &mut [u8], list: &mut [u8], text: &mut [u8]) -> Answer
-    requires { to ≤ length s.now }
-    ensures { AnswerIn (length text.old) result }
-{
-    if has(s, to, 5) {
-        return Answer::Malformed;
+// What a resolving answered and left. Displays as LIST.
+#[derive(Drop)]
+pub struct Resolved {
+    pub outcome: Result<u32, Refusal>,
+    pub scope: ScopeBytes,
+    pub list: Vec<u8>,
+}
+
+impl Resolved {
+    // Makes the call.
+    pub fn call(alloc: Global, asked: &ResolveRequest, modes: u32) -> Result<Self, AllocError>
+        ensures { IfOk result (λ l. vec_len l.list ≡ asked.now.list) }
+    {
+        let mut scope = ScopeBytes::filled();
+        let mut report = [FILL; 32];
+        let mut list = vec![in alloc; FILL; asked.list]?;
+        let answer = tychodrel::tychodrel_resolve(
+            &asked.files,
+            modes,
+            &asked.table,
+            &asked.records,
+            &mut scope.0,
+            &mut report,
+            &mut list,
+        );
+        Ok(Resolved {
+            outcome: outcome(answer),
+            scope,
+            list,
+        })
     }
-    let Bytes::Upto(a) = bytes_at(s, to, 1, lent, 0) else {
-        return Answer::Malformed;
-    };
-    let Bytes::Upto(b) = bytes_at(s, to, 2, lent, a) else {
-        return Answer::Malformed;
-    };
-    let Bytes::Upto(c) = bytes_at(s, to, 3, lent, b) else {
-        return Answer::Malformed;
-    };
-    let Number::Of(room) = room_at(s, to, 4, list.len()) else {
-        return Answer::Malformed;
-    };
-    resolve_into(
-        &lent[0..a],
-        &lent[a..b],
-        &lent[b..c],
-        &mut list[0..room],
-        text,
-    )
-}
 
-fn resolve_into(
-    files: &[u8],
-    table: &[u8],
-    records: &[u8],
-    list: &mut [u8],
-    text: &mut [u8],
-) -> Answer
-    ensures { AnswerIn (length text.old) result }
-{
-    let n = put_all(text, 0, b"ok");
-    let n = resolved(text, n, b"no", files, 0, table, records, [0u8; 770], list);
-    Answer::Text(n)
-}
-
-// Makes the call, and writes ` LIST SCOPE` from `at` on, or all of `WORD NUMBER PLACE SCOPE`. The call starts without marks, and
-// sets none: the scope that is written has those of an earlier one.
-pub fn resolved(
-    text: &mut [u8],
-    at: usize,
-    word: &[u8],
-    files: &[u8],
-    modes: u32,
-    table: &[u8],
-    records: &[u8],
-    earlier: [u8; 770],
-    list: &mut [u8],
-) -> usize
-    requires { at ≤ length text.old }
-    ensures { result ≤ length text.old }
-{
-    let mut scope = [170u8; 770];
-    let mut report = [170u8; 32];
-    prefill(list);
-    let r = tychodrel::tychodrel_resolve(
-        files,
-        modes,
-        table,
-        records,
-        &mut scope,
-        &mut report,
-        list,
-    );
-    let n = put_listed(text, at, word, r, list);
-    put_scope(text, n, marked(scope, earlier))
-}
-
-fn put_listed(text: &mut [u8], at: usize, word: &[u8], r: u64, list: &[u8]) -> usize
-    requires { at ≤ length text.old }
-    ensures { result ≤ length text.old }
-{
-    if r != 0 {
-        return refused(text, word, r, is_zero(list, 0));
+    // `ok LIST SCOPE` or `no NUMBER PLACE SCOPE`
+    pub fn answer(&self, alloc: Global) -> Result<String, AllocError>
+        ensures { IfOk result (λ s. string_bytes s ≡ resolve_text self.now) }
+    {
+        match self.outcome {
+            Ok(_) => format!(in alloc; "ok {self} {}", self.scope),
+            Err(refusal) => self.refused(alloc, "no", refusal),
+        }
     }
-    put_field(text, at, list)
+
+    // `WORD NUMBER PLACE SCOPE`
+    pub fn refused(&self, alloc: Global, word: &str, refusal: Refusal) -> Result<String, AllocError>
+        ensures { IfOk result (λ s. string_bytes s ≡ resolve_refused word.now self.now refusal) }
+    {
+        refused(alloc, word, refusal, &[&self.list], &self.scope)
+    }
+}
+
+impl fmt::Display for Resolved {
+    ghost output = { λ l. Some (resolved_text l) };
+
+    fn fmt<W: fmt::Write>(&self, f: &mut fmt::Formatter<W>) -> fmt::Result {
+        write!(f, "{}", Left(&self.list))
+    }
+}
+
+// Answers the request. It chooses no modes.
+pub fn resolve(alloc: Global, asked: &ResolveRequest) -> Result<String, AllocError>
+    ensures { IfOk result (λ s. (l : Resolved) × (string_bytes s ≡ resolve_text l)) }
+{
+    Resolved::call(alloc, asked, 0)?.answer(alloc)
 }

@@ -1,33 +1,46 @@
 // What a call left in a lent buffer: a field at the front, and zeros behind it.
-use crate::fields::show;
-use crate::line::wide;
-use crate::print::say;
+ghost use Rattle.std.specs.Prelude.{◌≡◌, ◌↔◌, ◌+◌, ◌≤◌, ◌++◌, None, Some, length, All, IsTrue, IfSome, MatchOption};
+ghost use Rattle.tree.specs.Access.{extent_at};
 
-// Whether only zeros stand from `from` on.
-pub fn is_zero(s: &[u8], from: usize) -> bool {
-    let mut i = from;
-    while i < s.len() {
-        if s[i] != 0 {
-            return false;
-        }
-        i += 1;
-    }
-    true
+use crate::fields::Fields;
+use std::fmt;
+use tree::access::extent;
+
+// Whether there are only zeros.
+pub fn is_zero(s: &[u8]) -> bool
+    ensures { IsTrue result ↔ All (λ b. b ≡ 0) s.now }
+{
+    s.iter().all(|b| *b == 0)
 }
 
-// Shows the field at the front, and says where it is cut off or not only zeros stand behind it.
-pub fn show_front(rt: &impl Print, s: &[u8]) {
-    if s.len() < 3 {
-        say(rt, b"  no field\n");
-        return;
-    }
-    let end = 3 + wide(s[1]) * 256 + wide(s[2]);
-    if s.len() < end {
-        say(rt, b"  a field cut off\n");
-        return;
-    }
-    show(rt, &s[0..end]);
-    if !is_zero(s, end) {
-        say(rt, b"  and other bytes than zeros behind it\n");
+// The field at the front, if it stands there whole, and what stands behind it.
+pub fn split_front(s: &[u8]) -> Option<(&[u8], &[u8])>
+    ensures found { MatchOption result (extent_at s.now 0 (length s.now) ≡ None) (λ p. extent_at s.now 0 (length s.now) ≡ Some (length p.0.now)) }
+    ensures parts { IfSome result (λ p. s.now ≡ p.0.now ++ p.1.now) }
+    ensures len { IfSome result (λ p. length p.0.now + length p.1.now ≡ length s.now) }
+    ensures head { IfSome result (λ p. 3 ≤ length p.0.now) }
+{
+    let stop = extent(s, 0, s.len())?;
+    Some(s.split_at(stop))
+}
+
+// Displays as the fields of the one at the front, and words where it is cut off or not only zeros stand behind it.
+#[derive(Clone, Copy)]
+pub struct Front<'a>(pub &'a [u8]);
+
+impl fmt::Display for Front<'_> {
+    fn fmt<W: fmt::Write>(&self, f: &mut fmt::Formatter<W>) -> fmt::Result {
+        let bytes = self.0;
+        if bytes.len() < 3 {
+            return writeln!(f, "  no field");
+        }
+        let Some((field, behind)) = split_front(bytes) else {
+            return writeln!(f, "  a field cut off");
+        };
+        write!(f, "{}", Fields(field))?;
+        if !is_zero(behind) {
+            writeln!(f, "  and other bytes than zeros behind it")?;
+        }
+        Ok(())
     }
 }

@@ -1,87 +1,88 @@
-// The fields of a tree or a resolved list in order, each with its depth: no recursion, since the ends of the open fields
-// are kept.
-ghost use Rattle.std.specs.Prelude.{◌+◌, ◌≤◌, ◌<◌, length};
-ghost use Rattle.show.specs.Places.{SpotIn};
+// The fields of a tree or a resolved list in order, one a line, each behind two spaces for each level.
+ghost use Rattle.std.specs.Prelude.{◌≡◌, ◌+◌, ◌≤◌, length, IfSome};
 
-use crate::line::indent;
-use crate::names::put_name;
-use crate::print::say;
+use crate::buffer::split_front;
+use crate::names::name_of;
 use crate::resolved::{fixed_of, put_fixed};
-use tree::access::extent;
-use tree::layout::Reach;
+use std::fmt;
 
-// A field: where its parts start, and where it ends.
-#[derive(Drop)]
-pub enum Spot {
-    Whole(usize, usize),
-    Broken,
-}
+// How deep fields are shown inside others. Reading refuses what is deeper; bytes that it refuses are shown in one row from there on,
+// so that the recursion ends early.
+const DEEPEST: usize = 65;
 
-fn spot_of(s: &[u8], at: usize, end: usize) -> Spot
-    requires { (at < end) × (end ≤ length s.now) }
-    ensures { SpotIn at end result }
-{
-    let Reach::Upto(stop) = extent(s, at, end) else {
-        return Spot::Broken;
-    };
-    let Reach::Upto(from) = fixed_of(s, s[at], at + 3, stop) else {
-        return Spot::Broken;
-    };
-    Spot::Whole(from, stop)
-}
+// Displays as the fields, up to the first that is not whole.
+#[derive(Clone, Copy)]
+pub struct Fields<'a>(pub &'a [u8]);
 
-// How many of the open fields still hold the place `at`.
-fn open_at(ends: &[usize; 66], depth: usize, at: usize) -> usize
-    requires { depth < 66 }
-    ensures { result ≤ depth }
-{
-    let mut d = depth;
-    while d > 0 {
-        if at < ends[d] {
-            return d;
-        }
-        d -= 1;
+impl fmt::Display for Fields<'_> {
+    fn fmt<W: fmt::Write>(&self, f: &mut fmt::Formatter<W>) -> fmt::Result {
+        put_fields(f, self.0, 0)?;
+        Ok(())
     }
-    d
 }
 
-// Shows one field.
-fn show_field(rt: &impl Print, s: &[u8], at: usize, from: usize, depth: usize)
-    requires { (at + 3 ≤ from) × (from ≤ length s.now) }
+// The field at the front: its fixed bytes, the fields inside it, and what stands behind it.
+#[derive(Clone, Copy)]
+struct Field<'a> {
+    tag: u8,
+    fixed: &'a [u8],
+    inside: &'a [u8],
+    behind: &'a [u8],
+}
+
+fn first_field(s: &[u8]) -> Option<Field<'_>>
+    ensures { IfSome result (λ f. 3 + length f.fixed.now + length f.inside.now + length f.behind.now ≡ length s.now) }
 {
-    let mut line = [0u8; 4096];
-    let tag = s[at];
-    let start = at + 3;
-    let o = indent(&mut line, depth);
-    let named = put_name(&mut line, o, tag);
-    let n = put_fixed(&mut line, named, tag, &s[start..from]);
-    say(rt, &line[0..n]);
-    say(rt, b"\n");
+    let (field, behind) = split_front(s)?;
+    let tag = field[0];
+    let from = fixed_of(field, tag, 3, field.len())?;
+    Some(Field {
+        tag,
+        fixed: &field[3..from],
+        inside: &field[from..],
+        behind,
+    })
 }
 
-// Shows all the fields of s, which is a tree or a resolved list.
-pub fn show(rt: &impl Print, s: &[u8]) {
-    let len = s.len();
-    let mut ends = [0usize; 66];
-    let mut depth: usize = 0;
-    let mut at: usize = 0;
-    while at < len {
-        depth = open_at(&ends, depth, at);
-        let end = if depth == 0 { len } else { ends[depth] };
-        if len < end {
-            return;
-        }
-        if end <= at {
-            return;
-        }
-        let Spot::Whole(from, stop) = spot_of(s, at, end) else {
-            return;
+// Writes the fields at a depth, and answers whether all are whole.
+fn put_fields<W: fmt::Write>(
+    f: &mut fmt::Formatter<W>,
+    s: &[u8],
+    depth: usize,
+) -> Result<bool, fmt::Error>
+    requires { depth ≤ 65 }
+{
+    let mut rest = s;
+    while !rest.is_empty() {
+        let Some(field) = first_field(rest) else {
+            return Ok(false);
         };
-        show_field(rt, s, at, from, depth);
-        if depth < 65 {
-            depth += 1;
-            ends[depth] = stop;
+        put_field(f, field, depth)?;
+        if depth == DEEPEST {
+            rest = &rest[3 + field.fixed.len()..];
+            continue;
         }
-        at = from;
+        if !put_fields(f, field.inside, depth + 1)? {
+            return Ok(false);
+        }
+        rest = field.behind;
     }
+    Ok(true)
+}
+
+// Writes the line of one field.
+fn put_field<W: fmt::Write>(
+    f: &mut fmt::Formatter<W>,
+    field: Field<'_>,
+    depth: usize,
+) -> fmt::Result {
+    for _ in 0..depth {
+        write!(f, "  ")?;
+    }
+    write!(f, "{:02X}", field.tag)?;
+    if let Some(name) = name_of(field.tag) {
+        write!(f, " {name}")?;
+    }
+    put_fixed(f, field.tag, field.fixed)?;
+    writeln!(f)
 }

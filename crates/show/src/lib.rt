@@ -1,11 +1,10 @@
-// Shows trees and resolved lists on standard output, one field a line: what the programs print of them, and of a refusal's
-// place in a tree. And reads what is to be shown.
+// Displays trees and resolved lists, one field a line: what the programs print of them, and of a place in a tree where it is
+// refused.
 #![tactic(auto)]
 
 pub mod buffer;
 pub mod fields;
-pub mod input;
-pub mod line;
+mod line;
 mod names;
-pub mod print;
+pub mod place;
 mod resolved;

@@ -1,204 +1,121 @@
-// What stands in a field's line: its fixed bytes, behind two spaces for each level.
-ghost use Rattle.std.specs.Prelude.{◌≤◌, ◌<◌, length};
-ghost use Rattle.show.specs.Places.{Inside};
+// The fixed bytes of a field as they stand in its line.
+use std::{fmt, str};
+use text::hex::Hex;
+use tree::grammar::{Piece, Pieces, Value, pieces_of};
 
-use text::hex::put_hex;
-use text::write::{put, put_all};
-use tree::grammar::{Piece, Value, pieces_of};
+// What stands behind the bytes that were written.
+pub type Behind<'a> = Result<&'a [u8], fmt::Error>;
 
-// A place in the line that is written, and one in the tree's bytes.
-#[derive(Drop)]
-pub struct Places {
-    pub line: usize,
-    pub at: usize,
+// Writes the next n bytes, as many as there are, in hexadecimal behind a word.
+pub fn put_run<'a, W: fmt::Write>(
+    f: &mut fmt::Formatter<W>,
+    word: &str,
+    s: &'a [u8],
+    n: usize,
+) -> Behind<'a> {
+    let (run, behind) = s.split_at(n.min(s.len()));
+    write!(f, " {word}={}", Hex(run))?;
+    Ok(behind)
 }
 
-// Where n bytes from `at` on end, as many as there are.
-fn reach(at: usize, n: usize, len: usize) -> usize
-    requires { at ≤ len }
-    ensures { (at ≤ result) × (result ≤ len) }
-{
-    if n <= len - at { at + n } else { len }
+// An atom, and four bytes behind another word.
+pub fn put_two<'a, W: fmt::Write>(
+    f: &mut fmt::Formatter<W>,
+    word: &str,
+    s: &'a [u8],
+) -> Behind<'a> {
+    let behind = put_run(f, "a", s, 2)?;
+    put_run(f, word, behind, 4)
 }
 
-// Writes a word, and n bytes from `at` on in hexadecimal.
-pub fn put_run(line: &mut [u8], p: Places, word: &[u8], s: &[u8], n: usize) -> Places
-    requires { Inside (length line.old) (length s.now) p }
-    ensures { Inside (length line.old) (length s.now) result }
-{
-    let at = p.at;
-    let to = reach(at, n, s.len());
-    let o = put_all(line, p.line, word);
-    let next = put_hex(line, o, &s[at..to]);
-    Places { line: next, at: to }
-}
-
-// Whether all of s can be shown as it is: no control character, no space, nothing above ASCII.
-fn is_plain(s: &[u8]) -> bool {
-    let mut i = 0;
-    while i < s.len() {
-        if s[i] < 33 {
-            return false;
-        }
-        if 126 < s[i] {
-            return false;
-        }
-        i += 1;
+// The next n bytes as they are, if they can be shown so: no control character, no space, nothing above ASCII.
+fn put_text<'a, W: fmt::Write>(
+    f: &mut fmt::Formatter<W>,
+    word: &str,
+    s: &'a [u8],
+    n: usize,
+) -> Behind<'a> {
+    let (run, behind) = s.split_at(n.min(s.len()));
+    match str::from_utf8(run) {
+        Ok(text) if run.iter().all(|b| b.is_ascii_graphic()) => write!(f, " {word}=\"{text}\"")?,
+        _ => write!(f, " {word}={}", Hex(run))?,
     }
-    true
+    Ok(behind)
 }
 
-// The same with the bytes as they are, if they can be shown so.
-fn put_text(line: &mut [u8], p: Places, word: &[u8], s: &[u8], n: usize) -> Places
-    requires { Inside (length line.old) (length s.now) p }
-    ensures { Inside (length line.old) (length s.now) result }
-{
-    let at = p.at;
-    let to = reach(at, n, s.len());
-    if is_plain(&s[at..to]) {
-        let o = put_all(line, p.line, word);
-        let o = put(line, o, 34);
-        let o = put_all(line, o, &s[at..to]);
-        let next = put(line, o, 34);
-        return Places { line: next, at: to };
-    }
-    put_run(line, p, word, s, n)
-}
-
-fn put_value(line: &mut [u8], p: Places, v: Value, s: &[u8]) -> Places
-    requires { Inside (length line.old) (length s.now) p }
-    ensures { Inside (length line.old) (length s.now) result }
-{
-    match v {
-        Value::Empty => p,
-        Value::Byte => put_run(line, p, b" byte=", s, 1),
-        Value::Atom => put_run(line, p, b" a=", s, 2),
-        Value::Id => put_two(line, p, b" ctx=", s),
-        Value::Literal => put_two(line, p, b" stamp=", s),
-        Value::Number => put_run(line, p, b" bytes=", s, 8),
+fn put_value<'a, W: fmt::Write>(
+    f: &mut fmt::Formatter<W>,
+    value: Value,
+    s: &'a [u8],
+) -> Behind<'a> {
+    match value {
+        Value::Empty => Ok(s),
+        Value::Byte => put_run(f, "byte", s, 1),
+        Value::Atom => put_run(f, "a", s, 2),
+        Value::Id => put_two(f, "ctx", s),
+        Value::Literal => put_two(f, "stamp", s),
+        Value::Number => put_run(f, "bytes", s, 8),
     }
 }
 
-// An atom, and four bytes under another word.
-pub fn put_two(line: &mut [u8], p: Places, word: &[u8], s: &[u8]) -> Places
-    requires { Inside (length line.old) (length s.now) p }
-    ensures { Inside (length line.old) (length s.now) result }
-{
-    let q = put_run(line, p, b" a=", s, 2);
-    put_run(line, q, word, s, 4)
-}
-
-// What a kind byte b chooses.
-fn value_of(p: Piece, b: u8) -> Value {
-    match p {
-        Piece::Plain(v) => v,
-        Piece::Source => if b == 1 { Value::Literal } else { Value::Empty },
-        Piece::Original => if b == 1 { Value::Id } else { Value::Atom },
-        Piece::Outside => match b {
-            1 => Value::Id,
-            2 => Value::Atom,
-            _ => Value::Empty,
-        },
-        Piece::Spread => Value::Empty,
-        Piece::KeyValue => Value::Empty,
+// What a kind byte chooses.
+fn value_of(piece: Piece, kind: u8) -> Value {
+    match (piece, kind) {
+        (Piece::Plain(value), _) => value,
+        (Piece::Source, 1) => Value::Literal,
+        (Piece::Original, 1) | (Piece::Outside, 1) => Value::Id,
+        (Piece::Original, _) | (Piece::Outside, 2) => Value::Atom,
+        _ => Value::Empty,
     }
 }
 
-// The words of a kind byte b, and what it chooses, which starts at the place p.
-fn put_kind(line: &mut [u8], p: Places, word: &[u8], piece: Piece, b: u8, s: &[u8]) -> Places
-    requires { Inside (length line.old) (length s.now) p }
-    ensures { Inside (length line.old) (length s.now) result }
-{
-    if b == 0 {
-        return p;
-    }
-    let n = put_all(line, p.line, word);
-    let at = p.at;
-    if b == 2 {
-        let m = put_all(line, n, b" string");
-        return put_value(line, Places { line: m, at }, value_of(piece, b), s);
-    }
-    put_value(line, Places { line: n, at }, value_of(piece, b), s)
-}
-
-// A kind byte and what it chooses.
-fn put_choice(line: &mut [u8], p: Places, word: &[u8], piece: Piece, s: &[u8]) -> Places
-    requires { Inside (length line.old) (length s.now) p }
-    ensures { Inside (length line.old) (length s.now) result }
-{
-    let at = p.at;
-    if s.len() <= at {
-        return p;
-    }
-    let q = Places {
-        line: p.line,
-        at: at + 1,
+// The words of a kind byte, and what it chooses.
+fn put_choice<'a, W: fmt::Write>(
+    f: &mut fmt::Formatter<W>,
+    word: &str,
+    piece: Piece,
+    s: &'a [u8],
+) -> Behind<'a> {
+    let [kind, behind @ ..] = s else {
+        return Ok(s);
     };
-    put_kind(line, q, word, piece, s[at], s)
+    match *kind {
+        0 => return Ok(behind),
+        2 => write!(f, "{word} string")?,
+        _ => write!(f, "{word}")?,
+    }
+    put_value(f, value_of(piece, *kind), behind)
 }
 
 // The kinds of an attribute's key and value, and both with the key's length in front.
-fn put_attribute(line: &mut [u8], p: Places, s: &[u8]) -> Places
-    requires { Inside (length line.old) (length s.now) p }
-    ensures { Inside (length line.old) (length s.now) result }
-{
-    let a = put_run(line, p, b" kinds=", s, 2);
-    let at = a.at;
-    if s.len() <= at {
-        return a;
-    }
-    let b = Places {
-        line: a.line,
-        at: at + 1,
+fn put_attribute<'a, W: fmt::Write>(f: &mut fmt::Formatter<W>, s: &'a [u8]) -> Behind<'a> {
+    let s = put_run(f, "kinds", s, 2)?;
+    let [n, s @ ..] = s else {
+        return Ok(s);
     };
-    let c = put_text(line, b, b" key=", s, wide(s[at]));
-    put_text(line, c, b" value=", s, s.len())
+    let s = put_text(f, "key", s, usize::from(*n))?;
+    put_text(f, "value", s, s.len())
 }
 
-pub fn wide(x: u8) -> usize
-    ensures { result < 256 }
-{
-    x as usize
-}
-
-fn put_piece(line: &mut [u8], p: Places, piece: Piece, s: &[u8]) -> Places
-    requires { Inside (length line.old) (length s.now) p }
-    ensures { Inside (length line.old) (length s.now) result }
-{
+fn put_piece<'a, W: fmt::Write>(
+    f: &mut fmt::Formatter<W>,
+    piece: Piece,
+    s: &'a [u8],
+) -> Behind<'a> {
     match piece {
-        Piece::Plain(v) => put_value(line, p, v, s),
-        Piece::Source => put_choice(line, p, b" from", Piece::Source, s),
-        Piece::Original => put_choice(line, p, b"", Piece::Original, s),
-        Piece::Outside => put_choice(line, p, b" as", Piece::Outside, s),
-        Piece::Spread => put_choice(line, p, b" spread", Piece::Spread, s),
-        Piece::KeyValue => put_attribute(line, p, s),
+        Piece::Plain(value) => put_value(f, value, s),
+        Piece::Source => put_choice(f, " from", piece, s),
+        Piece::Original => put_choice(f, "", piece, s),
+        Piece::Outside => put_choice(f, " as", piece, s),
+        Piece::Spread => put_choice(f, " spread", piece, s),
+        Piece::KeyValue => put_attribute(f, s),
     }
 }
 
 // Writes the fixed bytes of a field with this tag.
-pub fn put_pieces(line: &mut [u8], o: usize, tag: u8, s: &[u8]) -> usize
-    requires { o ≤ length line.old }
-    ensures { result ≤ length line.old }
-{
-    let ps = pieces_of(tag);
-    let first = ps.first;
-    let second = ps.second;
-    let start = Places { line: o, at: 0 };
-    let p = put_piece(line, start, first, s);
-    let q = put_piece(line, p, second, s);
-    q.line
-}
-
-// Writes two spaces for each level.
-pub fn indent(line: &mut [u8], depth: usize) -> usize
-    ensures { result ≤ length line.old }
-{
-    let mut o = 0;
-    let mut i = 0;
-    while i < depth {
-        o = put(line, o, 32);
-        o = put(line, o, 32);
-        i += 1;
-    }
-    o
+pub fn put_pieces<W: fmt::Write>(f: &mut fmt::Formatter<W>, tag: u8, s: &[u8]) -> fmt::Result {
+    let Pieces { first, second } = pieces_of(tag);
+    let s = put_piece(f, first, s)?;
+    put_piece(f, second, s)?;
+    Ok(())
 }

@@ -1,22 +1,23 @@
 -- What the functions on hints do: a hint is stored aside of the tables; then a row enters a table; rows with a key are taken out where there are some;
 -- a record gets its first namespace.
+use Rattle.std.specs.Prelude.{Option, None, Some}
 use Prim.Native.Nat.{ℕ, ◌+◌, ◌-◌, ◌*◌, ◌/◌, ◌%◌, ◌≤◌, ◌<◌}
 use native.Mathlib.Omega.{arith}
 use mathlib.Core.Path.{◌≡◌, refl, sym, ap, subst, ◌∙◌}
 use mathlib.Core.Bool.{Bool, true, false}
 use mathlib.Core.List.{List, [], ◌∷◌, ◌++◌}
-use mathlib.Core.Option.{Option, none as nothing, some}
-use lib.ListN.{length, get_or, set}
+use mathlib.Core.Logic.{◌⊎◌, inl, inr}
+use lib.ListN.{length, set}
 use lib.Seq.{get_or-set_same, get_or-set_other}
 use lib.Dec.{eqb}
 use borrow.Author.Tests.{leb-true, eqb-true, eqb-false}
 use Rattle.tree.proofs.Table.{both-true}
 use Rattle.tables.specs.Rows.{Row, rows, between, first_in, NoneBefore, without, without_row, with_value}
 use Rattle.tables.specs.Only.{Only}
-use Rattle.inputs.specs.Lists.{is_some}
+use Rattle.std.specs.Prelude.{is_some}
 use Rattle.state.specs.Cells.{id_limit, Kind, imports, uses, records, namespaces, modules, table_of, top_cell, pass_cell, own_cell, require_cell, InLimits, held, Good}
 use Rattle.state.specs.Cells.{cell_at, hint_at, import_hint, namespace_hint, use_hint, named_in, source_in, name_cell, row_hint, module_hint, Covered, Hinted}
-use Rattle.state.specs.Does.{CellsKept, Others, Changes, Aside, Behind, HintsModules, Grows, Starts}
+use Rattle.state.specs.Does.{CellsKept, Others, Changes, Aside, Behind, Grows, Starts}
 use Rattle.state.proofs.ListLaws.{below-append, below-value, below-without, length-more, length-value, length-without, row_of}
 use Rattle.state.proofs.HintLaws.{none-out, distinct-append, distinct-without, covered-append, covered-without, covered-none}
 use Rattle.state.proofs.HintLaws.{row-out, named-append, named-value, named-at, source-at, reached-append, grows-same, grows-stays, grows-set}
@@ -85,39 +86,6 @@ cell-stays g = record { good = g; same_rows = λ k. refl; same_cells = cells-sam
 pub behind-stays : (t : List ℕ) → Behind t t
 behind-stays t = record { same = λ i d. refl; grown = λ h d. omega arith }
 
--- hints of modules, one by one
-pub hints-none : {t : List ℕ} → Good t → HintsModules 0 t t
-hints-none g = record { aside = cell-stays g; behind = behind-stays _; hinted = λ i h. absurd (omega arith) }
-
-pub hints-more : {i file : ℕ} {t m t' : List ℕ} → HintsModules i t m → i < 256 → file ≡ get_or m (15482 + 2 * i) 0 → Aside m t' → Behind m t' →
-    256 ≤ i + module_hint t' (file % 256) →
-    HintsModules (i + 1) t t'
-hints-more {i} {file} {t} {m} {t'} w b e a d h =
-    record {
-      aside =
-          record {
-            good = a.good;
-            same_rows = λ k. a.same_rows k ∙ w.aside.same_rows k;
-            same_cells = cells-then w.aside.same_cells a.same_cells;
-          };
-      behind =
-          record {
-            same = λ j c. d.same j c ∙ w.behind.same j c;
-            grown = λ j c. let x = w.behind.grown j c in let y = d.grown j c in omega arith;
-          };
-      hinted = λ j c. by j c (eqb j i) refl;
-    }
-  where
-    by : (j : ℕ) → j < i + 1 → (x : Bool) → eqb j i ≡ x → 256 ≤ j + module_hint t' (get_or t (15482 + 2 * j) 0 % 256)
-    by j c true z =
-        subst (λ (n : ℕ). 256 ≤ n + module_hint t' (get_or t (15482 + 2 * n) 0 % 256)) (sym (eqb-true j i z))
-        (subst (λ (n : ℕ). 256 ≤ i + module_hint t' (n % 256)) (e ∙ w.behind.same (15482 + 2 * i) (omega arith)) h)
-    by j c false z =
-        let y = eqb-false j i z in
-        let o = w.hinted j (omega (arith, y)) in
-        let n = d.grown (1024 + get_or t (15482 + 2 * j) 0 % 256) (omega arith) in
-        omega arith
-
 -- the hint of a name grows; so does that of a literal's
 module _ (v h : ℕ) (b : h < 512) where
   abbrev renamed : ℕ
@@ -160,6 +128,16 @@ module _ (v h : ℕ) (b : h < 512) where
       subst (λ (x : ℕ). Grows x resourced) e
       (grows-same resourced-tag resourced-low (let n = resourced-name in omega arith) (let n = resourced-now in omega arith))
 
+-- so does each of the two parts, by the number from which on it stands
+pub part-grows : {part : ℕ} (v h : ℕ) → (part ≡ 8388608) ⊎ (part ≡ 4294967296) → h < 512 → (c : ℕ) → v ≡ c → v / part % 512 ≤ h →
+    Grows c (v / (part * 512) * (part * 512) + h * part + v % part)
+part-grows v h (inl e) b c f l =
+    let l' = subst (λ (p : ℕ). v / p % 512 ≤ h) e l in
+    subst (λ (p : ℕ). Grows c (v / (p * 512) * (p * 512) + h * p + v % p)) (sym e) (named-grows v h b c f l')
+part-grows v h (inr e) b c f l =
+    let l' = subst (λ (p : ℕ). v / p % 512 ≤ h) e l in
+    subst (λ (p : ℕ). Grows c (v / (p * 512) * (p * 512) + h * p + v % p)) (sym e) (source-grows v h b c f l')
+
 -- the first record whose first namespace has a name stands at the hint or behind; so does the first whose literal has it
 pub starts : {t : List ℕ} {from id : ℕ} → Good t → from ≤ 256 - named_in (cell_at t (name_cell id)) → Starts from id t
 starts {t} {from} {id} g h =
@@ -197,7 +175,7 @@ after : (k : Kind) {t m t' : List ℕ} {l : List Row} → Aside t m → Only (ta
 after k a o e n b h = let c = changed k a.good o e n b h in record { good = c.good; now_rows = e; others = others-after a c.others }
 
 module _ {t m t' : List ℕ} (g : Good t) (a : Aside t m) where
-  pub import-added : {id c : ℕ} → id < id_limit → c < 4294967296 → held imports t < 512 → first_in id id (rows (table_of imports) t) ≡ nothing →
+  pub import-added : {id c : ℕ} → id < id_limit → c < 4294967296 → held imports t < 512 → first_in id id (rows (table_of imports) t) ≡ None →
       0 < import_hint (hint_at m id) → rows (table_of imports) t' ≡ rows (table_of imports) m ++ ((id, c) ∷ []) → Only (table_of imports) m t' →
       Changes imports (rows (table_of imports) t ++ ((id, c) ∷ [])) t t'
   import-added {id} {c} h b n f z e o =
@@ -254,7 +232,7 @@ module _ {t m t' : List ℕ} (g : Good t) (a : Aside t m) where
 -- ---- Rows are taken out
 
 module _ (id : ℕ) {t t' : List ℕ} (g : Good t) where
-  pub import-dropped : {i : ℕ} → some i ≡ first_in id id (rows (table_of imports) t) → rows (table_of imports) t' ≡ without_row i (rows (table_of imports) t) →
+  pub import-dropped : {i : ℕ} → Some i ≡ first_in id id (rows (table_of imports) t) → rows (table_of imports) t' ≡ without_row i (rows (table_of imports) t) →
       Only (table_of imports) t t' → Changes imports (without id (rows (table_of imports) t)) t t'
   import-dropped {i} f e o =
       let l = rows (table_of imports) t in
@@ -271,20 +249,20 @@ module _ (id : ℕ) {t t' : List ℕ} (g : Good t) where
       changed uses g o e (omega arith) (below-without _ _ id l (g.below uses)) (covered-without use_hint t id l (g.hinted uses))
 
 -- none are there
-pub absent : (k : Kind) (id : ℕ) {t : List ℕ} → Good t → first_in id id (rows (table_of k) t) ≡ nothing → Changes k (without id (rows (table_of k) t)) t t
+pub absent : (k : Kind) (id : ℕ) {t : List ℕ} → Good t → first_in id id (rows (table_of k) t) ≡ None → Changes k (without id (rows (table_of k) t)) t t
 absent k id {t} g e =
     record { good = g; now_rows = sym (none-out id (rows (table_of k) t) e); others = record { rows_kept = λ m h. refl; cells_kept = cells-same _ } }
 
-pub some-none : (o : Option ℕ) → is_some o ≡ false → o ≡ nothing
-some-none nothing e = refl
-some-none (some n) e = absurd (let z : ◌≡◌ {A = ℕ} 0 1 = cc in omega arith)
+pub some-none : (o : Option ℕ) → is_some o ≡ false → o ≡ None
+some-none None e = refl
+some-none (Some n) e = absurd (cc)
 
 -- a hint of 0
-pub not-imported : {t : List ℕ} (id : ℕ) → Good t → import_hint (hint_at t id) ≡ 0 → first_in id id (rows (table_of imports) t) ≡ nothing
+pub not-imported : {t : List ℕ} (id : ℕ) → Good t → import_hint (hint_at t id) ≡ 0 → first_in id id (rows (table_of imports) t) ≡ None
 not-imported {t} id g e = covered-none import_hint t id (rows (table_of imports) t) (g.hinted imports).0 e
 
-pub not-used : {t : List ℕ} (id : ℕ) → Good t → use_hint (hint_at t id) ≡ 0 → first_in id id (rows (table_of uses) t) ≡ nothing
+pub not-used : {t : List ℕ} (id : ℕ) → Good t → use_hint (hint_at t id) ≡ 0 → first_in id id (rows (table_of uses) t) ≡ None
 not-used {t} id g e = covered-none use_hint t id (rows (table_of uses) t) (g.hinted uses) e
 
-pub not_held : {t : List ℕ} (id : ℕ) → Good t → namespace_hint (hint_at t id) ≡ 0 → first_in id id (rows (table_of namespaces) t) ≡ nothing
+pub not_held : {t : List ℕ} (id : ℕ) → Good t → namespace_hint (hint_at t id) ≡ 0 → first_in id id (rows (table_of namespaces) t) ≡ None
 not_held {t} id g e = covered-none namespace_hint t id (rows (table_of namespaces) t) (g.hinted namespaces) e

@@ -1,17 +1,17 @@
 -- Forced sources: the search, the array after one is forced, and the room that there always is, since they are sources of records, each once.
+use Rattle.std.specs.Prelude.{Option, None, Some, is_some}
 use Prim.Native.Nat.{ℕ, zero, suc, ◌≤◌, ◌<◌}
 use native.Mathlib.Omega.{arith}
 use mathlib.Core.Path.{◌≡◌, refl, sym, ap, subst, ◌∙◌}
 use mathlib.Core.Bool.{Bool, true, false, cond, ◌||◌}
 use mathlib.Core.List.{List, [], ◌∷◌, ◌++◌, map, map-append}
-use mathlib.Core.Option.{Option, none as nothing, some}
 use lib.ListN.{length, length-map}
 use Rattle.tables.specs.Rows.{Row, rows, next, between, first_in}
 use Rattle.tables.specs.Only.{Only}
 use Rattle.tree.specs.Layout.{two, same, value_of}
 use Rattle.tree.proofs.LayoutLaws.{same-refl, same-equal, same-two}
 use Rattle.tree.proofs.FixedLaws.{or-right}
-use Rattle.inputs.specs.Lists.{find, is_some, among}
+use Rattle.inputs.specs.Lists.{find, among}
 use Rattle.extraction_rules.specs.State.{Record, State, set_forced}
 use Rattle.extraction_rules.specs.First.{holds_namespace, force_source, force_holder, forget, force_id}
 use Rattle.state.specs.Cells.{imports, uses, hint_at, import_hint, namespace_hint, use_hint}
@@ -36,17 +36,17 @@ unfolding among first_in Below
 among-rows a v [] h b = refl
 among-rows a v (r ∷ l) h b = ap (λ (x : Bool). x || among (two a) (map atom_of l)) (same-atom a r.0 h b.0) ∙ by (between a a r.0) (first_in a a l) (among-rows a v l h b.2)
   where
-    by : (x : Bool) (o : Option ℕ) → among (two a) (map atom_of l) ≡ is_some o → (x || among (two a) (map atom_of l)) ≡ is_some (cond x (some zero) (next o))
+    by : (x : Bool) (o : Option ℕ) → among (two a) (map atom_of l) ≡ is_some o → (x || among (two a) (map atom_of l)) ≡ is_some (cond x (Some zero) (next o))
     by true o e = refl
-    by false nothing e = e
-    by false (some i) e = e
+    by false None e = e
+    by false (Some i) e = e
 
-pub forced-told : {t : List ℕ} {a : ℕ} {o : Option ℕ} → Good t → a < 65536 → o ≡ first_in a a (rows (table_of forces) t) →
-    Tells (λ s. among (two a) s.forced) t (is_some o)
-forced-told {t} {a} {o} g h e =
+pub forced-told : {t : List ℕ} {a : ℕ} {o : Option ℕ} {b : Bool} → Good t → a < 65536 → b ≡ is_some o → o ≡ first_in a a (rows (table_of forces) t) →
+    Tells (λ s. among (two a) s.forced) t b
+forced-told {t} {a} {o} g h f e =
     record {
       is = λ s w.
-          ap (λ (x : Option ℕ). is_some x) e ∙ sym (among-rows a _ (rows (table_of forces) t) h (g.below forces)) ∙ ap (among (two a)) w.forced;
+          f ∙ ap (λ (x : Option ℕ). is_some x) e ∙ sym (among-rows a _ (rows (table_of forces) t) h (g.below forces)) ∙ ap (among (two a)) w.forced;
     }
 
 -- ---- The room
@@ -57,7 +57,7 @@ remove a (b ∷ m) = cond (same a b) m (b ∷ remove a m)
 
 length-remove : (a : List ℕ) (m : List (List ℕ)) → among a m ≡ true → length m ≡ suc (length (remove a m))
 unfolding among remove
-length-remove a [] e = absurd (let z : ◌≡◌ {A = ℕ} 0 1 = cc in omega arith)
+length-remove a [] e = absurd (cc)
 length-remove a (b ∷ m) e = by (same a b) (length-remove a m) e
   where
     by : (x : Bool) → (among a m ≡ true → length m ≡ suc (length (remove a m))) → (x || among a m) ≡ true → suc (length m) ≡ suc (length (cond x m (b ∷ remove a m)))
@@ -74,7 +74,7 @@ among-remove a b (c ∷ m) n e = by (same a c) refl (same b c) refl (among-remov
     by true p true q h f =
         absurd
         (let z : b ≡ a = same-equal b c q ∙ sym (same-equal a c p) in let u : true ≡ false = sym (same-refl a) ∙ ap (λ (k : List ℕ). same k a) (sym z)
-        ∙ n in let w : ◌≡◌ {A = ℕ} 0 1 = cc in omega arith)
+        ∙ n in cc)
     by true p false q h f = f
     by false p true q h f = ap (λ (k : Bool). k || among b (remove a m)) q
     by false p false q h f = ap (λ (k : Bool). k || among b (remove a m)) q ∙ h f
@@ -93,7 +93,7 @@ once-fits (a ∷ l) m o h =
     apart b e = by (same b a) refl
       where
         by : (x : Bool) → same b a ≡ x → x ≡ false
-        by true p = let u : true ≡ false = sym e ∙ ap (λ (k : List ℕ). among k l) (same-equal b a p) ∙ o.0 in absurd (let w : ◌≡◌ {A = ℕ} 0 1 = cc in omega arith)
+        by true p = let u : true ≡ false = sym e ∙ ap (λ (k : List ℕ). among k l) (same-equal b a p) ∙ o.0 in absurd (cc)
         by false p = refl
 
 -- so there is room for one more
@@ -139,16 +139,16 @@ module _ {t : List ℕ} (a : ℕ) (g : Good t) where
 
 -- ---- An id is forced
 
-holder-none : (o : Option Record) (s : State) → nothing ≡ source_of o → force_holder o s ≡ s
-holder-none nothing s e = refl
-holder-none (some r) s e = absurd (let z : ◌≡◌ {A = ℕ} 0 1 = cc in omega arith)
+holder-none : (o : Option Record) (s : State) → None ≡ source_of o → force_holder o s ≡ s
+holder-none None s e = refl
+holder-none (Some r) s e = absurd (cc)
 
-holder-some : (o : Option Record) (s : State) (x : List ℕ) → some x ≡ source_of o → force_holder o s ≡ force_source x s
-holder-some nothing s x e = absurd (let z : ◌≡◌ {A = ℕ} 0 1 = cc in omega arith)
-holder-some (some r) s x e = let z : value_of r.literal ≡ x = cc in ap (λ (y : List ℕ). force_source y s) z
+holder-some : (o : Option Record) (s : State) (x : List ℕ) → Some x ≡ source_of o → force_holder o s ≡ force_source x s
+holder-some None s x e = absurd (cc)
+holder-some (Some r) s x e = let z : value_of r.literal ≡ x = cc in ap (λ (y : List ℕ). force_source y s) z
 
 module _ {t m : List ℕ} (i : List ℕ) (u : Turns (forget i) t m) where
-  pub forced-none : Tells (λ s. source_of (find (holds_namespace i) s.collected)) m nothing → Turns (force_id i) t m
+  pub forced-none : Tells (λ s. source_of (find (holds_namespace i) s.collected)) m None → Turns (force_id i) t m
   unfolding force_id forget
   forced-none n =
       record {
@@ -158,7 +158,7 @@ module _ {t m : List ℕ} (i : List ℕ) (u : Turns (forget i) t m) where
             subst (Shows _ m) (sym (holder-none (find (holds_namespace i) s.collected) (forget i s) (n.is (forget i s) v))) v;
       }
 
-  pub forced-some : {t' x : List ℕ} → Tells (λ s. source_of (find (holds_namespace i) s.collected)) m (some x) → Forces x m t' → Turns (force_id i) t t'
+  pub forced-some : {t' x : List ℕ} → Tells (λ s. source_of (find (holds_namespace i) s.collected)) m (Some x) → Forces x m t' → Turns (force_id i) t t'
   unfolding force_id forget
   forced-some {t'} {x} n f =
       record {

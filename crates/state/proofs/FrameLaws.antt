@@ -80,7 +80,7 @@ laid-out externals = each _ refl refl refl refl refl refl refl refl refl
 laid-out table = each _ refl refl refl refl refl refl refl refl refl
 
 or-true : (x y : Bool) → (x || y) ≡ true → x ≡ false → y ≡ true
-or-true true y e f = absurd (let z : ◌≡◌ {A = ℕ} 0 1 = cc in omega arith)
+or-true true y e f = absurd (cc)
 or-true false y e f = e
 
 pub kinds-apart : (k m : Kind) → one? k m ≡ false → Apart (table_of k) (table_of m)

@@ -1,11 +1,11 @@
 -- Hints: rows that change stay covered, distinct and named; a hint of 0 says that a search finds nothing; a row with the key that is searched for is
 -- the one that the search gives.
+use Rattle.std.specs.Prelude.{Option, None, Some}
 use Prim.Native.Nat.{ℕ, zero, suc, ◌+◌, ◌-◌, ◌*◌, ◌/◌, ◌%◌, ◌≤◌, ◌<◌}
 use native.Mathlib.Omega.{arith}
 use mathlib.Core.Path.{◌≡◌, refl, sym, ap, ap₂, subst, ◌∙◌}
 use mathlib.Core.Bool.{Bool, true, false, cond, ◌&&◌, ◌||◌}
 use mathlib.Core.List.{List, [], ◌∷◌, ◌++◌, map}
-use mathlib.Core.Option.{Option, none as nothing, some}
 use lib.Dec.{leb, eqb}
 use lib.ListN.{length, length-map, get_or, set}
 use lib.Seq.{get_or-set_same, get_or-set_other}
@@ -14,66 +14,66 @@ use Rattle.tree.proofs.Table.{both-true}
 use Rattle.scope.proofs.Laws.{none-some}
 use Rattle.tables.specs.Rows.{Row, rows_from, next, between, flip, first_in, NoneBefore, least_of, lesser, without, without_row, with_value}
 use Rattle.tables.proofs.RowLaws.{get_d_map}
-use Rattle.inputs.specs.Lists.{is_some}
+use Rattle.std.specs.Prelude.{is_some}
 use Rattle.state.specs.Cells.{Kind, imports, uses, records, namespaces, lazies, forces, modules, externals, table, hint_at, import_hint, namespace_hint, use_hint}
 use Rattle.state.specs.Cells.{cell_at, tag_of, tagged, hint_in, named_in, source_in, name_cell, row_hint, module_hint, Covered, Distinct, Named, Reached, Hinted}
-use Rattle.state.specs.Does.{Keeps, Grows, tag_for}
+use Rattle.state.specs.Does.{Keeps, Grows, Finds, tag_for}
 use Rattle.state.proofs.IdLaws.{between-one}
-use Rattle.state.proofs.ListLaws.{row_of}
+use Rattle.state.proofs.ListLaws.{row_of, first-below}
 
 -- ---- The search for a key that is first, and for one that is not
 
 -- behind a row with another key
 first-other : (k : ℕ) (r : Row) (l : List Row) → (r.0 ≡ k → ⊥) → first_in k k (r ∷ l) ≡ next (first_in k k l)
 unfolding first_in
-first-other k r l h = ap (λ (b : Bool). cond b (some zero) (next (first_in k k l))) (between-one k r.0 ∙ ne_eqb r.0 k h)
+first-other k r l h = ap (λ (b : Bool). cond b (Some zero) (next (first_in k k l))) (between-one k r.0 ∙ ne_eqb r.0 k h)
 
-first-here : (k : ℕ) (r : Row) (l : List Row) → r.0 ≡ k → first_in k k (r ∷ l) ≡ some zero
+first-here : (k : ℕ) (r : Row) (l : List Row) → r.0 ≡ k → first_in k k (r ∷ l) ≡ Some zero
 unfolding first_in
-first-here k r l e = ap (λ (b : Bool). cond b (some zero) (next (first_in k k l))) (between-one k r.0 ∙ eq-eqb r.0 k e)
+first-here k r l e = ap (λ (b : Bool). cond b (Some zero) (next (first_in k k l))) (between-one k r.0 ∙ eq-eqb r.0 k e)
 
-next-none : (o : Option ℕ) → next o ≡ nothing → o ≡ nothing
-next-none nothing e = refl
-next-none (some n) e = none-some (sym e)
+next-none : (o : Option ℕ) → next o ≡ None → o ≡ None
+next-none None e = refl
+next-none (Some n) e = none-some (sym e)
 
 -- where nothing is found, neither is it in the first row nor behind it
-none-first : (k : ℕ) (r : Row) (l : List Row) → first_in k k (r ∷ l) ≡ nothing → r.0 ≡ k → ⊥
+none-first : (k : ℕ) (r : Row) (l : List Row) → first_in k k (r ∷ l) ≡ None → r.0 ≡ k → ⊥
 none-first k r l e h = none-some (sym e ∙ first-here k r l h)
 
-none-rest : (k : ℕ) (r : Row) (l : List Row) → first_in k k (r ∷ l) ≡ nothing → first_in k k l ≡ nothing
+none-rest : (k : ℕ) (r : Row) (l : List Row) → first_in k k (r ∷ l) ≡ None → first_in k k l ≡ None
 none-rest k r l e = next-none (first_in k k l) (sym (first-other k r l (none-first k r l e)) ∙ e)
 
-none-more : (k : ℕ) (r : Row) (l : List Row) → (r.0 ≡ k → ⊥) → first_in k k l ≡ nothing → first_in k k (r ∷ l) ≡ nothing
+none-more : (k : ℕ) (r : Row) (l : List Row) → (r.0 ≡ k → ⊥) → first_in k k l ≡ None → first_in k k (r ∷ l) ≡ None
 none-more k r l h e = first-other k r l h ∙ ap next e
 
-none-append : (k : ℕ) (l : List Row) (r : Row) → first_in k k l ≡ nothing → (r.0 ≡ k → ⊥) → first_in k k (l ++ (r ∷ [])) ≡ nothing
+none-append : (k : ℕ) (l : List Row) (r : Row) → first_in k k l ≡ None → (r.0 ≡ k → ⊥) → first_in k k (l ++ (r ∷ [])) ≡ None
 unfolding first_in
 none-append k [] r e h = none-more k r [] h refl
 none-append k (q ∷ l) r e h = none-more k q (l ++ (r ∷ [])) (none-first k q l e) (none-append k l r (none-rest k q l e) h)
 
-none-value : (k i x : ℕ) (l : List Row) → first_in k k l ≡ nothing → first_in k k (with_value i x l) ≡ nothing
+none-value : (k i x : ℕ) (l : List Row) → first_in k k l ≡ None → first_in k k (with_value i x l) ≡ None
 unfolding with_value
 none-value k i x [] e = e
 none-value k zero x (r ∷ l) e = none-more k (r.0, x) l (none-first k r l e) (none-rest k r l e)
 none-value k (suc i) x (r ∷ l) e = none-more k r (with_value i x l) (none-first k r l e) (none-value k i x l (none-rest k r l e))
 
-none-without : (k a : ℕ) (l : List Row) → first_in k k l ≡ nothing → first_in k k (without a l) ≡ nothing
+none-without : (k a : ℕ) (l : List Row) → first_in k k l ≡ None → first_in k k (without a l) ≡ None
 unfolding without
 none-without k a [] e = e
 none-without k a (r ∷ l) e = by (eqb r.0 a) (none-without k a l (none-rest k r l e))
   where
-    by : (b : Bool) → first_in k k (without a l) ≡ nothing → first_in k k (cond b (without a l) (r ∷ without a l)) ≡ nothing
+    by : (b : Bool) → first_in k k (without a l) ≡ None → first_in k k (cond b (without a l) (r ∷ without a l)) ≡ None
     by true f = f
     by false f = none-more k r (without a l) (none-first k r l e) f
 
 -- a key that is not there has no least value, and its rows need not be taken out
-pub none-least : (k : ℕ) (l : List Row) → first_in k k l ≡ nothing → least_of k l ≡ nothing
+pub none-least : (k : ℕ) (l : List Row) → first_in k k l ≡ None → least_of k l ≡ None
 unfolding least_of
 none-least k [] e = refl
 none-least k (r ∷ l) e =
     ap (λ (b : Bool). cond b (lesser r.1 (least_of k l)) (least_of k l)) (ne_eqb r.0 k (none-first k r l e)) ∙ none-least k l (none-rest k r l e)
 
-pub none-out : (k : ℕ) (l : List Row) → first_in k k l ≡ nothing → without k l ≡ l
+pub none-out : (k : ℕ) (l : List Row) → first_in k k l ≡ None → without k l ≡ l
 unfolding without
 none-out k [] e = refl
 none-out k (r ∷ l) e =
@@ -81,17 +81,17 @@ none-out k (r ∷ l) e =
 
 -- ---- A row that a hint names
 
-not-next : {A : Type 0} (o : Option ℕ) → next o ≡ some zero → A
-not-next nothing e = none-some e
-not-next (some n) e = absurd (let z : suc n ≡ zero = cc in omega arith)
+not-next : {A : Type 0} (o : Option ℕ) → next o ≡ Some zero → A
+not-next None e = none-some e
+not-next (Some n) e = absurd (let z : suc n ≡ zero = cc in omega arith)
 
-next-some : (o : Option ℕ) (i : ℕ) → next o ≡ some (suc i) → o ≡ some i
-next-some nothing i e = none-some e
-next-some (some n) i e = ap some (let z : suc n ≡ suc i = cc in omega arith)
+next-some : (o : Option ℕ) (i : ℕ) → next o ≡ Some (suc i) → o ≡ Some i
+next-some None i e = none-some e
+next-some (Some n) i e = ap Some (let z : suc n ≡ suc i = cc in omega arith)
 
 some-next : (o : Option ℕ) → is_some (next o) ≡ is_some o
-some-next nothing = refl
-some-next (some n) = refl
+some-next None = refl
+some-next (Some n) = refl
 
 pub some-at : (k : ℕ) (l : List Row) (i : ℕ) → i < length l → (row_of l i).0 ≡ k → is_some (first_in k k l) ≡ true
 some-at k [] i h e = absurd (omega arith)
@@ -103,7 +103,7 @@ some-at k (r ∷ l) (suc i) h e = by (eqb r.0 k) refl (some-at k l i (omega arit
     by false p f = ap (λ (o : Option ℕ). is_some o) (first-other k r l (eqb-false r.0 k p)) ∙ some-next (first_in k k l) ∙ f
 
 -- keys stand once: a row with the key is the first
-pub distinct-at : (k : ℕ) (l : List Row) (i : ℕ) → Distinct l → i < length l → (row_of l i).0 ≡ k → first_in k k l ≡ some i
+pub distinct-at : (k : ℕ) (l : List Row) (i : ℕ) → Distinct l → i < length l → (row_of l i).0 ≡ k → first_in k k l ≡ Some i
 unfolding Distinct
 distinct-at k [] i d h e = absurd (omega arith)
 distinct-at k (r ∷ l) zero d h e = first-here k r l e
@@ -111,7 +111,39 @@ distinct-at k (r ∷ l) (suc i) d h e =
     first-other k r l (λ z. none-some (sym d.0 ∙ distinct-at r.0 l i d.1 (omega arith) (e ∙ sym z)))
     ∙ ap next (distinct-at k l i d.1 (omega arith) e)
 
-pub distinct-append : (l : List Row) (r : Row) → Distinct l → first_in r.0 r.0 l ≡ nothing → Distinct (l ++ (r ∷ []))
+next-zero : (o : Option ℕ) → next o ≡ Some zero → ⊥
+next-zero None e = none-some e
+next-zero (Some n) e = let z : suc n ≡ zero = cc in omega arith
+
+-- the first row of a key has it
+first-key : (k : ℕ) (l : List Row) (i : ℕ) → first_in k k l ≡ Some i → (row_of l i).0 ≡ k
+unfolding first_in
+first-key k [] i e = none-some e
+first-key k (r ∷ l) zero e = by (eqb r.0 k) refl
+  where
+    by : (b : Bool) → eqb r.0 k ≡ b → r.0 ≡ k
+    by true p = eqb-true r.0 k p
+    by false p = absurd (next-zero (first_in k k l) (sym (first-other k r l (eqb-false r.0 k p)) ∙ e))
+first-key k (r ∷ l) (suc i) e = by (eqb r.0 k) refl (first-key k l i)
+  where
+    by : (b : Bool) → eqb r.0 k ≡ b → (first_in k k l ≡ Some i → (row_of l i).0 ≡ k) → (row_of l i).0 ≡ k
+    by true p h = absurd (let z : ◌≡◌ {A = Option ℕ} (Some zero) (Some (suc i)) = sym (first-here k r l (eqb-true r.0 k p)) ∙ e in cc)
+    by false p h = h (next-some (first_in k k l) i (sym (first-other k r l (eqb-false r.0 k p)) ∙ e))
+
+-- a row that is found and is the first
+pub found-first : {k : ℕ} {l : List Row} {o : Option ℕ} → o ≡ first_in k k l → Finds k l o
+found-first {k} {l} e = record { found = λ i f. (first-below k k l i (sym e ∙ f), first-key k l i (sym e ∙ f)); missed = λ f. sym e ∙ f }
+
+-- where keys stand once, the row that is found is the first
+pub finds-row : {k : ℕ} {l : List Row} {o : Option ℕ} → Distinct l → Finds k l o → o ≡ first_in k k l
+finds-row {o = None} d f = sym (f.missed refl)
+finds-row {k} {l} {o = Some i} d f = let w = f.found i refl in sym (distinct-at k l i d w.0 w.1)
+
+pub finds-some : {k : ℕ} {l : List Row} {o : Option ℕ} → Finds k l o → is_some o ≡ is_some (first_in k k l)
+finds-some {o = None} f = ap (λ (o : Option ℕ). is_some o) (sym (f.missed refl))
+finds-some {k} {l} {o = Some i} f = let w = f.found i refl in sym (some-at k l i w.0 w.1)
+
+pub distinct-append : (l : List Row) (r : Row) → Distinct l → first_in r.0 r.0 l ≡ None → Distinct (l ++ (r ∷ []))
 unfolding Distinct first_in
 distinct-append [] r d e = (refl, tt)
 distinct-append (q ∷ l) r d e =
@@ -133,17 +165,17 @@ distinct-without k (r ∷ l) d = by (eqb r.0 k) (distinct-without k l d.1)
     by false f = (none-without r.0 k l d.0, f)
 
 -- keys stand once: taking out the row that the search gives takes out all of the key
-pub row-out : (k : ℕ) (l : List Row) (i : ℕ) → Distinct l → first_in k k l ≡ some i → without_row i l ≡ without k l
+pub row-out : (k : ℕ) (l : List Row) (i : ℕ) → Distinct l → first_in k k l ≡ Some i → without_row i l ≡ without k l
 unfolding Distinct without without_row
 row-out k [] i d e = refl
 row-out k (r ∷ l) zero d e = by (eqb r.0 k) refl
   where
     by : (b : Bool) → eqb r.0 k ≡ b → l ≡ cond b (without k l) (r ∷ without k l)
-    by true p = sym (none-out k l (subst (λ (x : ℕ). first_in x x l ≡ nothing) (eqb-true r.0 k p) d.0))
+    by true p = sym (none-out k l (subst (λ (x : ℕ). first_in x x l ≡ None) (eqb-true r.0 k p) d.0))
     by false p = not-next (first_in k k l) (sym (first-other k r l (eqb-false r.0 k p)) ∙ e)
 row-out k (r ∷ l) (suc i) d e = by (eqb r.0 k) refl (row-out k l i d.1)
   where
-    by : (b : Bool) → eqb r.0 k ≡ b → (first_in k k l ≡ some i → without_row i l ≡ without k l) → r ∷ without_row i l ≡ cond b (without k l) (r ∷ without k l)
+    by : (b : Bool) → eqb r.0 k ≡ b → (first_in k k l ≡ Some i → without_row i l ≡ without k l) → r ∷ without_row i l ≡ cond b (without k l) (r ∷ without k l)
     by true p h = absurd (let z : zero ≡ suc i = cc (sym (first-here k r l (eqb-true r.0 k p)) ∙ e) in omega arith)
     by false p h = ap (λ (m : List Row). r ∷ m) (h (next-some (first_in k k l) i (sym (first-other k r l (eqb-false r.0 k p)) ∙ e)))
 
@@ -171,7 +203,7 @@ module _ (p : ℕ → ℕ) (t : List ℕ) where
       by false f = (c.0, f)
 
   -- a hint of 0: the key is not there
-  pub covered-none : (k : ℕ) (l : List Row) → Covered p t l → p (hint_at t k) ≡ 0 → first_in k k l ≡ nothing
+  pub covered-none : (k : ℕ) (l : List Row) → Covered p t l → p (hint_at t k) ≡ 0 → first_in k k l ≡ None
   unfolding Covered first_in
   covered-none k [] c e = refl
   covered-none k (r ∷ l) c e =
@@ -364,7 +396,7 @@ module _ (v tag hint : ℕ) (h : hint < 8388608) where
 
 either-true : (a b : Bool) → a ≡ true → (a || b) ≡ true
 either-true true b e = refl
-either-true false b e = absurd (let z : ◌≡◌ {A = ℕ} 0 1 = cc in omega arith)
+either-true false b e = absurd (cc)
 
 or-second : (a b : Bool) → b ≡ true → (a || b) ≡ true
 or-second true b e = refl
@@ -429,36 +461,6 @@ module _ (v id hint : ℕ) (h : hint < 8388608) (k : Keeps (v % 8388608) hint) w
   hint-entered =
       ap (λ (b : Bool). cond b (new (tag_for v id) % 8388608) 0) (hint-by (eqb (v % 8388608) 0) (eqb (v / 2199023255552) (tag_of id)))
       ∙ entered-hint v (tag_for v id) hint h
-
--- ---- The hint and the tag of a cell, case by case
-
-module _ (v c n : ℕ) (e : v ≡ c) where
-  hint-by-tag : (b : Bool) → tagged v n ≡ b → cond b (v % 8388608) 0 ≡ hint_in c n
-  unfolding hint_in
-  hint-by-tag b f = ap (λ (x : Bool). cond x (v % 8388608) 0) (sym f) ∙ ap (λ (x : ℕ). cond (tagged x n) (x % 8388608) 0) e
-
-  pub hint-open : v / 2199023255552 ≡ 0 → v % 8388608 ≡ hint_in c n
-  hint-open f = hint-by-tag true (either-true (eqb (v / 2199023255552) 0) (eqb (v / 2199023255552) (tag_of n)) (eq-eqb (v / 2199023255552) 0 f))
-
-  pub hint-own : v / 2199023255552 ≡ tag_of n → v % 8388608 ≡ hint_in c n
-  hint-own f = hint-by-tag true (or-second (eqb (v / 2199023255552) 0) (eqb (v / 2199023255552) (tag_of n)) (eq-eqb (v / 2199023255552) (tag_of n) f))
-
-  pub hint-other : (v / 2199023255552 ≡ 0 → ⊥) → (v / 2199023255552 ≡ tag_of n → ⊥) → 0 ≡ hint_in c n
-  hint-other f g =
-      hint-by-tag false (ap₂ (λ (x y : Bool). x || y) (ne_eqb (v / 2199023255552) 0 f) (ne_eqb (v / 2199023255552) (tag_of n) g))
-
-module _ (v n : ℕ) where
-  tag-by : (x y : Bool) → eqb (v % 8388608) 0 ≡ x → eqb (v / 2199023255552) (tag_of n) ≡ y → cond x (tag_of n) (cond y (tag_of n) 0) ≡ tag_for v n
-  tag-by x y e f = ap₂ (λ (a b : Bool). cond a (tag_of n) (cond b (tag_of n) 0)) (sym e) (sym f)
-
-  pub tag-fresh : v % 8388608 ≡ 0 → tag_of n ≡ tag_for v n
-  tag-fresh e = tag-by true (eqb (v / 2199023255552) (tag_of n)) (eq-eqb (v % 8388608) 0 e) refl
-
-  pub tag-own : (v % 8388608 ≡ 0 → ⊥) → v / 2199023255552 ≡ tag_of n → tag_of n ≡ tag_for v n
-  tag-own e f = tag-by false true (ne_eqb (v % 8388608) 0 e) (eq-eqb (v / 2199023255552) (tag_of n) f)
-
-  pub tag-several : (v % 8388608 ≡ 0 → ⊥) → (v / 2199023255552 ≡ tag_of n → ⊥) → 0 ≡ tag_for v n
-  tag-several e f = tag-by false false (ne_eqb (v % 8388608) 0 e) (ne_eqb (v / 2199023255552) (tag_of n) f)
 
 -- an id enters its cell
 module _ (v c id tag hint : ℕ) (e : v ≡ c) (f : tag ≡ tag_for v id) (h : hint < 8388608) (k : Keeps (c % 8388608) hint) where

@@ -1,14 +1,13 @@
 -- Ids as numbers and as the bytes that are read and written.
 use Prim.Native.Nat.{ℕ, ◌+◌, ◌*◌, ◌/◌, ◌%◌, ◌≤◌, ◌<◌}
 use native.Mathlib.Omega.{arith}
-use mathlib.Core.Path.{◌≡◌, refl, sym, ap, ap₂, ◌∙◌}
+use mathlib.Core.Path.{◌≡◌, refl, ap, ap₂, ◌∙◌}
 use mathlib.Core.List.{List, ◌++◌}
 use lib.ListN.{length}
 use lib.Seq.{slice}
-use Rattle.tree.specs.Layout.{Bytes, two, four, two_at, four_at, id_at, value_of}
+use Rattle.tree.specs.Layout.{Bytes, two, four, two_at, four_at, id_at}
 use Rattle.tree.proofs.LayoutLaws.{two_at-is, four-at}
 use Rattle.tree.proofs.SliceLaws.{slice-join}
-use Rattle.writer.specs.Bytes.{two_bytes, four_bytes}
 use Rattle.state.specs.Cells.{id_of}
 
 pub id-made : (a c : ℕ) → c < 4294967296 → id_of (a * 4294967296 + c) ≡ two a ++ four c
@@ -24,20 +23,6 @@ id-stands s at b h =
     let e : at + 2 + 4 ≡ at + 6 = omega arith in
     ap₂ ◌++◌ (two_at-is s at b (omega arith)) (four-at s (at + 2) b (omega arith)) ∙ ap (λ (n : ℕ). slice at (at + 2) s ++ slice (at + 2) n s) e ∙
     slice-join at (at + 2) (at + 6) s (omega arith) (omega arith) h
-
--- the value of the literal there
-pub value-stands : (s : List ℕ) (at : ℕ) → Bytes s → at + 6 ≤ length s → value_of (id_at s at) ≡ two (two_at s at)
-value-stands s at b h = sym (ap value_of (id-stands s at b h))
-
--- an id as it is written
-pub id-written : (a c : ℕ) → a < 65536 → c < 4294967296 → two_bytes a ++ four_bytes c ≡ two a ++ four c
-id-written a c h k =
-    let e : a / 256 ≡ a / 256 % 256 = omega arith in
-    let b₀ : c / 65536 / 256 ≡ c / 16777216 % 256 = omega arith in
-    let b₁ : c / 65536 % 256 ≡ c / 65536 % 256 = refl in
-    let b₂ : c % 65536 / 256 ≡ c / 256 % 256 = omega arith in
-    let b₃ : c % 65536 % 256 ≡ c % 256 = omega arith in
-    cc
 
 -- an id from a number
 pub id-split : (n : ℕ) → two (n / 4294967296) ++ four (n % 4294967296) ≡ id_of n

@@ -5,6 +5,7 @@
 pub mod IdLaws
 pub mod IdentLaws
 pub mod ListLaws
+pub mod LiesLaws
 pub mod IndexLaws
 pub mod HintLaws
 pub mod FrameLaws

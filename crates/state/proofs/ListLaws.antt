@@ -1,14 +1,14 @@
 -- The searches and changes of the rules' lists, on lists that are read off rows.
+use Rattle.std.specs.Prelude.{Option, None, Some, is_some}
 use Prim.Native.Nat.{ℕ, zero, suc, ◌+◌, ◌≤◌, ◌<◌}
 use native.Mathlib.Omega.{arith}
 use mathlib.Core.Path.{◌≡◌, refl, sym, ap, ◌∙◌}
 use mathlib.Core.Bool.{Bool, true, false, not, cond}
 use mathlib.Core.List.{List, [], ◌∷◌, ◌++◌, map}
-use mathlib.Core.Option.{Option, none, some}
 use lib.Dec.{eqb}
 use lib.ListN.{length, get_or}
 use Rattle.tables.specs.Rows.{Row, next, between, first_in, without, with_value}
-use Rattle.inputs.specs.Lists.{find, filter, is_some, mapped}
+use Rattle.inputs.specs.Lists.{find, filter, mapped}
 use Rattle.state.specs.Cells.{Below}
 use Rattle.state.specs.Does.{any}
 use Rattle.scope.proofs.Laws.{none-some}
@@ -68,17 +68,17 @@ abbrev pub row_of : List Row → ℕ → Row
 row_of l i = get_or l i (0, 0)
 
 next-row : {A : Type 0} (f : Row → A) (r : Row) (l : List Row) (o : Option ℕ) → mapped (λ i. f (row_of (r ∷ l) i)) (next o) ≡ mapped (λ i. f (row_of l i)) o
-next-row f r l none = refl
-next-row f r l (some i) = refl
+next-row f r l None = refl
+next-row f r l (Some i) = refl
 
 -- what is found stands among the rest, or first
-pub here-below : {n i : ℕ} (x : Bool) (o : Option ℕ) → ((j : ℕ) → o ≡ some j → j < n) → cond x (some zero) (next o) ≡ some i → i < suc n
+pub here-below : {n i : ℕ} (x : Bool) (o : Option ℕ) → ((j : ℕ) → o ≡ Some j → j < n) → cond x (Some zero) (next o) ≡ Some i → i < suc n
 here-below {i = i} true o h p = let z : zero ≡ i = cc in omega arith
-here-below false none h p = none-some p
-here-below {i = i} false (some j) h p = let z : suc j ≡ i = cc in let w = h j refl in omega arith
+here-below false None h p = none-some p
+here-below {i = i} false (Some j) h p = let z : suc j ≡ i = cc in let w = h j refl in omega arith
 
 -- a row that is found stands among the rows
-pub first-below : (lo hi : ℕ) (l : List Row) (i : ℕ) → first_in lo hi l ≡ some i → i < length l
+pub first-below : (lo hi : ℕ) (l : List Row) (i : ℕ) → first_in lo hi l ≡ Some i → i < length l
 unfolding first_in
 first-below lo hi [] i e = none-some e
 first-below lo hi (r ∷ l) i e = here-below (between lo hi r.0) (first_in lo hi l) (first-below lo hi l) e
@@ -88,10 +88,10 @@ module _ {A : Type 0} (p : A → Bool) (f : Row → A) (lo hi k v : ℕ) (h : (r
   pub find-row : (l : List Row) → Below k v l → find p (map f l) ≡ mapped (λ i. f (row_of l i)) (first_in lo hi l)
   unfolding find first_in Below
   find-row [] b = refl
-  find-row (r ∷ l) b = ap (λ (x : Bool). cond x (some (f r)) (find p (map f l))) (h r b.0) ∙ by (between lo hi r.0) (find-row l b.2)
+  find-row (r ∷ l) b = ap (λ (x : Bool). cond x (Some (f r)) (find p (map f l))) (h r b.0) ∙ by (between lo hi r.0) (find-row l b.2)
     where
       by : (x : Bool) → find p (map f l) ≡ mapped (λ i. f (row_of l i)) (first_in lo hi l) →
-          cond x (some (f r)) (find p (map f l)) ≡ mapped (λ i. f (row_of (r ∷ l) i)) (cond x (some zero) (next (first_in lo hi l)))
+          cond x (Some (f r)) (find p (map f l)) ≡ mapped (λ i. f (row_of (r ∷ l) i)) (cond x (Some zero) (next (first_in lo hi l)))
       by true e = refl
       by false e = e ∙ sym (next-row f r l (first_in lo hi l))
 
@@ -102,10 +102,10 @@ module _ {A : Type 0} (p : A → Bool) (f : Row → A) (lo hi k v : ℕ) (h : (r
   any-row (r ∷ l) b = ap (λ (x : Bool). any (cond x (f r ∷ filter p (map f l)) (filter p (map f l)))) (h r b.0) ∙ by (between lo hi r.0) (first_in lo hi l) (any-row l b.2)
     where
       by : (x : Bool) (o : Option ℕ) → any (filter p (map f l)) ≡ is_some o →
-          any (cond x (f r ∷ filter p (map f l)) (filter p (map f l))) ≡ is_some (cond x (some zero) (next o))
+          any (cond x (f r ∷ filter p (map f l)) (filter p (map f l))) ≡ is_some (cond x (Some zero) (next o))
       by true o e = refl
-      by false none e = e
-      by false (some i) e = e
+      by false None e = e
+      by false (Some i) e = e
 
 -- the list without those that meet a test, as rows without a key
 pub filter-rows : {A : Type 0} (p : A → Bool) (f : Row → A) (key k v : ℕ) → ((r : Row) → r.0 < k → p (f r) ≡ not (eqb r.0 key)) →

@@ -1,10 +1,10 @@
 -- The scope's modules: the rows of their table are a scope's cells; the array after a scope is loaded, a file is requested, a module is marked.
+use Rattle.std.specs.Prelude.{Option, None, Some, Result, Ok, Err}
 use Prim.Native.Nat.{ℕ, zero, suc, ◌+◌, ◌*◌, ◌/◌, ◌%◌, ◌≤◌, ◌<◌}
 use native.Mathlib.Omega.{arith}
 use mathlib.Core.Path.{◌≡◌, refl, sym, ap, ap₂, subst, ◌∙◌}
 use mathlib.Core.Bool.{Bool, true, false, cond}
 use mathlib.Core.List.{List, [], ◌∷◌, ◌++◌, map, map-append}
-use mathlib.Core.Option.{Option, none as nothing, some}
 use lib.Dec.{leb, ltb, eqb}
 use lib.ListN.{length, length-map, get_or, set}
 use lib.Seq.{get_or-set_same, get_or-set_other}
@@ -12,20 +12,20 @@ use borrow.Author.Tests.{leb-true, leb-false, ltb-true, ltb-false, lt-ltb, le-lt
 use Rattle.scope.specs.Modules.{Module, Modules, next as following, unmarked, place_of, number_of, request_by, request, with_mark, set_mark}
 use Rattle.scope.specs.ScopeValue.{module_by, modules_in, Rewrites}
 use Rattle.scope.specs.declared.id.ModuleId.{ModuleId}
+use Rattle.scope.specs.declared.TooManyFiles.{TooManyFiles}
 use Rattle.scope.specs.declared.Mark.{Mark}
 use Rattle.scope.specs.declared.Mark.TheVariants.{Loaded, Stored, Cjs, Wrapping}
 use Rattle.tables.specs.Rows.{Row, rows_from, rows, next, between, first_in, with_value}
 use Rattle.tables.specs.Only.{Outside, Only}
 use Rattle.tables.proofs.RowLaws.{from-agree, rows-length}
 use Rattle.tables.proofs.OnlyLaws.{only-then, store-count}
-use Rattle.inputs.specs.Outcome.{done}
+use Rattle.inputs.specs.Lists.{mapped}
+use Rattle.inputs.specs.Outcome.{Outcome, done}
 use Rattle.inputs.specs.Table.{file_of}
 use Rattle.extraction_rules.specs.State.{State, set_modules}
 use Rattle.extraction_rules.specs.First.{requested, module_of as resolved_by, module_for}
 use Rattle.state.specs.Cells.{Env, modules, table_of, Below, held, Good, Reached, module_hint, Shows, module_of}
-use Rattle.state.specs.Does.{Changes, HintsModules, Tells, Says, Turns, Resolves, bit_of}
-use Rattle.state.specs.declared.Module.{Module as Found}
-use Rattle.state.specs.declared.Module.TheVariants.{Is, Unresolved, TooMany}
+use Rattle.state.specs.Does.{Changes, HintsModules, Tells, Says, Turns, Gave, Resolves, bit_of}
 use Rattle.state.proofs.IdLaws.{between-one, eqb-swap}
 use Rattle.state.proofs.ListLaws.{below-value, below-row, length-value, row_of}
 use Rattle.state.proofs.HintLaws.{reached-value, reached-from}
@@ -107,8 +107,8 @@ module _ {t m : List ℕ} (g : Good t) (r : Rewrites 15482 (15482 + 512) (set t 
 -- ---- A file is requested
 
 next-same : (o : Option ℕ) → following o ≡ next o
-next-same nothing = refl
-next-same (some n) = refl
+next-same None = refl
+next-same (Some n) = refl
 
 same-file : (f n : ℕ) → n < 65536 → eqb f (n % 65536) ≡ between f f n
 same-file f n h = let e : n % 65536 ≡ n = omega arith in ap (eqb f) e ∙ eqb-swap f n ∙ sym (between-one f n)
@@ -118,8 +118,12 @@ number-found : (f v : ℕ) (l : List Row) → Below 65536 v l → number_of f (m
 unfolding number_of place_of first_in Below
 number-found f v [] b = refl
 number-found f v (r ∷ l) b =
-    ap₂ (λ (x : Bool) (o : Option ℕ). cond x (some zero) o) (same-file f r.0 b.0)
+    ap₂ (λ (x : Bool) (o : Option ℕ). cond x (Some zero) o) (same-file f r.0 b.0)
     (next-same (number_of f (map module_of l)) ∙ ap next (number-found f v l b.2))
+
+given : {x : Env} {o : Outcome (Option ℕ × State)} {k : Option ModuleId} {t : List ℕ} (m : Option ModuleId) → k ≡ m →
+    Gave x o (mapped (λ n. n.0) k) t → Gave x o (mapped (λ n. n.0) m) t
+given {x = x} {o} {t = t} m e g = subst (λ (k : Option ModuleId). Gave x o (mapped (λ n. n.0) k) t) e g
 
 module _ (f : ℕ) {t : List ℕ} (g : Good t) where
   number-shown : {x : Env} (s : State) → Shows x t s → number_of f s.modules ≡ first_in f f (rows (table_of modules) t)
@@ -129,65 +133,57 @@ module _ (f : ℕ) {t : List ℕ} (g : Good t) where
   modules-held s w = sym (ap length w.modules) ∙ length-map (rows (table_of modules) t) module_of
 
   -- a file that has a number
-  pub request-known : {i : ℕ} (n : ModuleId) → n.0 ≡ i → some i ≡ first_in f f (rows (table_of modules) t) → Resolves (λ _. resolved_by (some f)) t t (Is n)
+  pub request-known : {i : ℕ} (n : ModuleId) → n.0 ≡ i → Some i ≡ first_in f f (rows (table_of modules) t) → Resolves (λ _. resolved_by (Some f)) t t (Ok (Some n))
   unfolding request
   request-known {i} n j e =
       record {
         good = g;
-        number = λ m q s p w.
-            let z : n.0 ≡ m.0 = ap (λ (k : ModuleId). k.0) (let y : n ≡ m = cc in y) in
-            record {
-              state = s;
-              is =
-                  ap (λ (o : Option ℕ). requested (request_by o f s.modules) p s) (number-shown s w ∙ sym e)
-                  ∙ ap (λ (k : ℕ). done (some k, s)) (sym j ∙ z);
-              shows = w;
-            };
-        unresolved = λ q s p w. absurd (let z : ◌≡◌ {A = ℕ} 0 1 = cc in omega arith);
-        full = λ q s p w. absurd (let z : ◌≡◌ {A = ℕ} 0 1 = cc in omega arith);
+        resolved = λ m q s p w. given m (let z : Some n ≡ m = cc in z) (record {
+          state = s;
+          is = ap (λ (o : Option ℕ). requested (request_by o f s.modules) p s) (number-shown s w ∙ sym e) ∙ ap (λ (k : ℕ). done (Some k, s)) (sym j);
+          shows = w;
+        });
+        full = λ q r s p w. absurd (cc);
       }
 
   -- a new file
-  pub request-new : {t' : List ℕ} (n : ModuleId) → n.0 ≡ held modules t → f < 65536 → nothing ≡ first_in f f (rows (table_of modules) t) → held modules t < 256 →
-      Changes modules (rows (table_of modules) t ++ ((f, 0) ∷ [])) t t' → Resolves (λ _. resolved_by (some f)) t t' (Is n)
+  pub request-new : {t' : List ℕ} (n : ModuleId) → n.0 ≡ held modules t → f < 65536 → None ≡ first_in f f (rows (table_of modules) t) → held modules t < 256 →
+      Changes modules (rows (table_of modules) t ++ ((f, 0) ∷ [])) t t' → Resolves (λ _. resolved_by (Some f)) t t' (Ok (Some n))
   unfolding request
   request-new {t'} n j h e r d =
       let l = rows (table_of modules) t in
       record {
         good = d.good;
-        number = λ m q s p w.
-            let z : n.0 ≡ m.0 = ap (λ (k : ModuleId). k.0) (let y : n ≡ m = cc in y) in
+        resolved = λ m q s p w.
             let c = modules-held s w in
             let u : f % 65536 ≡ f = omega arith in
             let ms = s.modules ++ (unmarked f ∷ []) in
-            record {
+            given m (let z : Some n ≡ m = cc in z) (record {
               state = set_modules ms s;
               is =
                   ap (λ (o : Option ℕ). requested (request_by o f s.modules) p s) (number-shown s w ∙ sym e)
-                  ∙ ap (λ (b : Bool). requested (cond b (some (length s.modules, ms)) nothing) p s) (lt-ltb (length s.modules) 256 (omega arith))
-                  ∙ ap (λ (k : ℕ). done (some k, set_modules ms s)) (c ∙ sym j ∙ z);
+                  ∙ ap (λ (b : Bool). requested (cond b (Some (length s.modules, ms)) None) p s) (lt-ltb (length s.modules) 256 (omega arith))
+                  ∙ ap (λ (k : ℕ). done (Some k, set_modules ms s)) (c ∙ sym j);
               shows =
                   shows-modules w d.others
                   (ap (map module_of) d.now_rows ∙ map-append module_of l ((f, 0) ∷ []) ∙ ap (λ (x : Modules). x ++ (module_of (f, 0) ∷ [])) w.modules
                   ∙ ap (λ (x : ℕ). s.modules ++ (unmarked x ∷ [])) u);
-            };
-        unresolved = λ q s p w. absurd (let z : ◌≡◌ {A = ℕ} 0 1 = cc in omega arith);
-        full = λ q s p w. absurd (let z : ◌≡◌ {A = ℕ} 0 1 = cc in omega arith);
+            });
+        full = λ q r s p w. absurd (cc);
       }
 
   -- a 257th file
-  pub request-full : nothing ≡ first_in f f (rows (table_of modules) t) → 256 ≤ held modules t → Resolves (λ _. resolved_by (some f)) t t TooMany
+  pub request-full : {z : TooManyFiles} → None ≡ first_in f f (rows (table_of modules) t) → 256 ≤ held modules t → Resolves (λ _. resolved_by (Some f)) t t (Err z)
   unfolding request
   request-full e r =
       record {
         good = g;
-        number = λ m q s p w. absurd (let z : ◌≡◌ {A = ℕ} 0 1 = cc in omega arith);
-        unresolved = λ q s p w. absurd (let z : ◌≡◌ {A = ℕ} 0 1 = cc in omega arith);
-        full = λ q s p w.
+        resolved = λ m q s p w. absurd (cc);
+        full = λ z q s p w.
             let c = modules-held s w in
             ap (λ (o : Option ℕ). requested (request_by o f s.modules) p s) (number-shown s w ∙ sym e)
             ∙
-            ap (λ (b : Bool). requested (cond b (some (length s.modules, s.modules ++ (unmarked f ∷ []))) nothing) p s)
+            ap (λ (b : Bool). requested (cond b (Some (length s.modules, s.modules ++ (unmarked f ∷ []))) None) p s)
             (le-ltb (length s.modules) 256 (omega arith));
       }
 
@@ -197,23 +193,21 @@ module _ (a : List ℕ) {t : List ℕ} where
   unfolding module_for
   named o s p n w = ap (λ (f : Option ℕ). resolved_by f p s) (n.is s w)
 
-  pub source-resolved : {f : ℕ} {t' : List ℕ} {r : Found} → Says (λ e. file_of a e.table) t (some f) → Resolves (λ _. resolved_by (some f)) t t' r →
+  pub source-resolved : {f : ℕ} {t' : List ℕ} {r : Result (Option ModuleId) TooManyFiles} → Says (λ e. file_of a e.table) t (Some f) → Resolves (λ _. resolved_by (Some f)) t t' r →
       Resolves (λ e. module_for e a) t t' r
   source-resolved {f} n u =
       record {
         good = u.good;
-        number = λ m q s p w. let k = u.number m q s p w in record { state = k.state; is = sym (named (some f) s p n w) ∙ k.is; shows = k.shows };
-        unresolved = λ q s p w. let k = u.unresolved q s p w in record { state = k.state; is = sym (named (some f) s p n w) ∙ k.is; shows = k.shows };
-        full = λ q s p w. sym (named (some f) s p n w) ∙ u.full q s p w;
+        resolved = λ m q s p w. let k = u.resolved m q s p w in record { state = k.state; is = sym (named (Some f) s p n w) ∙ k.is; shows = k.shows };
+        full = λ z q s p w. sym (named (Some f) s p n w) ∙ u.full z q s p w;
       }
 
-  pub source-unresolved : Good t → Says (λ e. file_of a e.table) t nothing → Resolves (λ e. module_for e a) t t Unresolved
+  pub source-unresolved : Good t → Says (λ e. file_of a e.table) t None → Resolves (λ e. module_for e a) t t (Ok None)
   source-unresolved g n =
       record {
         good = g;
-        number = λ m q s p w. absurd (let z : ◌≡◌ {A = ℕ} 0 1 = cc in omega arith);
-        unresolved = λ q s p w. record { state = s; is = sym (named nothing s p n w); shows = w };
-        full = λ q s p w. absurd (let z : ◌≡◌ {A = ℕ} 0 1 = cc in omega arith);
+        resolved = λ m q s p w. given m (let z : None ≡ m = cc in z) (record { state = s; is = sym (named None s p n w); shows = w });
+        full = λ z q s p w. absurd (cc);
       }
 
 -- ---- A module is marked

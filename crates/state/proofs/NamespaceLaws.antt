@@ -1,11 +1,11 @@
 -- A record gets a specifier more: a namespace changes what the array shows of it, another specifier does not.
+use Rattle.std.specs.Prelude.{Option, None, Some}
 use Prim.Native.Nat.{ℕ, zero, suc, ◌+◌, ◌≤◌, ◌<◌}
 use native.Mathlib.Omega.{arith}
 use native.Mathlib.Numerals.{add-one}
 use mathlib.Core.Path.{◌≡◌, refl, sym, ap, ap₂, ◌∙◌}
 use mathlib.Core.Bool.{Bool, true, false, cond, ◌&&◌, ◌||◌, or-true, or-false}
 use mathlib.Core.List.{List, [], ◌∷◌, ◌++◌, map}
-use mathlib.Core.Option.{Option, none as nothing, some}
 use lib.Dec.{ltb, eqb}
 use lib.ListN.{length}
 use borrow.Author.Tests.{ltb-true, ltb-false, lt-ltb, le-ltb}
@@ -26,16 +26,16 @@ use Rattle.state.proofs.ListLaws.{row_of}
 -- ---- A specifier behind others
 
 either : {A : Type 0} → Option A → Option A → Option A
-either nothing o = o
-either (some a) o = some a
+either None o = o
+either (Some a) o = Some a
 
-find-append : (p : Field → Bool) (fs : Fields) (f : Field) → find_field p (append fs (more f none)) ≡ either (find_field p fs) (cond (p f) (some f) nothing)
+find-append : (p : Field → Bool) (fs : Fields) (f : Field) → find_field p (append fs (more f none)) ≡ either (find_field p fs) (cond (p f) (Some f) None)
 unfolding find_field append either
 find-append p none f = refl
 find-append p (more g gs) f = by (p g) (find-append p gs f)
   where
-    by : (b : Bool) → find_field p (append gs (more f none)) ≡ either (find_field p gs) (cond (p f) (some f) nothing) →
-        cond b (some g) (find_field p (append gs (more f none))) ≡ either (cond b (some g) (find_field p gs)) (cond (p f) (some f) nothing)
+    by : (b : Bool) → find_field p (append gs (more f none)) ≡ either (find_field p gs) (cond (p f) (Some f) None) →
+        cond b (Some g) (find_field p (append gs (more f none))) ≡ either (cond b (Some g) (find_field p gs)) (cond (p f) (Some f) None)
     by true e = refl
     by false e = e
 
@@ -49,10 +49,10 @@ with f r = record { literal = r.literal; specifiers = append r.specifiers (more 
 
 some-either : {A : Type 0} (a b : Option A) → is_some (either a b) ≡ (is_some a || is_some b)
 unfolding either
-some-either nothing b = refl
-some-either (some a) b = refl
+some-either None b = refl
+some-either (Some a) b = refl
 
-some-cond : (b : Bool) (f : Field) → is_some (cond b (some f) nothing) ≡ b
+some-cond : (b : Bool) (f : Field) → is_some (cond b (Some f) None) ≡ b
 some-cond true f = refl
 some-cond false f = refl
 
@@ -60,7 +60,7 @@ holds-with : (x : List ℕ) (f : Field) (r : Record) → holds_namespace x (with
 unfolding holds_namespace
 holds-with x f r =
     let p : Field → Bool = λ g. has 0x22 g && same (fixed_of g) x in
-    ap (λ (o : Option Field). is_some o) (find-append p r.specifiers f) ∙ some-either (find_field p r.specifiers) (cond (p f) (some f) nothing)
+    ap (λ (o : Option Field). is_some o) (find-append p r.specifiers f) ∙ some-either (find_field p r.specifiers) (cond (p f) (Some f) None)
     ∙ ap (λ (b : Bool). is_some (find_field p r.specifiers) || b) (some-cond (p f) f)
 
 -- ---- The records with one extended
@@ -74,22 +74,22 @@ namespaces-extended (suc i) f (r ∷ l) h = let e = namespaces-extended i f l (o
 index-kept : (p : Record → Bool) (i : ℕ) (f : Field) (l : List Record) → ((r : Record) → p (with f r) ≡ p r) → index_of p (extend_at i (more f none) l) ≡ index_of p l
 unfolding index_of extend_at
 index-kept p i f [] h = refl
-index-kept p zero f (r ∷ l) h = ap (λ (b : Bool). cond b (some zero) (next (index_of p l))) (h r)
-index-kept p (suc i) f (r ∷ l) h = ap (λ (o : Option ℕ). cond (p r) (some zero) (next o)) (index-kept p i f l h)
+index-kept p zero f (r ∷ l) h = ap (λ (b : Bool). cond b (Some zero) (next (index_of p l))) (h r)
+index-kept p (suc i) f (r ∷ l) h = ap (λ (o : Option ℕ). cond (p r) (Some zero) (next o)) (index-kept p i f l h)
 
-lesser-zero : (o : Option ℕ) → lesser zero o ≡ some zero
-lesser-zero nothing = refl
-lesser-zero (some n) = by (ltb zero n) refl
+lesser-zero : (o : Option ℕ) → lesser zero o ≡ Some zero
+lesser-zero None = refl
+lesser-zero (Some n) = by (ltb zero n) refl
   where
-    by : (b : Bool) → ltb zero n ≡ b → some (cond b zero n) ≡ some zero
+    by : (b : Bool) → ltb zero n ≡ b → Some (cond b zero n) ≡ Some zero
     by true e = refl
-    by false e = let h = ltb-false zero n e in ap some (omega arith)
+    by false e = let h = ltb-false zero n e in ap Some (omega arith)
 
 lesser-next : (i : ℕ) (o : Option ℕ) → next (lesser i o) ≡ lesser (suc i) (next o)
-lesser-next i nothing = refl
-lesser-next i (some n) = by (ltb i n) refl
+lesser-next i None = refl
+lesser-next i (Some n) = by (ltb i n) refl
   where
-    by : (b : Bool) → ltb i n ≡ b → some (suc (cond b i n)) ≡ some (cond (ltb (suc i) (suc n)) (suc i) (suc n))
+    by : (b : Bool) → ltb i n ≡ b → Some (suc (cond b i n)) ≡ Some (cond (ltb (suc i) (suc n)) (suc i) (suc n))
     by true e = let h = ltb-true i n e in sym (rw (lt-ltb (suc i) (suc n) (omega arith)))
     by false e = let h = ltb-false i n e in sym (rw (le-ltb (suc i) (suc n) (omega arith)))
 
@@ -98,11 +98,11 @@ index-lesser : (p : Record → Bool) (i : ℕ) (f : Field) (l : List Record) →
     index_of p (extend_at i (more f none) l) ≡ lesser i (index_of p l)
 unfolding index_of extend_at
 index-lesser p i f [] k h = absurd (omega arith)
-index-lesser p zero f (r ∷ l) k h = ap (λ (b : Bool). cond b (some zero) (next (index_of p l))) (h r) ∙ sym (lesser-zero (cond (p r) (some zero) (next (index_of p l))))
+index-lesser p zero f (r ∷ l) k h = ap (λ (b : Bool). cond b (Some zero) (next (index_of p l))) (h r) ∙ sym (lesser-zero (cond (p r) (Some zero) (next (index_of p l))))
 index-lesser p (suc i) f (r ∷ l) k h = by (p r) (index-lesser p i f l (omega arith) h)
   where
     by : (b : Bool) → index_of p (extend_at i (more f none) l) ≡ lesser i (index_of p l) →
-        cond b (some zero) (next (index_of p (extend_at i (more f none) l))) ≡ lesser (suc i) (cond b (some zero) (next (index_of p l)))
+        cond b (Some zero) (next (index_of p (extend_at i (more f none) l))) ≡ lesser (suc i) (cond b (Some zero) (next (index_of p l)))
     by true e = sym (rw (le-ltb (suc i) zero (omega arith)))
     by false e = ap next e ∙ lesser-next i (index_of p l)
 
@@ -126,20 +126,20 @@ least-high x v w p q = by (ltb v w)
     by false = q
 
 lesser-swap : (v w : ℕ) (o : Option ℕ) → lesser v (lesser w o) ≡ lesser w (lesser v o)
-lesser-swap v w nothing =
+lesser-swap v w None =
     let a = least-low v w in
     let b = least-low w v in
     let c = least-high (least v w) w v a.1 a.0 in
     let d = least-high (least w v) v w b.1 b.0 in
-    ap some (let e : least v w ≡ least w v = omega arith in e)
-lesser-swap v w (some u) =
+    ap Some (let e : least v w ≡ least w v = omega arith in e)
+lesser-swap v w (Some u) =
     let i = least-low w u in
     let j = least-low v u in
     let a = least-low v (least w u) in
     let b = least-low w (least v u) in
     let c = least-high (least v (least w u)) w (least v u) (omega arith) (least-high _ v u a.0 (omega arith)) in
     let d = least-high (least w (least v u)) v (least w u) (omega arith) (least-high _ w u b.0 (omega arith)) in
-    ap some (let e : least v (least w u) ≡ least w (least v u) = omega arith in e)
+    ap Some (let e : least v (least w u) ≡ least w (least v u) = omega arith in e)
 
 pub least-more : (n k v : ℕ) (l : List Row) → least_of n (l ++ ((k, v) ∷ [])) ≡ cond (eqb k n) (lesser v (least_of n l)) (least_of n l)
 unfolding least_of
@@ -171,26 +171,26 @@ holders-extended n k i f N l hn hk hi tag x e = least-more n k i N ∙ by (eqb k
 
 first-either : (a b : Option Field) → mapped fixed_of (either a b) ≡ either (mapped fixed_of a) (mapped fixed_of b)
 unfolding either
-first-either nothing b = refl
-first-either (some a) b = refl
+first-either None b = refl
+first-either (Some a) b = refl
 
 brief-with : (f : Field) (r : Record) →
-    brief (with f r) ≡ record { value = value_of r.literal; literal = r.literal; namespace = either (brief r).namespace (mapped fixed_of (cond (has 0x22 f) (some f) nothing)) }
+    brief (with f r) ≡ record { value = value_of r.literal; literal = r.literal; namespace = either (brief r).namespace (mapped fixed_of (cond (has 0x22 f) (Some f) None)) }
 unfolding brief
 brief-with f r =
     ap (λ (o : Option (List ℕ)). record { value = value_of r.literal; literal = r.literal; namespace = o })
-    (ap (mapped fixed_of) (find-append (has 0x22) r.specifiers f) ∙ first-either (find_field (has 0x22) r.specifiers) (cond (has 0x22 f) (some f) nothing))
+    (ap (mapped fixed_of) (find-append (has 0x22) r.specifiers f) ∙ first-either (find_field (has 0x22) r.specifiers) (cond (has 0x22 f) (Some f) None))
 
-either-nothing : (o : Option (List ℕ)) → either o nothing ≡ o
+either-nothing : (o : Option (List ℕ)) → either o None ≡ o
 unfolding either
-either-nothing nothing = refl
-either-nothing (some x) = refl
+either-nothing None = refl
+either-nothing (Some x) = refl
 
 -- a specifier that is no namespace is not seen
 pub brief-other : (f : Field) (r : Record) → has 0x22 f ≡ false → brief (with f r) ≡ brief r
 unfolding brief
 brief-other f r e =
-    brief-with f r ∙ ap (λ (b : Bool). record { value = value_of r.literal; literal = r.literal; namespace = either (brief r).namespace (mapped fixed_of (cond b (some f) nothing)) }) e
+    brief-with f r ∙ ap (λ (b : Bool). record { value = value_of r.literal; literal = r.literal; namespace = either (brief r).namespace (mapped fixed_of (cond b (Some f) None)) }) e
     ∙ ap (λ (o : Option (List ℕ)). record { value = value_of r.literal; literal = r.literal; namespace = o }) (either-nothing (brief r).namespace)
 
 -- a namespace is seen where it is the first
@@ -198,10 +198,10 @@ brief-first : (y : Env) (f : Field) (k : ℕ) (r : Row) (q : Record) → has 0x2
     brief_of y (r.0, k + 1) ≡ brief (with f q)
 unfolding brief brief_of either
 brief-first y f k r q tag x e z =
-    let n : (brief q).namespace ≡ nothing = sym (ap (λ (b : Brief). b.namespace) e) ∙ ap namespace_of z in
+    let n : (brief q).namespace ≡ None = sym (ap (λ (b : Brief). b.namespace) e) ∙ ap namespace_of z in
     ap₂ (λ (a : Brief) (b : Option (List ℕ)). record { value = a.value; literal = a.literal; namespace = b }) e
-    (ap namespace_of (add-one k) ∙ ap some (sym x) ∙ ap (λ (b : Bool). mapped fixed_of (cond b (some f) nothing)) (sym tag)
-    ∙ ap (λ (o : Option (List ℕ)). either o (mapped fixed_of (cond (has 0x22 f) (some f) nothing))) (sym n)) ∙ sym (brief-with f q)
+    (ap namespace_of (add-one k) ∙ ap Some (sym x) ∙ ap (λ (b : Bool). mapped fixed_of (cond b (Some f) None)) (sym tag)
+    ∙ ap (λ (o : Option (List ℕ)). either o (mapped fixed_of (cond (has 0x22 f) (Some f) None))) (sym n)) ∙ sym (brief-with f q)
 
 either-some : (n : ℕ) (o : Option (List ℕ)) → (n ≡ 0 → ⊥) → either (namespace_of n) o ≡ namespace_of n
 unfolding either
@@ -214,15 +214,15 @@ brief-again y f r q e z =
     let n : namespace_of r.1 ≡ (brief q).namespace = ap (λ (b : Brief). b.namespace) e in
     brief-with f q
     ∙ ap (λ (o : Option (List ℕ)). record { value = value_of q.literal; literal = q.literal; namespace = o })
-    (ap (λ (o : Option (List ℕ)). either o (mapped fixed_of (cond (has 0x22 f) (some f) nothing))) (sym n) ∙ either-some r.1 _ z ∙ n)
+    (ap (λ (o : Option (List ℕ)). either o (mapped fixed_of (cond (has 0x22 f) (Some f) None))) (sym n) ∙ either-some r.1 _ z ∙ n)
 
 pub briefs-first : (y : Env) (i k : ℕ) (f : Field) (R : List Row) (l : List Record) → has 0x22 f ≡ true → fixed_of f ≡ id_of k → map (brief_of y) R ≡ map brief l →
     (row_of R i).1 ≡ 0 →
     map (brief_of y) (with_value i (k + 1) R) ≡ map brief (extend_at i (more f none) l)
 unfolding with_value extend_at
 briefs-first y i k f [] [] tag x e z = refl
-briefs-first y i k f [] (q ∷ l) tag x e z = absurd (let n : ◌≡◌ {A = ℕ} 0 1 = cc in omega arith)
-briefs-first y i k f (r ∷ R) [] tag x e z = absurd (let n : ◌≡◌ {A = ℕ} 0 1 = cc in omega arith)
+briefs-first y i k f [] (q ∷ l) tag x e z = absurd (cc)
+briefs-first y i k f (r ∷ R) [] tag x e z = absurd (cc)
 briefs-first y zero k f (r ∷ R) (q ∷ l) tag x e z =
     let h : brief_of y r ≡ brief q = cc in
     let m : map (brief_of y) R ≡ map brief l = cc in
@@ -237,8 +237,8 @@ pub briefs-kept : (y : Env) (i : ℕ) (f : Field) (R : List Row) (l : List Recor
     map (brief_of y) R ≡ map brief l → map (brief_of y) R ≡ map brief (extend_at i (more f none) l)
 unfolding extend_at
 briefs-kept y i f [] [] k e = refl
-briefs-kept y i f [] (q ∷ l) k e = absurd (let n : ◌≡◌ {A = ℕ} 0 1 = cc in omega arith)
-briefs-kept y i f (r ∷ R) [] k e = absurd (let n : ◌≡◌ {A = ℕ} 0 1 = cc in omega arith)
+briefs-kept y i f [] (q ∷ l) k e = absurd (cc)
+briefs-kept y i f (r ∷ R) [] k e = absurd (cc)
 briefs-kept y zero f (r ∷ R) (q ∷ l) k e =
     let h : brief_of y r ≡ brief q = cc in
     let m : map (brief_of y) R ≡ map brief l = cc in

@@ -4,20 +4,20 @@ use native.Mathlib.Omega.{arith}
 use native.Mathlib.Numerals.{add-one}
 use mathlib.Core.Path.{◌≡◌, refl, sym, ap, ◌∙◌}
 use mathlib.Core.List.{List, [], ◌∷◌, map}
-use lib.ListN.{length, length-map, drop}
+use lib.ListN.{length, drop}
 use Rattle.tables.specs.Rows.{Row, rows}
 use Rattle.tree.specs.Layout.{two, value_of}
 use Rattle.extraction_rules.specs.State.{Record}
 use Rattle.state.specs.Cells.{Env, records, lazies, forces, id_limit, place_limit, table_of, held, Good, literal_by, Brief, brief, brief_of, lazy_of, atom_of}
 use Rattle.state.specs.declared.Literal.{Literal}
-use Rattle.state.specs.Does.{Tells, Holds}
+use Rattle.state.specs.Does.{Holds}
 use Rattle.state.proofs.ListLaws.{below-row, row_of}
 
 -- two lists that are told alike have alike entries
 place-suc : {A B : Type 0} (h : Row → B) (g : A → B) (l : List Row) (m : List A) (i : ℕ) → map h l ≡ map g m → i < length l →
     (a : A) × (g a ≡ h (row_of l i)) × (drop i m ≡ a ∷ drop (suc i) m)
 place-suc h g [] m i e n = absurd (omega arith)
-place-suc h g (r ∷ l) [] i e n = absurd (let z : ◌≡◌ {A = ℕ} 0 1 = cc in omega arith)
+place-suc h g (r ∷ l) [] i e n = absurd (cc)
 place-suc h g (r ∷ l) (a ∷ m) zero e n = (a, (let q : g a ≡ h r = cc in q), refl)
 place-suc h g (r ∷ l) (a ∷ m) (suc i) e n = place-suc h g l m i (let q : map h l ≡ map g m = cc in q) (omega arith)
 
@@ -32,10 +32,6 @@ map-same [] = refl
 map-same (a ∷ m) = ap (λ (l : List _). a ∷ l) (map-same m)
 
 -- ---- Collected records
-
-pub records-counted : {t : List ℕ} {n : ℕ} → n ≡ held records t → Tells (λ s. length s.collected) t n
-records-counted {t} e =
-    record { is = λ {x} s w. e ∙ sym (length-map (rows (table_of records) t) (brief_of x)) ∙ ap length w.collected ∙ length-map s.collected brief }
 
 pub record-small : {t : List ℕ} {i n : ℕ} → Good t → i < held records t → n ≡ (row_of (rows (table_of records) t) i).0 → n < id_limit
 record-small {t} {i} g h e = let b = (below-row _ _ (rows (table_of records) t) i (g.below records) h).0 in omega arith
@@ -77,9 +73,6 @@ module _ {t : List ℕ} {i n : ℕ} {l : Literal} (v : l.value.0 ≡ n / 4294967
 
 -- ---- Lazy records
 
-pub lazies-counted : {t : List ℕ} {n : ℕ} → n ≡ held lazies t → Tells (λ s. length s.lazy) t n
-lazies-counted {t} e = record { is = λ {x} s w. e ∙ sym (length-map (rows (table_of lazies) t) (lazy_of x)) ∙ ap length w.lazy }
-
 -- numbers of its row
 pub lazy-small : {t : List ℕ} {i : ℕ} → Good t → i < held lazies t → ((row_of (rows (table_of lazies) t) i).0 < id_limit) × ((row_of (rows (table_of lazies) t) i).1 < place_limit)
 lazy-small {t} {i} g h = below-row _ _ (rows (table_of lazies) t) i (g.below lazies) h
@@ -94,9 +87,6 @@ lazy-place-at {t} {i} {r} h e =
     }
 
 -- ---- Forced sources
-
-pub forced-counted : {t : List ℕ} {n : ℕ} → n ≡ held forces t → Tells (λ s. length s.forced) t n
-forced-counted {t} e = record { is = λ s w. e ∙ sym (length-map (rows (table_of forces) t) atom_of) ∙ ap length w.forced }
 
 -- a source's number fits two bytes
 pub forced-small : {t : List ℕ} {i r : ℕ} → Good t → i < held forces t → r ≡ (row_of (rows (table_of forces) t) i).0 → r < 65536

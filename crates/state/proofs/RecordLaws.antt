@@ -1,13 +1,13 @@
 -- Records: the source of the one that a search finds, by its first namespace or by a namespace that it holds.
+use Rattle.std.specs.Prelude.{Option, None, Some}
 use Prim.Native.Nat.{ℕ, zero, suc, ◌+◌, ◌-◌, ◌/◌, ◌%◌, ◌≤◌, ◌<◌}
 use native.Mathlib.Omega.{arith}
 use mathlib.Core.Path.{◌≡◌, refl, sym, ap, ap₂, subst, ◌∙◌}
 use mathlib.Core.Bool.{Bool, true, false, ◌&&◌, ◌||◌, and-true}
 use mathlib.Core.List.{List, map, map-map}
-use mathlib.Core.Option.{Option, none as nothing, some}
 use lib.Dec.{eqb}
 use lib.ListN.{length, get_or, length-map}
-use borrow.Author.Tests.{le-leb, lt-leb, leb-true, eqb-true, eq-eqb, ne_eqb}
+use borrow.Author.Tests.{le-leb, lt-leb, leb-true, eqb-true, eqb-false, eq-eqb, ne_eqb}
 use Rattle.tree.proofs.Table.{both-true}
 use Rattle.scope.specs.Id.{local}
 use Rattle.tables.specs.Rows.{Row, rows, between, flip, first_in, NoneBefore, least_of}
@@ -20,7 +20,7 @@ use Rattle.inputs.specs.Fields.{has, find_field}
 use Rattle.extraction_rules.specs.State.{Record, State}
 use Rattle.extraction_rules.specs.First.{holds_namespace, suits, used_record}
 use Rattle.state.specs.Cells.{Env, id_limit, records, namespaces, table_of, held, Good, id_of, Brief, brief, brief_of, namespace_of, index_of, Shows}
-use Rattle.state.specs.Does.{Starts, Tells, source_of, source_at}
+use Rattle.state.specs.Does.{Starts, Tells, range, range_of, source_of, source_at}
 use Rattle.state.proofs.IdLaws.{id-name, id-context, between-one}
 use Rattle.state.proofs.HintLaws.{none-from}
 use Rattle.state.proofs.IndexLaws.{index-map, index-same, index-value, find-index, index-below}
@@ -40,8 +40,8 @@ sources-shown {y} {t} {s} w =
 placed : (t : List ℕ) (o : Option ℕ) →
     mapped (λ i. get_or (map value_in (rows (table_of records) t)) i (value_in (0, 0))) o ≡ mapped (source_at t) o
 unfolding source_at
-placed t nothing = refl
-placed t (some i) = ap some (get_d_map value_in (rows (table_of records) t) i (0, 0))
+placed t None = refl
+placed t (Some i) = ap Some (get_d_map value_in (rows (table_of records) t) i (0, 0))
 
 pub source-found : {y : Env} {t : List ℕ} {s : State} (p : Record → Bool) (o : Option ℕ) → Shows y t s → o ≡ index_of p s.collected →
     mapped (source_at t) o ≡ source_of (find p s.collected)
@@ -56,15 +56,15 @@ held-shown {y} {t} {s} w = sym (length-map (rows (table_of records) t) (brief_of
 
 -- ---- The first that holds a namespace
 
-holder-below : {y : Env} {t : List ℕ} {s : State} {id i : ℕ} → Shows y t s → id < id_limit → some i ≡ least_of id (rows (table_of namespaces) t) → i < held records t
+holder-below : {y : Env} {t : List ℕ} {s : State} {id i : ℕ} → Shows y t s → id < id_limit → Some i ≡ least_of id (rows (table_of namespaces) t) → i < held records t
 holder-below {s = s} {id} {i} w h e =
     let b = index-below (holds_namespace (id_of id)) s.collected i (sym (e ∙ w.holders id h)) in
     let n = held-shown w in
     omega arith
 
 -- no place past the records is shown
-pub holder-past : (x : List ℕ) {t : List ℕ} {id i : ℕ} → id < id_limit → some i ≡ least_of id (rows (table_of namespaces) t) → held records t ≤ i →
-    Tells (λ s. source_of (find (holds_namespace x) s.collected)) t nothing
+pub holder-past : (x : List ℕ) {t : List ℕ} {id i : ℕ} → id < id_limit → Some i ≡ least_of id (rows (table_of namespaces) t) → held records t ≤ i →
+    Tells (λ s. source_of (find (holds_namespace x) s.collected)) t None
 holder-past x h e p = record { is = λ s w. absurd (let b = holder-below w h e in omega arith) }
 
 pub holder-told : {t x : List ℕ} {id : ℕ} {o : Option ℕ} → id_of id ≡ x → id < id_limit → o ≡ least_of id (rows (table_of namespaces) t) →
@@ -75,13 +75,13 @@ holder-told {t} {x} {id} {o} n h e =
 -- ---- The first whose first namespace suits
 
 suits_first : ℕ → List ℕ → Option (List ℕ) → Bool
-suits_first own i nothing = false
-suits_first own i (some x) = same (name_of x) (name_of i) && (same (context_of i) (four (local own)) || same (context_of i) (context_of x))
+suits_first own i None = false
+suits_first own i (Some x) = same (name_of x) (name_of i) && (same (context_of i) (four (local own)) || same (context_of i) (context_of x))
 
 suits-first : (own : ℕ) (i : List ℕ) (o : Option Field) → suits own i o ≡ suits_first own i (mapped fixed_of o)
 unfolding suits_first
-suits-first own i nothing = refl
-suits-first own i (some f) = refl
+suits-first own i None = refl
+suits-first own i (Some f) = refl
 
 bools : (a b : Bool) → (a ≡ true → b ≡ true) → (b ≡ true → a ≡ true) → a ≡ b
 bools true b f g = sym (f refl)
@@ -171,22 +171,41 @@ module _ {t : List ℕ} (g : Good t) (own id lo hi : ℕ) (h : (n : ℕ) → n <
   unfolding used_record
   used-by {o} e = record { is = λ s w. source-found (λ r. suits own (id_of id) (find_field (has 0x22) r.specifiers)) o w (e ∙ used-index s w) }
 
-pub used-name : (own id : ℕ) {t x : List ℕ} {o : Option ℕ} → Good t → id_of id ≡ x → id < id_limit → id % 4294967296 ≡ local own →
+used-name : (own id : ℕ) {t x : List ℕ} {o : Option ℕ} → Good t → id_of id ≡ x → id < id_limit → id % 4294967296 ≡ local own →
     o ≡ first_in (id - id % 4294967296 + 1) (id - id % 4294967296 + 4294967296) (map flip (rows (table_of records) t)) →
     Tells (λ s. source_of (used_record own x s.collected)) t (mapped (source_at t) o)
 used-name own id {t} {o = p} g m h e f =
     subst (λ (y : List ℕ). Tells (λ s. source_of (used_record own y s.collected)) t (mapped (source_at t) p)) m (used-by g own id _ _ (λ n b. suits-name own id n h b e) f)
 
-pub used-id : (own id : ℕ) {t x : List ℕ} {o : Option ℕ} → Good t → own < 65536 → id_of id ≡ x → id < id_limit → (id % 4294967296 ≡ local own → ⊥) →
+used-id : (own id : ℕ) {t x : List ℕ} {o : Option ℕ} → Good t → own < 65536 → id_of id ≡ x → id < id_limit → (id % 4294967296 ≡ local own → ⊥) →
     o ≡ first_in (id + 1) (id + 1) (map flip (rows (table_of records) t)) → Tells (λ s. source_of (used_record own x s.collected)) t (mapped (source_at t) o)
 used-id own id {t} {o = p} g o m h e f =
     subst (λ (y : List ℕ). Tells (λ s. source_of (used_record own y s.collected)) t (mapped (source_at t) p)) m (used-by g own id _ _ (λ n b. suits-id own id n o h b e) f)
 
 -- no first namespace before the hint of an id's name is in either range
-pub named-past : {t : List ℕ} {from id : ℕ} → Starts from id t →
+named-past : {t : List ℕ} {from id : ℕ} → Starts from id t →
     NoneBefore from (id - id % 4294967296 + 1) (id - id % 4294967296 + 4294967296) (map flip (rows (table_of records) t))
 named-past {t} {from} {id} h = none-from _ _ id from (rows (table_of records) t) h.none_named (omega arith) (λ n p q. omega arith)
 
-pub id-past : {t : List ℕ} {from id : ℕ} → Starts from id t → NoneBefore from (id + 1) (id + 1) (map flip (rows (table_of records) t))
+id-past : {t : List ℕ} {from id : ℕ} → Starts from id t → NoneBefore from (id + 1) (id + 1) (map flip (rows (table_of records) t))
 id-past {t} {from} {id} h =
     none-from _ _ id from (rows (table_of records) t) h.none_named (omega arith) (λ n p q. let z : n ≡ id = omega arith in ap (λ (x : ℕ). x / 4294967296) z)
+
+-- either range
+pub used-told : (own id : ℕ) {t x : List ℕ} {o : Option ℕ} {r : ℕ × ℕ} → Good t → own < 65536 → id_of id ≡ x → id < id_limit → r ≡ range_of own id →
+    o ≡ first_in r.0 r.1 (map flip (rows (table_of records) t)) → Tells (λ s. source_of (used_record own x s.collected)) t (mapped (source_at t) o)
+used-told own id {t} {x} {o = p} {r} g o m h z f = by (eqb (id % 4294967296) (local own)) refl z
+  where
+    searched : {q : ℕ × ℕ} → r ≡ q → p ≡ first_in q.0 q.1 (map flip (rows (table_of records) t))
+    searched e = subst (λ (q : ℕ × ℕ). p ≡ first_in q.0 q.1 (map flip (rows (table_of records) t))) e f
+
+    by : (b : Bool) → eqb (id % 4294967296) (local own) ≡ b → r ≡ range b id → Tells (λ s. source_of (used_record own x s.collected)) t (mapped (source_at t) p)
+    by true e q = used-name own id g m h (eqb-true (id % 4294967296) (local own) e) (searched q)
+    by false e q = used-id own id g o m h (eqb-false (id % 4294967296) (local own) e) (searched q)
+
+pub range-past : (own : ℕ) {t : List ℕ} {from id : ℕ} {r : ℕ × ℕ} → r ≡ range_of own id → Starts from id t → NoneBefore from r.0 r.1 (map flip (rows (table_of records) t))
+range-past own {t} {from} {id} z h = subst (λ (q : ℕ × ℕ). NoneBefore from q.0 q.1 (map flip (rows (table_of records) t))) (sym z) (by (eqb (id % 4294967296) (local own)))
+  where
+    by : (b : Bool) → NoneBefore from (range b id).0 (range b id).1 (map flip (rows (table_of records) t))
+    by true = named-past h
+    by false = id-past h

@@ -1,4 +1,5 @@
 -- The array after a lazy record is appended and after top is set, and an array of zeros.
+use Rattle.std.specs.Prelude.{Ok, Err}
 use Prim.Native.Nat.{ℕ, ◌+◌, ◌*◌, ◌%◌, ◌≤◌, ◌<◌}
 use native.Mathlib.Omega.{arith}
 use mathlib.Core.Path.{◌≡◌, refl, sym, ap, subst, ◌∙◌}
@@ -18,9 +19,9 @@ use Rattle.state.specs.Cells.{Env, id_limit, place_limit, Kind, imports, uses, r
 use Rattle.state.specs.Cells.{top_cell, pass_cell, own_cell, require_cell}
 use Rattle.state.specs.Cells.{cells, InLimits, Below, held, Good, literal_by, imported_of, usage_of, brief_of, lazy_of, atom_of, lent_of, module_of, index_of, flag}
 use Rattle.state.specs.Cells.{namespaces_in, Shows, Covered, Distinct, Named, Reached, Hinted}
-use Rattle.state.specs.Does.{Tells, Turns, Did, Anyhow, Acts}
+use Rattle.state.specs.Does.{Turns, Did, Anyhow, Acts}
 use Rattle.state.specs.declared.Literal.{Literal}
-use Rattle.state.specs.declared.Room.TheVariants.{Made, Full}
+use Rattle.state.specs.declared.TableFull.{TableFull}
 use Rattle.state.proofs.ListLaws.{below-append, length-more}
 use Rattle.state.proofs.HintLaws.{agrees-set}
 use Rattle.state.proofs.FrameLaws.{each, beside-top, beside-rows, beside-good, others-kept, good-kept, shows-lazy, shows-top}
@@ -57,13 +58,13 @@ module _ (x : ℕ) (a : Literal) (q : ℕ) (v : x % 4294967296 ≡ a.place) {t :
       }
 
   pub lazy-made : {t' : List ℕ} → x < id_limit → q < place_limit → rows (table_of lazies) t' ≡ rows (table_of lazies) t ++ ((x, q) ∷ []) →
-      held lazies t < 1024 → Only (table_of lazies) t t' → Acts Anyhow (lazily a q) t t' Made
+      held lazies t < 1024 → Only (table_of lazies) t t' → Acts Anyhow (lazily a q) t t' (Ok tt)
   lazy-made {t'} h b e n o =
       let m = length-more (rows (table_of lazies) t) (x, q) in
       record {
         good = good-kept lazies g o e (omega arith) (below-append _ _ (rows (table_of lazies) t) (x, q) (g.below lazies) h b) tt;
         made = λ r {x = y} s p w u. subst (λ (c : Record). Did y (add_lazy c p s) t') (one-lazy y) (lazy-done e n o s p w);
-        full = λ r s p w u. absurd (let z : ◌≡◌ {A = ℕ} 0 1 = cc in omega arith);
+        full = λ e r s p w u. absurd (cc);
       }
 
 lazy-refused : (r : Record) {y : Env} {t : List ℕ} (s : State) (p : ℕ) → Shows y t s → 1024 ≤ held lazies t → add_lazy r p s ≡ refused 8 p
@@ -74,18 +75,15 @@ lazy-refused r s p w n =
     let k = lazy-length s w in
     room-full (length l) 1024 p (set_lazy l) s (omega arith)
 
-pub lazy-full : (a : Literal) (q : ℕ) {t : List ℕ} → Good t → 1024 ≤ held lazies t → Acts Anyhow (lazily a q) t t Full
+pub lazy-full : (a : Literal) (q : ℕ) {t : List ℕ} {e : TableFull} → Good t → 1024 ≤ held lazies t → Acts Anyhow (lazily a q) t t (Err e)
 lazy-full a q g n =
-    record { good = g; made = λ r s p w u. absurd (let z : ◌≡◌ {A = ℕ} 0 1 = cc in omega arith); full = λ r s p w u. lazy-refused _ s p w n }
+    record { good = g; made = λ r s p w u. absurd (cc); full = λ e r s p w u. lazy-refused _ s p w n }
 
 -- ---- Top
 
 pub flag-told : (b : Bool) → eqb (flag b) 1 ≡ b
 flag-told true = refl
 flag-told false = refl
-
-pub top-told : (t : List ℕ) → Tells (λ s. s.top) t (eqb (get_or t top_cell 0) 1)
-top-told t = record { is = λ s w. ap (λ (n : ℕ). eqb n 1) w.top ∙ flag-told s.top }
 
 pub top-set : {t : List ℕ} (b : Bool) → Good t → Turns (set_top b) t (set t top_cell (flag b))
 top-set {t} b g =

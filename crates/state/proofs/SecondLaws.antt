@@ -1,10 +1,10 @@
 -- The second pass appends specifiers without namespaces to records: the array shows what it showed.
+use Rattle.std.specs.Prelude.{Option, None, Some}
 use Prim.Native.Nat.{ℕ, ◌+◌}
 use native.Mathlib.Omega.{arith}
 use mathlib.Core.Path.{◌≡◌, refl, sym, ap, ap₂, ◌∙◌}
 use mathlib.Core.Bool.{Bool, true, false, cond, ◌&&◌}
 use mathlib.Core.List.{List, [], ◌∷◌, map}
-use mathlib.Core.Option.{Option, none as nothing, some}
 use Rattle.tree.specs.Layout.{same, same_literal, value_of}
 use Rattle.tree.specs.Tree.{Field, Fields, none, more, fixed_of}
 use Rattle.metadata.specs.Metadata.{append}
@@ -30,16 +30,16 @@ specifiers-plain (u ∷ us) = let e = specifiers-plain us in omega arith
 
 module _ (fs : Fields) (z : count_namespaces fs ≡ 0) where
   -- a test that only namespaces meet finds none there
-  find-plain : (p : Field → Bool) → ((g : Field) → has 0x22 g ≡ false → p g ≡ false) → (gs : Fields) → count_namespaces gs ≡ 0 → find_field p gs ≡ nothing
+  find-plain : (p : Field → Bool) → ((g : Field) → has 0x22 g ≡ false → p g ≡ false) → (gs : Fields) → count_namespaces gs ≡ 0 → find_field p gs ≡ None
   unfolding find_field count_namespaces
   find-plain p h none e = refl
   find-plain p h (more g gs) e =
-      ap (λ (b : Bool). cond b (some g) (find_field p gs)) (h g (flag-zero (has 0x22 g) (omega arith))) ∙ find-plain p h gs (omega arith)
+      ap (λ (b : Bool). cond b (Some g) (find_field p gs)) (h g (flag-zero (has 0x22 g) (omega arith))) ∙ find-plain p h gs (omega arith)
 
   find-behind : (p : Field → Bool) → ((g : Field) → has 0x22 g ≡ false → p g ≡ false) → (a : Fields) → find_field p (append a fs) ≡ find_field p a
   unfolding find_field append
   find-behind p h none = find-plain p h fs z
-  find-behind p h (more g a) = ap (λ (o : Option Field). cond (p g) (some g) o) (find-behind p h a)
+  find-behind p h (more g a) = ap (λ (o : Option Field). cond (p g) (Some g) o) (find-behind p h a)
 
   count-behind : (a : Fields) → count_namespaces (append a fs) ≡ count_namespaces a
   unfolding count_namespaces append

@@ -1,18 +1,17 @@
 -- What a pass is set to: what is read off its cells and tables, the array after a cell of them is set, and after a lent list is put into its table.
+use Rattle.std.specs.Prelude.{Option, Some, is_some}
 use Prim.Native.Nat.{ℕ, suc, ◌+◌, ◌%◌, ◌≤◌, ◌<◌}
 use native.Mathlib.Omega.{arith}
 use mathlib.Core.Path.{◌≡◌, refl, sym, ap, ap₂, ◌∙◌}
-use mathlib.Core.Bool.{true, false}
+use mathlib.Core.Bool.{Bool, true, false}
 use mathlib.Core.List.{List, [], ◌∷◌, ◌++◌, map, map-append, append_assoc, append-nil}
-use mathlib.Core.Option.{Option, some}
-use lib.Dec.{eqb}
 use lib.ListN.{length, get_or, set, drop, length-drop}
 use lib.Seq.{get_or-set_same, get_or-set_other, drop-cons}
 use Rattle.tables.specs.Rows.{Row, rows, first_in}
 use Rattle.tables.specs.Only.{Only}
 use Rattle.tree.specs.Layout.{Bytes, two, two_at, same}
 use Rattle.tree.proofs.LayoutLaws.{same-two}
-use Rattle.inputs.specs.Lists.{is_some, mapped, among}
+use Rattle.inputs.specs.Lists.{mapped, among}
 use Rattle.inputs.specs.Table.{Row as LentRow, atoms_in, rows_in, row_of as row_for, file_of}
 use Rattle.inputs.proofs.TableLaws.{bytes-two, rows-step, rows-end}
 use Rattle.extraction_rules.specs.State.{Pass, first, second, Setting}
@@ -26,16 +25,15 @@ use Rattle.state.proofs.HintLaws.{agrees-set, reached-append}
 use Rattle.state.proofs.FrameLaws.{cells-same, cells-then, Beside, beside-set, beside-rows, beside-good, others-kept, good-kept, shows-set}
 use Rattle.state.proofs.ImportedLaws.{mapped-mapped}
 use Rattle.state.proofs.ForcedLaws.{among-rows}
-use Rattle.state.proofs.RestLaws.{flag-told}
 
 -- ---- What is read
 
-pub external-told : {t : List ℕ} {a : ℕ} {o : Option ℕ} → Good t → a < 65536 → o ≡ first_in a a (rows (table_of externals) t) →
-    Says (λ e. among (two a) e.externals) t (is_some o)
-external-told {t} {a} {o} g h e =
+pub external-told : {t : List ℕ} {a : ℕ} {o : Option ℕ} {b : Bool} → Good t → a < 65536 → b ≡ is_some o → o ≡ first_in a a (rows (table_of externals) t) →
+    Says (λ e. among (two a) e.externals) t b
+external-told {t} {a} {o} g h f e =
     record {
       is = λ s w.
-          ap (λ (x : Option ℕ). is_some x) e ∙ sym (among-rows a _ (rows (table_of externals) t) h (g.below externals)) ∙ ap (among (two a)) w.sets.externals;
+          f ∙ ap (λ (x : Option ℕ). is_some x) e ∙ sym (among-rows a _ (rows (table_of externals) t) h (g.below externals)) ∙ ap (among (two a)) w.sets.externals;
     }
 
 file-found : (a v : ℕ) (l : List Row) → a < 65536 → Below 65536 v l → file_of (two a) (map lent_of l) ≡ mapped (λ i. (row_of l i).1) (first_in a a l)
@@ -55,25 +53,15 @@ file-told {t} {a} {o} g h e =
     }
 
 -- a file's number fits two bytes
-pub file-small : (a : ℕ) {t : List ℕ} {i n : ℕ} → Good t → first_in a a (rows (table_of table) t) ≡ some i → n ≡ (row_of (rows (table_of table) t) i).1 → n < 65536
+pub file-small : (a : ℕ) {t : List ℕ} {i n : ℕ} → Good t → first_in a a (rows (table_of table) t) ≡ Some i → n ≡ (row_of (rows (table_of table) t) i).1 → n < 65536
 file-small a {t} {i} g f e = let b = (below-row _ _ (rows (table_of table) t) i (g.below table) (first-below a a (rows (table_of table) t) i f)).1 in omega arith
-
-pub pass-told : (t : List ℕ) → Says (λ e. is_second e.pass) t (eqb (get_or t pass_cell 0) 1)
-pass-told t = record { is = λ {x} s w. ap (λ (n : ℕ). eqb n 1) w.sets.pass ∙ by x.setting.pass }
-  where
-    by : (p : Pass) → eqb (pass_flag p) 1 ≡ is_second p
-    by first = refl
-    by second = refl
-
-pub require-told : (t : List ℕ) → Says (λ e. e.config.require) t (eqb (get_or t require_cell 0) 1)
-require-told t = record { is = λ {x} s w. ap (λ (n : ℕ). eqb n 1) w.sets.require ∙ flag-told x.setting.config.require }
 
 -- the place in the tree that the pass walks
 pub place-second : {t : List ℕ} (at : ℕ) → Says (λ e. is_second e.pass) t true → Says (λ e. place_in e.pass at) t (65536 + at % 65536)
 place-second at h = record { is = λ {x} s w. by x.setting.pass (h.is s w) }
   where
     by : (p : Pass) → true ≡ is_second p → 65536 + at % 65536 ≡ place_in p at
-    by first e = absurd (let z : ◌≡◌ {A = ℕ} 0 1 = cc in omega arith)
+    by first e = absurd (cc)
     by second e = refl
 
 pub place-first : {t : List ℕ} (at : ℕ) → Says (λ e. is_second e.pass) t false → Says (λ e. place_in e.pass at) t (at % 65536)
@@ -81,7 +69,7 @@ place-first at h = record { is = λ {x} s w. by x.setting.pass (h.is s w) }
   where
     by : (p : Pass) → false ≡ is_second p → at % 65536 ≡ place_in p at
     by first e = refl
-    by second e = absurd (let z : ◌≡◌ {A = ℕ} 0 1 = cc in omega arith)
+    by second e = absurd (cc)
 
 -- ---- A cell is set
 
@@ -224,11 +212,11 @@ atoms-end (a ∷ []) h = refl
 atoms-end (a ∷ (b ∷ l)) h = absurd (omega arith)
 
 module _ {s t₀ t : List ℕ} {i : ℕ} (l : Lending externals atom_of atoms_in s i t₀ t) where
-  pub external-more : {n : ℕ} {t' : List ℕ} → Bytes s → i + 2 ≤ length s → held externals t < 512 → n < 65536 → n ≡ two_at s i →
-      rows (table_of externals) t' ≡ rows (table_of externals) t ++ ((n, 0) ∷ []) → Only (table_of externals) t t' → Lending externals atom_of atoms_in s (i + 2) t₀ t'
-  external-more {n} b h r k e =
+  pub external-more : {j n : ℕ} {t' : List ℕ} → j ≡ i + 2 → Bytes s → i + 2 ≤ length s → held externals t < 512 → n < 65536 → n ≡ two_at s i →
+      rows (table_of externals) t' ≡ rows (table_of externals) t ++ ((n, 0) ∷ []) → Only (table_of externals) t t' → Lending externals atom_of atoms_in s j t₀ t'
+  external-more {n = n} q b h r k e =
       lend-more l (n, 0) r (below-append _ _ (rows (table_of externals) t) (n, 0) (l.good.below externals) k (omega arith)) tt
-      (atoms-step s i b h ∙ ap (λ (m : ℕ). two m ∷ atoms_in (drop (i + 2) s)) (sym e))
+      (atoms-step s i b h ∙ ap₂ (λ (m x : ℕ). two m ∷ atoms_in (drop x s)) (sym e) (sym q))
 
   pub externals-lent : length s < i + 2 → Resets (with_externals (atoms_in s)) t₀ t
   externals-lent h =
@@ -249,17 +237,19 @@ module _ {s t₀ t : List ℕ} {i : ℕ} (l : Lending externals atom_of atoms_in
 -- ---- The table, four bytes to a row
 
 module _ {s t₀ t : List ℕ} {i : ℕ} (l : Lending table lent_of rows_in s i t₀ t) where
-  pub row-more : {n v : ℕ} {m t' : List ℕ} → Bytes s → i + 4 ≤ length s → held table t < 1024 → n < 65536 → v < 65536 → n ≡ two_at s i → v ≡ two_at s (i + 2) →
+  pub row-more : {j n v : ℕ} {m t' : List ℕ} → j ≡ i + 4 → Bytes s → i + 4 ≤ length s → held table t < 1024 →
+      n < 65536 → v < 65536 → n ≡ two_at s i → v ≡ two_at s (i + 2) →
       Aside t m → length m ≡ length t → 1024 ≤ held table t + row_hint m (n % 1024) →
-      rows (table_of table) t' ≡ rows (table_of table) m ++ ((n, v) ∷ []) → Only (table_of table) m t' → Lending table lent_of rows_in s (i + 4) t₀ t'
-  row-more {n} {v} {m} b h r k j e f a z c =
+      rows (table_of table) t' ≡ rows (table_of table) m ++ ((n, v) ∷ []) → Only (table_of table) m t' → Lending table lent_of rows_in s j t₀ t'
+  row-more {n = n} {v} {m} p b h r k j e f a z c =
       let q = lend-aside l a z in
       let x = ap length (a.same_rows table) in
       lend-more q (n, v) (omega arith) (below-append _ _ (rows (table_of table) m) (n, v) (q.good.below table) k j)
       (reached-append 1024 (λ y. row_hint m (y % 1024)) 0 (rows (table_of table) m) (n, v) (q.good.hinted table) (omega arith))
       (rows-step s i h
       ∙ ap₂ (λ (y : List ℕ) (d : ℕ). record { source = y; file = d } ∷ rows_in (drop (i + 4) s))
-      (bytes-two (get_or s i 0) (get_or s (i + 1) 0) (b i) (b (i + 1)) ∙ ap two (sym e)) (sym f))
+      (bytes-two (get_or s i 0) (get_or s (i + 1) 0) (b i) (b (i + 1)) ∙ ap two (sym e)) (sym f)
+      ∙ ap (λ (x : ℕ). lent_of (n, v) ∷ rows_in (drop x s)) (sym p))
 
   pub table-lent : length s < i + 4 → Resets (with_table (rows_in s)) t₀ t
   table-lent h =

@@ -1,10 +1,9 @@
 -- In every state of the rules forced sources are sources of collected records, each once.
+use Rattle.std.specs.Prelude.{Some}
 use Prim.Native.Nat.{ℕ, zero, suc}
-use native.Mathlib.Omega.{arith}
 use mathlib.Core.Path.{◌≡◌, refl, sym, ap, ◌∙◌}
 use mathlib.Core.Bool.{Bool, true, false, cond, ◌||◌}
 use mathlib.Core.List.{List, [], ◌∷◌, ◌++◌, map}
-use mathlib.Core.Option.{some}
 use Rattle.scope.specs.Modules.{Modules}
 use Rattle.tree.specs.Layout.{same, value_of}
 use Rattle.tree.specs.Tree.{Fields}
@@ -22,15 +21,15 @@ use Rattle.state.specs.Does.{source_of, extend_at}
 
 pub sourced-start : (ms : Modules) → Sourced (start ms)
 unfolding Once among
-sourced-start ms = record { once = tt; from = λ a e. absurd (let z : ◌≡◌ {A = ℕ} 0 1 = cc in omega arith) }
+sourced-start ms = record { once = tt; from = λ a e. absurd (cc) }
 
 -- the source of a record that is found is one of theirs
-pub find-among : (p : Record → Bool) (l : List Record) (x : List ℕ) → some x ≡ source_of (find p l) → among x (sources_in l) ≡ true
+pub find-among : (p : Record → Bool) (l : List Record) (x : List ℕ) → Some x ≡ source_of (find p l) → among x (sources_in l) ≡ true
 unfolding find among
-find-among p [] x e = absurd (let z : ◌≡◌ {A = ℕ} 0 1 = cc in omega arith)
+find-among p [] x e = absurd (cc)
 find-among p (r ∷ l) x e = by (p r) (find-among p l x) e
   where
-    by : (b : Bool) → (some x ≡ source_of (find p l) → among x (sources_in l) ≡ true) → some x ≡ source_of (cond b (some r) (find p l)) →
+    by : (b : Bool) → (Some x ≡ source_of (find p l) → among x (sources_in l) ≡ true) → Some x ≡ source_of (cond b (Some r) (find p l)) →
         (same x (value_of r.literal) || among x (sources_in l)) ≡ true
     by true h f = let z : x ≡ value_of r.literal = cc in ap (λ (k : Bool). k || among x (sources_in l)) (ap (same x) (sym z) ∙ same-refl x)
     by false h f = or-right (same x (value_of r.literal)) (among x (sources_in l)) (h f)
@@ -51,7 +50,7 @@ sourced-force a {s} k h = by (among a s.forced) refl
     from : (c : List ℕ) (x : Bool) → same c a ≡ x → (y : Bool) → among c s.forced ≡ y → (y || x) ≡ true → among c (sources_in s.collected) ≡ true
     from c x p true q e = k.from c q
     from c true p false q e = ap (λ (z : List ℕ). among z (sources_in s.collected)) (same-equal c a p) ∙ h
-    from c false p false q e = absurd (let z : ◌≡◌ {A = ℕ} 0 1 = cc in omega arith)
+    from c false p false q e = absurd (cc)
 
     by : (b : Bool) → among a s.forced ≡ b → Sourced (cond b s (set_forced (s.forced ++ (a ∷ [])) s))
     by true e = k

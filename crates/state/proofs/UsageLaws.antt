@@ -1,4 +1,5 @@
 -- Usages: whether an id has some, the array after one is appended, and after an id is forgotten.
+use Rattle.std.specs.Prelude.{None, Some, Ok, Err, is_some}
 use Prim.Native.Nat.{ℕ, ◌+◌, ◌≤◌, ◌<◌}
 use native.Mathlib.Omega.{arith}
 use mathlib.Core.Path.{◌≡◌, refl, sym, ap, ap₂, subst, ◌∙◌}
@@ -12,18 +13,17 @@ use native.Mathlib.Numerals.{add-one}
 use Rattle.scope.specs.declared.id.Id.{Id}
 use Rattle.tables.specs.Rows.{Row, rows, first_in, without}
 use Rattle.tree.specs.Layout.{same}
-use Rattle.inputs.specs.Lists.{filter, is_some}
+use Rattle.inputs.specs.Lists.{filter}
 use Rattle.inputs.specs.Outcome.{refused}
 use Rattle.extraction_rules.specs.State.{Imported, Usage, State, set_usages}
 use Rattle.extraction_rules.specs.First.{forget, add_usage}
 use Rattle.extraction_rules.specs.Second.{usages_of}
 use Rattle.state.specs.Cells.{Env, id_limit, imports, uses, table_of, Below, held, Good, Shows, id_of, id_by, imported_of, usage_of}
 use Rattle.state.specs.Does.{Changes, Tells, Turns, Did, Anyhow, Acts, Lists, any}
-use Rattle.state.specs.declared.Room.TheVariants.{Made, Full}
+use Rattle.state.specs.declared.TableFull.{TableFull}
 use Rattle.state.proofs.IdLaws.{same-id, same-key}
 use Rattle.state.proofs.ListLaws.{length-more, any-row, filter-rows, below-row, row_of}
 use Rattle.tables.proofs.RowLaws.{get_d_map}
-use Rattle.state.specs.declared.Property.TheVariants.{Is, Other}
 use Rattle.state.proofs.FrameLaws.{shows-imported, shows-usages}
 use Rattle.state.proofs.ImportedLaws.{room-made, room-full}
 
@@ -65,12 +65,12 @@ module _ (k q : ℕ) {t x v : List ℕ} (g : Good t) (i : id_of k ≡ x) (j : id
       }
 
   pub usage-made : {t' : List ℕ} → length (rows (table_of uses) t) < 2048 → Changes uses (rows (table_of uses) t ++ ((k, q) ∷ [])) t t' →
-      Acts Anyhow (λ _. add_usage (record { id = x; property = v })) t t' Made
+      Acts Anyhow (λ _. add_usage (record { id = x; property = v })) t t' (Ok tt)
   usage-made {t'} n d =
       record {
         good = d.good;
         made = λ r {x = y} s p w u. subst (λ (a : Usage). Did y (add_usage a p s) t') one-usage (usage-done n d s p w);
-        full = λ r s p w u. absurd (let z : ◌≡◌ {A = ℕ} 0 1 = cc in omega arith);
+        full = λ e r s p w u. absurd (cc);
       }
 
 usage-refused : (u : Usage) {y : Env} {t : List ℕ} (s : State) (p : ℕ) → Shows y t s → 2048 ≤ held uses t → add_usage u p s ≡ refused 8 p
@@ -82,9 +82,9 @@ usage-refused u {t = t} s p w n =
     let held : length s.usages ≡ length l = sym (ap length w.usages) ∙ length-map l usage_of in
     room-full (length x) 2048 p (set_usages x) s (omega arith)
 
-pub usage-full : (u : Usage) {t : List ℕ} → Good t → 2048 ≤ held uses t → Acts Anyhow (λ _. add_usage u) t t Full
+pub usage-full : (u : Usage) {t : List ℕ} {e : TableFull} → Good t → 2048 ≤ held uses t → Acts Anyhow (λ _. add_usage u) t t (Err e)
 usage-full u g n =
-    record { good = g; made = λ r s p w a. absurd (let z : ◌≡◌ {A = ℕ} 0 1 = cc in omega arith); full = λ r s p w a. usage-refused u s p w n }
+    record { good = g; made = λ r s p w a. absurd (cc); full = λ e r s p w a. usage-refused u s p w n }
 
 -- ---- An id is forgotten
 
@@ -107,9 +107,6 @@ forgotten {t} {m} {t'} {x} {id} g n h d f =
     })
 
 -- ---- The usages one by one
-
-pub usages-counted : {t : List ℕ} {n : ℕ} → n ≡ held uses t → Tells (λ s. length s.usages) t n
-usages-counted {t} e = record { is = λ s w. e ∙ sym (length-map (rows (table_of uses) t) usage_of) ∙ ap length w.usages }
 
 -- the number of a property
 pub property-small : {t : List ℕ} {i n : ℕ} → Good t → i < held uses t → n ≡ (row_of (rows (table_of uses) t) i).1 → n < id_limit
@@ -134,14 +131,14 @@ module _ {id i : ℕ} {t x : List ℕ} (g : Good t) (a : id_of id ≡ x) (h : id
   key-test : (x : Bool) → eqb (row_of (rows (table_of uses) t) i).0 id ≡ x → same (id_of (row_of (rows (table_of uses) t) i).0) (id_of id) ≡ x
   key-test x e = same-id _ id (below-row _ _ (rows (table_of uses) t) i (g.below uses) b).0 h ∙ e
 
-  pub listed-is : {q : Id} → (row_of (rows (table_of uses) t) i).0 ≡ id → id_by q ≡ id_of (row_of (rows (table_of uses) t) i).1 → Lists x i t (Is q)
+  pub listed-is : {q : Id} → (row_of (rows (table_of uses) t) i).0 ≡ id → id_by q ≡ id_of (row_of (rows (table_of uses) t) i).1 → Lists x i t (Some q)
   listed-is {q} e f =
-      subst (λ (y : List ℕ). Lists y i t (Is q)) a (record {
+      subst (λ (y : List ℕ). Lists y i t (Some q)) a (record {
         is = λ s w.
             usage-step true (key-test true (eq-eqb _ _ e)) s w
             ∙ ap₂ (λ (n : ℕ) (v : List ℕ). record { id = id_of n; property = v } ∷ usages_of (id_of id) (drop (i + 1) s.usages)) e (sym f);
       })
 
-  pub listed-other : ((row_of (rows (table_of uses) t) i).0 ≡ id → ⊥) → Lists x i t Other
+  pub listed-other : ((row_of (rows (table_of uses) t) i).0 ≡ id → ⊥) → Lists x i t None
   listed-other e =
-      subst (λ (y : List ℕ). Lists y i t Other) a (record { is = λ s w. usage-step false (key-test false (ne_eqb _ _ e)) s w })
+      subst (λ (y : List ℕ). Lists y i t None) a (record { is = λ s w. usage-step false (key-test false (ne_eqb _ _ e)) s w })

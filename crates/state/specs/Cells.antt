@@ -1,8 +1,8 @@
 -- What the walk keeps, in one lent array of numbers: where each table lies, and which state of the rules the array shows.
 -- Document 01, 'Vec, maps, atomics, panics': "hash maps become arrays in insertion order".
+use Rattle.std.specs.Prelude.{Option, None, Some}
 use Rattle.std.specs.Prelude.{ℕ, zero, suc, ◌+◌, ◌*◌, ◌/◌, ◌%◌, ◌<◌, ◌≤◌, ◌≡◌, Bool, true, false, cond, ◌||◌}
 use Rattle.std.specs.Prelude.{List, [], ◌∷◌, ◌++◌, map, eqb, length, get_or}
-use Rattle.std.proofs.Math.Option.{Option, none as nothing, some}
 use Rattle.tables.specs.Rows.{Row, rows, Lies, next, first_in, least_of}
 use Rattle.tables.specs.declared.Table.{Table}
 use Rattle.scope.specs.Modules.{Module}
@@ -132,7 +132,7 @@ Covered p t (r ∷ l) = (0 < p (hint_at t r.0)) × Covered p t l
 -- each key stands once
 unfoldable pub Distinct : List Row → Type 0
 Distinct [] = Unit
-Distinct (r ∷ l) = (first_in r.0 r.0 l ≡ nothing) × Distinct l
+Distinct (r ∷ l) = (first_in r.0 r.0 l ≡ None) × Distinct l
 
 -- no record, from place i on, stands before the hints of its first namespace's name and of its literal's
 unfoldable pub Named : ℕ → List ℕ → List Row → Type 0
@@ -222,16 +222,16 @@ brief r = record { value = value_of r.literal; literal = r.literal; namespace = 
 
 -- (value times 2^32 plus the place, 0 or one more than the first namespace)
 abbrev pub namespace_of : ℕ → Option (List ℕ)
-namespace_of zero = nothing
-namespace_of (suc n) = some (id_of n)
+namespace_of zero = None
+namespace_of (suc n) = Some (id_of n)
 
 unfoldable pub brief_of : Env → Row → Brief
 brief_of x r = record { value = two (r.0 / 4294967296); literal = x.literal (r.0 % 4294967296); namespace = namespace_of r.1 }
 
 -- where the first stands that meets a test
 unfoldable pub index_of : {A : Type 0} → (A → Bool) → List A → Option ℕ
-index_of p [] = nothing
-index_of p (a ∷ l) = cond (p a) (some zero) (next (index_of p l))
+index_of p [] = None
+index_of p (a ∷ l) = cond (p a) (Some zero) (next (index_of p l))
 
 -- how many namespaces the records hold
 unfoldable pub count_namespaces : Fields → ℕ

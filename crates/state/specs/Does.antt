@@ -1,7 +1,7 @@
 -- What a function on the array does to the state of the rules that the array shows: it tells something of it, changes it, or acts by a rule.
-use Rattle.std.specs.Prelude.{ℕ, zero, suc, ◌+◌, ◌*◌, ◌/◌, ◌%◌, ◌<◌, ◌≤◌, eqb, ◌≡◌, List, [], ◌∷◌, Bool, true, false, cond, get_or, drop}
-use Rattle.std.proofs.Math.Option.{Option, none as nothing, some}
-use Rattle.tables.specs.Rows.{Row, rows}
+use Rattle.std.specs.Prelude.{Option, None, Some, Result, Ok, Err}
+use Rattle.std.specs.Prelude.{ℕ, zero, suc, ◌+◌, ◌-◌, ◌*◌, ◌/◌, ◌%◌, ◌<◌, ◌≤◌, eqb, ◌≡◌, List, [], ◌∷◌, Bool, true, false, cond, length, get_or, drop}
+use Rattle.tables.specs.Rows.{Row, rows, first_in}
 use Rattle.inputs.specs.Lists.{mapped, among}
 use Rattle.inputs.specs.Fields.{has}
 use Rattle.inputs.specs.Outcome.{Outcome, done, refused}
@@ -9,28 +9,22 @@ use Rattle.inputs.specs.Table.{Row as LentRow}
 use Rattle.tree.specs.Layout.{two, four, value_of}
 use Rattle.tree.specs.Tree.{Field, Fields, none, more, fixed_of}
 use Rattle.metadata.specs.Metadata.{append}
+use Rattle.scope.specs.Id.{local}
 use Rattle.scope.specs.declared.Mark.{Mark}
 use Rattle.scope.specs.declared.Mark.TheVariants.{Loaded, Stored, Cjs, Wrapping}
 use Rattle.modes.specs.declared.Modes.{Modes}
+use Rattle.scope.specs.declared.id.Atom.{Atom}
+use Rattle.scope.specs.declared.id.Id.{Id}
 use Rattle.scope.specs.declared.id.ModuleId.{ModuleId}
+use Rattle.scope.specs.declared.id.SyntaxContext.{SyntaxContext}
+use Rattle.scope.specs.declared.TooManyFiles.{TooManyFiles}
 use Rattle.extraction_rules.specs.State.{Record, Usage, State, Pass, first, second, Setting, Act, set_collected}
 use Rattle.extraction_rules.specs.First.{collect, force_source}
 use Rattle.extraction_rules.specs.Second.{usages_of}
 use Rattle.state.specs.Cells.{Kind, import_hint, namespace_hint, use_hint, tag_of, hint_in, named_in, source_in, row_hint, module_hint, top_cell}
 use Rattle.state.specs.Cells.{Env, records, table_of, held, pass_cell, own_cell, require_cell, Good, id_by, literal_by, Valued, namespaces_in, sources_in, Shows}
-use Rattle.state.specs.declared.Context.{Context}
-use Rattle.state.specs.declared.Context.TheVariants.{Of, Nowhere}
-use Rattle.state.specs.declared.Source.{Source}
-use Rattle.state.specs.declared.Source.TheVariants.{From, Nothing}
-use Rattle.state.specs.declared.Property.{Property}
-use Rattle.state.specs.declared.Property.TheVariants.{Is, Other}
 use Rattle.state.specs.declared.Literal.{Literal}
-use Rattle.state.specs.declared.Place.{Place}
-use Rattle.state.specs.declared.Place.TheVariants.{Index, NoRoom}
-use Rattle.state.specs.declared.Room.{Room}
-use Rattle.state.specs.declared.Room.TheVariants.{Made, Full}
-use Rattle.state.specs.declared.Module.{Module}
-use Rattle.state.specs.declared.Module.TheVariants.{Is as Numbered, Unresolved, TooMany}
+use Rattle.state.specs.declared.TableFull.{TableFull}
 
 -- ---- Tables and hints
 
@@ -88,6 +82,16 @@ pub record Grows (v w : ℕ) : Type 0 where
 abbrev pub tag_for : ℕ → ℕ → ℕ
 tag_for v n = cond (eqb (v % 8388608) 0) (tag_of n) (cond (eqb (v / 2199023255552) (tag_of n)) (tag_of n) 0)
 
+-- a row that is found has a key; where none is found, none has it
+pub record Finds (id : ℕ) (l : List Row) (r : Option ℕ) : Type 0 where
+  pub found : (i : ℕ) → r ≡ Some i → (i < length l) × ((get_or l i (0, 0)).0 ≡ id)
+  pub missed : r ≡ None → first_in id id l ≡ None
+
+-- how many rows there are, where one more has room
+pub record HasRoom (room rows : ℕ) (r : Result ℕ TableFull) : Type 0 where
+  pub more : (n : ℕ) → r ≡ Ok n → (n ≡ rows) × (rows < room)
+  pub full : (e : TableFull) → r ≡ Err e → room ≤ rows
+
 -- no record before a place has a first namespace with the name of an id
 pub record Starts (from id : ℕ) (t : List ℕ) : Type 0 where
   pub none_named : (i n : ℕ) → i < from → i < held records t → (get_or (rows (table_of records) t) i (0, 0)).1 ≡ suc n → n / 4294967296 ≡ id / 4294967296 → ⊥
@@ -123,10 +127,10 @@ pub record Did (x : Env) (o : Outcome (Unit {0} × State)) (t : List ℕ) : Type
   pub shows : Shows x t state
 
 -- where P holds, a rule with its place is followed, or refused with 8
-pub record Acts (P : Env → Type 0) (act : Env → ℕ → Act (Unit {0})) (t t' : List ℕ) (r : Room) : Type 0 where
+pub record Acts (P : Env → Type 0) (act : Env → ℕ → Act (Unit {0})) (t t' : List ℕ) (r : Result Unit TableFull) : Type 0 where
   pub good : Good t'
-  pub made : r ≡ Made → {x : Env} (s : State) (p : ℕ) → Shows x t s → P x → Did x (act x p s) t'
-  pub full : r ≡ Full → {x : Env} (s : State) (p : ℕ) → Shows x t s → P x → act x p s ≡ refused 8 p
+  pub made : r ≡ Ok tt → {x : Env} (s : State) (p : ℕ) → Shows x t s → P x → Did x (act x p s) t'
+  pub full : (e : TableFull) → r ≡ Err e → {x : Env} (s : State) (p : ℕ) → Shows x t s → P x → act x p s ≡ refused 8 p
 
 -- it asks nothing of what stands at places
 abbrev pub Anyhow : Env → Type 0
@@ -163,12 +167,12 @@ with_table l = with_setting (λ e. record { pass = e.pass; own = e.own; config =
 
 -- ---- Usages
 
-abbrev pub listed : List ℕ → Property → List Usage → List Usage
-listed x (Is q) l = record { id = x; property = id_by q } ∷ l
-listed x Other l = l
+abbrev pub listed : List ℕ → Option Id → List Usage → List Usage
+listed x (Some q) l = record { id = x; property = id_by q } ∷ l
+listed x None l = l
 
 -- the usages of an id from a place on, by what stands at that place
-pub record Lists (x : List ℕ) (i : ℕ) (t : List ℕ) (r : Property) : Type 0 where
+pub record Lists (x : List ℕ) (i : ℕ) (t : List ℕ) (r : Option Id) : Type 0 where
   pub is : {y : Env} (s : State) → Shows y t s → usages_of x (drop i s.usages) ≡ listed x r (usages_of x (drop (i + 1) s.usages))
 
 -- ---- Records
@@ -185,11 +189,11 @@ pub record Gathered (y : Env) (x : List ℕ) (i : ℕ) (s : State) (t : List ℕ
   pub shows : Shows y t (set_collected list s)
   pub is : (fs : Fields) (p : ℕ) → collect (record { literal = x; specifiers = fs }) p s ≡ done (tt, set_collected (extend_at i fs list) s)
 
-pub record Collects (l : Literal) (t t' : List ℕ) (r : Place) : Type 0 where
+pub record Collects (l : Literal) (t t' : List ℕ) (r : Result ℕ TableFull) : Type 0 where
   pub good : Good t'
-  pub below : (i : ℕ) → r ≡ Index i → i < held records t'
-  pub made : (i : ℕ) → r ≡ Index i → {y : Env} (s : State) → Shows y t s → Valued y l → Gathered y (literal_by y l) i s t'
-  pub full : r ≡ NoRoom → {y : Env} (s : State) → Shows y t s → Valued y l → (fs : Fields) (p : ℕ) →
+  pub below : (i : ℕ) → r ≡ Ok i → i < held records t'
+  pub made : (i : ℕ) → r ≡ Ok i → {y : Env} (s : State) → Shows y t s → Valued y l → Gathered y (literal_by y l) i s t'
+  pub full : (e : TableFull) → r ≡ Err e → {y : Env} (s : State) → Shows y t s → Valued y l → (fs : Fields) (p : ℕ) →
       collect (record { literal = literal_by y l; specifiers = fs }) p s ≡ refused 8 p
 
 -- the record at a place gets a 22 more
@@ -198,6 +202,15 @@ pub record Extends (i : ℕ) (x : List ℕ) (t t' : List ℕ) : Type 0 where
   pub kept : held records t' ≡ held records t
   pub shows : {y : Env} (s : State) (f : Field) → has 0x22 f ≡ true → fixed_of f ≡ x → namespaces_in s.collected < 3641 → Shows y t s →
       Shows y t' (set_collected (extend_at i (more f none) s.collected) s)
+
+-- one more than the ids by which the record of a usage is found: all of a name, or one alone
+abbrev pub range : Bool → ℕ → ℕ × ℕ
+range true id = (id - id % 4294967296 + 1, id - id % 4294967296 + 4294967296)
+range false id = (id + 1, id + 1)
+
+-- all of its name for an id in the own local context
+abbrev pub range_of : ℕ → ℕ → ℕ × ℕ
+range_of own id = range (eqb (id % 4294967296) (local own)) id
 
 -- the source of a record, and of the one at a place in the array
 abbrev pub source_of : Option Record → Option (List ℕ)
@@ -222,11 +235,10 @@ pub record Gave {A : Type 0} (x : Env) (o : Outcome (A × State)) (a : A) (t : L
   pub shows : Shows x t state
 
 -- a source is resolved by a rule with its place, or refused with 5
-pub record Resolves (act : Setting → ℕ → Act (Option ℕ)) (t t' : List ℕ) (r : Module) : Type 0 where
+pub record Resolves (act : Setting → ℕ → Act (Option ℕ)) (t t' : List ℕ) (r : Result (Option ModuleId) TooManyFiles) : Type 0 where
   pub good : Good t'
-  pub number : (n : ModuleId) → r ≡ Numbered n → {x : Env} (s : State) (p : ℕ) → Shows x t s → Gave x (act x.setting p s) (some n.0) t'
-  pub unresolved : r ≡ Unresolved → {x : Env} (s : State) (p : ℕ) → Shows x t s → Gave x (act x.setting p s) nothing t'
-  pub full : r ≡ TooMany → {x : Env} (s : State) (p : ℕ) → Shows x t s → act x.setting p s ≡ refused 5 p
+  pub resolved : (m : Option ModuleId) → r ≡ Ok m → {x : Env} (s : State) (p : ℕ) → Shows x t s → Gave x (act x.setting p s) (mapped (λ n. n.0) m) t'
+  pub full : (e : TooManyFiles) → r ≡ Err e → {x : Env} (s : State) (p : ℕ) → Shows x t s → act x.setting p s ≡ refused 5 p
 
 -- a module's marks are a number of four bits
 abbrev pub bit_of : Mark → ℕ
@@ -237,13 +249,11 @@ bit_of Wrapping = 8
 
 -- ---- What answers stand for
 
-abbrev pub context_by : Context → Option (List ℕ)
-context_by (Of c) = some (four c.0)
-context_by Nowhere = nothing
+abbrev pub context_by : Option SyntaxContext → Option (List ℕ)
+context_by c = mapped (λ x. four x.0) c
 
-abbrev pub source_by : Source → Option (List ℕ)
-source_by (From a) = some (two a.0)
-source_by Nothing = nothing
+abbrev pub source_by : Option Atom → Option (List ℕ)
+source_by a = mapped (λ x. two x.0) a
 
 abbrev pub any : {A : Type 0} → List A → Bool
 any [] = false

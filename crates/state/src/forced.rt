@@ -6,13 +6,12 @@ ghost use Rattle.extraction_rules.specs.First.{force_id};
 ghost use Rattle.state.specs.Cells.{Good, id_by, forces, held};
 ghost use Rattle.state.specs.Does.{Tells, Holds, Turns, Forces};
 
+use crate::FORCES;
 use crate::collected::holder;
 use crate::hints::hint_of;
 use crate::ident::id_number;
 use crate::imported::forget;
-use crate::{FORCES, Source};
 use scope::id::{Atom, Id};
-use tables::Found;
 
 // Whether a source is forced.
 pub fn is_forced(t: &[u64], source: Atom) -> bool
@@ -20,11 +19,7 @@ pub fn is_forced(t: &[u64], source: Atom) -> bool
     ensures { Tells (λ s. among (two source.0) s.forced) t.now result }
 {
     let key = source.0 as u64;
-    let found = tables::find(t, FORCES, key, key);
-    match found {
-        Found::At(_) => true,
-        Found::Nowhere => false,
-    }
+    tables::find(t, FORCES, key, key).is_some()
 }
 
 // The source of a record is forced.
@@ -32,10 +27,7 @@ pub fn force_source(t: &mut [u64], source: Atom)
     requires { Good t.old }
     ensures { Forces (two source.0) t.old t.new }
 {
-    if is_forced(t, source) {
-        return;
-    }
-    if tables::count_of(t, FORCES) < 256 {
+    if !is_forced(t, source) && tables::count_of(t, FORCES) < FORCES.room {
         tables::push(t, FORCES, source.0 as u64, 0);
     }
 }
@@ -49,10 +41,9 @@ pub fn force_id(t: &mut [u64], id: Id)
         return;
     }
     forget(t, id);
-    let Source::From(source) = holder(t, id) else {
-        return;
-    };
-    force_source(t, source);
+    if let Some(source) = holder(t, id) {
+        force_source(t, source);
+    }
 }
 
 // How many sources are forced.

@@ -5,7 +5,7 @@ ghost use Rattle.tree.specs.Tree.{encode, field, none};
 ghost use Rattle.writer.specs.Wrote.{Wrote};
 ghost use Rattle.state.specs.Cells.{id_limit, id_of, id_by};
 
-use crate::Literal;
+use crate::{Literal, PER_ATOM};
 use scope::id::{Atom, Id, SyntaxContext};
 use tree::layout::{atom_at, context_at};
 
@@ -15,7 +15,7 @@ pub fn id_number(id: Id) -> u64
 {
     let name = id.0;
     let c = id.1;
-    (name.0 as u64) * 4294967296 + (c.0 as u64)
+    (name.0 as u64) * PER_ATOM + (c.0 as u64)
 }
 
 // The id of a number.
@@ -24,8 +24,8 @@ pub fn numbered_id(n: u64) -> Id
     ensures { id_by result ≡ id_of n }
 {
     Id(
-        Atom((n / 4294967296) as u16),
-        SyntaxContext((n % 4294967296) as u32),
+        Atom((n / PER_ATOM) as u16),
+        SyntaxContext((n % PER_ATOM) as u32),
     )
 }
 
@@ -53,7 +53,7 @@ pub fn literal_number(literal: Literal) -> u64
     ensures { (result / 4294967296 ≡ literal.value.0) × (result % 4294967296 ≡ literal.place) × (result < id_limit) }
 {
     let value = literal.value;
-    (value.0 as u64) * 4294967296 + (literal.place as u64)
+    (value.0 as u64) * PER_ATOM + (literal.place as u64)
 }
 
 // The literal of a number.
@@ -62,8 +62,8 @@ pub fn numbered_literal(n: u64) -> Literal
     ensures { (result.value.0 ≡ n / 4294967296) × (result.place ≡ n % 4294967296) }
 {
     Literal {
-        value: Atom((n / 4294967296) as u16),
-        place: (n % 4294967296) as u32,
+        value: Atom((n / PER_ATOM) as u16),
+        place: (n % PER_ATOM) as u32,
     }
 }
 

@@ -8,44 +8,32 @@ ghost use Rattle.state.specs.Does.{Tells, Turns, Anyhow, Acts, Lists, context_by
 
 use crate::hints::{add_import, add_use, drop_import, drop_uses, import_row, is_used};
 use crate::ident::{id_number, numbered_id};
-use crate::{Context, IMPORTS, Property, Room, USES};
+use crate::{IMPORTS, TableFull, USES, room_in};
 use scope::id::{Id, SyntaxContext};
-use tables::Found;
 
 // The context of an imported id.
-pub fn imported_as(t: &[u64], id: Id) -> Context
+pub fn imported_as(t: &[u64], id: Id) -> Option<SyntaxContext>
     requires { Good t.now }
     ensures { Tells (λ s. imported_as (id_by id) s.imported) t.now (context_by result) }
 {
-    let found = import_row(t, id_number(id));
-    match found {
-        Found::At(i) => Context::Of(SyntaxContext(tables::value_of(t, IMPORTS, i) as u32)),
-        Found::Nowhere => Context::Nowhere,
-    }
+    let i = import_row(t, id_number(id))?;
+    Some(SyntaxContext(tables::value_of(t, IMPORTS, i) as u32))
 }
 
 // An id is noted as imported; noting it again takes no place.
-pub fn note_id(t: &mut [u64], id: Id, c: SyntaxContext) -> Room
+pub fn note_id(t: &mut [u64], id: Id, c: SyntaxContext) -> Result<(), TableFull>
     requires { Good t.old }
     ensures { Acts Anyhow (λ _. note_id (record { id = id_by id; context = four c.0 })) t.old t.new result }
 {
     let n = id_number(id);
-    let entry = import_row(t, n);
     let context = c.0 as u64;
-    match entry {
-        Found::At(i) => {
-            tables::set_value(t, IMPORTS, i, context);
-            Room::Made
-        },
-        Found::Nowhere => {
-            if tables::count_of(t, IMPORTS) < 512 {
-                add_import(t, n, context);
-                Room::Made
-            } else {
-                Room::Full
-            }
-        },
+    if let Some(i) = import_row(t, n) {
+        tables::set_value(t, IMPORTS, i, context);
+        return Ok(());
     }
+    room_in(t, IMPORTS)?;
+    add_import(t, n, context);
+    Ok(())
 }
 
 // An id's imported entry and its usages are dropped.
@@ -59,16 +47,13 @@ pub fn forget(t: &mut [u64], id: Id)
 }
 
 // A usage of an id is appended.
-pub fn add_usage(t: &mut [u64], id: Id, property: Id) -> Room
+pub fn add_usage(t: &mut [u64], id: Id, property: Id) -> Result<(), TableFull>
     requires { Good t.old }
     ensures { Acts Anyhow (λ _. add_usage (record { id = id_by id; property = id_by property })) t.old t.new result }
 {
-    if tables::count_of(t, USES) < 2048 {
-        add_use(t, id_number(id), id_number(property));
-        Room::Made
-    } else {
-        Room::Full
-    }
+    room_in(t, USES)?;
+    add_use(t, id_number(id), id_number(property));
+    Ok(())
 }
 
 // Whether an id has usages.
@@ -88,13 +73,13 @@ pub fn count_usages(t: &[u64]) -> usize
 }
 
 // The usage at a place, if it is one of an id: so a loop over the places lists the usages of the id.
-pub fn usage_at(t: &[u64], i: usize, id: Id) -> Property
+pub fn usage_at(t: &[u64], i: usize, id: Id) -> Option<Id>
     requires { Good t.now × (i < held uses t.now) }
     ensures { Lists (id_by id) i t.now result }
 {
     if tables::key_of(t, USES, i) == id_number(id) {
-        Property::Is(numbered_id(tables::value_of(t, USES, i)))
+        Some(numbered_id(tables::value_of(t, USES, i)))
     } else {
-        Property::Other
+        None
     }
 }

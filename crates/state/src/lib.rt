@@ -1,5 +1,9 @@
 // What the walk keeps: its tables in one lent array, and the functions of which the rules are made. Callers see the rules' state alone.
-#![tactic(auto)]
+#![tactic(auto, using(crate::proofs::LiesLaws::lies))]
+
+ghost use Rattle.std.specs.Prelude.{◌≡◌, length};
+ghost use Rattle.tables.specs.Rows.{rows, Lies};
+ghost use Rattle.state.specs.Does.{HasRoom};
 
 pub mod ident; // ids and literals
 pub mod setting; // what a pass is set to, and the lent lists
@@ -10,7 +14,7 @@ pub mod rest; // lazy records, and the flag top
 pub mod modules; // the scope's modules
 mod hints; // what is asked before a search
 
-use scope::id::{Atom, Id, ModuleId, SyntaxContext};
+use scope::id::Atom;
 use tables::Table;
 
 pub const IMPORTS: Table = Table {
@@ -67,8 +71,31 @@ pub const TABLE: Table = Table {
     room: 1024,
 };
 
+// Whether the walk is outside every block.
+const TOP: usize = 7;
+
+// Hints of ids and names: where their cells start, and how many they are.
+const HINTS: usize = 15994;
+
+const HINT_CELLS: u64 = 2003;
+
+// What a pass is set to: which one it is, its own module, and whether calls of require count.
+const PASS: usize = 21071;
+
+const OWN: usize = 21072;
+
+const REQUIRE: usize = 21073;
+
+// Hints of sources, of which there are 1,024, and then those of files.
+const PLACE_HINTS: usize = 21074;
+
+const FILE_HINTS: usize = 1024;
+
 // How many cells the array has.
 pub const CELLS: usize = 22354;
+
+// How many numbers of ids, or of literals, have one atom: an id's number is its name times so many, plus its context.
+const PER_ATOM: u64 = 1 << 32;
 
 // A literal: its value, and the place of its bytes. Places below 65,536 are in the lent tree, the others in the tree after the first pass.
 #[derive(Clone, Copy)]
@@ -77,45 +104,15 @@ pub struct Literal {
     pub place: u32,
 }
 
-// A context, where there is one.
-#[derive(Drop)]
-pub enum Context {
-    Of(SyntaxContext),
-    Nowhere,
-}
+// A table has no room for one more row.
+#[derive(Clone, Copy, PartialEq, Eq)]
+pub struct TableFull;
 
-// A source, where there is one.
-#[derive(Drop)]
-pub enum Source {
-    From(Atom),
-    Nothing,
-}
-
-// Whether there was room for one more.
-#[derive(Drop)]
-pub enum Room {
-    Made,
-    Full,
-}
-
-// The property of a usage, if it is one of the id that is asked for.
-#[derive(Drop)]
-pub enum Property {
-    Is(Id),
-    Other,
-}
-
-// The place of a record, or no room for it.
-#[derive(Drop)]
-pub enum Place {
-    Index(usize),
-    NoRoom,
-}
-
-// The module of a source: its number, or none, or a 257th file.
-#[derive(Drop)]
-pub enum Module {
-    Is(ModuleId),
-    Unresolved,
-    TooMany,
+// How many rows a table holds, where one more has room.
+fn room_in(t: &[u64], b: Table) -> Result<usize, TableFull>
+    requires { Lies b t.now }
+    ensures { HasRoom b.room (length (rows b t.now)) result }
+{
+    let n = tables::count_of(t, b);
+    if n < b.room { Ok(n) } else { Err(TableFull) }
 }

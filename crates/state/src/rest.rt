@@ -6,19 +6,16 @@ ghost use Rattle.state.specs.Cells.{place_limit, Good, literal_by, lazies, held}
 ghost use Rattle.state.specs.Does.{Tells, Holds, Turns, Anyhow, Acts};
 
 use crate::ident::{literal_number, numbered_literal};
-use crate::{LAZIES, Literal, Room};
+use crate::{LAZIES, Literal, TOP, TableFull, room_in};
 
 // A lazy record is appended; its specifiers are read off its place at the end.
-pub fn add_lazy(t: &mut [u64], literal: Literal, place: u32) -> Room
+pub fn add_lazy(t: &mut [u64], literal: Literal, place: u32) -> Result<(), TableFull>
     requires { Good t.old × (place < place_limit) }
     ensures { Acts Anyhow (λ x. add_lazy (record { literal = literal_by x literal; specifiers = x.bound place })) t.old t.new result }
 {
-    if tables::count_of(t, LAZIES) < 1024 {
-        tables::push(t, LAZIES, literal_number(literal), place as u64);
-        Room::Made
-    } else {
-        Room::Full
-    }
+    room_in(t, LAZIES)?;
+    tables::push(t, LAZIES, literal_number(literal), place as u64);
+    Ok(())
 }
 
 // How many lazy records there are.
@@ -50,16 +47,12 @@ pub fn is_top(t: &[u64]) -> bool
     requires { Good t.now }
     ensures { Tells (λ s. s.top) t.now result }
 {
-    t[7] == 1
+    t[TOP] == 1
 }
 
 pub fn set_top(t: &mut [u64], top: bool)
     requires { Good t.old }
     ensures { Turns (set_top top) t.old t.new }
 {
-    if top {
-        t[7] = 1;
-    } else {
-        t[7] = 0;
-    }
+    t[TOP] = top as u64;
 }

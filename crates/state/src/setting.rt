@@ -9,28 +9,18 @@ ghost use Rattle.state.specs.Cells.{externals as externals-kind, table as table-
 ghost use Rattle.state.specs.Does.{Says, Resets, is_second, place_in, with_externals, with_table, with_second, with_own, with_modes};
 
 use crate::hints::{first_row, hint_row};
-use crate::{EXTERNALS, TABLE};
-use inputs::Resolved;
+use crate::{EXTERNALS, OWN, PASS, REQUIRE, TABLE};
 use modes::Modes;
 use scope::id::{Atom, FileName, ModuleId};
-use tables::Found;
 use tree::layout::atom_at;
-
-const PASS: usize = 21071;
-
-const OWN: usize = 21072;
-
-const REQUIRE: usize = 21073;
 
 // Puts the externals into their table.
 pub fn lend_externals(t: &mut [u64], externals: &[u8])
     requires { Good t.old × (length externals.now ≤ 1024) × (rows (table_of externals-kind) t.old ≡ []) }
     ensures { Resets (with_externals (atoms_in externals.now)) t.old t.new }
 {
-    let mut i = 0;
-    while 2 <= externals.len() - i {
-        tables::push(t, EXTERNALS, atom_at(externals, i) as u64, 0);
-        i += 2;
+    for i in 0..externals.len() / 2 {
+        tables::push(t, EXTERNALS, atom_at(externals, 2 * i) as u64, 0);
     }
 }
 
@@ -39,12 +29,10 @@ pub fn lend_table(t: &mut [u64], table: &[u8])
     requires { Good t.old × (length table.now ≤ 4096) × (rows (table_of table-kind) t.old ≡ []) }
     ensures { Resets (with_table (rows_in table.now)) t.old t.new }
 {
-    let mut i = 0;
-    while 4 <= table.len() - i {
-        let source = atom_at(table, i) as u64;
-        hint_row(t, source, i / 4);
-        tables::push(t, TABLE, source, atom_at(table, i + 2) as u64);
-        i += 4;
+    for i in 0..table.len() / 4 {
+        let source = atom_at(table, 4 * i) as u64;
+        hint_row(t, source, i);
+        tables::push(t, TABLE, source, atom_at(table, 4 * i + 2) as u64);
     }
 }
 
@@ -54,22 +42,17 @@ pub fn is_external(t: &[u64], atom: Atom) -> bool
     ensures { Says (λ e. among (two atom.0) e.externals) t.now result }
 {
     let key = atom.0 as u64;
-    match tables::find(t, EXTERNALS, key, key) {
-        Found::At(_) => true,
-        Found::Nowhere => false,
-    }
+    tables::find(t, EXTERNALS, key, key).is_some()
 }
 
 // The file that the table names for a source.
-pub fn file_for(t: &[u64], source: Atom) -> Resolved
+pub fn file_for(t: &[u64], source: Atom) -> Option<FileName>
     requires { Good t.now }
     ensures { Says (λ e. file_of (two source.0) e.table) t.now (file_by result) }
 {
     let key = source.0 as u64;
-    match tables::find_from(t, TABLE, first_row(t, key), key, key) {
-        Found::At(i) => Resolved::File(FileName(tables::value_of(t, TABLE, i) as u16)),
-        Found::Nowhere => Resolved::Nowhere,
-    }
+    let i = tables::find_from(t, TABLE, first_row(t, key), key, key)?;
+    Some(FileName(tables::value_of(t, TABLE, i) as u16))
 }
 
 // Whether this is the second pass.
@@ -114,11 +97,7 @@ pub fn set_modes(t: &mut [u64], modes: Modes)
     requires { Good t.old }
     ensures { Resets (with_modes modes) t.old t.new }
 {
-    if modes.require {
-        t[REQUIRE] = 1;
-    } else {
-        t[REQUIRE] = 0;
-    }
+    t[REQUIRE] = modes.require as u64;
 }
 
 // The place by which is known what stands at `at` of the tree that the pass walks, in 16 bits: no tree that is walked is longer.
@@ -127,8 +106,5 @@ pub fn place_of(t: &[u64], at: usize) -> u32
     ensures { Says (λ e. place_in e.pass at) t.now result × (result < place_limit) }
 {
     let place = (at % 65536) as u32;
-    if is_second(t) {
-        return 65536 + place;
-    }
-    place
+    if is_second(t) { 65536 + place } else { place }
 }

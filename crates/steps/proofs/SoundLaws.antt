@@ -1,4 +1,5 @@
 -- Fields that were read: from a field to its parts, from a row to its first field and the rest, and how long they are.
+use Rattle.std.specs.Prelude.{None, Some}
 use Prim.Native.Nat.{ℕ, ◌+◌, ◌-◌, ◌≤◌}
 use native.Mathlib.Omega.{arith}
 use mathlib.Core.Path.{◌≡◌, sym, ap, subst, ◌∙◌}
@@ -6,10 +7,8 @@ use mathlib.Core.List.{List}
 use lib.ListN.{length, get_or}
 use lib.Seq.{slice, length-slice}
 use Rattle.inputs.specs.Fields.{inside}
-use Rattle.tree.specs.declared.layout.Reach.TheVariants.{Upto, Short}
 use Rattle.tree.specs.Layout.{Bytes}
 use Rattle.tree.specs.declared.grammar.Rule.{Rule}
-use Rattle.tree.specs.declared.grammar.Step.TheVariants.{Go}
 use Rattle.tree.specs.Tree.{encode, size, tag_of}
 use Rattle.tree.specs.Within.{Formed}
 use Rattle.tree.specs.Access.{fixed_at, extent_at}
@@ -36,11 +35,11 @@ module _ {s : List ℕ} {at stop : ℕ} (r : ReadAt s at stop) where
   read-tag = whole-tag s at stop r.whole
 
   -- its fixed bytes are whole
-  pub read-short : {A : Type 0} → fixed_at s (get_or s at 0) (at + 3) stop ≡ Short → A
+  pub read-short : {A : Type 0} → fixed_at s (get_or s at 0) (at + 3) stop ≡ None → A
   read-short e = absurd (let b = whole-step s at stop r.whole in no-upto (sym e ∙ b.1))
 
   -- and so are its parts
-  pub read-parts : {b : ℕ} → fixed_at s (get_or s at 0) (at + 3) stop ≡ Upto b → Row s b stop (rule_of (get_or s at 0))
+  pub read-parts : {b : ℕ} → fixed_at s (get_or s at 0) (at + 3) stop ≡ Some b → Row s b stop (rule_of (get_or s at 0))
   read-parts {b} e =
       let v = whole-step s at stop r.whole in
       subst (λ (k : ℕ). Row s k stop (rule_of (get_or s at 0))) (upto-inj (sym v.1 ∙ e)) v.2
@@ -61,8 +60,8 @@ inside-fixed s at b h k = let e = length-slice (at + 3) b s k in omega arith
 
 -- ---- A row that was read
 
-pub row-read : {s : List ℕ} {at end stop : ℕ} (q : Rule) → at ≤ end → end ≤ length s → Row s at end q → extent_at s at end ≡ Upto stop →
-    ReadAt s at stop × ((q' : Rule) × (step_at q (get_or s at 0) ≡ Go q') × Row s stop end q')
+pub row-read : {s : List ℕ} {at end stop : ℕ} (q : Rule) → at ≤ end → end ≤ length s → Row s at end q → extent_at s at end ≡ Some stop →
+    ReadAt s at stop × ((q' : Rule) × (step_at q (get_or s at 0) ≡ Some q') × Row s stop end q')
 row-read {s} {at} {end} {stop} q le fits w e =
     let i = extent-upto s at end le e in
     let f = row-next s at end q le w (λ z. omega arith) in
@@ -74,7 +73,7 @@ row-read {s} {at} {end} {stop} q le fits w e =
 -- ---- Behind the imports
 
 module _ {s : List ℕ} {at stop : ℕ} (w : Sound s at stop) where
-  pub sound-parts : {b : ℕ} → fixed_at s (get_or s at 0) (at + 3) stop ≡ Upto b → SoundAll s b stop
+  pub sound-parts : {b : ℕ} → fixed_at s (get_or s at 0) (at + 3) stop ≡ Some b → SoundAll s b stop
   sound-parts {b} e =
       record {
         rule = rule_of (get_or s at 0);
@@ -83,7 +82,7 @@ module _ {s : List ℕ} {at stop : ℕ} (w : Sound s at stop) where
         regular = (subst Regular (tree-upto s at stop b e) w.regular).1;
       }
 
-module _ {s : List ℕ} {at end stop : ℕ} (le : at ≤ end) (w : SoundAll s at end) (e : extent_at s at end ≡ Upto stop) where
+module _ {s : List ℕ} {at end stop : ℕ} (le : at ≤ end) (w : SoundAll s at end) (e : extent_at s at end ≡ Some stop) where
   pub sound_all-first : Sound s at stop
   sound_all-first = record { read = (row-read w.rule le w.fits w.row e).0; regular = (subst RegularAll (row-more s at end stop le e) w.regular).0 }
 

@@ -1,7 +1,11 @@
--- Document 01's number of each refusal of the walk: 'Where a call turns back', 'walk, first met'.
+-- Refusals of the walk, and document 01's number of each: 'Where a call turns back', 'walk, first met'.
 use Rattle.std.specs.Prelude.{ℕ}
+use Rattle.steps.specs.declared.Refusal.{Refusal}
 use Rattle.steps.specs.declared.Why.{Why}
 use Rattle.steps.specs.declared.Why.TheVariants.{TooManyFiles, StringName, PrivateName, TableFull}
+
+abbrev pub refusal : Why → ℕ → Refusal
+refusal w p = record { why = w; place = p }
 
 abbrev pub refusal_of : Why → ℕ
 refusal_of TooManyFiles = 5

@@ -1,33 +1,27 @@
 -- How the code's steps stand to the rules: what its answers stand for, what is read, and what a step has done.
+use Rattle.std.specs.Prelude.{Option, Some, Result, Ok, Err}
 use Rattle.std.specs.Prelude.{ℕ, ◌+◌, ◌≤◌, ◌<◌, ◌≡◌, List, length}
-use Rattle.std.proofs.Math.Option.{Option, none as nothing, some}
 use Rattle.writer.specs.Wrote.{Wrote, Opened, closed}
-use Rattle.tree.specs.declared.layout.Reach.TheVariants.{Upto}
 use Rattle.tree.specs.Access.{extent_at}
 use Rattle.tree.specs.Standing.{tree_at, row_at, Whole, Row}
 use Rattle.tree.specs.declared.grammar.Rule.{Rule}
 use Rattle.tree.specs.Layout.{id_at}
 use Rattle.tree.specs.Tree.{Field, field, Fields, none}
+use Rattle.inputs.specs.Lists.{mapped}
 use Rattle.inputs.specs.Outcome.{Outcome, done, refused, onto}
+use Rattle.scope.specs.declared.id.Id.{Id}
 use Rattle.extraction_rules.specs.State.{State, Act}
 use Rattle.extraction_rules.specs.First.{bindings}
 use Rattle.extraction_rules.proofs.AlikeLaws.{Regular, RegularAll}
 use Rattle.state.specs.Cells.{Env, Good, id_by, Shows}
 use Rattle.state.specs.Does.{place_in, Did}
-use Rattle.steps.specs.declared.Why.{Why}
+use Rattle.steps.specs.declared.Refusal.{Refusal}
 use Rattle.steps.specs.Refusal.{refusal_of}
-use Rattle.steps.specs.declared.Step.{Step}
-use Rattle.steps.specs.declared.Step.TheVariants.{Done, Refused}
-use Rattle.steps.specs.declared.Effect.{Effect}
-use Rattle.steps.specs.declared.Effect.TheVariants.{Fine, Refused as Turned}
-use Rattle.steps.specs.declared.Ident.{Ident}
-use Rattle.steps.specs.declared.Ident.TheVariants.{Is, Other}
 
 -- ---- What answers stand for
 
-abbrev pub ident_by : Ident → Option (List ℕ)
-ident_by (Is i) = some (id_by i)
-ident_by Other = nothing
+abbrev pub ident_by : Option Id → Option (List ℕ)
+ident_by i = mapped id_by i
 
 -- ---- Fields that were read
 
@@ -36,7 +30,7 @@ pub record ReadAt (s : List ℕ) (at stop : ℕ) : Type 0 where
   pub end : ℕ
   pub inside : at ≤ end
   pub fits : end ≤ length s
-  pub extent : extent_at s at end ≡ Upto stop
+  pub extent : extent_at s at end ≡ Some stop
   pub whole : Whole s at stop
 
 -- and it may stand behind the imports
@@ -60,6 +54,14 @@ pub record Reads (x : Env) (s : List ℕ) : Type 0 where
 
 -- ---- Steps
 
+-- the position behind what a step wrote, or why it turned back
+abbrev pub Step : Type 0
+Step = Result ℕ Refusal
+
+-- the same where nothing is written
+abbrev pub Effect : Type 0
+Effect = Result Unit Refusal
+
 -- what was written at o is the value of a rule's step, and the array shows its state
 pub record Made {A : Type 0} (bytes : A → List ℕ) (x : Env) (m : Outcome (A × State)) (out : List ℕ) (o : ℕ) (t' out' : List ℕ) (p : ℕ) : Type 0 where
   pub value : A
@@ -72,14 +74,14 @@ pub record Made {A : Type 0} (bytes : A → List ℕ) (x : Env) (m : Outcome (A 
 pub record Steps {A : Type 0} (bytes : A → List ℕ) (P : Env → State → Type 0) (act : Env → Act A) (t out : List ℕ) (o : ℕ) (t' out' : List ℕ) (k : Step) : Type 0 where
   pub good : Good t'
   pub size : length out' ≡ length out
-  pub made : (p : ℕ) → k ≡ Done p → {x : Env} (s : State) → Shows x t s → P x s → Made bytes x (act x s) out o t' out' p
-  pub turned : (w : Why) (q : ℕ) → k ≡ Refused w q → {x : Env} (s : State) → Shows x t s → P x s → act x s ≡ refused (refusal_of w) q
+  pub made : (p : ℕ) → k ≡ Ok p → {x : Env} (s : State) → Shows x t s → P x s → Made bytes x (act x s) out o t' out' p
+  pub turned : (e : Refusal) → k ≡ Err e → {x : Env} (s : State) → Shows x t s → P x s → act x s ≡ refused (refusal_of e.why) e.place
 
 -- the same of a step that writes nothing
 pub record Effects (P : Env → State → Type 0) (act : Env → Act (Unit {0})) (t t' : List ℕ) (k : Effect) : Type 0 where
   pub good : Good t'
-  pub fine : k ≡ Fine → {x : Env} (s : State) → Shows x t s → P x s → Did x (act x s) t'
-  pub turned : (w : Why) (q : ℕ) → k ≡ Turned w q → {x : Env} (s : State) → Shows x t s → P x s → act x s ≡ refused (refusal_of w) q
+  pub fine : k ≡ Ok tt → {x : Env} (s : State) → Shows x t s → P x s → Did x (act x s) t'
+  pub turned : (e : Refusal) → k ≡ Err e → {x : Env} (s : State) → Shows x t s → P x s → act x s ≡ refused (refusal_of e.why) e.place
 
 -- ---- A field whose parts are steps
 
@@ -93,8 +95,8 @@ pub record Begun (l : List ℕ) (o n : ℕ) (x l' : List ℕ) (c : ℕ) : Type 0
 -- after the parts the length is filled in; a refusal is passed on
 pub record Ended (o : ℕ) (r : Step) (l l' : List ℕ) (k : Step) : Type 0 where
   pub size : length l' ≡ length l
-  pub done : (p : ℕ) → r ≡ Done p → (k ≡ Done p) × (l' ≡ closed l o p)
-  pub refused : (w : Why) (q : ℕ) → r ≡ Refused w q → k ≡ Refused w q
+  pub done : (p : ℕ) → r ≡ Ok p → (k ≡ Ok p) × (l' ≡ closed l o p)
+  pub refused : (e : Refusal) → r ≡ Err e → k ≡ Err e
 
 -- the parts of a field, and then the field with them
 abbrev pub with_parts : ℕ → List ℕ → (Env → Act Fields) → Env → Act Field

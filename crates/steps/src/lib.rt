@@ -5,10 +5,8 @@ ghost use Rattle.std.specs.Prelude.{◌+◌, ◌≤◌, length, get_or};
 ghost use Rattle.std.proofs.Math.Seq.{slice};
 ghost use Rattle.steps.specs.Step.{Begun, Ended};
 
-use scope::id::Id;
-
 // Why the walk turns back.
-#[derive(Drop)]
+#[derive(Clone, Copy, PartialEq, Eq)]
 pub enum Why {
     // a 257th file
     TooManyFiles,
@@ -20,26 +18,18 @@ pub enum Why {
     TableFull,
 }
 
-// The position behind what was written, or why not and where.
-#[derive(Drop)]
-pub enum Step {
-    Done(usize),
-    Refused(Why, usize),
+// Why the walk turns back, and at which field.
+#[derive(Clone, Copy, PartialEq, Eq)]
+pub struct Refusal {
+    pub why: Why,
+    pub place: usize,
 }
 
-// What a rule that writes nothing says.
-#[derive(Drop)]
-pub enum Effect {
-    Fine,
-    Refused(Why, usize),
-}
+// The position behind what was written.
+pub type Step = Result<usize, Refusal>;
 
-// An id, or anything else.
-#[derive(Drop)]
-pub enum Ident {
-    Is(Id),
-    Other,
-}
+// What a rule says that writes nothing.
+pub type Effect = Result<(), Refusal>;
 
 // Starts the field that is read at `at` and whose parts start at `from`: its head, and its fixed bytes. Answers where its parts go.
 pub fn begin_field(s: &[u8], at: usize, from: usize, out: &mut [u8], o: usize) -> usize
@@ -54,11 +44,7 @@ pub fn begin_field(s: &[u8], at: usize, from: usize, out: &mut [u8], o: usize) -
 pub fn end_field(r: Step, out: &mut [u8], o: usize) -> Step
     ensures { Ended o r out.old out.new result }
 {
-    match r {
-        Step::Done(p) => {
-            writer::close_field(out, o, p);
-            Step::Done(p)
-        },
-        Step::Refused(why, place) => Step::Refused(why, place),
-    }
+    let p = r?;
+    writer::close_field(out, o, p);
+    Ok(p)
 }

@@ -5,7 +5,7 @@ use native.Mathlib.Omega.{arith}
 use mathlib.Core.Path.{◌≡◌, refl, sym, ap, ◌∙◌}
 use mathlib.Core.Bool.{Bool, true, false, cond}
 use mathlib.Core.List.{List, [], ◌∷◌, ◌++◌, map, append-nil}
-use mathlib.Core.Option.{Option, none, some}
+use Rattle.std.specs.Prelude.{Option, None, Some}
 use lib.Dec.{ltb, eqb}
 use lib.ListN.{length, length-map, get_or, set, length-set}
 use lib.Seq.{get_or-set_same, get_or-set_other}
@@ -80,16 +80,16 @@ get_d_map h (a ∷ l) (suc i) d = get_d_map h l i d
 -- ---- The search
 
 abbrev pub shifted : ℕ → Option ℕ → Option ℕ
-shifted i none = none
-shifted i (some n) = some (i + n)
+shifted i None = None
+shifted i (Some n) = Some (i + n)
 
 shifted-none : (o : Option ℕ) → shifted 0 o ≡ o
-shifted-none none = refl
-shifted-none (some n) = ap some (omega arith)
+shifted-none None = refl
+shifted-none (Some n) = ap Some (omega arith)
 
 shifted-next : (i : ℕ) (o : Option ℕ) → shifted i (next o) ≡ shifted (i + 1) o
-shifted-next i none = refl
-shifted-next i (some n) = ap some (omega arith)
+shifted-next i None = refl
+shifted-next i (Some n) = ap Some (omega arith)
 
 -- what is found from row i on
 abbrev pub found_from : ℕ → ℕ → ℕ → ℕ → ℕ → List ℕ → Option ℕ
@@ -123,11 +123,11 @@ module _ (lo hi n i base : ℕ) (t : List ℕ) (h : i < n) where
   pub found-high : lo ≤ get_or t (base + 2 * i) 0 → hi < get_or t (base + 2 * i) 0 → found_from lo hi n i base t ≡ found_from lo hi n (i + 1) base t
   found-high j k = passed-by (rw (le-leb lo (get_or t (base + 2 * i) 0) j, lt-leb (get_or t (base + 2 * i) 0) hi k))
 
-  pub found-here : lo ≤ get_or t (base + 2 * i) 0 → get_or t (base + 2 * i) 0 ≤ hi → found_from lo hi n i base t ≡ some i
+  pub found-here : lo ≤ get_or t (base + 2 * i) 0 → get_or t (base + 2 * i) 0 ≤ hi → found_from lo hi n i base t ≡ Some i
   unfolding first_in
-  found-here j k = rw (rows-onward n i base t h, le-leb lo (get_or t (base + 2 * i) 0) j, le-leb (get_or t (base + 2 * i) 0) hi k) (ap some (omega arith))
+  found-here j k = rw (rows-onward n i base t h, le-leb lo (get_or t (base + 2 * i) 0) j, le-leb (get_or t (base + 2 * i) 0) hi k) (ap Some (omega arith))
 
-pub found-end : (lo hi n i base : ℕ) (t : List ℕ) → n ≤ i → found_from lo hi n i base t ≡ none
+pub found-end : (lo hi n i base : ℕ) (t : List ℕ) → n ≤ i → found_from lo hi n i base t ≡ None
 unfolding first_in rows_from
 found-end lo hi n i base t h = let e : n - i ≡ 0 = omega arith in rw e
 
@@ -158,7 +158,7 @@ unfolding first_in rows_from
 first-value lo hi zero at t = refl
 first-value lo hi (suc k) at t =
     let e : at + 1 + 2 ≡ at + 2 + 1 = omega arith in
-    ap (λ (o : Option ℕ). cond (between lo hi (get_or t (at + 1) 0)) (some zero) (next o)) (ap (λ (a : ℕ). first_in lo hi (rows_from k a t)) e ∙ first-value lo hi k (at + 2) t)
+    ap (λ (o : Option ℕ). cond (between lo hi (get_or t (at + 1) 0)) (Some zero) (next o)) (ap (λ (a : ℕ). first_in lo hi (rows_from k a t)) e ∙ first-value lo hi k (at + 2) t)
 
 pub found-value : (lo hi : ℕ) (b c : Table) (t : List ℕ) → c.count ≡ b.count → c.base ≡ b.base + 1 → first_in lo hi (rows c t) ≡ first_in lo hi (map flip (rows b t))
 unfolding rows
@@ -186,7 +186,7 @@ none-value lo hi from b c t p q h =
 
 -- ---- The least value
 
-pub least-start : (key n base : ℕ) (t : List ℕ) → least_of key (rows_from (n - n) (base + 2 * n) t) ≡ none
+pub least-start : (key n base : ℕ) (t : List ℕ) → least_of key (rows_from (n - n) (base + 2 * n) t) ≡ None
 unfolding least_of rows_from
 least-start key n base t = let e : n - n ≡ 0 = omega arith in rw e
 

@@ -1,11 +1,7 @@
 -- The rows of a table: pairs of a key and a value, in the order in which they came, and what is asked of them.
 use Rattle.std.specs.Prelude.{ℕ, zero, suc, ◌+◌, ◌*◌, ◌≤◌, ◌<◌, ◌≡◌, Bool, false, cond, ◌&&◌, List, [], ◌∷◌, ◌++◌, leb, ltb, eqb, length, get_or}
-use Rattle.std.proofs.Math.Option.{Option, none, some}
+use Rattle.std.specs.Prelude.{Option, None, Some}
 use Rattle.tables.specs.declared.Table.{Table}
-use Rattle.tables.specs.declared.Least.{Least}
-use Rattle.tables.specs.declared.Least.TheVariants.{Some, None}
-use Rattle.tables.specs.declared.Found.{Found}
-use Rattle.tables.specs.declared.Found.TheVariants.{At, Nowhere}
 
 abbrev pub Row : Type 0
 Row = ℕ × ℕ
@@ -33,23 +29,19 @@ pub record Lies (b : Table) (t : List ℕ) : Type 0 where
 
 -- the place of the first row whose key is from lo to hi
 abbrev pub next : Option ℕ → Option ℕ
-next none = none
-next (some n) = some (suc n)
+next None = None
+next (Some n) = Some (suc n)
 
 abbrev pub between : ℕ → ℕ → ℕ → Bool
 between lo hi k = leb lo k && leb k hi
 
 unfoldable pub first_in : ℕ → ℕ → List Row → Option ℕ
-first_in lo hi [] = none
-first_in lo hi (r ∷ rs) = cond (between lo hi r.0) (some zero) (next (first_in lo hi rs))
+first_in lo hi [] = None
+first_in lo hi (r ∷ rs) = cond (between lo hi r.0) (Some zero) (next (first_in lo hi rs))
 
 -- no row before a place has such a key
 pub record NoneBefore (from lo hi : ℕ) (l : List Row) : Type 0 where
   pub passed : (i : ℕ) → i < from → i < length l → between lo hi (get_or l i (0, 0)).0 ≡ false
-
-abbrev pub place_by : Found → Option ℕ
-place_by (At i) = some i
-place_by Nowhere = none
 
 -- a row by its value
 abbrev pub flip : Row → Row
@@ -57,16 +49,12 @@ flip r = (r.1, r.0)
 
 -- the least value among the rows with a key
 abbrev pub lesser : ℕ → Option ℕ → Option ℕ
-lesser v none = some v
-lesser v (some w) = some (cond (ltb v w) v w)
+lesser v None = Some v
+lesser v (Some w) = Some (cond (ltb v w) v w)
 
 unfoldable pub least_of : ℕ → List Row → Option ℕ
-least_of k [] = none
+least_of k [] = None
 least_of k (r ∷ rs) = cond (eqb r.0 k) (lesser r.1 (least_of k rs)) (least_of k rs)
-
-abbrev pub least_by : Least → Option ℕ
-least_by (Some v) = some v
-least_by None = none
 
 -- the rows without those of a key
 unfoldable pub without : ℕ → List Row → List Row

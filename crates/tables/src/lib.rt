@@ -3,7 +3,7 @@
 #![tactic(auto)]
 
 ghost use Rattle.std.specs.Prelude.{◌≡◌, [], ◌∷◌, ◌++◌, map, ◌+◌, ◌*◌, ◌<◌, ◌≤◌, length, get_or};
-ghost use Rattle.tables.specs.Rows.{rows, RowPut, Lies, flip, first_in, NoneBefore, place_by, least_by, lesser, least_of, without, without_row, with_value};
+ghost use Rattle.tables.specs.Rows.{rows, RowPut, Lies, flip, first_in, NoneBefore, lesser, least_of, without, without_row, with_value};
 ghost use Rattle.tables.specs.Only.{Only};
 
 #[derive(Clone, Copy)]
@@ -11,18 +11,6 @@ pub struct Table {
     pub count: usize,
     pub base: usize,
     pub room: usize,
-}
-
-#[derive(Drop)]
-pub enum Found {
-    At(usize),
-    Nowhere,
-}
-
-#[derive(Drop)]
-pub enum Least {
-    Some(u64),
-    None,
 }
 
 // How many rows a table holds.
@@ -60,31 +48,27 @@ fn put_row(t: &mut [u64], base: usize, i: usize, key: u64, value: u64)
 }
 
 // The first row whose key is from lo to hi.
-pub fn find(t: &[u64], b: Table, lo: u64, hi: u64) -> Found
+pub fn find(t: &[u64], b: Table, lo: u64, hi: u64) -> Option<usize>
     requires { Lies b t.now }
-    ensures { place_by result ≡ first_in lo hi (rows b t.now) }
+    ensures { result ≡ first_in lo hi (rows b t.now) }
 {
     find_from(t, b, 0, lo, hi)
 }
 
 // The same, where no row before `from` has such a key.
-pub fn find_from(t: &[u64], b: Table, from: usize, lo: u64, hi: u64) -> Found
+pub fn find_from(t: &[u64], b: Table, from: usize, lo: u64, hi: u64) -> Option<usize>
     requires { Lies b t.now × NoneBefore from lo hi (rows b t.now) }
-    ensures { place_by result ≡ first_in lo hi (rows b t.now) }
+    ensures { result ≡ first_in lo hi (rows b t.now) }
 {
     let n = count_of(t, b);
     let base = b.base;
-    let mut i = from;
-    while i < n {
+    for i in from..n {
         let k = key_in(t, base, i);
-        if lo <= k {
-            if k <= hi {
-                return Found::At(i);
-            }
+        if lo <= k && k <= hi {
+            return Some(i);
         }
-        i += 1;
     }
-    Found::Nowhere
+    None
 }
 
 // The value of a row.
@@ -104,9 +88,9 @@ pub fn key_of(t: &[u64], b: Table, i: usize) -> u64
 }
 
 // The first row whose value is from lo to hi, where no row before `from` has such a value: one cell on, each value has the place of a key.
-pub fn find_value(t: &[u64], b: Table, from: usize, lo: u64, hi: u64) -> Found
+pub fn find_value(t: &[u64], b: Table, from: usize, lo: u64, hi: u64) -> Option<usize>
     requires { Lies b t.now × (b.base + 2 * b.room < length t.now) × NoneBefore from lo hi (map flip (rows b t.now)) }
-    ensures { place_by result ≡ first_in lo hi (map flip (rows b t.now)) }
+    ensures { result ≡ first_in lo hi (map flip (rows b t.now)) }
 {
     let count = b.count;
     let base = b.base + 1;
@@ -135,15 +119,13 @@ pub fn set_value(t: &mut [u64], b: Table, i: usize, value: u64)
 }
 
 // The least value among the rows with a key.
-pub fn least_value(t: &[u64], b: Table, key: u64) -> Least
+pub fn least_value(t: &[u64], b: Table, key: u64) -> Option<u64>
     requires { Lies b t.now }
-    ensures { least_by result ≡ least_of key (rows b t.now) }
+    ensures { result ≡ least_of key (rows b t.now) }
 {
     let base = b.base;
-    let mut i = count_of(t, b);
-    let mut best = Least::None;
-    while 0 < i {
-        i -= 1;
+    let mut best = None;
+    for i in (0..count_of(t, b)).rev() {
         if key_in(t, base, i) == key {
             best = lesser_of(value_in(t, base, i), best);
         }
@@ -151,16 +133,12 @@ pub fn least_value(t: &[u64], b: Table, key: u64) -> Least
     best
 }
 
-fn lesser_of(v: u64, best: Least) -> Least
-    ensures { least_by result ≡ lesser v (least_by best) }
+fn lesser_of(v: u64, best: Option<u64>) -> Option<u64>
+    ensures { result ≡ lesser v best }
 {
     match best {
-        Least::None => Least::Some(v),
-        Least::Some(w) => if v < w {
-            Least::Some(v)
-        } else {
-            Least::Some(w)
-        },
+        None => Some(v),
+        Some(w) => if v < w { Some(v) } else { Some(w) },
     }
 }
 
@@ -172,17 +150,14 @@ pub fn drop_key(t: &mut [u64], b: Table, key: u64)
     let base = b.base;
     let cell = b.count;
     let n = count_of(t, b);
-    let mut i = 0;
     let mut kept = 0;
-    while i < n {
+    for i in 0..n {
         let k = key_in(t, base, i);
         let v = value_in(t, base, i);
-        i += 1;
-        if k == key {
-            continue;
+        if k != key {
+            put_row(t, base, kept, k, v);
+            kept += 1;
         }
-        put_row(t, base, kept, k, v);
-        kept += 1;
     }
     t[cell] = kept as u64;
 }
@@ -195,12 +170,10 @@ pub fn drop_row(t: &mut [u64], b: Table, i: usize)
     let base = b.base;
     let cell = b.count;
     let n = count_of(t, b);
-    let mut k = i;
-    while k + 1 < n {
+    for k in i..n - 1 {
         let key = key_in(t, base, k + 1);
         let value = value_in(t, base, k + 1);
         put_row(t, base, k, key, value);
-        k += 1;
     }
-    t[cell] = k as u64;
+    t[cell] = (n - 1) as u64;
 }

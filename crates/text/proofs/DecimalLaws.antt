@@ -1,20 +1,15 @@
--- Digits one by one: a number and one digit more, and what a digit of a number can be.
-use Prim.Native.Nat.{ℕ, zero, suc, ◌+◌, ◌-◌, ◌*◌, ◌/◌, ◌%◌, ◌^◌, ◌≤◌, ◌<◌}
-use mathlib.Core.Path.{◌≡◌, refl, sym, ap, ap₂, subst, ◌∙◌}
-use mathlib.Core.Logic.{⊎_elim}
-use mathlib.Core.List.{List, [], ◌∷◌, ◌++◌}
-use native.Mathlib.Omega.{arith}
-use native.Mathlib.Nat.{pow-suc, pow-le-pow_right, eq-or-lt_of_le}
-use lib.ListN.{length, get_or, take, drop, length-append, get_or-append}
-use lib.Seq.{slice, slice_empty, length-take-le, take-suc, drop-append-le, get_or-drop, get_or-take, get_or_at}
+-- Digits one by one: what a digit of a number can be, and a number and one digit more.
+use Rattle.std.proofs.Common.{ℕ, zero, suc, ◌-◌, ◌/◌, ◌%◌, ◌^◌, ◌≤◌, ◌<◌, ◌≡◌, List, [], ◌∷◌, length, get_or, refl, sym, ap, subst, ◌∙◌, ⊎_elim, arith, length-append}
+use Rattle.std.proofs.Math.Nat.{pow-suc, eq-or-lt_of_le}
+use Rattle.std.proofs.Math.ListN.{get_or-append}
+use Rattle.std.proofs.Math.Seq.{get_or_at}
+use Rattle.std.specs.Prelude.{None, Some}
 use Rattle.text.specs.Digits.{hex_digit_ascii, last_digits, IsDigitCount}
-use Rattle.text.specs.declared.hex.Digit.TheVariants.{Value, Other}
-use Rattle.text.specs.declared.decimal.Number.TheVariants.{Of, Bad}
 use Rattle.text.specs.Hex.{DigitIs}
-use Rattle.text.specs.Decimal.{Short, NumberRead, NumberWritten}
+use Rattle.text.specs.Decimal.{NumberRead, NumberWritten}
 use Rattle.text.specs.Write.{Written}
 use Rattle.text.proofs.HexLaws.{glyph-low, glyph-high}
-use Rattle.text.proofs.WriteLaws.{written-as, written-then}
+use Rattle.text.proofs.WriteLaws.{written-then}
 
 length-digits : (k n : ℕ) → length (last_digits 10 k n) ≡ k
 length-digits zero n = refl
@@ -26,11 +21,11 @@ length-digits (suc k) n =
 abbrev pub NoDecimal : ℕ → Type 0
 NoDecimal c = (v : ℕ) → v < 10 → c ≡ hex_digit_ascii v → ⊥
 
-pub other-no-decimal : {c : ℕ} → DigitIs c Other → NoDecimal c
-other-no-decimal h v l e = h v (omega arith) e
+pub other-no-decimal : (c : ℕ) → DigitIs c None → NoDecimal c
+other-no-decimal c h v l e = h v (omega arith) e
 
-pub high-no-decimal : {c w : ℕ} → DigitIs c (Value w) → 9 < w → NoDecimal c
-high-no-decimal {c} {w} h k v l e = omega (arith, h.1, glyph-low v l, glyph-high w k)
+pub high-no-decimal : (c w : ℕ) → DigitIs c (Some w) → 9 < w → NoDecimal c
+high-no-decimal c w h k v l e = omega (arith, h.1, glyph-low v l, glyph-high w k)
 
 no-decimal-in : (k n i : ℕ) → i < k → NoDecimal (get_or (last_digits 10 k n) i 0) → ⊥
 no-decimal-in zero n i h f = omega arith
@@ -43,52 +38,8 @@ no-decimal-in (suc k) n i h f =
     (subst NoDecimal (get_or-append (last_digits 10 k (n / 10)) (hex_digit_ascii (n % 10) ∷ []) 0 i (omega arith)) f))
     (eq-or-lt_of_le (let m : i ≤ k = omega arith in m))
 
-module _ (s : List ℕ) (from to : ℕ) (inside : to ≤ length s) where
-  pub number-bad : (i : ℕ) → from ≤ i → i < to → NoDecimal (get_or s i 0) → NumberRead s from to Bad
-  number-bad i f h g n short e =
-      let a : from + (i - from) ≡ i = omega arith in
-      let b : get_or (slice from to s) (i - from) 0 ≡ get_or s i 0 =
-      get_or-drop from (take to s) (i - from) 0 ∙ ap (λ (j : ℕ). get_or (take to s) j 0) a ∙ get_or-take to s i 0 h in
-      no-decimal-in (to - from) n (i - from) (omega arith) (subst NoDecimal (sym b ∙ ap (λ (l : List ℕ). get_or l (i - from) 0) e) g)
-
--- the number of the characters before i, and with the character at i
-module _ (s : List ℕ) (from i : ℕ) where
-  slice-snoc : from ≤ i → i < length s → slice from (i + 1) s ≡ slice from i s ++ (get_or s i 0 ∷ [])
-  slice-snoc f h =
-      let e : i + 1 ≡ suc i = omega arith in
-      let l = length-take-le i s (omega arith) in
-      ap (λ (n : ℕ). drop from (take n s)) e
-      ∙ ap (drop from) (take-suc s i 0 h)
-      ∙ drop-append-le from (take i s) (get_or s i 0 ∷ []) (omega arith)
-
-  pub number-more : (n : ℕ) {v : ℕ} → from ≤ i → i < length s → DigitIs (get_or s i 0) (Value v) → v ≤ 9 →
-      slice from i s ≡ last_digits 10 (i - from) n → slice from (i + 1) s ≡ last_digits 10 (i + 1 - from) (n * 10 + v)
-  number-more n {v} f h d k e =
-      let a : n ≡ (n * 10 + v) / 10 = omega arith in
-      let b : v ≡ (n * 10 + v) % 10 = omega arith in
-      let c : suc (i - from) ≡ i + 1 - from = omega arith in
-      slice-snoc f h
-      ∙ ap₂ (λ (l : List ℕ) (g : ℕ). l ++ (g ∷ [])) (e ∙ ap (last_digits 10 (i - from)) a) (d.1 ∙ ap hex_digit_ascii b)
-      ∙ ap (λ (m : ℕ). last_digits 10 m (n * 10 + v)) c
-
-  pub number-grows : {n v : ℕ} → from ≤ i → v ≤ 9 → n < 10 ^ (i - from) → n * 10 + v < 10 ^ (i + 1 - from)
-  number-grows {n} {v} f k h =
-      let c : i + 1 - from ≡ suc (i - from) = omega arith in
-      let p = ap (λ (m : ℕ). 10 ^ m) c ∙ pow-suc 10 (i - from) in
-      omega arith
-
-  pub number-fits : {n : ℕ} → i - from ≤ 9 → n < 10 ^ (i - from) → n < 1000000000
-  number-fits {n} k h = let p : 10 ^ (i - from) ≤ 10 ^ 9 = pow-le-pow_right {n = 10} (omega arith) k in omega arith
-
-pub number-none : (s : List ℕ) (from to : ℕ) → from ≤ to → Short from to →
-    (slice from from s ≡ last_digits 10 (from - from) 0) × (0 < 10 ^ (from - from)) × (from ≤ from) × (from ≤ to) × Short from to
-number-none s from to h k =
-    let e : 0 ≡ from - from = omega arith in
-    (slice_empty from s ∙ ap (λ (m : ℕ). last_digits 10 m 0) e, subst (λ (m : ℕ). 0 < 10 ^ m) e (omega arith), omega arith, h, k)
-
-pub number-all : (s : List ℕ) (from to i : ℕ) (n : ℕ) → i ≡ to → slice from i s ≡ last_digits 10 (i - from) n → n < 10 ^ (i - from) → Short from to → NumberRead s from to (Of n)
-number-all s from to i n e t h k =
-    (subst (λ (j : ℕ). slice from j s ≡ last_digits 10 (j - from) n) e t, subst (λ (j : ℕ). n < 10 ^ (j - from)) e h, k)
+pub number-bad : (s : List ℕ) (i : ℕ) → i < length s → NoDecimal (get_or s i 0) → NumberRead s None
+number-bad s i h g n short e = no-decimal-in (length s) n i h (subst NoDecimal (ap (λ l. get_or l i 0) e) g)
 
 lead-more : (n j : ℕ) → 10 ≤ n → (1 < suc j → 10 ^ (suc j - 1) ≤ n / 10) → 10 ^ (suc (suc j) - 1) ≤ n
 lead-more n zero h w = omega arith
@@ -108,11 +59,17 @@ fewest-more n (suc j) h w =
     let q = pow-suc 10 j in
     (omega arith, omega (arith, w.1), λ m. lead-more n j h w.2)
 
-pub number-next : {out m k : List ℕ} {at p q n g : ℕ} → 10 ≤ n → NumberWritten out at (n / 10) m p → g ≡ hex_digit_ascii (n % 10) →
-    Written m p (g ∷ []) k q → NumberWritten out at n k q
-number-next {n = n} h w e v =
-    record {
-      count = suc w.count;
-      fewest = fewest-more n w.count h w.fewest;
-      written = written-as (ap (λ (x : ℕ). last_digits 10 w.count (n / 10) ++ (x ∷ [])) e) (written-then w.written v);
-    }
+module _ (room : ℕ) (old mid new : List ℕ) (n g : ℕ) (digit : g ≡ hex_digit_ascii (n % 10)) (last : Written room mid (g ∷ []) new) where
+  pub number-one : n < 10 → mid ≡ old → NumberWritten room old n new
+  number-one h e = record {
+    count = 1;
+    fewest = (omega arith, omega arith, λ m. omega arith);
+    written = rw (← digit, ← e) last;
+  }
+
+  pub number-next : 10 ≤ n → NumberWritten room old (n / 10) mid → NumberWritten room old n new
+  number-next h w = record {
+    count = suc w.count;
+    fewest = fewest-more n w.count h w.fewest;
+    written = rw (← digit) (written-then room old (last_digits 10 w.count (n / 10)) mid (g ∷ []) new w.written last);
+  }

@@ -1,43 +1,62 @@
--- Looking for a character step by step, and a field from the one before it.
-use Prim.Native.Nat.{ℕ, zero, suc, ◌+◌, ◌-◌, ◌≤◌, ◌<◌}
-use mathlib.Core.Path.{◌≡◌, refl, sym, ap, ◌∙◌}
-use mathlib.Core.List.{List}
-use native.Mathlib.Omega.{arith}
-use borrow.Author.Tests.{eq-eqb, ne_eqb}
-use lib.ListN.{length, get_or}
-use lib.Seq.{slice, slice_empty, slice-cons}
-use Rattle.text.specs.declared.fields.Span.TheVariants.{At, Missing}
+-- The place that the library finds is the one that the definition counts to, and its parts between single spaces are the fields.
+use Rattle.std.proofs.Common.{ℕ, zero, suc, ◌+◌, ◌<◌, ◌≤◌, ◌≡◌, Bool, true, false, cond, List, [], ◌∷◌, ◌++◌, length, take, drop, eqb, not, None, Some, refl, sym, append_assoc, ◌∙◌, ap, ⊎_elim, arith}
+use Rattle.std.specs.Prelude.{IfSome, IfNone, Option, slice_get}
+use Rattle.std.specs.List.{position, position_or_len, slice_split, onto_first}
+use Rattle.std.proofs.lemmas.List.{take_all, take-append-drop}
+use Rattle.std.specs.Str.Iter.{HasSubslice}
+use Rattle.std.proofs.lemmas.Bool.{cases_lt, eq-eqb, ne_eqb}
+use Rattle.std.proofs.lemmas.Bool.Decides.{nat_tests}
+use Rattle.std.proofs.lemmas.List.Recursion.{is_position_or_len}
+use Rattle.std.proofs.lemmas.List.Sums.{prefix_len-le-length}
+use Rattle.std.proofs.lemmas.List.Splits.{slice_split_first}
 use Rattle.text.specs.Fields.{first_of, end_at, field_at}
 
-module _ (b i to : ℕ) (s : List ℕ) where
-  pub first-none : to ≤ i → i ≤ to → first_of b (slice i to s) ≡ 0
-  first-none h k =
-      let e : i ≡ to = omega arith in
-      ap (λ (n : ℕ). first_of b (slice n to s)) e ∙ ap (first_of b) (slice_empty to s)
+pub first_of-position : (b : ℕ) (s : List ℕ) → first_of b s ≡ position_or_len (λ x. eqb x b) s
+first_of-position b s = is_position_or_len (first_of b) (λ x. eqb x b) refl (λ x l. ap (cond (eqb x b) 0) (omega arith)) s
 
-  pub first-here : i < to → to ≤ length s → get_or s i 0 ≡ b → first_of b (slice i to s) ≡ 0
-  first-here h k e = rw (slice-cons i to s 0 h k, eq-eqb (get_or s i 0) b e)
+module _ (b : ℕ) (s : List ℕ) where
+  pub found-first : (r : Option ℕ) → r ≡ position (λ x. eqb x b) s → IfSome r (λ i. i ≡ first_of b s)
+  found-first r e = rw (e, first_of-position b s) (grind (arith, nat_tests))
 
-  pub first-later : i < to → to ≤ length s → (get_or s i 0 ≡ b → ⊥) → first_of b (slice i to s) ≡ 1 + first_of b (slice (i + 1) to s)
-  first-later h k n =
-      let e : i + 1 ≡ suc i = omega arith in
-      rw (slice-cons i to s 0 h k, ne_eqb (get_or s i 0) b n, e) (omega arith)
+  pub none-first : (r : Option ℕ) → r ≡ position (λ x. eqb x b) s → IfNone r (first_of b s ≡ length s)
+  none-first r e = rw (e, first_of-position b s) (grind (arith, nat_tests, prefix_len-le-length (λ x. not (eqb x b)) s))
 
--- the field that starts at `at` ends at `end`: it is the one that is looked for, or the last, or another one stands behind it
-module _ (s : List ℕ) (at to end : ℕ) (ends : end ≡ at + first_of 32 (slice at to s)) where
-  pub field-found : (k : ℕ) → k ≡ 0 → field_at k s at to ≡ At at end
-  unfolding field_at end_at
-  field-found zero h = ap (At at) (sym ends)
-  field-found (suc k) h = absurd (omega arith)
+-- where no b stands, there is one part
+part-cons : (t : Bool) (b x : ℕ) (s : List ℕ) → eqb x b ≡ t → (length s ≤ first_of b s → slice_split (λ y. eqb y b) s ≡ s ∷ []) → suc (length s) ≤ cond t 0 (suc (first_of b s)) →
+    cond t ([] ∷ slice_split (λ y. eqb y b) s) (onto_first x (slice_split (λ y. eqb y b) s)) ≡ (x ∷ s) ∷ []
+part-cons true b x s e r h = absurd (omega arith)
+part-cons false b x s e r h = rw (r (omega arith))
 
-  pub field-missing : (k : ℕ) → (k ≡ 0 → ⊥) → end ≡ to → field_at k s at to ≡ Missing
-  unfolding field_at end_at
-  field-missing zero h e = absurd (h refl)
-  field-missing (suc k) h e = rw (← ends, eq-eqb end to e)
+no-part : (b : ℕ) (s : List ℕ) → length s ≤ first_of b s → slice_split (λ x. eqb x b) s ≡ s ∷ []
+no-part b [] h = refl
+no-part b (x ∷ s) h = part-cons (eqb x b) b x s refl (no-part b s) h
 
-  pub field-next : (k : ℕ) → (k ≡ 0 → ⊥) → (end ≡ to → ⊥) → field_at k s at to ≡ field_at (k - 1) s (end + 1) to
-  unfolding field_at end_at
-  field-next zero h n = absurd (h refl)
-  field-next (suc k) h n =
-      let e : suc k - 1 ≡ k = omega arith in
-      rw (← ends, ne_eqb end to n, e)
+first_of-le : (b : ℕ) (s : List ℕ) → first_of b s ≤ length s
+first_of-le b s = omega (arith, first_of-position b s, prefix_len-le-length (λ x. not (eqb x b)) s)
+
+first-part : (s : List ℕ) → first_of 32 s < length s → slice_split (λ x. eqb x 32) s ≡ take (first_of 32 s) s ∷ slice_split (λ x. eqb x 32) (drop (first_of 32 s + 1) s)
+first-part s h = rw (first_of-position 32 s) (slice_split_first (λ x. eqb x 32) s 0 (let e = first_of-position 32 s in omega arith))
+
+pub field-parts : (k : ℕ) (s : List ℕ) → field_at k s ≡ slice_get (slice_split (λ b. eqb b 32) s) k
+unfolding field_at end_at
+field-parts zero s =
+    ⊎_elim
+    (λ (h : first_of 32 s < length s). rw (first-part s h))
+    (λ (h : length s ≤ first_of 32 s). rw (no-part 32 s h) (ap Some (take_all (first_of 32 s) s h)))
+    (cases_lt (first_of 32 s) (length s))
+field-parts (suc k) s =
+    ⊎_elim
+    (λ (h : first_of 32 s < length s). rw (first-part s h, ne_eqb (first_of 32 s) (length s) (λ e. omega arith)) (field-parts k (drop (first_of 32 s + 1) s)))
+    (λ (h : length s ≤ first_of 32 s). rw (no-part 32 s h, eq-eqb (first_of 32 s) (length s) (omega (arith, first_of-le 32 s))))
+    (cases_lt (first_of 32 s) (length s))
+
+behind : (t : Bool) (i : ℕ) (s : List ℕ) (r : Option (List ℕ)) → IfSome r (HasSubslice (drop i s)) → IfSome (cond t None r) (HasSubslice s)
+behind true i s r h = tt
+behind false i s None h = tt
+behind false i s (Some f) h = (take i s ++ h.0, h.1, sym (take-append-drop i s) ∙ ap (λ l. take i s ++ l) h.2 ∙ sym (append_assoc (take i s) h.0 (f ++ h.1)))
+
+-- a field stands in the text
+pub field-within : (k : ℕ) (s : List ℕ) → IfSome (field_at k s) (HasSubslice s)
+unfolding field_at end_at
+field-within zero s = ([], drop (first_of 32 s) s, sym (take-append-drop (first_of 32 s) s))
+field-within (suc k) s = behind (eqb (first_of 32 s) (length s)) (first_of 32 s + 1) s (field_at k (drop (first_of 32 s + 1) s)) (field-within k (drop (first_of 32 s + 1) s))

@@ -1,20 +1,10 @@
 -- Digits, and reading bytes pair by pair.
-use Prim.Native.Nat.{ℕ, ◌+◌, ◌-◌, ◌*◌, ◌/◌, ◌%◌, ◌≤◌, ◌<◌}
-use mathlib.Core.Path.{◌≡◌, refl, sym, ap, ap₂, ◌∙◌}
-use mathlib.Core.Logic.{◌⊎◌, inl, inr, ⊎_elim}
-use mathlib.Core.List.{List, [], ◌∷◌}
-use mathlib.Core.Bool.{Bool, true, false}
-use native.Mathlib.Omega.{arith}
-use native.Mathlib.Numerals.{add-one}
-use borrow.Author.Tests.{ltb-true, ltb-false, lt-ltb, le-ltb}
-use lib.Dec.{ltb}
-use lib.ListN.{length, get_or, set, length-set}
-use lib.Seq.{slice, slice_empty, slice-cons, length-slice, sets}
+use Rattle.std.proofs.Common.{ℕ, suc, ◌+◌, ◌-◌, ◌/◌, ◌%◌, ◌≤◌, ◌<◌, ◌≡◌, List, [], ◌∷◌, ◌++◌, length, get_or, take, drop, Bool, true, false, ltb, refl, sym, ap, ap₂, ◌∙◌, inl, inr, ⊎_elim, ◌⊎◌, arith, append_assoc}
+use Rattle.std.specs.Prelude.{None}
+use Rattle.std.proofs.lemmas.Bool.{ltb-true, ltb-false, lt-ltb, le-ltb}
+use Rattle.std.proofs.lemmas.List.{append-nil, nil_from_length, take_all, take_more}
 use Rattle.text.specs.Digits.{hex_digit_ascii}
-use Rattle.text.specs.declared.hex.Digit.TheVariants.{Value, Other}
-use Rattle.text.specs.declared.hex.Bytes.{Bytes}
-use Rattle.text.specs.declared.hex.Bytes.TheVariants.{Upto, Bad}
-use Rattle.text.specs.Hex.{DigitIs, hexed, spelt, Small, BytesRead, BytesIn}
+use Rattle.text.specs.Hex.{ByteIs, hexed, spelt, Small, NotSpelt}
 
 pub glyph-low : (v : ℕ) → v < 10 → hex_digit_ascii v ≡ 48 + v
 glyph-low v h = rw (lt-ltb v 10 h)
@@ -26,157 +16,16 @@ glyph-cases : (t : Bool) (v : ℕ) → ltb v 10 ≡ t → v < 16 → ((v < 10) �
 glyph-cases true v e h = let l = ltb-true v 10 e in inl (l, glyph-low v l)
 glyph-cases false v e h = let l = ltb-false v 10 e in inr (l, glyph-high v l)
 
--- a character that is neither 0 to 9 nor a to f is no digit
-pub no-digit : (c : ℕ) → (48 ≤ c → c ≤ 57 → ⊥) → (97 ≤ c → c ≤ 102 → ⊥) → DigitIs c Other
-no-digit c h k v l e =
-    ⊎_elim (λ w. h (omega (arith, w.1)) (omega (arith, w.1))) (λ w. k (omega (arith, w.1)) (omega (arith, w.1))) (glyph-cases (ltb v 10) v refl l)
-
-pub digit-low : (c : ℕ) → 48 ≤ c → c ≤ 57 → DigitIs c (Value (c - 48))
-digit-low c h k = let e = glyph-low (c - 48) (omega arith) in (omega arith, omega arith)
-
-pub digit-high : (c : ℕ) → 97 ≤ c → c ≤ 102 → DigitIs c (Value (c - 87))
-digit-high c h k = let e = glyph-high (c - 87) (omega arith) in (omega arith, omega arith)
-
--- reading from i on, where the text ends at `to`
-module _ (s : List ℕ) (i to : ℕ) (inside : to ≤ length s) where
-  pub slice-more : i < to → slice i to s ≡ get_or s i 0 ∷ slice (i + 1) to s
-  slice-more h = slice-cons i to s 0 h inside ∙ ap (λ (n : ℕ). get_or s i 0 ∷ slice n to s) (sym (add-one i))
-
-  slice-none : i < to → slice i to s ≡ [] → ⊥
-  slice-none h e = omega (arith, length-slice i to s inside, ap length e)
-
-  pub hex-end : to ≤ i → i ≤ to → (out : List ℕ) (o : ℕ) → o ≤ length out → BytesRead hexed s i to out o (Upto o) out
-  hex-end h k out o l =
-      let e : i ≡ to = omega arith in
-      record {
-        bytes = [];
-        small = tt;
-        text = ap (λ (n : ℕ). slice n to s) e ∙ slice_empty to s;
-        ends = omega arith;
-        fits = l;
-        put = refl;
-      }
-
-  pub hex-odd : to - i ≡ 1 → (out k : List ℕ) (o : ℕ) → BytesRead hexed s i to out o Bad k
-  hex-odd h out k o [] m f e = omega (arith, length-slice i to s inside, ap length e)
-  hex-odd h out k o (b ∷ bs) m f e = omega (arith, length-slice i to s inside, ap length e)
-
-  pub hex-first : i < to → DigitIs (get_or s i 0) Other → (out k : List ℕ) (o : ℕ) → BytesRead hexed s i to out o Bad k
-  hex-first h d out k o [] m f e = slice-none h e
-  hex-first h d out k o (b ∷ bs) m f e =
-      let x = slice-more h in
-      d (b / 16) (omega (arith, m.0)) (cc)
-
-  pub hex-full : i < to → (out k : List ℕ) (o : ℕ) → length out ≤ o → BytesRead hexed s i to out o Bad k
-  hex-full h out k o l [] m f e = slice-none h e
-  hex-full h out k o l (b ∷ bs) m f e = omega arith
-
-module _ (s : List ℕ) (i to : ℕ) (inside : to ≤ length s) (two : i + 1 < to) where
-  slice-pair : slice i to s ≡ get_or s i 0 ∷ get_or s (i + 1) 0 ∷ slice (i + 2) to s
-  slice-pair =
-      let e : i + 1 + 1 ≡ i + 2 = omega arith in
-      slice-more s i to inside (omega arith)
-      ∙ ap (λ (l : List ℕ). get_or s i 0 ∷ l) (slice-more s (i + 1) to inside two)
-      ∙ ap (λ (n : ℕ). get_or s i 0 ∷ get_or s (i + 1) 0 ∷ slice n to s) e
-
-  pub hex-second : DigitIs (get_or s (i + 1) 0) Other → (out k : List ℕ) (o : ℕ) → BytesRead hexed s i to out o Bad k
-  hex-second d out k o [] m f e = slice-none s i to inside (omega arith) e
-  hex-second d out k o (b ∷ bs) m f e =
-      let x = slice-pair in
-      d (b % 16) (omega arith) (cc)
-
-  hex-bad : (v : ℕ) (out k : List ℕ) (o : ℕ) → BytesRead hexed s (i + 2) to (set out o v) (o + 1) Bad k → BytesRead hexed s i to out o Bad k
-  hex-bad v out k o rest [] m f t = slice-none s i to inside (omega arith) t
-  hex-bad v out k o rest (b ∷ bs) m f t =
-      let l = length-set out o v in
-      let x = slice-pair in
-      rest bs m.1 (omega arith) (cc)
-
-  pub hex-more : {v w : ℕ} → DigitIs (get_or s i 0) (Value v) → DigitIs (get_or s (i + 1) 0) (Value w) → (out : List ℕ) (o : ℕ) → o < length out →
-      (r : Bytes) (k : List ℕ) → BytesRead hexed s (i + 2) to (set out o (v * 16 + w)) (o + 1) r k → BytesRead hexed s i to out o r k
-  hex-more {v} {w} d e out o h (Upto n) k rest =
-      let a : v ≡ (v * 16 + w) / 16 = omega (arith, d.0, e.0) in
-      let b : w ≡ (v * 16 + w) % 16 = omega (arith, d.0, e.0) in
-      let l = length-set out o (v * 16 + w) in
-      record {
-        bytes = (v * 16 + w) ∷ rest.bytes;
-        small = (omega (arith, d.0, e.0), rest.small);
-        text = slice-pair ∙ cc (d.1 ∙ ap hex_digit_ascii a, e.1 ∙ ap hex_digit_ascii b, rest.text);
-        ends = omega (arith, rest.ends);
-        fits = omega (arith, rest.fits);
-        put = rest.put ∙ ap (λ (j : ℕ). sets (set out o (v * 16 + w)) j rest.bytes) (add-one o);
-      }
-  hex-more {v} {w} d e out o h Bad k rest = hex-bad (v * 16 + w) out k o rest
-
-length-none : (bs : List ℕ) → length bs ≡ 0 → bs ≡ []
-length-none [] h = refl
-length-none (b ∷ bs) h = absurd (omega arith)
-
-pub spelt-none : (bs : List ℕ) → length bs ≡ 0 → spelt bs ≡ 45 ∷ []
-spelt-none [] h = refl
-spelt-none (b ∷ bs) h = absurd (omega arith)
-
-pub spelt-some : (bs : List ℕ) → (length bs ≡ 0 → ⊥) → spelt bs ≡ hexed bs
-spelt-some [] h = absurd (h refl)
-spelt-some (b ∷ bs) h = refl
-
--- a field: `-`, or the digits of some bytes
-module _ (s : List ℕ) (from to : ℕ) (inside : to ≤ length s) where
-  length-one : slice from to s ≡ 45 ∷ [] → to - from ≡ 1
-  length-one e = sym (length-slice from to s inside) ∙ ap length e
-
-  pub field-none : from ≡ to → (out k : List ℕ) (o : ℕ) → BytesRead spelt s from to out o Bad k
-  field-none h out k o [] m f e = let l = length-one e in omega arith
-  field-none h out k o (b ∷ bs) m f e = omega (arith, length-slice from to s inside, ap length e)
-
-  pub field-dash : get_or s from 0 ≡ 45 → to - from ≡ 1 → (out : List ℕ) (o : ℕ) → o ≤ length out → BytesRead spelt s from to out o (Upto o) out
-  field-dash d h out o l =
-      let e : from + 1 ≡ to = omega arith in
-      record {
-        bytes = [];
-        small = tt;
-        text =
-            slice-more s from to inside (omega arith)
-            ∙ ap (λ (x : ℕ). x ∷ slice (from + 1) to s) d
-            ∙ ap (λ (n : ℕ). 45 ∷ slice n to s) e
-            ∙ ap (λ (x : List ℕ). 45 ∷ x) (slice_empty to s);
-        ends = omega arith;
-        fits = l;
-        put = refl;
-      }
-
-  pub field-longer : from < to → get_or s from 0 ≡ 45 → (to - from ≡ 1 → ⊥) → (out k : List ℕ) (o : ℕ) → BytesRead spelt s from to out o Bad k
-  field-longer h d n out k o [] m f e = n (length-one e)
-  field-longer h d n out k o (b ∷ bs) m f e =
-      let x = slice-more s from to inside h in
-      let z : 45 ≡ hex_digit_ascii (b / 16) = cc in
-      no-digit 45 (λ p q. omega arith) (λ p q. omega arith) (b / 16) (omega (arith, m.0)) z
-
-  field-bad : from < to → (get_or s from 0 ≡ 45 → ⊥) → (out k : List ℕ) (o : ℕ) → BytesRead hexed s from to out o Bad k → BytesRead spelt s from to out o Bad k
-  field-bad h d out k o r [] m f e =
-      let x = slice-more s from to inside h in
-      d (cc)
-  field-bad h d out k o r (b ∷ bs) m f e = r (b ∷ bs) m f e
-
-  pub field-digits : from < to → (get_or s from 0 ≡ 45 → ⊥) → (out : List ℕ) (o : ℕ) (r : Bytes) (k : List ℕ) → BytesRead hexed s from to out o r k →
-      BytesRead spelt s from to out o r k
-  field-digits h d out o (Upto n) k r =
-      record {
-        bytes = r.bytes;
-        small = r.small;
-        text = r.text ∙ sym (spelt-some r.bytes (λ e. slice-none s from to inside h (r.text ∙ ap hexed (length-none r.bytes e))));
-        ends = r.ends;
-        fits = r.fits;
-        put = r.put;
-      }
-  field-digits h d out o Bad k r = field-bad h d out k o r
-
 glyph-once : (v w : ℕ) → v < 16 → w < 16 → hex_digit_ascii v ≡ hex_digit_ascii w → v ≡ w
 glyph-once v w h k e =
     ⊎_elim
     (λ x. ⊎_elim (λ y. omega (arith, x.1, y.1)) (λ y. omega (arith, x.1, y.1)) (glyph-cases (ltb w 10) w refl k))
     (λ x. ⊎_elim (λ y. omega (arith, x.1, y.1)) (λ y. omega (arith, x.1, y.1)) (glyph-cases (ltb w 10) w refl k))
     (glyph-cases (ltb v 10) v refl h)
+
+-- `-` is no digit
+pub dash-other : (v : ℕ) → v < 16 → 45 ≡ hex_digit_ascii v → ⊥
+dash-other v h e = ⊎_elim (λ x. omega (arith, x.1)) (λ x. omega (arith, x.1)) (glyph-cases (ltb v 10) v refl h)
 
 -- a text is the spelling of one list of bytes at most, so reading what was written gives the bytes back
 pub hexed-once : (a b : List ℕ) → Small a → Small b → hexed a ≡ hexed b → a ≡ b
@@ -191,8 +40,57 @@ hexed-once (x ∷ a) (y ∷ b) h k e =
     let r : x ≡ y = omega arith in
     ap₂ ◌∷◌ r (hexed-once a b h.1 k.1 (cc))
 
--- bytes that were read lie within the buffer
-pub bytes-in : (spell : List ℕ → List ℕ) (s : List ℕ) (from to : ℕ) (out : List ℕ) (at : ℕ) (r : Bytes) (out' : List ℕ) →
-    BytesRead spell s from to out at r out' → BytesIn at (length out) r
-bytes-in spell s from to out at (Upto e) out' h = (omega (arith, h.ends), h.fits)
-bytes-in spell s from to out at Bad out' h = tt
+hexed-append : (a b : List ℕ) → hexed (a ++ b) ≡ hexed a ++ hexed b
+hexed-append [] b = refl
+hexed-append (x ∷ a) b = ap (λ l. hex_digit_ascii (x / 16) ∷ hex_digit_ascii (x % 16) ∷ l) (hexed-append a b)
+
+pub hexed-more : (bs : List ℕ) (i : ℕ) → i < length bs →
+    hexed (take (i + 1) bs) ≡ hexed (take i bs) ++ hex_digit_ascii (get_or bs i 0 / 16) ∷ hex_digit_ascii (get_or bs i 0 % 16) ∷ []
+hexed-more bs i h = ap hexed (take_more bs i 0 h) ∙ hexed-append (take i bs) (get_or bs i 0 ∷ [])
+
+pub small-more : (a : List ℕ) (b : ℕ) → Small a → b < 256 → Small (a ++ b ∷ [])
+small-more [] b h k = (k, tt)
+small-more (x ∷ a) b h k = (h.0, small-more a b h.1 k)
+
+pair-first : (rest : List ℕ) (x y : ℕ) → 2 ≤ length rest → get_or rest 0 0 ≡ x → get_or rest 1 0 ≡ y → rest ≡ x ∷ y ∷ take (length rest - 2) (drop 2 rest)
+pair-first [] x y h d e = absurd (omega arith)
+pair-first (a ∷ []) x y h d e = absurd (omega arith)
+pair-first (a ∷ b ∷ r) x y h d e = let k : length r ≤ suc (suc (length r)) - 2 = omega arith in rw (take_all (suc (suc (length r)) - 2) r k) cc
+
+pub hex-more : (s done rest : List ℕ) (b : ℕ) → s ≡ hexed done ++ rest → 2 ≤ length rest → get_or rest 0 0 ≡ hex_digit_ascii (b / 16) → get_or rest 1 0 ≡ hex_digit_ascii (b % 16) →
+    s ≡ hexed (done ++ b ∷ []) ++ take (length rest - 2) (drop 2 rest)
+hex-more s done rest b text h d e =
+    text ∙ ap (λ l. hexed done ++ l) (pair-first rest (hex_digit_ascii (b / 16)) (hex_digit_ascii (b % 16)) h d e) ∙ sym (ap (λ l. l ++ take (length rest - 2) (drop 2 rest)) (hexed-append done (b ∷ [])) ∙ append_assoc (hexed done) (hexed (b ∷ [])) (take (length rest - 2) (drop 2 rest)))
+
+-- the text is the digits of the bytes `done`, and `rest` is left of it
+module _ (s done rest : List ℕ) (text : s ≡ hexed done ++ rest) where
+  pub hex-done : length rest ≡ 0 → s ≡ hexed done
+  hex-done h = text ∙ ap (λ l. hexed done ++ l) (nil_from_length rest h) ∙ append-nil (hexed done)
+
+none-behind : (done rest bs : List ℕ) → Small done → Small bs → NotSpelt hexed rest → hexed done ++ rest ≡ hexed bs → ⊥
+none-behind [] rest bs h k n e = n bs k e
+none-behind (x ∷ done) rest [] h k n e = cc
+none-behind (x ∷ done) rest (y ∷ bs) h k n e = none-behind done rest bs h.1 k.1 n (cc)
+
+-- where what is left is spelt by no bytes, the text is not
+pub not-spelt-behind : (s done rest : List ℕ) → s ≡ hexed done ++ rest → Small done → NotSpelt hexed rest → NotSpelt hexed s
+not-spelt-behind s done rest text h n bs k e = none-behind done rest bs h k n (sym text ∙ e)
+
+pub not-spelt-pair : (s : List ℕ) → 2 ≤ length s → ByteIs (get_or s 0 0) (get_or s 1 0) None → NotSpelt hexed s
+not-spelt-pair [] h n bs k e = omega arith
+not-spelt-pair (x ∷ []) h n bs k e = omega arith
+not-spelt-pair (x ∷ y ∷ s) h n [] k e = cc
+not-spelt-pair (x ∷ y ∷ s) h n (b ∷ bs) k e = n b k.0 (cc) (cc)
+
+pub not-spelt-one : (s : List ℕ) → length s < 2 → (length s ≡ 0 → ⊥) → NotSpelt hexed s
+not-spelt-one s h n [] k e = n (ap length e)
+not-spelt-one s h n (b ∷ bs) k e = let l = ap length e in omega arith
+
+-- a field that is not `-` is spelt as its digits are
+pub not-spelt-field : (s : List ℕ) → (s ≡ 45 ∷ [] → ⊥) → NotSpelt hexed s → NotSpelt spelt s
+not-spelt-field s d n [] k e = d e
+not-spelt-field s d n (b ∷ bs) k e = n (b ∷ bs) k e
+
+pub spelt-field : (s bytes : List ℕ) → (length s ≡ 0 → ⊥) → s ≡ hexed bytes → s ≡ spelt bytes
+spelt-field s [] n e = absurd (n (ap length e))
+spelt-field s (b ∷ bytes) n e = e

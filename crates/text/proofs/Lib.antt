@@ -1,4 +1,4 @@
-pub mod WriteLaws
-pub mod HexLaws
-pub mod DecimalLaws
 pub mod FieldsLaws
+pub mod HexLaws
+pub mod WriteLaws
+pub mod DecimalLaws

@@ -1,24 +1,16 @@
 -- Fields of a text, apart by single spaces.
-use Rattle.std.specs.Prelude.{ℕ, zero, suc, ◌+◌, ◌≤◌, cond, List, [], ◌∷◌, eqb}
-use Rattle.std.proofs.Math.Seq.{slice}
-use Rattle.text.specs.declared.fields.Span.{Span}
-use Rattle.text.specs.declared.fields.Span.TheVariants.{At, Missing}
+use Rattle.std.specs.Prelude.{ℕ, zero, suc, ◌+◌, cond, List, [], ◌∷◌, take, drop, length, eqb, Option, None, Some}
 
 -- how many elements stand before the first b
 abbrev pub first_of : ℕ → List ℕ → ℕ
 first_of b [] = 0
 first_of b (x ∷ l) = cond (eqb x b) 0 (suc (first_of b l))
 
--- where the field that starts at `from` ends
-unfoldable pub end_at : List ℕ → ℕ → ℕ → ℕ
-end_at s from to = from + first_of 32 (slice from to s)
+-- where the field at the front ends
+unfoldable pub end_at : List ℕ → ℕ
+end_at s = first_of 32 s
 
 -- the field number k, from 0
-unfoldable pub field_at : ℕ → List ℕ → ℕ → ℕ → Span
-field_at zero s from to = At from (end_at s from to)
-field_at (suc k) s from to = cond (eqb (end_at s from to) to) Missing (field_at k s (end_at s from to + 1) to)
-
--- a field lies within the text
-abbrev pub SpanIn : ℕ → ℕ → Span → Type 0
-SpanIn from to (At a e) = (from ≤ a) × (a ≤ e) × (e ≤ to)
-SpanIn from to Missing = Unit
+unfoldable pub field_at : ℕ → List ℕ → Option (List ℕ)
+field_at zero s = Some (take (end_at s) s)
+field_at (suc k) s = cond (eqb (end_at s) (length s)) None (field_at k (drop (end_at s + 1) s))

@@ -1,8 +1,6 @@
--- What a write into a lent buffer leaves.
-use Rattle.std.specs.Prelude.{ℕ, ◌+◌, min, ◌≡◌, List, length}
-use Rattle.std.proofs.lemmas.List.Edits.{sets}
+-- What a write behind a text of bounded length leaves.
+use Rattle.std.specs.Prelude.{ℕ, ◌-◌, ◌≡◌, List, ◌++◌, length, take}
 
--- bs is written from `at` on, as far as there is room, and the next place is r
-pub record Written (out : List ℕ) (at : ℕ) (bs out' : List ℕ) (r : ℕ) : Type 0 where
-  pub is : out' ≡ sets out at bs
-  pub next : r ≡ min (at + length bs) (length out)
+-- bs is written behind the text `old`, as far as there is room for it in `room` bytes, and the text is `new` then
+abbrev pub Written : ℕ → List ℕ → List ℕ → List ℕ → Type 0
+Written room old bs new = new ≡ old ++ take (room - length old) bs

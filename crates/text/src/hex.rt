@@ -1,27 +1,21 @@
 // Bytes in lowercase hexadecimal, two digits a byte; a field without bytes is `-`.
-ghost use Rattle.std.specs.Prelude.{◌≤◌, ◌<◌, ◌≡◌, length};
+ghost use Rattle.std.specs.Prelude.{◌<◌, ◌≡◌, Some};
 ghost use Rattle.text.specs.Digits.{hex_digit_ascii};
-ghost use Rattle.text.specs.Write.{Written};
 ghost use Rattle.text.specs.Fields.{field_at};
-ghost use Rattle.text.specs.Hex.{DigitIs, hexed, spelt, BytesRead, BytesFrom, BytesIn};
+ghost use Rattle.text.specs.Hex.{DigitIs, ByteIs, hexed, spelt, BytesRead, BytesFrom};
 
-use crate::fields::{Span, field};
-use crate::write::put;
-
-#[derive(Drop)]
-pub enum Digit {
-    Value(u8),
-    Other,
-}
+use crate::fields::field;
+use std::alloc::{AllocError, AllocFailed, Global};
+use std::fmt;
 
 // The value of the digit c.
-pub fn digit_of(c: u8) -> Digit
+pub fn digit_of(c: u8) -> Option<u8>
     ensures { DigitIs c result }
 {
     match c {
-        48..=57 => Digit::Value(c - 48),
-        97..=102 => Digit::Value(c - 87),
-        _ => Digit::Other,
+        b'0'..=b'9' => Some(c - b'0'),
+        b'a'..=b'f' => Some(c - b'a' + 10),
+        _ => None,
     }
 }
 
@@ -30,94 +24,113 @@ pub fn glyph_of(v: u8) -> u8
     requires { v < 16 }
     ensures { result ≡ hex_digit_ascii v }
 {
-    if v < 10 { 48 + v } else { 87 + v }
+    if v < 10 { b'0' + v } else { b'a' + (v - 10) }
 }
 
-// Writes the digits of the bytes.
-pub fn put_hex(out: &mut [u8], at: usize, bytes: &[u8]) -> usize
-    requires { at ≤ length out.old }
-    ensures { Written out.old at (hexed bytes.now) out.new result }
+// The byte whose two digits these are.
+fn byte_of(high: u8, low: u8) -> Option<u8>
+    ensures { ByteIs high low result }
 {
-    let mut o = at;
-    let mut i = 0;
-    while i < bytes.len() {
-        let b = bytes[i];
-        o = put(out, o, glyph_of(b / 16));
-        o = put(out, o, glyph_of(b % 16));
-        i += 1;
+    Some(digit_of(high)? * 16 + digit_of(low)?)
+}
+
+// Why no bytes are read.
+#[derive(Clone, Copy, PartialEq, Eq, Debug)]
+pub enum BytesError {
+    // The text is the spelling of no bytes.
+    Malformed,
+    OutOfMemory,
+}
+
+impl From<AllocError> for BytesError {
+    ghost use Rattle.std.specs.Prelude.{◌≡◌};
+    ghost use Rattle.text.specs.declared.hex.BytesError.TheVariants.{OutOfMemory};
+
+    ghost from_gives = { λ _ e. e ≡ OutOfMemory };
+
+    fn from(_e: AllocError) -> BytesError {
+        BytesError::OutOfMemory
     }
-    o
 }
 
-// Writes the bytes as a field.
-pub fn put_bytes(out: &mut [u8], at: usize, bytes: &[u8]) -> usize
-    requires { at ≤ length out.old }
-    ensures { Written out.old at (spelt bytes.now) out.new result }
-{
-    if bytes.len() == 0 {
-        return put(out, at, 45);
+impl From<AllocFailed<u8>> for BytesError {
+    ghost use Rattle.std.specs.Prelude.{◌≡◌};
+    ghost use Rattle.text.specs.declared.hex.BytesError.TheVariants.{OutOfMemory};
+
+    ghost from_gives = { λ _ e. e ≡ OutOfMemory };
+
+    fn from(_e: AllocFailed<u8>) -> BytesError {
+        BytesError::OutOfMemory
     }
-    put_hex(out, at, bytes)
 }
 
-// What reading bytes into a buffer finds: they stand up to a place of it; or the text spells none, or more than there is room for.
-#[derive(Drop)]
-pub enum Bytes {
-    Upto(usize),
-    Bad,
-}
-
-// Puts the bytes whose digits stand from `from` up to `to` into out, from `at` on.
-pub fn read_hex(s: &[u8], from: usize, to: usize, out: &mut [u8], at: usize) -> Bytes
-    requires { (from ≤ to) × (to ≤ length s.now) × (at ≤ length out.old) }
-    ensures { BytesRead hexed s.now from to out.old at result out.new }
+// The bytes whose digits these are.
+pub fn read_hex(alloc: Global, s: &[u8]) -> Result<Vec<u8>, BytesError>
+    ensures { BytesRead hexed s.now result }
 {
-    let mut i = from;
-    let mut o = at;
-    while i < to {
-        if to - i == 1 {
-            return Bytes::Bad;
-        }
-        let Digit::Value(high) = digit_of(s[i]) else {
-            return Bytes::Bad;
+    let mut bytes = Vec::with_capacity(alloc, s.len() / 2)?;
+    let mut rest = s;
+    while let [high, low, behind @ ..] = rest {
+        let Some(byte) = byte_of(*high, *low) else {
+            return Err(BytesError::Malformed);
         };
-        let Digit::Value(low) = digit_of(s[i + 1]) else {
-            return Bytes::Bad;
-        };
-        if out.len() <= o {
-            return Bytes::Bad;
-        }
-        out[o] = high * 16 + low;
-        o += 1;
-        i += 2;
+        bytes.push(byte)?;
+        rest = behind;
     }
-    Bytes::Upto(o)
+    if !rest.is_empty() {
+        return Err(BytesError::Malformed);
+    }
+    Ok(bytes)
 }
 
 // The same for a field.
-pub fn read_bytes(s: &[u8], from: usize, to: usize, out: &mut [u8], at: usize) -> Bytes
-    requires { (from ≤ to) × (to ≤ length s.now) × (at ≤ length out.old) }
-    ensures { BytesRead spelt s.now from to out.old at result out.new }
+pub fn read_bytes(alloc: Global, s: &[u8]) -> Result<Vec<u8>, BytesError>
+    ensures { BytesRead spelt s.now result }
 {
-    if from == to {
-        return Bytes::Bad;
+    match s {
+        b"-" => Ok(Vec::new(alloc)),
+        [] => Err(BytesError::Malformed),
+        _ => read_hex(alloc, s),
     }
-    if s[from] == 45 {
-        if to - from == 1 {
-            return Bytes::Upto(at);
-        }
-        return Bytes::Bad;
-    }
-    read_hex(s, from, to, out, at)
 }
 
-// The same for the field number k, from 0, of the text up to `to`.
-pub fn bytes_at(s: &[u8], to: usize, k: usize, out: &mut [u8], at: usize) -> Bytes
-    requires { (to ≤ length s.now) × (at ≤ length out.old) }
-    ensures { BytesFrom (field_at k s.now 0 to) s.now out.old at result out.new × BytesIn at (length out.old) result }
+// The bytes in the field k, from 0.
+pub fn bytes_at(alloc: Global, s: &[u8], k: usize) -> Result<Vec<u8>, BytesError>
+    ensures { BytesFrom (field_at k s.now) result }
 {
-    let Span::At(a, e) = field(s, 0, to, k) else {
-        return Bytes::Bad;
+    let Some(text) = field(s, k) else {
+        return Err(BytesError::Malformed);
     };
-    read_bytes(s, a, e, out, at)
+    read_bytes(alloc, text)
+}
+
+// Displays as the digits of the bytes.
+#[derive(Clone, Copy)]
+pub struct Hex<'a>(pub &'a [u8]);
+
+impl fmt::Display for Hex<'_> {
+    ghost output = { λ h. Some (hexed h.0.now) };
+
+    fn fmt<W: fmt::Write>(&self, f: &mut fmt::Formatter<W>) -> fmt::Result {
+        for &b in self.0 {
+            write!(f, "{b:02x}")?;
+        }
+        Ok(())
+    }
+}
+
+// Displays as the field of the bytes.
+#[derive(Clone, Copy)]
+pub struct Bytes<'a>(pub &'a [u8]);
+
+impl fmt::Display for Bytes<'_> {
+    ghost output = { λ b. Some (spelt b.0.now) };
+
+    fn fmt<W: fmt::Write>(&self, f: &mut fmt::Formatter<W>) -> fmt::Result {
+        let bytes = self.0;
+        if bytes.is_empty() {
+            return write!(f, "-");
+        }
+        write!(f, "{}", Hex(bytes))
+    }
 }

@@ -1,5 +1,5 @@
 // The text of the vectors: fields apart by single spaces, bytes in hexadecimal, numbers in decimal.
-// Reading answers what a field spells, or that it spells nothing; writing goes on from a place of a lent buffer.
+// Reading answers what a field spells, or that it spells nothing; writing goes on behind a text of bounded length.
 #![tactic(auto)]
 
 pub mod decimal;

@@ -1,9 +1,9 @@
 -- Other imports in both passes: none of their specifiers comes to hold the namespace's id.
+use Rattle.std.specs.Prelude.{Option, None, Some}
 use Prim.Native.Nat.{ℕ, ◌+◌, ◌<◌}
 use mathlib.Core.Path.{◌≡◌, refl, sym, ap, subst, ◌∙◌}
 use mathlib.Core.Bool.{Bool, true, false, not, cond, ◌||◌}
 use mathlib.Core.List.{List, [], ◌∷◌, ◌++◌}
-use mathlib.Core.Option.{Option, none as nothing, some}
 use native.Mathlib.Omega.{arith}
 use lib.Dec.{eqb}
 use lib.ListN.{length, take, drop, get_or, length-take, length-drop}
@@ -124,8 +124,8 @@ module _ (i : List ℕ) (own : ℕ) (context : context_of i ≡ four (local own)
       after-bind (note_all n fs (p + size f) s) _ (λ gs t. Each CleanSpec gs) (λ gs t. Each CleanSpec gs) (notes-clean n fs (p + size f) s h.1 w.1) λ gs s b. (a, b)
 
   specifiers-clean : (o : Option ℕ) (fs : Fields) (p : ℕ) (s : State) → Each CleanSpec fs → Each Whole fs → After (note_specifiers o fs p s) (λ gs t. Each CleanSpec gs)
-  specifiers-clean nothing fs p s h w = h
-  specifiers-clean (some n) fs p s h w = notes-clean n fs p s h w
+  specifiers-clean None fs p s h w = h
+  specifiers-clean (Some n) fs p s h w = notes-clean n fs p s h w
 
   clean-specs : (fs : Fields) → Each CleanSpec fs → Each Spec fs
   clean-specs fs h = each-weaken CleanSpec Spec fs (λ f k. k.1) h
@@ -161,8 +161,8 @@ module _ (i : List ℕ) (own : ℕ) (context : context_of i ≡ four (local own)
   sole-clean : (o : Option Field) (y : List ℕ) (ds : Fields) (s : State) → All (λ u. Property u.property) s.usages →
       Each CleanSpec (specifiers_in ds) → After (on_sole o y ds s) (λ g t. Clean y g)
   unfolding on_sole usages_of
-  sole-clean nothing y ds s h k = (refl, refl, k)
-  sole-clean (some f) y ds s h k =
+  sole-clean None y ds s h k = (refl, refl, k)
+  sole-clean (Some f) y ds s h k =
       after-if (has 0x22 f) _ (give (field 0x10 y ds)) s (λ g t. Clean y g)
       (λ _. apart-clean (filter (λ (u : Usage). same u.id (fixed_of f)) s.usages) y ds s
       (all-filter (λ (u : Usage). Property u.property) (λ (u : Usage). Property u.property) (λ (u : Usage). same u.id (fixed_of f))

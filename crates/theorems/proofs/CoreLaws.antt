@@ -1,10 +1,10 @@
 -- A namespace import whose source resolves, in an accepted extraction: the two ends, from what is known of the items around it.
+use Rattle.std.specs.Prelude.{Some}
 use Prim.Native.Nat.{ℕ}
 use mathlib.Core.Path.{◌≡◌, refl, sym, ap, ap₂, subst, ◌∙◌}
 use mathlib.Core.Logic.{inl, inr}
 use mathlib.Core.Bool.{Bool, true, false, true≢false}
 use mathlib.Core.List.{List, [], ◌∷◌, ◌++◌}
-use mathlib.Core.Option.{some}
 use Rattle.scope.specs.Id.{require_atom, local, export}
 use Rattle.scope.specs.Modules.{Modules, number_of}
 use Rattle.tree.specs.Layout.{same, two, four, name_of, context_of, value_of}
@@ -83,7 +83,7 @@ module _ (i lit : List ℕ) (own file : ℕ) (context : context_of i ≡ four (l
       fine-less (all_plain (stands items i)) (takes_apart (stands items i)) (ways_all (keep stays items) i false)
       (λ q. (both-true (is_used (filter is_use (stands items i))) (all_plain (stands items i)) q).1) (kept-fine k items h)
 
-  module _ (l : Lent) (rows : List Row) (res : file_of (value_of lit) rows ≡ some file) (inner : external (setting first own l rows) lit ≡ false)
+  module _ (l : Lent) (rows : List Row) (res : file_of (value_of lit) rows ≡ Some file) (inner : external (setting first own l rows) lit ≡ false)
       (within : external (setting second own l rows) lit ≡ false) where
     abbrev one : Setting
     one = setting first own l rows
@@ -123,17 +123,17 @@ module _ (i lit : List ℕ) (own file : ℕ) (context : context_of i ≡ four (l
     -- the resolved record of each end
     pub record-taken : (forced : List (List ℕ)) (ms : Modules) (c : List ℕ) (ps : List (List ℕ)) (t : State) (gs : Fields) → Ended true i lit c ps t →
         resolved_all rows forced ms (append (record_fields 0x80 t.collected) (record_fields 0x81 t.lazy)) 3 ≡ done gs →
-        record_for lit gs ≡ some (property_fields 0x91 c ps)
+        record_for lit gs ≡ Some (property_fields 0x91 c ps)
     record-taken forced ms c ps t gs h e =
         let w = record-found rows forced ms lit (ended_record true i lit c ps) t.collected (record_fields 0x81 t.lazy) 3 gs h.0 refl e in
-        w.2 ∙ ap some (properties-resolved (among (value_of lit) forced) c ps w.0 w.1 w.3)
+        w.2 ∙ ap Some (properties-resolved (among (value_of lit) forced) c ps w.0 w.1 w.3)
 
     pub record-kept : (ms : Modules) (c : List ℕ) (ps : List (List ℕ)) (t : State) (gs : Fields) → Ended false i lit c ps t →
         resolved_all rows t.forced ms (append (record_fields 0x80 t.collected) (record_fields 0x81 t.lazy)) 3 ≡ done gs →
-        record_for lit gs ≡ some (more (field 0x92 (i ++ 1 ∷ []) none) none)
+        record_for lit gs ≡ Some (more (field 0x92 (i ++ 1 ∷ []) none) none)
     record-kept ms c ps t gs h e =
         let w = record-found rows t.forced ms lit (ended_record false i lit c ps) t.collected (record_fields 0x81 t.lazy) 3 gs h.0 refl e in
-        w.2 ∙ ap some (namespace-made true i w.0 w.1 (subst (λ (b : Bool). resolved_specifiers b (more (field 0x22 i none) none) w.0 ≡ done w.1) h.1 w.3))
+        w.2 ∙ ap Some (namespace-made true i w.0 w.1 (subst (λ (b : Bool). resolved_specifiers b (more (field 0x22 i none) none) w.0 ≡ done w.1) h.1 w.3))
 
     -- ---- The two ends
 
@@ -185,7 +185,7 @@ module _ (i lit : List ℕ) (own file : ℕ) (context : context_of i ≡ four (l
 
     -- taken apart where the first argument says so, and kept otherwise
     abbrev pub EndsBy : Bool → ℕ → List How → Fields → Fields → Fields → Modules → Type 0
-    EndsBy true k us items outs gs ms = (n : ℕ) × (number_of file ms ≡ some n) × TakenApart i (four (export n)) lit k (properties us) items outs gs
+    EndsBy true k us items outs gs ms = (n : ℕ) × (number_of file ms ≡ Some n) × TakenApart i (four (export n)) lit k (properties us) items outs gs
     EndsBy false k us items outs gs ms = Kept i lit k items outs gs
 
     -- the usages of an import that is taken apart
@@ -199,7 +199,7 @@ module _ (i lit : List ℕ) (own file : ℕ) (context : context_of i ≡ four (l
     end-of : (b : Bool) (k : ℕ) (items outs gs : Fields) (s t : State) (ms : Modules) (n : ℕ) → takes_apart (stands items i) ≡ b →
         Surrounded k items → Held i lit own file n (stands items i) s → Spaces Space own locals s →
         Outs i lit own file n (stands items i) context named (place_kept k items) (keep stays items) outs →
-        Ended (takes_apart (stands items i)) i lit (four (export n)) (properties (stands items i)) t → Items outs → number_of file ms ≡ some n →
+        Ended (takes_apart (stands items i)) i lit (four (export n)) (properties (stands items i)) t → Items outs → number_of file ms ≡ Some n →
         resolved_all rows t.forced ms (append (record_fields 0x80 t.collected) (record_fields 0x81 t.lazy)) 3 ≡ done gs → EndsBy b k (stands items i) items outs gs ms
     end-of true k items outs gs s t ms n q h held sp o en shape number e = (
       n,

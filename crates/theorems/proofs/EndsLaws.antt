@@ -1,10 +1,10 @@
 -- From what the two passes leave to the words of demand 3: the declaration, the uses, and the name that is gone.
+use Rattle.std.specs.Prelude.{Some}
 use Prim.Native.Nat.{ℕ, zero, suc}
 use mathlib.Core.Path.{◌≡◌, refl, sym, ap, subst, ◌∙◌}
 use mathlib.Core.Logic.{inl, inr}
 use mathlib.Core.Bool.{Bool, true, false, cond, true≢false}
 use mathlib.Core.List.{List, [], ◌∷◌}
-use mathlib.Core.Option.{some}
 use native.Mathlib.Omega.{arith}
 use Rattle.scope.specs.Id.{require_atom, local, export}
 use Rattle.tree.specs.Layout.{same, two, four, name_of, context_of}
@@ -49,7 +49,7 @@ module _ (i lit : List ℕ) (own file n : ℕ) (us : List How) (context : contex
 
   pub declares-own : (k : ℕ) (items outs : Fields) → Outs i lit own file n us context named k items outs → Declares outs k lit (own_specifiers i lit own file n us context named taken)
   declares-own k none outs h = absurd h
-  declares-own zero (more f fs) outs h = (h.3.1.0, ap (item_at zero) h.2 ∙ ap some h.3.1.1, h.3.1.2)
+  declares-own zero (more f fs) outs h = (h.3.1.0, ap (item_at zero) h.2 ∙ ap Some h.3.1.1, h.3.1.2)
   declares-own (suc k) (more f fs) outs h = let w = declares-own k fs h.1 h.4 in (w.0, ap (item_at (suc k)) h.2 ∙ w.1, w.2)
 
   -- ---- The uses

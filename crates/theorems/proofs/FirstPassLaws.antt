@@ -1,11 +1,11 @@
 -- The whole first pass: at its end the state holds of a namespace what all its ways to stand tell. Behind the namespace's import other imports
 -- and other items stand in any order. In front of it the pass would note no use, so that only imports may stand there (`Front`).
+use Rattle.std.specs.Prelude.{Some}
 use Prim.Native.Nat.{ℕ, zero, suc, ◌+◌}
 use mathlib.Core.Path.{◌≡◌, refl, sym, subst, ◌∙◌}
 use mathlib.Core.Logic.{◌⊎◌, inl, inr}
 use mathlib.Core.Bool.{true, false}
 use mathlib.Core.List.{List, [], ◌++◌, append-nil}
-use mathlib.Core.Option.{some}
 use Rattle.scope.specs.Id.{require_atom, local}
 use Rattle.scope.specs.Modules.{Modules}
 use Rattle.tree.specs.Layout.{same, two, four, name_of, context_of, value_of}
@@ -61,7 +61,7 @@ module _ (i lit : List ℕ) (own file : ℕ) where
   other-import f (inl h) q = h
   other-import f (inr h) q = no_import f h q
 
-  module _ (e : Setting) (one : e.pass ≡ first) (mine : e.own ≡ own) (res : file_of (value_of lit) e.table ≡ some file) (inner : external e lit ≡ false)
+  module _ (e : Setting) (one : e.pass ≡ first) (mine : e.own ≡ own) (res : file_of (value_of lit) e.table ≡ Some file) (inner : external e lit ≡ false)
       (named : same (name_of i) (two require_atom) ≡ false) (context : context_of i ≡ four (local own)) where
     pub other-unfelt : (f : Field) (p : ℕ) (s : State) → OtherImport f → After (walk f e false p s) (λ g t. Unfelt i lit own file s t)
     other-unfelt f p s h = rw (walk-first e one f p s h.tag) (import-other i lit own file e (fixed_of f) (parts_of f) p s h.source h.locals h.spaces)

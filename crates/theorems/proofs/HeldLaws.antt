@@ -1,10 +1,10 @@
 -- The first pass over items that are no imports: what the state holds of one namespace is told by how its id has stood so far.
+use Rattle.std.specs.Prelude.{Option, None, Some}
 use Prim.Native.Nat.{ℕ, ◌+◌, ◌≤◌}
 use mathlib.Core.Path.{◌≡◌, refl, sym, ap, subst, ◌∙◌}
 use mathlib.Core.Logic.{◌⊎◌, inl, inr}
 use mathlib.Core.Bool.{Bool, true, false, not, cond, ◌&&◌, ◌||◌, true≢false, and_assoc, and_comm, and-false, and-true}
 use mathlib.Core.List.{List, [], ◌∷◌, ◌++◌, map, append-nil, append_assoc}
-use mathlib.Core.Option.{Option, none as nothing, some}
 use native.Mathlib.Omega.{arith}
 use lib.Dec.{eqb}
 use lib.ListN.{length, get_or}
@@ -56,8 +56,8 @@ usages_for-last i c (q ∷ ps) p = rw (usages_for-last i c ps p)
 -- i a namespace of the source a, c the export context of the source's module; ps the properties so far.
 -- All uses plain: imported, the properties are its usages, its source is not forced; else: forgotten and forced
 abbrev pub Stood : List ℕ → List ℕ → List ℕ → Bool → List (List ℕ) → State → Type 0
-Stood i a c true ps s = (imported_as i s.imported ≡ some c) × (usages_of i s.usages ≡ usages_for i c ps) × (among a s.forced ≡ false)
-Stood i a c false ps s = (imported_as i s.imported ≡ nothing) × (usages_of i s.usages ≡ []) × (among a s.forced ≡ true)
+Stood i a c true ps s = (imported_as i s.imported ≡ Some c) × (usages_of i s.usages ≡ usages_for i c ps) × (among a s.forced ≡ false)
+Stood i a c false ps s = (imported_as i s.imported ≡ None) × (usages_of i s.usages ≡ []) × (among a s.forced ≡ true)
 
 -- the namespace import's own record
 abbrev pub own_record : List ℕ → List ℕ → Record
@@ -66,23 +66,23 @@ own_record i l = record { literal = l; specifiers = more (field 0x22 i none) non
 -- of the namespace i of the import with the literal lit
 pub record Held (i lit : List ℕ) (own file n : ℕ) (us : List How) (s : State) : Type 0 where
   -- the source's record is as the import left it
-  pub entry : record_of (value_of lit) s.collected ≡ some (own_record i lit)
+  pub entry : record_of (value_of lit) s.collected ≡ Some (own_record i lit)
   -- it is the first record that holds i, and the first to hold no other namespace
-  pub holds : seek (holds_in i) s.collected ≡ some (value_of lit)
-  pub alone : (j : List ℕ) → seek (holds_in j) s.collected ≡ some (value_of lit) → j ≡ i
+  pub holds : seek (holds_in i) s.collected ≡ Some (value_of lit)
+  pub alone : (j : List ℕ) → seek (holds_in j) s.collected ≡ Some (value_of lit) → j ≡ i
   -- the search by name and context finds it too
-  pub finds : seek (suits_in own i) s.collected ≡ some (value_of lit)
+  pub finds : seek (suits_in own i) s.collected ≡ Some (value_of lit)
   -- the source's file has its number
-  pub given : number_of file s.modules ≡ some n
+  pub given : number_of file s.modules ≡ Some n
   pub stood : Stood i (value_of lit) (four (export n)) (all_plain us) (properties us) s
 
 -- a change of the state that the namespace does not feel
 pub record Unfelt (i lit : List ℕ) (own file : ℕ) (s t : State) : Type 0 where
   pub entry : record_of (value_of lit) t.collected ≡ record_of (value_of lit) s.collected
-  pub holders : (j : List ℕ) → seek (holds_in j) t.collected ≡ some (value_of lit) → seek (holds_in j) s.collected ≡ some (value_of lit)
+  pub holders : (j : List ℕ) → seek (holds_in j) t.collected ≡ Some (value_of lit) → seek (holds_in j) s.collected ≡ Some (value_of lit)
   pub holder : seek (holds_in i) t.collected ≡ seek (holds_in i) s.collected
   pub suited : seek (suits_in own i) t.collected ≡ seek (suits_in own i) s.collected
-  pub number : (n : ℕ) → number_of file s.modules ≡ some n → number_of file t.modules ≡ some n
+  pub number : (n : ℕ) → number_of file s.modules ≡ Some n → number_of file t.modules ≡ Some n
   pub context : imported_as i t.imported ≡ imported_as i s.imported
   pub usages : usages_of i t.usages ≡ usages_of i s.usages
   pub forced : among (value_of lit) t.forced ≡ among (value_of lit) s.forced
@@ -147,7 +147,7 @@ module _ (i lit : List ℕ) (own file n : ℕ) where
 
   -- ---- Changes that the namespace does not feel
 
-  pub unfelt-modules : (s : State) (ms : Modules) → ((n : ℕ) → number_of file s.modules ≡ some n → number_of file ms ≡ some n) → Unfelt i lit own file s (set_modules ms s)
+  pub unfelt-modules : (s : State) (ms : Modules) → ((n : ℕ) → number_of file s.modules ≡ Some n → number_of file ms ≡ Some n) → Unfelt i lit own file s (set_modules ms s)
   unfelt-modules s ms q = record { entry = refl; holders = λ j q. q; holder = refl; suited = refl; number = q; context = refl; usages = refl; forced = refl }
 
   unfelt-empty : (us : List How) (s : State) (l : List ℕ) → H us s → Unfelt i lit own file s (set_collected (collect_in (record { literal = l; specifiers = none }) s.collected) s)
@@ -179,7 +179,7 @@ module _ (i lit : List ℕ) (own file n : ℕ) where
   held-top us s b h = held-unfelt us s (set_top b s) (record { entry = refl; holders = λ j q. q; holder = refl; suited = refl; number = λ n q. q; context = refl; usages = refl; forced = refl }) h
 
   -- another id is forced
-  pub unfelt-force : (s : State) (j : List ℕ) → same j i ≡ false → (seek (holds_in j) s.collected ≡ some a → ⊥) → Unfelt i lit own file s (force_id j s)
+  pub unfelt-force : (s : State) (j : List ℕ) → same j i ≡ false → (seek (holds_in j) s.collected ≡ Some a → ⊥) → Unfelt i lit own file s (force_id j s)
   unfelt-force s j q h =
       let t = force-tables j s in
       record {
@@ -261,47 +261,47 @@ module _ (i lit : List ℕ) (own file n : ℕ) where
   held-late : (us l : List How) (s : State) → all_plain us ≡ false → H us s → H (us ++ l) s
   held-late us l s q h = held-like us (us ++ l) s (q ∙ sym (plain-append us l ∙ ap (λ (b : Bool). b && all_plain l) q)) (λ w. absurd (true≢false (sym w ∙ q))) h
 
-  module _ (e : Setting) (mine : e.own ≡ own) (res : file_of a e.table ≡ some file) where
+  module _ (e : Setting) (mine : e.own ≡ own) (res : file_of a e.table ≡ Some file) where
     -- ---- Usage
 
-    request-own : (ms : Modules) → number_of file ms ≡ some n → request file ms ≡ some (n, ms)
+    request-own : (ms : Modules) → number_of file ms ≡ Some n → request file ms ≡ Some (n, ms)
     unfolding request
     request-own ms q = rw q
 
     -- the module of the namespace's source
-    pub module-own : (us : List How) (p : ℕ) (s : State) → H us s → module_for e a p s ≡ done (some n, s)
+    pub module-own : (us : List How) (p : ℕ) (s : State) → H us s → module_for e a p s ≡ done (Some n, s)
     unfolding module_for
     module-own us p s h = rw (res, request-own s.modules h.given)
 
     -- of another id
     property-other : (us : List How) (o : Option ℕ) (j : List ℕ) (q : Field) (at p : ℕ) (s : State) → same j i ≡ false → H us s → After (use_property o j q at p s) (λ r t. H us t)
     unfolding use_property
-    property-other us nothing j q at p s d h = h
-    property-other us (some m) j q at p s d h =
+    property-other us None j q at p s d h = h
+    property-other us (Some m) j q at p s d h =
         after-if (has 0x72 q) (refuse 7 at) _ s (λ r t. H us t) (λ _. tt)
         (λ _. add_usage-keeps (H us) (record { id = j; property = id_from (fixed_of q) (export m) }) p s
         (held-usage-other us s (record { id = j; property = id_from (fixed_of q) (export m) }) d h))
 
     from-other : (us : List How) (o : Option Record) (j : List ℕ) (q : Field) (at p : ℕ) (s : State) → same j i ≡ false → H us s → After (use_from o e j q at p s) (λ r t. H us t)
     unfolding use_from
-    from-other us nothing j q at p s d h = h
-    from-other us (some r) j q at p s d h =
+    from-other us None j q at p s d h = h
+    from-other us (Some r) j q at p s d h =
         after-bind (module_for e (value_of r.literal) p s) _ (λ r t. H us t) (λ r t. H us t)
         (module_for-keeps e (H us) (held-requires e us) (value_of r.literal) p s h) λ m s h. property-other us m j q at p s d h
 
     imported-other : (us : List How) (o : Option (List ℕ)) (j : List ℕ) (q : Field) (at p : ℕ) (s : State) → same j i ≡ false → H us s →
         After (use_imported o e j q at p s) (λ r t. H us t)
     unfolding use_imported
-    imported-other us nothing j q at p s d h = h
-    imported-other us (some c) j q at p s d h =
+    imported-other us None j q at p s d h = h
+    imported-other us (Some c) j q at p s d h =
         after-if (has 0x71 q) (change (force_id j)) _ s (λ r t. H us t) (λ _. held-force-other us s j d h) (λ _. from-other us (used_record e.own j s.collected) j q at p s d h)
 
     -- of the id: a plain property
-    from-own : (us : List How) (o : Option Record) (q : Field) (at p : ℕ) (s : State) → mapped (λ (r : Record). value_of r.literal) o ≡ some a → all_plain us ≡ true → H us s →
+    from-own : (us : List How) (o : Option Record) (q : Field) (at p : ℕ) (s : State) → mapped (λ (r : Record). value_of r.literal) o ≡ Some a → all_plain us ≡ true → H us s →
         After (use_from o e i q at p s) (λ r t. H (us ++ (plain (fixed_of q) ∷ [])) t)
     unfolding use_from use_property
-    from-own us nothing q at p s w c h = absurd (let z : ◌≡◌ {A = ℕ} 0 1 = cc in omega arith)
-    from-own us (some r) q at p s w c h =
+    from-own us None q at p s w c h = absurd (let z : ◌≡◌ {A = ℕ} 0 1 = cc in omega arith)
+    from-own us (Some r) q at p s w c h =
         let v : value_of r.literal ≡ a = cc in
         rw (v, module-own us p s h)
         (after-if (has 0x72 q) (refuse 7 at) _ s (λ r t. H (us ++ (plain (fixed_of q) ∷ [])) t) (λ _. tt)
@@ -309,18 +309,18 @@ module _ (i lit : List ℕ) (own file n : ℕ) where
         (held-usage us s (fixed_of q) c h)))
 
     -- a 72 is refused
-    from-private : (us : List How) (o : Option Record) (q : Field) (at p : ℕ) (s : State) → mapped (λ (r : Record). value_of r.literal) o ≡ some a → has 0x72 q ≡ true → H us s →
+    from-private : (us : List How) (o : Option Record) (q : Field) (at p : ℕ) (s : State) → mapped (λ (r : Record). value_of r.literal) o ≡ Some a → has 0x72 q ≡ true → H us s →
         After (use_from o e i q at p s) (λ r t. H (us ++ (otherwise ∷ [])) t)
     unfolding use_from use_property
-    from-private us nothing q at p s w c h = absurd (let z : ◌≡◌ {A = ℕ} 0 1 = cc in omega arith)
-    from-private us (some r) q at p s w c h = let v : value_of r.literal ≡ a = cc in rw (v, module-own us p s h) (rw c tt)
+    from-private us None q at p s w c h = absurd (let z : ◌≡◌ {A = ℕ} 0 1 = cc in omega arith)
+    from-private us (Some r) q at p s w c h = let v : value_of r.literal ≡ a = cc in rw (v, module-own us p s h) (rw c tt)
 
     imported-own : (us : List How) (q : Field) (at p : ℕ) (s : State) → (tag_of q ≡ 0x70) ⊎ ((tag_of q ≡ 0x71) ⊎ (tag_of q ≡ 0x72)) → H us s →
         After (use_imported (imported_as i s.imported) e i q at p s) (λ r t. H (us ++ (by_member (more q none) ∷ [])) t)
     unfolding use_imported used_record
     imported-own us q at p s k h = go (all_plain us) refl
       where
-        found : seek (suits_in e.own i) s.collected ≡ some a
+        found : seek (suits_in e.own i) s.collected ≡ Some a
         found = ap (λ (o : ℕ). seek (suits_in o i) s.collected) mine ∙ h.finds
 
         by : (tag_of q ≡ 0x70) ⊎ ((tag_of q ≡ 0x71) ⊎ (tag_of q ≡ 0x72)) → all_plain us ≡ true →
@@ -349,7 +349,7 @@ module _ (i lit : List ℕ) (own file n : ℕ) where
             after-weaken (use_imported (imported_as (fixed_of o) s.imported) e (fixed_of o) q (p + 3 + size o) p s) (λ r t. H us t) (λ r t. H (us ++ []) t) (λ r t v. held-nil us t v)
             (imported-other us (imported_as (fixed_of o) s.imported) (fixed_of o) q (p + 3 + size o) p s w h)
 
-        go : (b : Bool) → After (usage (cond b (some (o, q)) nothing) e p s) (λ r t. H (us ++ met (cond b ((by_member (more q none), fixed_of o) ∷ []) []) i) t)
+        go : (b : Bool) → After (usage (cond b (Some (o, q)) None) e p s) (λ r t. H (us ++ met (cond b ((by_member (more q none), fixed_of o) ∷ []) []) i) t)
         go true = one (same (fixed_of o) i) refl
         go false = held-nil us s h
 

@@ -1,9 +1,9 @@
 -- The first pass over the imports: how a namespace comes to be held, and that other imports do not touch it.
+use Rattle.std.specs.Prelude.{Option, None, Some}
 use Prim.Native.Nat.{ℕ, ◌+◌}
 use mathlib.Core.Path.{◌≡◌, refl, sym, ap, ◌∙◌}
 use mathlib.Core.Bool.{Bool, true, false, cond, ◌&&◌, true≢false}
 use mathlib.Core.List.{List, []}
-use mathlib.Core.Option.{Option, none as nothing, some}
 use lib.Dec.{leb, eqb}
 use lib.ListN.{length, get_or}
 use Rattle.scope.specs.Id.{local, export}
@@ -62,13 +62,13 @@ module _ (i lit : List ℕ) (own file : ℕ) where
   abbrev pub OtherLocal : Field → Type 0
   OtherLocal f = same (cond (has 0x20 f) (id_at (fixed_of f) 0) (fixed_of f)) i ≡ false
 
-  space-holds : (fs : Fields) → Each OtherSpace fs → find_field (λ f. has 0x22 f && same (fixed_of f) i) fs ≡ nothing
+  space-holds : (fs : Fields) → Each OtherSpace fs → find_field (λ f. has 0x22 f && same (fixed_of f) i) fs ≡ None
   unfolding find_field
   space-holds none h = refl
   space-holds (more f fs) h = go (has 0x22 f) refl (space-holds fs h.1)
     where
-      go : (b : Bool) → has 0x22 f ≡ b → find_field (λ f. has 0x22 f && same (fixed_of f) i) fs ≡ nothing →
-          cond (b && same (fixed_of f) i) (some f) (find_field (λ f. has 0x22 f && same (fixed_of f) i) fs) ≡ nothing
+      go : (b : Bool) → has 0x22 f ≡ b → find_field (λ f. has 0x22 f && same (fixed_of f) i) fs ≡ None →
+          cond (b && same (fixed_of f) i) (Some f) (find_field (λ f. has 0x22 f && same (fixed_of f) i) fs) ≡ None
       go true q k = rw (h.0 q).0 k
       go false q k = k
 
@@ -77,7 +77,7 @@ module _ (i lit : List ℕ) (own file : ℕ) where
   space-suits none h = refl
   space-suits (more f fs) h = go (has 0x22 f) refl (space-suits fs h.1)
     where
-      go : (b : Bool) → has 0x22 f ≡ b → suits_in own i fs ≡ false → suits own i (cond b (some f) (find_field (has 0x22) fs)) ≡ false
+      go : (b : Bool) → has 0x22 f ≡ b → suits_in own i fs ≡ false → suits own i (cond b (Some f) (find_field (has 0x22) fs)) ≡ false
       go true q k = rw (h.0 q).1
       go false q k = k
 
@@ -130,20 +130,20 @@ module _ (i lit : List ℕ) (own file : ℕ) where
       (unfelt-trans s t u w.0 v.0, (w.1, v.1))
 
   specifiers-other : (o : Option ℕ) (fs : Fields) (p : ℕ) (s : State) → Each OtherLocal fs → Each OtherSpace fs → After (note_specifiers o fs p s) (λ gs t. U s t × Each OtherSpace gs)
-  specifiers-other nothing fs p s h k = (unfelt-refl s, k)
-  specifiers-other (some n) fs p s h k = notes-other n fs p s h k
+  specifiers-other None fs p s h k = (unfelt-refl s, k)
+  specifiers-other (Some n) fs p s h k = notes-other n fs p s h k
 
   pub module-other : (e : Setting) (b : List ℕ) (p : ℕ) (s : State) → After (module_for e b p s) (λ m t. U s t)
   unfolding module_for
   module-other e b p s = go (file_of b e.table)
     where
       ask : (f : ℕ) (r : Option (ℕ × Modules)) → request f s.modules ≡ r → After (requested r p s) (λ m t. U s t)
-      ask f nothing q = tt
-      ask f (some r) q = unfelt-modules i lit own file 0 s r.1 (λ n w. request-keeps-numbers f s.modules q file n w)
+      ask f None q = tt
+      ask f (Some r) q = unfelt-modules i lit own file 0 s r.1 (λ n w. request-keeps-numbers f s.modules q file n w)
 
       go : (o : Option ℕ) → After (module_of o p s) (λ m t. U s t)
-      go nothing = unfelt-refl s
-      go (some f) = ask f (request f s.modules) refl
+      go None = unfelt-refl s
+      go (Some f) = ask f (request f s.modules) refl
 
   -- an import of another source, with other local ids and names
   pub import-other : (e : Setting) (y : List ℕ) (ds : Fields) (p : ℕ) (s : State) → same (value_of y) a ≡ false → Each OtherLocal (specifiers_in ds) →
@@ -159,9 +159,9 @@ module _ (i lit : List ℕ) (own file : ℕ) where
   -- ---- Before the namespace's own import
 
   pub record Before (s : State) : Type 0 where
-    pub no_record : record_of a s.collected ≡ nothing
-    pub not_held : seek (holds_in i) s.collected ≡ nothing
-    pub not_found : seek (suits_in own i) s.collected ≡ nothing
+    pub no_record : record_of a s.collected ≡ None
+    pub not_held : seek (holds_in i) s.collected ≡ None
+    pub not_found : seek (suits_in own i) s.collected ≡ None
     pub no_usages : usages_of i s.usages ≡ []
     pub not_forced : among a s.forced ≡ false
 
@@ -191,11 +191,11 @@ module _ (i lit : List ℕ) (own file : ℕ) where
     unfolding find_field
     own-only j h = go (same i j) refl h
       where
-        go : (b : Bool) → same i j ≡ b → is_some (cond b (some (field 0x22 i none)) nothing) ≡ true → j ≡ i
+        go : (b : Bool) → same i j ≡ b → is_some (cond b (Some (field 0x22 i none)) None) ≡ true → j ≡ i
         go true q h = sym (same-equal i j q)
         go false q h = absurd (true≢false (sym h))
 
-    held-own : (n : ℕ) (s : State) → Before s → number_of file s.modules ≡ some n → imported_as i s.imported ≡ some (four (export n)) →
+    held-own : (n : ℕ) (s : State) → Before s → number_of file s.modules ≡ Some n → imported_as i s.imported ≡ Some (four (export n)) →
         Held i lit own file n [] (set_collected (collect_in (own_record i lit) s.collected) s)
     unfolding all filter properties
     held-own n s h g m =
@@ -212,9 +212,9 @@ module _ (i lit : List ℕ) (own file : ℕ) where
 
     -- noted: its id with the export context of the source's module
     abbrev Noticed : ℕ → State → Type 0
-    Noticed n s = Before s × (number_of file s.modules ≡ some n) × (imported_as i s.imported ≡ some (four (export n)))
+    Noticed n s = Before s × (number_of file s.modules ≡ Some n) × (imported_as i s.imported ≡ Some (four (export n)))
 
-    note-own : (n p : ℕ) (s : State) → Before s → number_of file s.modules ≡ some n →
+    note-own : (n p : ℕ) (s : State) → Before s → number_of file s.modules ≡ Some n →
         After (note_all n (more (field 0x22 i none) none) p s) (λ gs t. (gs ≡ more (field 0x22 i none) none) × Noticed n t)
     unfolding note_all note_specifier note_id
     note-own n p s h g =
@@ -243,7 +243,7 @@ module _ (i lit : List ℕ) (own file : ℕ) where
     abbrev pub Redeclared : Fields → Field → Type 0
     Redeclared ds g = (m : Option ℕ) × (g ≡ field 0x10 lit (append (more (field 0x22 i none) none) (with_context m ds)))
 
-    pub import-own : (e : Setting) (ds : Fields) (p : ℕ) (s : State) → file_of a e.table ≡ some file → external e lit ≡ false →
+    pub import-own : (e : Setting) (ds : Fields) (p : ℕ) (s : State) → file_of a e.table ≡ Some file → external e lit ≡ false →
         specifiers_in ds ≡ more (field 0x22 i none) none → Before s →
         After (import_first e lit ds p s) (λ g t. ((n : ℕ) × Held i lit own file n [] t) × Redeclared ds g)
     unfolding import_first module_for
@@ -256,8 +256,8 @@ module _ (i lit : List ℕ) (own file : ℕ) where
             (λ c. onto (collect (record { literal = lit; specifiers = c.0 }) p c.1)
             (λ u. done (field 0x10 lit (append c.0 (with_context o.0 ds)), u.1)))))
             (λ g t. ((n : ℕ) × Held i lit own file n [] t) × Redeclared ds g)
-        ask nothing w = tt
-        ask (some r) w =
+        ask None w = tt
+        ask (Some r) w =
             let u : State = set_modules r.1 s in
             let k : Before u = record { no_record = h.no_record; not_held = h.not_held; not_found = h.not_found; no_usages = h.no_usages; not_forced = h.not_forced } in
             after-bind (note_all r.0 (more (field 0x22 i none) none) (inside p lit) u) _
@@ -265,4 +265,4 @@ module _ (i lit : List ℕ) (own file : ℕ) where
             (note-own r.0 (inside p lit) u k (request-numbers file s.modules w)) λ gs s v.
             after-bind (collect (record { literal = lit; specifiers = gs }) p s) _ (λ u t. Held i lit own file r.0 [] t)
             (λ g t. ((n : ℕ) × Held i lit own file n [] t) × Redeclared ds g) (collect-own r.0 gs p s v.0 v.1) λ u s z.
-            ((r.0, z), (some r.0, ap (λ (f : Fields). field 0x10 lit (append f (with_context (some r.0) ds))) v.0))
+            ((r.0, z), (Some r.0, ap (λ (f : Fields). field 0x10 lit (append f (with_context (Some r.0) ds))) v.0))

@@ -1,11 +1,11 @@
 -- The sentence on lists: after every list of calls from a fresh scope, a module is marked for wrapping exactly when an accepted extraction
 -- of the list forced a source that its table resolves to the module, or an accepted call that sets the wrapping mark named it.
+use Rattle.std.specs.Prelude.{Option, None, Some}
 use Prim.Native.Nat.{ℕ, ◌+◌}
 use native.Mathlib.Omega.{arith}
 use mathlib.Core.Path.{◌≡◌, refl, sym, ap, ◌∙◌}
 use mathlib.Core.Bool.{Bool, true, false, cond, not, ◌&&◌, ◌||◌, or-false, or_assoc}
 use mathlib.Core.List.{List, [], ◌∷◌}
-use mathlib.Core.Option.{Option, none as nothing, some}
 use lib.Dec.{ltb, eqb}
 use lib.ListN.{length}
 use borrow.Author.Tests.{ltb-true}
@@ -33,8 +33,8 @@ unwrapping {a} {b} e = e ∙ sym (or-false b)
 
 request-marked : (n f : ℕ) (ms : Modules) (o : Option (ℕ × Modules)) → request f ms ≡ o →
     is_marked Wrapping n (generated_by o ms).modules ≡ is_marked Wrapping n ms
-request-marked n f ms nothing e = refl
-request-marked n f ms (some r) e = request-keeps-marks f ms e Wrapping n
+request-marked n f ms None e = refl
+request-marked n f ms (Some r) e = request-keeps-marks f ms e Wrapping n
 
 request_all-marked : (n : ℕ) (fs : List ℕ) (ms : Modules) → is_marked Wrapping n (request_all fs ms).modules ≡ is_marked Wrapping n ms
 unfolding request_all
@@ -43,12 +43,12 @@ request_all-marked n (f ∷ fs) ms = go (request f ms) refl (λ new. request_all
   where
     go : (o : Option (ℕ × Modules)) → request f ms ≡ o → ((new : Modules) → is_marked Wrapping n (request_all fs new).modules ≡ is_marked Wrapping n new) →
         is_marked Wrapping n (go_on o (λ r. request_all fs r) ms).modules ≡ is_marked Wrapping n ms
-    go nothing e h = refl
-    go (some r) e h = h r.1 ∙ request-keeps-marks f ms e Wrapping n
+    go None e h = refl
+    go (Some r) e h = h r.1 ∙ request-keeps-marks f ms e Wrapping n
 
 -- what setting a mark leaves, where b says whether the number was given
 abbrev marking_by : Bool → Mark → ℕ → Modules → Left
-marking_by b k m ms = cond b (record { modules = set_mark k m ms; refusal = nothing }) (record { modules = ms; refusal = some not_given })
+marking_by b k m ms = cond b (record { modules = set_mark k m ms; refusal = None }) (record { modules = ms; refusal = Some not_given })
 
 -- a mark of another kind
 other-marked : (k : Mark) (n m : ℕ) (ms : Modules) (b : Bool) → (Wrapping ≡ k → ⊥) →
@@ -66,12 +66,12 @@ set-marked n m ms false e = unwrapping refl
 
 number_one-marks : (o : Option ℕ) (ms : Modules) (p : ℕ) → Of (number_one o ms p) (SameMarks ms)
 unfolding number_one
-number_one-marks nothing ms p = λ n. refl
-number_one-marks (some f) ms p = go (request f ms) refl
+number_one-marks None ms p = λ n. refl
+number_one-marks (Some f) ms p = go (request f ms) refl
   where
     go : (o : Option (ℕ × Modules)) → request f ms ≡ o → Of (requested o p) (SameMarks ms)
-    go nothing e = tt
-    go (some r) e = λ n. request-keeps-marks f ms e Wrapping n
+    go None e = tt
+    go (Some r) e = λ n. request-keeps-marks f ms e Wrapping n
 
 same-marks-onto : (ms new : Modules) (o : Outcome Modules) → SameMarks ms new → Of o (SameMarks new) → Of o (SameMarks ms)
 same-marks-onto ms new (done last) h k = λ n. k n ∙ h n

@@ -1,10 +1,10 @@
 -- What the second pass makes of a field that is in no import: it stays as it was, or a member expression becomes an identifier.
+use Rattle.std.specs.Prelude.{None, Some}
 use Prim.Native.Nat.{ℕ, ◌+◌, ◌*◌, ◌%◌}
 use mathlib.Core.Path.{◌≡◌, refl, sym, ap, subst, ◌∙◌}
 use mathlib.Core.Logic.{◌⊎◌, inl, inr}
 use mathlib.Core.Bool.{Bool, true, false, not, ◌||◌, or_assoc}
 use mathlib.Core.List.{List, [], ◌∷◌, ◌++◌}
-use mathlib.Core.Option.{none as nothing, some}
 use native.Mathlib.Omega.{arith}
 use lib.ListN.{length, get_or}
 use Rattle.scope.specs.Id.{require_atom, local, export}
@@ -42,14 +42,14 @@ Says own s =
     (j : List ℕ) →
     (usages_of j s.usages ≡ []) ⊎
     ((context_of j ≡ four (local own))
-    × ((imported_as j s.imported ≡ nothing) ⊎ ((n : ℕ) × (imported_as j s.imported ≡ some (four (export n))))))
+    × ((imported_as j s.imported ≡ None) ⊎ ((n : ℕ) × (imported_as j s.imported ≡ Some (four (export n))))))
 
 pub foreign-unused : (own : ℕ) (s : State) (j : List ℕ) → Says own s → Foreign own j → usages_of j s.usages ≡ []
 foreign-unused own s j h k = go (h j)
   where
     go : (usages_of j s.usages ≡ []) ⊎
         ((context_of j ≡ four (local own))
-        × ((imported_as j s.imported ≡ nothing) ⊎ ((n : ℕ) × (imported_as j s.imported ≡ some (four (export n)))))) → usages_of j s.usages ≡ []
+        × ((imported_as j s.imported ≡ None) ⊎ ((n : ℕ) × (imported_as j s.imported ≡ Some (four (export n)))))) → usages_of j s.usages ≡ []
     go (inl q) = q
     go (inr q) = absurd (not-same (context_of j) (four (local own)) k q.0)
 
@@ -59,16 +59,16 @@ says-force own s j h k = go (same j k) refl (h k)
     go : (b : Bool) → same j k ≡ b →
         (usages_of k s.usages ≡ []) ⊎
         ((context_of k ≡ four (local own))
-        × ((imported_as k s.imported ≡ nothing) ⊎ ((n : ℕ) × (imported_as k s.imported ≡ some (four (export n)))))) →
+        × ((imported_as k s.imported ≡ None) ⊎ ((n : ℕ) × (imported_as k s.imported ≡ Some (four (export n)))))) →
         (usages_of k (force_id j s).usages ≡ []) ⊎
         ((context_of k ≡ four (local own))
-        × ((imported_as k (force_id j s).imported ≡ nothing) ⊎ ((n : ℕ) × (imported_as k (force_id j s).imported ≡ some (four (export n))))))
+        × ((imported_as k (force_id j s).imported ≡ None) ⊎ ((n : ℕ) × (imported_as k (force_id j s).imported ≡ Some (four (export n))))))
     go true q w = inl (ap (usages_of k) (force-tables j s).3 ∙ rw (same-equal j k q) (forgotten-usages k s.usages))
     go false q (inl w) = inl (ap (usages_of k) (force-tables j s).3 ∙ other-usages k j s.usages q ∙ w)
     go false q (inr w) = inr (w.0, by w.1)
       where
-        by : (imported_as k s.imported ≡ nothing) ⊎ ((n : ℕ) × (imported_as k s.imported ≡ some (four (export n)))) →
-            (imported_as k (force_id j s).imported ≡ nothing) ⊎ ((n : ℕ) × (imported_as k (force_id j s).imported ≡ some (four (export n))))
+        by : (imported_as k s.imported ≡ None) ⊎ ((n : ℕ) × (imported_as k s.imported ≡ Some (four (export n)))) →
+            (imported_as k (force_id j s).imported ≡ None) ⊎ ((n : ℕ) × (imported_as k (force_id j s).imported ≡ Some (four (export n))))
         by (inl v) = inl (ap (imported_as k) (force-tables j s).2 ∙ other-imported k j s.imported q ∙ v)
         by (inr v) = inr (v.0, ap (imported_as k) (force-tables j s).2 ∙ other-imported k j s.imported q ∙ v.1)
 
@@ -148,7 +148,7 @@ module _ (taken : Bool) (i c : List ℕ) (own : ℕ) where
   callee-out (field m z ds) g n q w (inl h) = inl (h.0, callee-bytes m z (fixed_of g) n h.1 (sym h.0 ∙ q) w, h.2, h.3)
   callee-out (field m z ds) g n q w (inr h) = inr (turned-callee m ds g n w q h)
 
-  pub out-callee : (e : Setting) (n : ℕ) (f g : Field) (l : List ℕ) → required e g ≡ some l → Out f g → Out f (with_callee n g)
+  pub out-callee : (e : Setting) (n : ℕ) (f g : Field) (l : List ℕ) → required e g ≡ Some l → Out f g → Out f (with_callee n g)
   unfolding with_callee
   out-callee e n f (field t x none) l q h = h
   out-callee e n (field k y cs) (field t x (more d gs)) l q (inr h) = absurd (let z : 0x65 ≡ 0x60 = sym (required-call e t x d gs l q).0 ∙ h.out in omega arith)
@@ -161,7 +161,7 @@ module _ (taken : Bool) (i c : List ℕ) (own : ℕ) where
   pub declarator-out : (e : Setting) (cs ds : Fields) (p : ℕ) (s : State) → OutAll cs ds → After (declarator e ds p s) (λ gs s. OutAll cs gs)
   declarator-out e cs ds p s h = declarator-value e (OutAll cs) ds p s h (λ q j rest n l w r. go cs q j rest n l r (subst (OutAll cs) w h))
     where
-      go : (cs : Fields) (q j : Field) (rest : Fields) (n : ℕ) (l : List ℕ) → required e j ≡ some l → OutAll cs (more q (more j rest)) → OutAll cs (more q (more (with_callee n j) rest))
+      go : (cs : Fields) (q j : Field) (rest : Fields) (n : ℕ) (l : List ℕ) → required e j ≡ Some l → OutAll cs (more q (more j rest)) → OutAll cs (more q (more (with_callee n j) rest))
       go none q j rest n l r h = out-none q (more j rest) h
       go (more f none) q j rest n l r h = out-none j rest (out-more f none q (more j rest) h).1
       go (more f (more d fs)) q j rest n l r h =

@@ -1,11 +1,11 @@
 -- The second pass over items that are no imports: what stays as it was, and which member expressions become identifiers. The same before the
 -- namespace's import and behind it: of the state only what is `Carried` is used.
+use Rattle.std.specs.Prelude.{Option, None, Some}
 use Prim.Native.Nat.{ℕ, ◌+◌, ◌≤◌}
 use mathlib.Core.Path.{◌≡◌, refl, sym, ap, ap₂, subst, ◌∙◌}
 use mathlib.Core.Logic.{◌⊎◌, inl, inr}
 use mathlib.Core.Bool.{Bool, true, false, not, cond, ◌||◌, true≢false}
 use mathlib.Core.List.{List, [], ◌∷◌, ◌++◌}
-use mathlib.Core.Option.{Option, none as nothing, some}
 use native.Mathlib.Omega.{arith}
 use lib.Dec.{eqb}
 use lib.ListN.{length, get_or}
@@ -51,8 +51,8 @@ use Rattle.theorems.proofs.OutFieldLaws.{export-foreign, Foreign, Says, foreign-
 pub record Carried (plain taken : Bool) (i lit c : List ℕ) (own file : ℕ) (ps : List (List ℕ)) (J : State → Type 0) : Type 0 where
   pub on_unfelt : (s t : State) → Unfelt i lit own file s t → J s → J t
   pub on_force : (s : State) → (plain ≡ true → ⊥) → J s → J (force_id i s)
-  pub alone : (s : State) (j : List ℕ) → J s → seek (holds_in j) s.collected ≡ some (value_of lit) → j ≡ i
-  pub apart : (s : State) → J s → taken ≡ true → (imported_as i s.imported ≡ some c) × (usages_of i s.usages ≡ usages_for i c ps)
+  pub alone : (s : State) (j : List ℕ) → J s → seek (holds_in j) s.collected ≡ Some (value_of lit) → j ≡ i
+  pub apart : (s : State) → J s → taken ≡ true → (imported_as i s.imported ≡ Some c) × (usages_of i s.usages ≡ usages_for i c ps)
   pub kept : (s : State) → J s → taken ≡ false → usages_of i s.usages ≡ []
 
 module _ (plain taken : Bool) (less : taken ≡ true → plain ≡ true) (i lit : List ℕ) (own file n : ℕ) (ps : List (List ℕ)) (J : State → Type 0)
@@ -99,12 +99,12 @@ module _ (plain taken : Bool) (less : taken ≡ true → plain ≡ true) (i lit 
   -- ---- A 63, its parts walked
 
   -- a property, or the expression as it was, and why
-  property-cases : (u : List Usage) (o : Option (List ℕ)) (q f : Field) (Q : Field → Type 0) → ((u ≡ []) ⊎ ((o ≡ nothing) ⊎ (has 0x70 q ≡ false)) → Q f) →
-      ((v : Usage) (w : List Usage) (d : List ℕ) → u ≡ v ∷ w → o ≡ some d → has 0x70 q ≡ true → Q (field 0x60 (fixed_of q ++ d) none)) → Q (as_property u o q f)
+  property-cases : (u : List Usage) (o : Option (List ℕ)) (q f : Field) (Q : Field → Type 0) → ((u ≡ []) ⊎ ((o ≡ None) ⊎ (has 0x70 q ≡ false)) → Q f) →
+      ((v : Usage) (w : List Usage) (d : List ℕ) → u ≡ v ∷ w → o ≡ Some d → has 0x70 q ≡ true → Q (field 0x60 (fixed_of q ++ d) none)) → Q (as_property u o q f)
   unfolding as_property
   property-cases [] o q f Q h k = h (inl refl)
-  property-cases (v ∷ w) nothing q f Q h k = h (inr (inl refl))
-  property-cases (v ∷ w) (some d) q f Q h k = go (has 0x70 q) refl
+  property-cases (v ∷ w) None q f Q h k = h (inr (inl refl))
+  property-cases (v ∷ w) (Some d) q f Q h k = go (has 0x70 q) refl
     where
       go : (b : Bool) → has 0x70 q ≡ b → Q (cond b (field 0x60 (fixed_of q ++ d) none) f)
       go true e = k v w d refl refl e
@@ -140,7 +140,7 @@ module _ (plain taken : Bool) (less : taken ≡ true → plain ≡ true) (i lit 
             )
 
     -- the usages and the context of i
-    own-usages : (s : State) → At s → taken ≡ true → (usages_of i s.usages ≡ [] → ⊥) × (imported_as i s.imported ≡ some c)
+    own-usages : (s : State) → At s → taken ≡ true → (usages_of i s.usages ≡ [] → ⊥) × (imported_as i s.imported ≡ Some c)
     own-usages s h q = let k = carried.apart s h.0 q in ((λ e. go ps (used q) (sym k.1 ∙ e)), k.0)
       where
         go : (l : List (List ℕ)) → (l ≡ [] → ⊥) → usages_for i c l ≡ [] → ⊥
@@ -155,15 +155,15 @@ module _ (plain taken : Bool) (less : taken ≡ true → plain ≡ true) (i lit 
     bool-cases false Q h k = k refl
 
     stay-out : (x : List ℕ) (o q w v : Field) (s : State) → O o w → O q v → tag_of v ≡ tag_of q → tag_of w ≡ 0x60 → At s →
-        (usages_of (fixed_of w) s.usages ≡ []) ⊎ ((imported_as (fixed_of w) s.imported ≡ nothing) ⊎ (has 0x70 v ≡ false)) →
+        (usages_of (fixed_of w) s.usages ≡ []) ⊎ ((imported_as (fixed_of w) s.imported ≡ None) ⊎ (has 0x70 v ≡ false)) →
         O (field 0x63 x (more o (more q none))) (field 0x63 x (more w (more v none)))
     stay-out x o q w v s ow qv tv tw h why =
         inl (refl, equal refl, unturned, (w, more v none, refl, ow, (v, none, refl, qv, refl)))
       where
         refuted : fixed_of w ≡ i → tag_of q ≡ 0x70 → taken ≡ true →
-            (usages_of (fixed_of w) s.usages ≡ []) ⊎ ((imported_as (fixed_of w) s.imported ≡ nothing) ⊎ (has 0x70 v ≡ false)) → ⊥
+            (usages_of (fixed_of w) s.usages ≡ []) ⊎ ((imported_as (fixed_of w) s.imported ≡ None) ⊎ (has 0x70 v ≡ false)) → ⊥
         refuted e k t (inl r) = (own-usages s h t).0 (ap (λ (y : List ℕ). usages_of y s.usages) (sym e) ∙ r)
-        refuted e k t (inr (inl r)) = let y = (own-usages s h t).1 in let u : imported_as i s.imported ≡ nothing =
+        refuted e k t (inr (inl r)) = let y = (own-usages s h t).1 in let u : imported_as i s.imported ≡ None =
             ap (λ (y : List ℕ). imported_as y s.imported) (sym e) ∙ r in let z : ◌≡◌ {A = ℕ} 0 1 = cc in omega arith
         refuted e k t (inr (inr r)) = true≢false (sym (ap (λ (m : ℕ). eqb m 0x70) (tv ∙ k)) ∙ r)
 
@@ -188,13 +188,13 @@ module _ (plain taken : Bool) (less : taken ≡ true → plain ≡ true) (i lit 
 
     turn-out : (x : List ℕ) (o q v w : Field) (s : State) (u : Usage) (us : List Usage) (d : List ℕ) → O o w → tag_of w ≡ 0x60 → tag_of q ≡ 0x70 →
         fixed_of v ≡ fixed_of q → length (fixed_of q) ≡ 2 →
-        Fine plain (met (object_ids true (more o (more q none))) i) → At s → usages_of (fixed_of w) s.usages ≡ u ∷ us → imported_as (fixed_of w) s.imported ≡ some d →
+        Fine plain (met (object_ids true (more o (more q none))) i) → At s → usages_of (fixed_of w) s.usages ≡ u ∷ us → imported_as (fixed_of w) s.imported ≡ Some d →
         O (field 0x63 x (more o (more q none))) (field 0x60 (fixed_of v ++ d) none)
     turn-out x o q v w s u us d ow tw tq bv len fine h used-here as-d = by (walked-ident o w ow tw)
       where
         exported : (usages_of (fixed_of w) s.usages ≡ []) ⊎
             ((context_of (fixed_of w) ≡ four (local own))
-            × ((imported_as (fixed_of w) s.imported ≡ nothing) ⊎ ((m : ℕ) × (imported_as (fixed_of w) s.imported ≡ some (four (export m)))))) →
+            × ((imported_as (fixed_of w) s.imported ≡ None) ⊎ ((m : ℕ) × (imported_as (fixed_of w) s.imported ≡ Some (four (export m)))))) →
             same d (four (local own)) ≡ false
         exported (inl r) = absurd (let z : ◌≡◌ {A = ℕ} 0 1 = cc in omega arith)
         exported (inr (_, inl r)) = absurd (let z : ◌≡◌ {A = ℕ} 0 1 = cc in omega arith)
@@ -209,7 +209,7 @@ module _ (plain taken : Bool) (less : taken ≡ true → plain ≡ true) (i lit 
         named-whole : (p : List ℕ) →
             (usages_of (fixed_of w) s.usages ≡ []) ⊎
             ((context_of (fixed_of w) ≡ four (local own))
-            × ((imported_as (fixed_of w) s.imported ≡ nothing) ⊎ ((m : ℕ) × (imported_as (fixed_of w) s.imported ≡ some (four (export m)))))) →
+            × ((imported_as (fixed_of w) s.imported ≡ None) ⊎ ((m : ℕ) × (imported_as (fixed_of w) s.imported ≡ Some (four (export m)))))) →
             length p ≡ 2 → id_at (p ++ d) 0 ≡ p ++ d
         named-whole p (inl r) k = absurd (let z : ◌≡◌ {A = ℕ} 0 1 = cc in omega arith)
         named-whole p (inr (_, inl r)) k = absurd (let z : ◌≡◌ {A = ℕ} 0 1 = cc in omega arith)
@@ -238,7 +238,7 @@ module _ (plain taken : Bool) (less : taken ≡ true → plain ≡ true) (i lit 
                   (λ t. absurd
                   (let z = kept-usages s h t in let k : usages_of i s.usages ≡ u ∷ us = ap (λ (y : List ℕ). usages_of y s.usages) (sym m)
                   ∙ used-here in let z : ◌≡◌ {A = ℕ} 0 1 = cc in omega arith)) in
-                  let k : imported_as i s.imported ≡ some d = ap (λ (y : List ℕ). imported_as y s.imported) (sym m) ∙ as-d in
+                  let k : imported_as i s.imported ≡ Some d = ap (λ (y : List ℕ). imported_as y s.imported) (sym m) ∙ as-d in
                   let f = (own-usages s h t).1 in
                   let dc : d ≡ c = cc in (
                     t,
@@ -284,7 +284,7 @@ module _ (plain taken : Bool) (less : taken ≡ true → plain ≡ true) (i lit 
             ((out-tag taken i c own o w ow (λ z. let m : ◌≡◌ {A = ℕ} 0x60 0x63 = sym to ∙ ap tag_of (sym eo) ∙ z in omega arith)).0 ∙ ap tag_of eo
             ∙ to)) ∙ r))
 
-        go : (b : Bool) → eqb (tag_of w) 0x60 ≡ b → O (field 0x63 x (more o (more q none))) (rewritten (cond b (some (w, v)) nothing) (field 0x63 x (more w (more v none))) s)
+        go : (b : Bool) → eqb (tag_of w) 0x60 ≡ b → O (field 0x63 x (more o (more q none))) (rewritten (cond b (Some (w, v)) None) (field 0x63 x (more w (more v none))) s)
         go true r =
             property-cases (usages_of (fixed_of w) s.usages) (imported_as (fixed_of w) s.imported) v (field 0x63 x (more w (more v none))) (O (field 0x63 x (more o (more q none))))
             (λ why. stay-out x o q w v s ow qv tv.0 (eqb-true (tag_of w) 0x60 r) h why)

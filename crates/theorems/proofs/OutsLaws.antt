@@ -1,11 +1,11 @@
 -- The whole second pass: what it makes of *work*, item by item, imports and others in any order, and the state that it leaves. Until its own
 -- import the namespace is held as the first pass left it (`Early`), and then it is settled (`Late`); both are carried by all other items.
+use Rattle.std.specs.Prelude.{Option, None, Some}
 use Prim.Native.Nat.{ℕ, zero, suc, ◌+◌}
 use mathlib.Core.Path.{◌≡◌, refl, sym, ap, subst, ◌∙◌}
 use mathlib.Core.Logic.{◌⊎◌, inl, inr}
 use mathlib.Core.Bool.{Bool, true, false, ◌&&◌, ◌||◌, true≢false, and-false, and-true}
 use mathlib.Core.List.{List, [], ◌∷◌, ◌++◌}
-use mathlib.Core.Option.{Option, none as nothing, some}
 use native.Mathlib.Omega.{arith}
 use Rattle.scope.specs.Id.{require_atom, local, export}
 use Rattle.tree.specs.Layout.{same, two, four, name_of, context_of, value_of}
@@ -58,8 +58,8 @@ apart-same (u ∷ us) y ds s = (refl, refl)
 
 sole-same : (o : Option Field) (y : List ℕ) (ds : Fields) (s : State) → After (on_sole o y ds s) (λ g t. Same s t)
 unfolding on_sole
-sole-same nothing y ds s = (refl, refl)
-sole-same (some f) y ds s = after-if (has 0x22 f) _ (give (field 0x10 y ds)) s (λ g t. Same s t) (λ _. apart-same (usages_of (fixed_of f) s.usages) y ds s) (λ _. (refl, refl))
+sole-same None y ds s = (refl, refl)
+sole-same (Some f) y ds s = after-if (has 0x22 f) _ (give (field 0x10 y ds)) s (λ g t. Same s t) (λ _. apart-same (usages_of (fixed_of f) s.usages) y ds s) (λ _. (refl, refl))
 
 second-same : (e : Setting) (y : List ℕ) (ds : Fields) (s : State) → After (import_second e y ds s) (λ g t. Same s t)
 unfolding import_second
@@ -135,10 +135,10 @@ module _ (i lit : List ℕ) (own file n : ℕ) (us : List How) (context : contex
           let w = plain-append us (original ∷ []) ∙ and-false plain in
           held-like i lit own file n (us ++ (original ∷ [])) us (force_id i s) (w ∙ sym q) (λ e. absurd (true≢false (sym e ∙ w))) (held-force i lit own file n us s original refl refl h)
 
-  early-apart : (s : State) → Early s → taken ≡ true → (imported_as i s.imported ≡ some c) × (usages_of i s.usages ≡ usages_for i c ps)
+  early-apart : (s : State) → Early s → taken ≡ true → (imported_as i s.imported ≡ Some c) × (usages_of i s.usages ≡ usages_for i c ps)
   early-apart s h q = go plain (taken-plain q) h.stood
     where
-      go : (b : Bool) → b ≡ true → Stood i (value_of lit) c b ps s → (imported_as i s.imported ≡ some c) × (usages_of i s.usages ≡ usages_for i c ps)
+      go : (b : Bool) → b ≡ true → Stood i (value_of lit) c b ps s → (imported_as i s.imported ≡ Some c) × (usages_of i s.usages ≡ usages_for i c ps)
       go true e k = (k.0, k.1)
       go false e k = absurd (true≢false (sym e))
 

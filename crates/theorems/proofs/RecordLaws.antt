@@ -1,9 +1,9 @@
 -- The end of the second pass and resolving: the record of a settled namespace import, and what the resolved list says of it.
+use Rattle.std.specs.Prelude.{Option, Some}
 use Prim.Native.Nat.{ℕ, ◌+◌}
 use mathlib.Core.Path.{◌≡◌, refl, sym, ap, subst, ◌∙◌}
 use mathlib.Core.Bool.{Bool, true, false, not, cond}
 use mathlib.Core.List.{List, [], ◌∷◌, ◌++◌, map}
-use mathlib.Core.Option.{Option, some}
 use native.Mathlib.Omega.{arith}
 use lib.Dec.{eqb}
 use lib.ListN.{get_or, drop}
@@ -37,7 +37,7 @@ ended_record true i lit c ps = record { literal = lit; specifiers = property_fie
 ended_record false i lit c ps = record { literal = lit; specifiers = more (field 0x22 i none) none }
 
 abbrev pub Ended : Bool → List ℕ → List ℕ → List ℕ → List (List ℕ) → State → Type 0
-Ended taken i lit c ps s = (record_of (value_of lit) s.collected ≡ some (ended_record taken i lit c ps)) × (among (value_of lit) s.forced ≡ not taken)
+Ended taken i lit c ps s = (record_of (value_of lit) s.collected ≡ Some (ended_record taken i lit c ps)) × (among (value_of lit) s.forced ≡ not taken)
 
 named_kept : (c : List ℕ) (ps : List (List ℕ)) → keep (λ f. not (has 0x22 f)) (property_fields 0x20 c ps) ≡ property_fields 0x20 c ps
 unfolding keep
@@ -57,7 +57,7 @@ finish-ended taken i lit c ps e s h =
     after-weaken (finish e s) (λ _ t. Finished s t) (λ _ t. Ended taken i lit c ps t)
     (λ _ t f. (
       ap (record_of (value_of lit)) f.0 ∙ record-map (lose_namespaces s.forced) (value_of lit) s.collected (lose-literal s.forced)
-          ∙ ap (mapped (lose_namespaces s.forced)) h.entry ∙ ap some l.0,
+          ∙ ap (mapped (lose_namespaces s.forced)) h.entry ∙ ap Some l.0,
       ap (among (value_of lit)) f.1 ∙ l.1,
     )) (finish-leaves e s)
 
@@ -73,8 +73,8 @@ record-done o forced ms r p g m =
 
 -- R2: the first 90 with byte 3 and the literal is that of the first collected record of its source
 pub record-found : (rows : List Row) (forced : List (List ℕ)) (ms : Modules) (x : List ℕ) (r : Record) (l : List Record) (rest : Fields) (p : ℕ)
-    (gs : Fields) → record_of (value_of x) l ≡ some r → r.literal ≡ x →
-    resolved_all rows forced ms (append (record_fields 0x80 l) rest) p ≡ done gs → (k : ℕ) × (fs : Fields) × (record_for x gs ≡ some fs)
+    (gs : Fields) → record_of (value_of x) l ≡ Some r → r.literal ≡ x →
+    resolved_all rows forced ms (append (record_fields 0x80 l) rest) p ≡ done gs → (k : ℕ) × (fs : Fields) × (record_for x gs ≡ Some fs)
     × (resolved_specifiers (among (value_of x) forced) r.specifiers k ≡ done fs)
 unfolding find record_fields append record_for
 record-found rows forced ms x r [] rest p gs h q e = absurd (let z : ◌≡◌ {A = ℕ} 0 1 = cc in omega arith)
@@ -82,14 +82,14 @@ record-found rows forced ms x r (y ∷ l) rest p gs h q e =
     let f : Field = field 0x80 y.literal y.specifiers in
     let a = all-made rows forced ms f (append (record_fields 0x80 l) rest) p gs e in
     let d = record-done (file_of (value_of y.literal) rows) forced ms y p a.0 a.3 in
-    subst (λ (g : Fields). (k : ℕ) × (fs : Fields) × (record_for x g ≡ some fs) × (resolved_specifiers (among (value_of x) forced) r.specifiers k ≡ done fs)) (sym a.2)
+    subst (λ (g : Fields). (k : ℕ) × (fs : Fields) × (record_for x g ≡ Some fs) × (resolved_specifiers (among (value_of x) forced) r.specifiers k ≡ done fs)) (sym a.2)
     (go a.0 a.1 d (same (value_of y.literal) (value_of x)) refl h (λ h. record-found rows forced ms x r l rest (p + size f) a.1 h q a.4))
   where
     go : (g : Field) (gs : Fields) → (eqb (get_or (fixed_of g) 0 0) 3 ≡ true) × (drop 13 (fixed_of g) ≡ y.literal)
         × (resolved_specifiers (among (value_of y.literal) forced) y.specifiers (inside p y.literal) ≡ done (parts_of g)) →
-        (b : Bool) → same (value_of y.literal) (value_of x) ≡ b → cond b (some y) (record_of (value_of x) l) ≡ some r →
-        (record_of (value_of x) l ≡ some r → (k : ℕ) × (fs : Fields) × (record_for x gs ≡ some fs) × (resolved_specifiers (among (value_of x) forced) r.specifiers k ≡ done fs)) →
-        (k : ℕ) × (fs : Fields) × (record_for x (more g gs) ≡ some fs) × (resolved_specifiers (among (value_of x) forced) r.specifiers k ≡ done fs)
+        (b : Bool) → same (value_of y.literal) (value_of x) ≡ b → cond b (Some y) (record_of (value_of x) l) ≡ Some r →
+        (record_of (value_of x) l ≡ Some r → (k : ℕ) × (fs : Fields) × (record_for x gs ≡ Some fs) × (resolved_specifiers (among (value_of x) forced) r.specifiers k ≡ done fs)) →
+        (k : ℕ) × (fs : Fields) × (record_for x (more g gs) ≡ Some fs) × (resolved_specifiers (among (value_of x) forced) r.specifiers k ≡ done fs)
     go g gs d true v h ih =
         let yr : y ≡ r = cc in
         let yx : y.literal ≡ x = ap (λ (r : Record). r.literal) yr ∙ q in (

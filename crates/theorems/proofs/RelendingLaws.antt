@@ -1,12 +1,12 @@
 -- A scope's files, requested anew in order, get the numbers that they have. Every call leaves a scope in which no file stands twice and
 -- which has at most 256 modules (`Lendable`): requests and marks do, so each step of an extraction does, and so both its passes, and
 -- resolving only requests. Of such modules every file is new when its turn comes, and none is a 257th.
+use Rattle.std.specs.Prelude.{Option, None, Some}
 use Prim.Native.Nat.{ℕ, zero, suc, ◌+◌, ◌≤◌, ◌<◌}
 use native.Mathlib.Omega.{arith}
 use mathlib.Core.Path.{◌≡◌, refl, sym, ap, subst, ◌∙◌}
 use mathlib.Core.Bool.{Bool, true, false, cond}
 use mathlib.Core.List.{List, [], ◌∷◌, ◌++◌, append_assoc, append-nil}
-use mathlib.Core.Option.{Option, none as nothing, some}
 use lib.Dec.{eqb}
 use lib.ListN.{length, length-append}
 use borrow.Author.Tests.{lt-ltb, ne_eqb, eqb-false}
@@ -39,39 +39,39 @@ use Rattle.theorems.specs.Relending.{files_of, without_marks, SameNumbers}
 -- no file stands twice
 abbrev pub Distinct : Modules → Type 0
 Distinct [] = Unit {0}
-Distinct (m ∷ ms) = (number_of m.file ms ≡ nothing) × Distinct ms
+Distinct (m ∷ ms) = (number_of m.file ms ≡ None) × Distinct ms
 
 -- a file that stands neither first nor further on
-nowhere : (b : Bool) (o : Option ℕ) → cond b (some zero) (next o) ≡ nothing → (b ≡ false) × (o ≡ nothing)
+nowhere : (b : Bool) (o : Option ℕ) → cond b (Some zero) (next o) ≡ None → (b ≡ false) × (o ≡ None)
 nowhere true o e = none-some (sym e)
-nowhere false nothing e = (refl, refl)
-nowhere false (some n) e = none-some (sym e)
+nowhere false None e = (refl, refl)
+nowhere false (Some n) e = none-some (sym e)
 
-passed : (b : Bool) (o : Option ℕ) → b ≡ false → o ≡ nothing → cond b (some zero) (next o) ≡ nothing
+passed : (b : Bool) (o : Option ℕ) → b ≡ false → o ≡ None → cond b (Some zero) (next o) ≡ None
 passed b o p q = rw (p, q)
 
 -- what stands nowhere is not the file of a module
-other-file : (g : ℕ) (ps : Modules) (m : Module) (ms : Modules) → number_of g (ps ++ m ∷ ms) ≡ nothing → g ≡ m.file → ⊥
+other-file : (g : ℕ) (ps : Modules) (m : Module) (ms : Modules) → number_of g (ps ++ m ∷ ms) ≡ None → g ≡ m.file → ⊥
 unfolding number_of place_of
 other-file g [] m ms e q = eqb-false g m.file (nowhere (eqb g m.file) (number_of g ms) e).0 q
 other-file g (p ∷ ps) m ms e q = other-file g ps m ms (nowhere (eqb g p.file) (number_of g (ps ++ m ∷ ms)) e).1 q
 
 -- and is new before it
-distinct-new : (ps : Modules) (m : Module) (ms : Modules) → Distinct (ps ++ m ∷ ms) → number_of m.file ps ≡ nothing
+distinct-new : (ps : Modules) (m : Module) (ms : Modules) → Distinct (ps ++ m ∷ ms) → number_of m.file ps ≡ None
 unfolding number_of place_of
 distinct-new [] m ms h = refl
 distinct-new (p ∷ ps) m ms h =
     passed (eqb m.file p.file) (number_of m.file ps) (ne_eqb m.file p.file (λ q. other-file p.file ps m ms h.0 (sym q)))
     (distinct-new ps m ms h.1)
 
-still-nowhere : (g f : ℕ) (ms : Modules) → (g ≡ f → ⊥) → number_of g ms ≡ nothing → number_of g (ms ++ (unmarked f ∷ [])) ≡ nothing
+still-nowhere : (g f : ℕ) (ms : Modules) → (g ≡ f → ⊥) → number_of g ms ≡ None → number_of g (ms ++ (unmarked f ∷ [])) ≡ None
 unfolding number_of place_of
-still-nowhere g f [] d e = passed (eqb g f) nothing (ne_eqb g f d) refl
+still-nowhere g f [] d e = passed (eqb g f) None (ne_eqb g f d) refl
 still-nowhere g f (m ∷ ms) d e =
     let w = nowhere (eqb g m.file) (number_of g ms) e in
     passed (eqb g m.file) (number_of g (ms ++ (unmarked f ∷ []))) w.0 (still-nowhere g f ms d w.1)
 
-distinct-last : (f : ℕ) (ms : Modules) → Distinct ms → number_of f ms ≡ nothing → Distinct (ms ++ (unmarked f ∷ []))
+distinct-last : (f : ℕ) (ms : Modules) → Distinct ms → number_of f ms ≡ None → Distinct (ms ++ (unmarked f ∷ []))
 unfolding number_of place_of
 distinct-last f [] h e = (refl, tt)
 distinct-last f (m ∷ ms) h e =
@@ -100,11 +100,11 @@ pub record Lendable (ms : Modules) : Type 0 where
 pub lendable-fresh : Lendable []
 lendable-fresh = record { distinct = tt; few = omega arith }
 
-request-lendable : (f : ℕ) (ms : Modules) {n : ℕ} {new : Modules} → request f ms ≡ some (n, new) → Lendable ms → Lendable new
+request-lendable : (f : ℕ) (ms : Modules) {n : ℕ} {new : Modules} → request f ms ≡ Some (n, new) → Lendable ms → Lendable new
 request-lendable f ms {n} {new} e h =
     record {
       distinct =
-          request-cases f ms (λ r. r ≡ some (n, new) → Distinct new)
+          request-cases f ms (λ r. r ≡ Some (n, new) → Distinct new)
           (λ k w q. subst (λ (x : ℕ × Modules). Distinct x.1) (let z : (k, ms) ≡ (n, new) = cc in z) h.distinct)
           (λ w b q. subst (λ (x : ℕ × Modules). Distinct x.1) (let z : (length ms, ms ++ (unmarked f ∷ [])) ≡ (n, new) = cc in z)
           (distinct-last f ms h.distinct w))
@@ -116,8 +116,8 @@ mark-lendable : (k : Mark) (n : ℕ) (ms : Modules) → Lendable ms → Lendable
 mark-lendable k n ms h = record { distinct = distinct-mark k n ms h.distinct; few = let e = mark-keeps-count k n ms in let b = h.few in omega arith }
 
 gen-lendable : (f : ℕ) (ms : Modules) (o : Option (ℕ × Modules)) → request f ms ≡ o → Lendable ms → Lendable (generated_by o ms).modules
-gen-lendable f ms nothing e h = h
-gen-lendable f ms (some r) e h = request-lendable f ms e h
+gen-lendable f ms None e h = h
+gen-lendable f ms (Some r) e h = request-lendable f ms e h
 
 pub request_all-lendable : (fs : List ℕ) (ms : Modules) → Lendable ms → Lendable (request_all fs ms).modules
 unfolding request_all
@@ -126,8 +126,8 @@ request_all-lendable (f ∷ fs) ms h = go (request f ms) refl (λ new. request_a
   where
     go : (o : Option (ℕ × Modules)) → request f ms ≡ o → ((new : Modules) → Lendable new → Lendable (request_all fs new).modules) →
         Lendable (go_on o (λ r. request_all fs r) ms).modules
-    go nothing e k = h
-    go (some r) e k = k r.1 (request-lendable f ms e h)
+    go None e k = h
+    go (Some r) e k = k r.1 (request-lendable f ms e h)
 
 -- ---- Extraction
 
@@ -189,12 +189,12 @@ extraction-lendable l room ms h = extraction-after ms (extracted l room ms) (ext
 
 number_one-lendable : (o : Option ℕ) (ms : Modules) (p : ℕ) → Lendable ms → Of (number_one o ms p) Lendable
 unfolding number_one
-number_one-lendable nothing ms p h = h
-number_one-lendable (some f) ms p h = go (request f ms) refl
+number_one-lendable None ms p h = h
+number_one-lendable (Some f) ms p h = go (request f ms) refl
   where
     go : (o : Option (ℕ × Modules)) → request f ms ≡ o → Of (requested o p) Lendable
-    go nothing e = tt
-    go (some r) e = request-lendable f ms e h
+    go None e = tt
+    go (Some r) e = request-lendable f ms e h
 
 number_all-lendable : (rows : List Row) (fs : Fields) (ms : Modules) (p : ℕ) → Lendable ms → Of (number_all rows fs ms p) Lendable
 unfolding number_all
@@ -225,7 +225,7 @@ call-lendable (requests f) ms h = gen-lendable f.0 ms (request f.0 ms) refl h
 call-lendable (requests_all files) ms h = request_all-lendable (files_in files) ms h
 call-lendable (sets k m) ms h = go (given m ms)
   where
-    go : (b : Bool) → Lendable (cond {A = Left} b (record { modules = set_mark k m.0 ms; refusal = nothing }) (record { modules = ms; refusal = some not_given })).modules
+    go : (b : Bool) → Lendable (cond {A = Left} b (record { modules = set_mark k m.0 ms; refusal = None }) (record { modules = ms; refusal = Some not_given })).modules
     go true = mark-lendable k m.0 ms h
     go false = h
 call-lendable (reads k m) ms h = h
@@ -257,15 +257,15 @@ unfolding number_of
 unmarked-numbers f ms = ap (place_of f) (unmarked-files ms)
 
 -- a file that is new gets the next number
-request-new : (f : ℕ) (ms : Modules) → number_of f ms ≡ nothing → length ms < 256 → request f ms ≡ some (length ms, ms ++ (unmarked f ∷ []))
+request-new : (f : ℕ) (ms : Modules) → number_of f ms ≡ None → length ms < 256 → request f ms ≡ Some (length ms, ms ++ (unmarked f ∷ []))
 unfolding request
 request-new f ms e h = rw (e, lt-ltb (length ms) 256 h)
 
 -- with the modules ps before them
 request-rest : (ps ms : Modules) → Distinct (ps ++ ms) → length ps + length ms ≤ 256 →
-    request_all (files_of ms) (without_marks ps) ≡ record { modules = without_marks (ps ++ ms); refusal = nothing }
+    request_all (files_of ms) (without_marks ps) ≡ record { modules = without_marks (ps ++ ms); refusal = None }
 unfolding request_all
-request-rest ps [] d h = ap (λ (l : Modules). record { modules = without_marks l; refusal = nothing }) (sym (append-nil ps))
+request-rest ps [] d h = ap (λ (l : Modules). record { modules = without_marks l; refusal = None }) (sym (append-nil ps))
 request-rest ps (m ∷ ms) d h =
     let c = unmarked-count ps in
     let e = request-new m.file (without_marks ps) (unmarked-numbers m.file ps ∙ distinct-new ps m ms d) (omega arith) in
@@ -274,9 +274,9 @@ request-rest ps (m ∷ ms) d h =
     ap (λ (o : Option (ℕ × Modules)). go_on o (λ r. request_all (files_of ms) r) (without_marks ps)) e
     ∙ ap (λ (l : Modules). request_all (files_of ms) l) (sym (unmarked-append ps (m ∷ [])))
     ∙ request-rest (ps ++ (m ∷ [])) ms (subst Distinct (sym a) d) (omega arith)
-    ∙ ap (λ (l : Modules). record { modules = without_marks l; refusal = nothing }) a
+    ∙ ap (λ (l : Modules). record { modules = without_marks l; refusal = None }) a
 
-pub requested-anew : (ms : Modules) → Lendable ms → request_all (files_of ms) [] ≡ record { modules = without_marks ms; refusal = nothing }
+pub requested-anew : (ms : Modules) → Lendable ms → request_all (files_of ms) [] ≡ record { modules = without_marks ms; refusal = None }
 requested-anew ms h = let b = h.few in request-rest [] ms h.distinct (omega arith)
 
 pub same-numbers : SameNumbers

@@ -1,9 +1,9 @@
 -- An accepted resolving: the source of every import that is not external resolves.
+use Rattle.std.specs.Prelude.{Some}
 use Prim.Native.Nat.{ℕ, zero, suc, ◌+◌}
 use mathlib.Core.Path.{◌≡◌, refl, sym, ap, subst, ◌∙◌}
 use mathlib.Core.Bool.{Bool, true, false, ◌||◌, true≢false}
 use mathlib.Core.List.{List, [], ◌∷◌}
-use mathlib.Core.Option.{some}
 use native.Mathlib.Omega.{arith}
 use lib.Dec.{leb}
 use lib.ListN.{length}
@@ -75,7 +75,7 @@ module _ (a : List ℕ) where
     walk-collects : (x : List ℕ) (cs : Fields) (p : ℕ) (s : State) → external e x ≡ false → value_of x ≡ a → After (walk (field 0x10 x cs) e false p s) (λ g t. Collected t)
     walk-collects x cs p s d q = rw (walk-first e one (field 0x10 x cs) p s refl) (import-collects e x cs p s d q)
 
-    items-collect : (k : ℕ) (fs : Fields) (x : List ℕ) (cs : Fields) (p : ℕ) (s : State) → item_at k fs ≡ some (field 0x10 x cs) →
+    items-collect : (k : ℕ) (fs : Fields) (x : List ℕ) (cs : Fields) (p : ℕ) (s : State) → item_at k fs ≡ Some (field 0x10 x cs) →
         external e x ≡ false → value_of x ≡ a → After (walk_all fs e false p s) (λ gs t. Collected t)
     unfolding walk
     items-collect k none x cs p s w d q = absurd (let z : ◌≡◌ {A = ℕ} 0 1 = cc in omega arith)
@@ -89,7 +89,7 @@ module _ (a : List ℕ) where
         after-bind (walk f e false p s) _ (λ g t. Unit {0}) (λ gs t. Collected t) (after-any (walk f e false p s)) λ g s _.
         after-bind (walk_all fs e false (p + size f) s) _ (λ gs t. Collected t) (λ gs t. Collected t) (items-collect k fs x cs (p + size f) s w d q) λ gs s h. h
 
-    pub first-collects : (k : ℕ) (items : Fields) (x : List ℕ) (cs : Fields) (s : State) → item_at k items ≡ some (field 0x10 x cs) →
+    pub first-collects : (k : ℕ) (items : Fields) (x : List ℕ) (cs : Fields) (s : State) → item_at k items ≡ Some (field 0x10 x cs) →
         external e x ≡ false → value_of x ≡ a → After (walk_module e items s) (λ gs t. Collected t)
     unfolding walk_module
     first-collects k items x cs s w d q =

@@ -1,9 +1,9 @@
 -- The second pass over the imports: the namespace's own import settles what becomes of it; the others do not touch it.
+use Rattle.std.specs.Prelude.{Option, None, Some}
 use Prim.Native.Nat.{ℕ}
 use mathlib.Core.Path.{◌≡◌, refl, sym, ap, ◌∙◌}
 use mathlib.Core.Bool.{Bool, true, false, ◌&&◌, ◌||◌, true≢false, or-false, and-false, and-true}
 use mathlib.Core.List.{List, [], ◌∷◌, ◌++◌, map}
-use mathlib.Core.Option.{Option, none as nothing, some}
 use native.Mathlib.Omega.{arith}
 use Rattle.scope.specs.Id.{export}
 use Rattle.tree.specs.Layout.{same, four, value_of}
@@ -31,14 +31,14 @@ settled_record true i lit c ps = record { literal = lit; specifiers = append (mo
 settled_record false i lit c ps = own_record i lit
 
 abbrev pub Sits : Bool → List ℕ → List ℕ → List ℕ → List (List ℕ) → State → Type 0
-Sits true i a c ps s = (imported_as i s.imported ≡ some c) × (usages_of i s.usages ≡ usages_for i c ps) × (among a s.forced ≡ false)
+Sits true i a c ps s = (imported_as i s.imported ≡ Some c) × (usages_of i s.usages ≡ usages_for i c ps) × (among a s.forced ≡ false)
 Sits false i a c ps s = (usages_of i s.usages ≡ []) × (among a s.forced ≡ true)
 
 -- behind its import: taken apart or kept, with the export context c and the properties ps
 pub record Settled (taken : Bool) (i lit c : List ℕ) (ps : List (List ℕ)) (s : State) : Type 0 where
-  pub entry : record_of (value_of lit) s.collected ≡ some (settled_record taken i lit c ps)
-  pub alone : (j : List ℕ) → seek (holds_in j) s.collected ≡ some (value_of lit) → j ≡ i
-  pub holds : seek (holds_in i) s.collected ≡ some (value_of lit)
+  pub entry : record_of (value_of lit) s.collected ≡ Some (settled_record taken i lit c ps)
+  pub alone : (j : List ℕ) → seek (holds_in j) s.collected ≡ Some (value_of lit) → j ≡ i
+  pub holds : seek (holds_in i) s.collected ≡ Some (value_of lit)
   pub sits : Sits taken i (value_of lit) c ps s
 
 -- it is used, and every use is plain
@@ -127,8 +127,8 @@ module _ (i lit : List ℕ) (own file : ℕ) where
 
   sole-other : (o : Option Field) (y : List ℕ) (ds : Fields) (s : State) → same (value_of y) a ≡ false → After (on_sole o y ds s) (λ g t. U s t)
   unfolding on_sole
-  sole-other nothing y ds s d = unfelt-same s
-  sole-other (some f) y ds s d = after-if (has 0x22 f) _ (give (field 0x10 y ds)) s (λ g t. U s t) (λ _. apart-other (usages_of (fixed_of f) s.usages) y ds s d) (λ _. unfelt-same s)
+  sole-other None y ds s d = unfelt-same s
+  sole-other (Some f) y ds s d = after-if (has 0x22 f) _ (give (field 0x10 y ds)) s (λ g t. U s t) (λ _. apart-other (usages_of (fixed_of f) s.usages) y ds s d) (λ _. unfelt-same s)
 
   -- S2
   pub second-other : (e : Setting) (y : List ℕ) (ds : Fields) (s : State) → same (value_of y) a ≡ false → After (import_second e y ds s) (λ g t. U s t)
@@ -175,7 +175,7 @@ module _ (i lit : List ℕ) (own file : ℕ) where
           record {
             entry =
                 record-map (extend lit (specifiers_from v)) a s.collected (extend-literal lit (specifiers_from v)) ∙ ap (mapped (extend lit (specifiers_from v))) h.entry ∙
-                ap some
+                ap Some
                 (extend-own lit (specifiers_from v) (more (field 0x22 i none) none)
                 ∙ ap (λ (gs : Fields). record { literal = lit; specifiers = append (more (field 0x22 i none) none) gs }) r);
             alone = λ j w. h.alone j (sym (seek-extend (holds_in j) lit (specifiers_from v) s.collected (lacks j)) ∙ w);
@@ -203,7 +203,7 @@ module _ (i lit : List ℕ) (own file : ℕ) where
         go false e = absurd (let r : u ∷ v ≡ usages_for i c [] = q ∙ ap (usages_for i c) (unused-properties us e).1 in let z : ◌≡◌ {A = ℕ} 0 1 = cc in omega arith)
 
     -- S1
-    pub second-own : (e : Setting) (ds : Fields) (s : State) → external e lit ≡ false → sole (specifiers_in ds) ≡ some (field 0x22 i none) → H s →
+    pub second-own : (e : Setting) (ds : Fields) (s : State) → external e lit ≡ false → sole (specifiers_in ds) ≡ Some (field 0x22 i none) → H s →
         After (import_second e lit ds s) (λ g t. Ended (takes_apart us) c (properties us) ds g t)
     unfolding import_second on_sole
     second-own e ds s d q h = go (all_plain us) refl

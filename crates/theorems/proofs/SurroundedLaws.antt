@@ -1,10 +1,10 @@
 -- A well placed tree within the grammar: what the passes need of the items around a namespace's import.
+use Rattle.std.specs.Prelude.{Some}
 use Prim.Native.Nat.{ℕ, zero, suc}
 use mathlib.Core.Path.{◌≡◌, refl, sym, subst}
 use mathlib.Core.Logic.{inl, inr}
 use mathlib.Core.Bool.{Bool, true, false, not, ◌&&◌}
 use mathlib.Core.List.{List}
-use mathlib.Core.Option.{some}
 use native.Mathlib.Omega.{arith}
 use borrow.Author.Tests.{eqb-true, not-true}
 use Rattle.scope.specs.Id.{require_atom, local}
@@ -54,7 +54,7 @@ module _ (i lit : List ℕ) (own file : ℕ) (context : context_of i ≡ four (l
       let r = behind-placed fs (tail-shaped f fs h) o.1 in
       ((a.0, r.0), (a.1, r.1))
 
-  pub around-placed : (k : ℕ) (fs : Fields) (cs : Fields) → ShapedAll fs (rule_of 0x01) → item_at k fs ≡ some (field 0x10 lit cs) →
+  pub around-placed : (k : ℕ) (fs : Fields) (cs : Fields) → ShapedAll fs (rule_of 0x01) → item_at k fs ≡ Some (field 0x10 lit cs) →
       OwnImport i lit own file (field 0x10 lit cs) → EachBut Others k fs → Around i lit own file k fs × CleanAround i lit own file context k fs
   around-placed k none cs h e w o = absurd (let z : ◌≡◌ {A = ℕ} 0 1 = cc in omega arith)
   around-placed zero (more f fs) cs h e w o =
@@ -125,7 +125,7 @@ module _ (i lit : List ℕ) (own file : ℕ) (context : context_of i ≡ four (l
 
   pub around-well : (k : ℕ) (items cs : Fields) → ShapedAll items (rule_of 0x01) → shares_none (imports_in items) ≡ true →
       all (own_locals own) (imports_in items) ≡ true → fits (ways_all items i false) ≡ true → id_at i 0 ≡ i →
-      item_at k items ≡ some (field 0x10 lit cs) → specifiers_in cs ≡ more (field 0x22 i none) none → ShapedAll cs (rule_of 0x10) →
+      item_at k items ≡ Some (field 0x10 lit cs) → specifiers_in cs ≡ more (field 0x22 i none) none → ShapedAll cs (rule_of 0x10) →
       Around i lit own file k items × CleanAround i lit own file context k items
   around-well k items cs shape share locals fit w e q s =
       around-placed i lit own file context k items cs shape e (record { tag = refl; literal = refl; sole = q; quiet = import-quiet cs s })

@@ -1,9 +1,9 @@
 -- Demand 3, first part, for a source that resolves and records that read back: a namespace import is kept whole or taken apart completely.
+use Rattle.std.specs.Prelude.{Option, None, Some}
 use Prim.Native.Nat.{ℕ}
 use mathlib.Core.Path.{◌≡◌, refl, sym, subst}
 use mathlib.Core.Bool.{Bool, true, false, true≢false}
 use mathlib.Core.List.{List}
-use mathlib.Core.Option.{Option, none as nothing, some}
 use Rattle.modes.specs.declared.Modes.{Modes}
 use Rattle.scope.specs.Id.{require_atom, local}
 use Rattle.scope.specs.Modules.{Modules, request}
@@ -45,22 +45,22 @@ use Rattle.theorems.proofs.CoreLaws.{EndsBy, core}
 ends-from : (b : Bool) (i x : List ℕ) (k file : ℕ) (hs : List How) (items : Fields) (l : Lent) (r : Extracted) (q : Resolved) (own : ℕ)
     (context : context_of i ≡ four (local own)) (named : same (name_of i) (two require_atom) ≡ false)
     (Space : List ℕ → Type 0) (locals : (j : List ℕ) → Space j → context_of j ≡ four (local own))
-    (res : file_of (value_of x) (rows_in l.table) ≡ some file) (inner : external (setting first own l (rows_in l.table)) x ≡ false)
+    (res : file_of (value_of x) (rows_in l.table) ≡ Some file) (inner : external (setting first own l (rows_in l.table)) x ≡ false)
     (within : external (setting second own l (rows_in l.table)) x ≡ false) →
     EndsBy i x own file context named Space locals l (rows_in l.table) res inner within b k hs items (parts_of r.out) (parts_of q.list) q.modules → Ends b i x k hs items l r q
 ends-from true i x k file hs items l r q own context named Space locals res inner within h = (h.0, (file, res, h.1), h.2)
 ends-from false i x k file hs items l r q own context named Space locals res inner within h = h
 
-takes-is : (rows : List Row) (x : List ℕ) (file : ℕ) (hs : List How) → file_of (value_of x) rows ≡ some file → takes rows x hs ≡ takes_apart hs
+takes-is : (rows : List Row) (x : List ℕ) (file : ℕ) (hs : List How) → file_of (value_of x) rows ≡ Some file → takes rows x hs ≡ takes_apart hs
 unfolding takes
 takes-is rows x file hs q = rw q
 
 -- of a source that resolves
 resolving-ends : (l : Lent) (room : Lengths) (ms : Modules) (r : Extracted) (m : Modes) (n : ℕ) (q : Resolved) (items : Fields) (own : ℕ × Modules) →
     extracted l room ms ≡ done r → resolved (handed_on m l r) n r.modules ≡ done q →
-    items_read (read Module l.tree) ≡ done items → request l.file ms ≡ some own → well_placed own.0 items ≡ true →
+    items_read (read Module l.tree) ≡ done items → request l.file ms ≡ Some own → well_placed own.0 items ≡ true →
     (k : ℕ) (x i : List ℕ) → Declares items k x (more (field 0x22 i none) none) → among (value_of x) (atoms_in l.externals) ≡ false →
-    Items items → records_read (read Records (encode r.records)) ≡ done (parts_of r.records) → (file : ℕ) → file_of (value_of x) (rows_in l.table) ≡ some file →
+    Items items → records_read (read Records (encode r.records)) ≡ done (parts_of r.records) → (file : ℕ) → file_of (value_of x) (rows_in l.table) ≡ Some file →
     Ends (takes (rows_in l.table) x (stands items i)) i x k (stands items i) items l r q
 unfolding external
 resolving-ends l room ms r m n q items own accepted resolving reading requesting placed k x i declares inside shape readable file res =
@@ -84,14 +84,14 @@ resolving-ends l room ms r m n q items own accepted resolving reading requesting
     (call-run l room ms r items own accepted reading requesting) u.numbers u.lists))
 
 -- a source that does not resolve would have been refused
-some-file : (o : Option ℕ) → is_some o ≡ true → (f : ℕ) × (o ≡ some f)
-some-file nothing h = absurd (true≢false (sym h))
-some-file (some f) h = (f, refl)
+some-file : (o : Option ℕ) → is_some o ≡ true → (f : ℕ) × (o ≡ Some f)
+some-file None h = absurd (true≢false (sym h))
+some-file (Some f) h = (f, refl)
 
 pub source-resolves : (l : Lent) {room : Lengths} (r : Extracted) (q : Resolved) (items : Fields) (own : ℕ × Modules) (k : ℕ) (x : List ℕ)
     (cs : Fields) → Run l room (rows_in l.table) own.0 items own.1 r →
-    item_at k items ≡ some (field 0x10 x cs) → among (value_of x) (atoms_in l.externals) ≡ false →
-    Listed (rows_in l.table) (parts_of r.records) r.modules q → (f : ℕ) × (file_of (value_of x) (rows_in l.table) ≡ some f)
+    item_at k items ≡ Some (field 0x10 x cs) → among (value_of x) (atoms_in l.externals) ≡ false →
+    Listed (rows_in l.table) (parts_of r.records) r.modules q → (f : ℕ) × (file_of (value_of x) (rows_in l.table) ≡ Some f)
 unfolding external
 source-resolves l r q items own k x cs u w d h =
     let rows = rows_in l.table in
@@ -110,7 +110,7 @@ source-resolves l r q items own k x cs u w d h =
 -- Demand 3, first part, where the lent items are within the grammar and the records read back
 pub kept-or-apart : (l : Lent) (room : Lengths) (ms : Modules) (r : Extracted) (m : Modes) (n : ℕ) (q : Resolved) (items : Fields) (own : ℕ × Modules) →
     extracted l room ms ≡ done r → resolved (handed_on m l r) n r.modules ≡ done q →
-    items_read (read Module l.tree) ≡ done items → request l.file ms ≡ some own → well_placed own.0 items ≡ true →
+    items_read (read Module l.tree) ≡ done items → request l.file ms ≡ Some own → well_placed own.0 items ≡ true →
     (k : ℕ) (x i : List ℕ) → Declares items k x (more (field 0x22 i none) none) → among (value_of x) (atoms_in l.externals) ≡ false →
     Items items → records_read (read Records (encode r.records)) ≡ done (parts_of r.records) → Ends (takes (rows_in l.table) x (stands items i)) i x k (stands items i) items l r q
 kept-or-apart l room ms r m n q items own accepted resolving reading requesting placed k x i declares inside shape readable =

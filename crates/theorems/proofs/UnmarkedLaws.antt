@@ -1,10 +1,11 @@
 -- Resolving reads no mark and sets none: each of its steps commutes with taking the marks away, since a request and a number look at the
 -- files alone. So demand 3's first sentence holds as well where resolving has the extraction's files without their marks.
+use Rattle.std.specs.Prelude.{Option, None, Some}
 use Prim.Native.Nat.{ℕ, ◌+◌}
 use mathlib.Core.Path.{◌≡◌, refl, sym, ap, subst, ◌∙◌}
 use mathlib.Core.Bool.{Bool, true, false, cond}
 use mathlib.Core.List.{List, [], ◌∷◌, ◌++◌}
-use mathlib.Core.Option.{Option, none as nothing, some, get_or}
+use Rattle.std.specs.Option.{unwrap_or}
 use lib.Dec.{ltb}
 use lib.ListN.{length}
 use Rattle.modes.specs.declared.Modes.{Modes}
@@ -54,24 +55,24 @@ unfolding request
 request-unmarked f ms = ap (λ (o : Option ℕ). request_by o f (without_marks ms)) (unmarked-numbers f ms) ∙ go (number_of f ms)
   where
     room : (b : Bool) →
-        cond {A = Option (ℕ × Modules)} b (some (length ms, without_marks ms ++ (unmarked f ∷ []))) nothing
-        ≡ mapped (λ (r : ℕ × Modules). (r.0, without_marks r.1)) (cond b (some (length ms, ms ++ (unmarked f ∷ []))) nothing)
-    room true = ap (λ (l : Modules). some (length ms, l)) (sym (unmarked-append ms (unmarked f ∷ [])))
+        cond {A = Option (ℕ × Modules)} b (Some (length ms, without_marks ms ++ (unmarked f ∷ []))) None
+        ≡ mapped (λ (r : ℕ × Modules). (r.0, without_marks r.1)) (cond b (Some (length ms, ms ++ (unmarked f ∷ []))) None)
+    room true = ap (λ (l : Modules). Some (length ms, l)) (sym (unmarked-append ms (unmarked f ∷ [])))
     room false = refl
 
     go : (o : Option ℕ) → request_by o f (without_marks ms) ≡ mapped (λ (r : ℕ × Modules). (r.0, without_marks r.1)) (request_by o f ms)
-    go (some n) = refl
-    go nothing =
-        ap (λ (n : ℕ). cond {A = Option (ℕ × Modules)} (ltb n 256) (some (n, without_marks ms ++ (unmarked f ∷ []))) nothing) (unmarked-count ms) ∙ room (ltb (length ms) 256)
+    go (Some n) = refl
+    go None =
+        ap (λ (n : ℕ). cond {A = Option (ℕ × Modules)} (ltb n 256) (Some (n, without_marks ms ++ (unmarked f ∷ []))) None) (unmarked-count ms) ∙ room (ltb (length ms) 256)
 
 number_one-unmarked : (o : Option ℕ) (ms : Modules) (p : ℕ) → number_one o (without_marks ms) p ≡ through without_marks (number_one o ms p)
 unfolding number_one
-number_one-unmarked nothing ms p = refl
-number_one-unmarked (some f) ms p = ap (λ (o : Option (ℕ × Modules)). requested o p) (request-unmarked f ms) ∙ go (request f ms)
+number_one-unmarked None ms p = refl
+number_one-unmarked (Some f) ms p = ap (λ (o : Option (ℕ × Modules)). requested o p) (request-unmarked f ms) ∙ go (request f ms)
   where
     go : (o : Option (ℕ × Modules)) → requested (mapped (λ r. (r.0, without_marks r.1)) o) p ≡ through without_marks (requested o p)
-    go nothing = refl
-    go (some r) = refl
+    go None = refl
+    go (Some r) = refl
 
 number_all-unmarked : (rows : List Row) (fs : Fields) (ms : Modules) (p : ℕ) →
     number_all rows fs (without_marks ms) p ≡ through without_marks (number_all rows fs ms p)
@@ -100,11 +101,11 @@ numbered-unmarked l ms =
 record-unmarked : (o : Option ℕ) (forced : List (List ℕ)) (ms : Modules) (f : Field) (p : ℕ) →
     resolved_record o forced (without_marks ms) f p ≡ resolved_record o forced ms f p
 unfolding resolved_record
-record-unmarked nothing forced ms f p = refl
-record-unmarked (some file) forced ms f p =
+record-unmarked None forced ms f p = refl
+record-unmarked (Some file) forced ms f p =
     ap
     (λ (n : Option ℕ). onto (resolved_specifiers (among (source_of f) forced) (parts_of f) (inside p (fixed_of f)))
-    (λ gs. done (field 0x90 (heading f (get_or n 0) file) gs)))
+    (λ gs. done (field 0x90 (heading f (unwrap_or n 0) file) gs)))
     (unmarked-numbers file ms)
 
 all-unmarked : (rows : List Row) (forced : List (List ℕ)) (ms : Modules) (fs : Fields) (p : ℕ) →
@@ -163,7 +164,7 @@ ends-unmarked false i x k hs items l r q h = h
 -- `KeptOrApart`, with the files of the extraction's scope in place of that scope
 pub kept-or-apart-unmarked : (l : Lent) (room : Lengths) (ms : Modules) (r : Extracted) (m : Modes) (n : ℕ) (q : Resolved) (items : Fields) (own : ℕ × Modules) →
     extracted l room ms ≡ done r → resolved (handed_on m l r) n (without_marks r.modules) ≡ done q →
-    Bytes l.tree → items_read (read Module l.tree) ≡ done items → request l.file ms ≡ some own → well_placed own.0 items ≡ true →
+    Bytes l.tree → items_read (read Module l.tree) ≡ done items → request l.file ms ≡ Some own → well_placed own.0 items ≡ true →
     (k : ℕ) (x i : List ℕ) → Declares items k x (more (field 0x22 i none) none) → among (value_of x) (atoms_in l.externals) ≡ false →
     Ends (takes (rows_in l.table) x (stands items i)) i x k (stands items i) items l r q
 kept-or-apart-unmarked l room ms r m n q items own e v bs reading requesting placed k x i d inside =

@@ -1,10 +1,10 @@
 -- What the first pass makes of the items around a namespace's import: *work*, item by item: imports clean of the id, other items alike.
+use Rattle.std.specs.Prelude.{Option, None, Some}
 use Prim.Native.Nat.{ℕ, zero, suc, ◌+◌}
 use mathlib.Core.Path.{◌≡◌, refl, sym, ap, ◌∙◌}
 use mathlib.Core.Logic.{◌⊎◌, inl, inr}
 use mathlib.Core.Bool.{true, false}
 use mathlib.Core.List.{List}
-use mathlib.Core.Option.{Option, none as nothing, some}
 use native.Mathlib.Omega.{arith}
 use Rattle.scope.specs.Id.{require_atom, local, export}
 use Rattle.scope.specs.Modules.{Modules}
@@ -70,7 +70,7 @@ module _ (i lit : List ℕ) (own file : ℕ) (context : context_of i ≡ four (l
   own-stays : (f g : Field) → WorkedOwn f g → (stays f ≡ true) × (stays g ≡ true)
   own-stays f g h = (import-stays f h.0, import-stays g (ap tag_of h.1.1))
 
-  module _ (e : Setting) (one : e.pass ≡ first) (mine : e.own ≡ own) (res : file_of (value_of lit) e.table ≡ some file)
+  module _ (e : Setting) (one : e.pass ≡ first) (mine : e.own ≡ own) (res : file_of (value_of lit) e.table ≡ Some file)
       (inner : external e lit ≡ false) (named : same (name_of i) (two require_atom) ≡ false) where
     clean-walk : (f : Field) (p : ℕ) (s : State) → tag_of f ≡ 0x10 → CleanImport f → After (walk f e false p s) (λ g t. Clean i own context (fixed_of f) g)
     clean-walk f p s q h = rw (walk-first e one f p s q) (first-clean i own context e (fixed_of f) (parts_of f) p s h.0 h.1)
@@ -91,8 +91,8 @@ module _ (i lit : List ℕ) (own file : ℕ) (context : context_of i ≡ four (l
     -- the namespace's own import
     note-own : (m : Option ℕ) (p : ℕ) (s : State) → After (note_specifiers m (more (field 0x22 i none) none) p s) (λ gs t. gs ≡ more (field 0x22 i none) none)
     unfolding note_all note_specifier
-    note-own nothing p s = refl
-    note-own (some n) p s =
+    note-own None p s = refl
+    note-own (Some n) p s =
         after-bind (onto (note_id (record { id = i; context = four (export n) }) p s) (λ r. done (field 0x22 i none, r.1))) _
         (λ g t. g ≡ field 0x22 i none) (λ gs t. gs ≡ more (field 0x22 i none) none)
         (after-bind (note_id (record { id = i; context = four (export n) }) p s) _ (λ u t. Unit {0}) (λ g t. g ≡ field 0x22 i none)
@@ -142,7 +142,7 @@ module _ (i lit : List ℕ) (own file : ℕ) (context : context_of i ≡ four (l
     abbrev pub Ready : Fields → Type 0
     Ready fs = Each ReadyItem fs
 
-    module _ (e : Setting) (one : e.pass ≡ first) (mine : e.own ≡ own) (res : file_of (value_of lit) e.table ≡ some file)
+    module _ (e : Setting) (one : e.pass ≡ first) (mine : e.own ≡ own) (res : file_of (value_of lit) e.table ≡ Some file)
         (inner : external e lit ≡ false) (named : same (name_of i) (two require_atom) ≡ false) where
       item-spaces : (f : Field) (p : ℕ) (s : State) → ReadyItem f → Spaces Space own locals s → After (walk f e false p s) (λ g t. Spaces Space own locals t)
       item-spaces f p s (inl r) h = rw (walk-first e one f p s r.0) (import-space Space own locals e (fixed_of f) (parts_of f) p s r.1 h)

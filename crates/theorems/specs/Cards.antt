@@ -1,7 +1,7 @@
 -- The twelve cards of document 01: one list, and one sentence about the rules.
 -- The cards' trees and results stand with the rules they speak of, in the crates extraction_rules and resolving_rules.
+use Rattle.std.specs.Prelude.{Option, None, Some}
 use Rattle.std.specs.Prelude.{ℕ, ◌≡◌, refl, false, List, [], ◌∷◌, map}
-use Rattle.std.proofs.Math.Option.{Option, none as nothing, some}
 use Rattle.tree.specs.declared.grammar.Set.TheVariants.{Module}
 use Rattle.tree.specs.declared.read.Why.TheVariants.{Deep}
 use Rattle.tree.specs.Tree.{field, Fields, none, more, encode}
@@ -62,7 +62,7 @@ cards =
     (extract card8 ∷ []) ∷
     (extract card9 ∷ []) ∷
     -- "+7" gives 7; "4294967296" none
-    (decoding (context (43 ∷ 55 ∷ [])) (gives (some 7)) ∷ decoding (context (52 ∷ 50 ∷ 57 ∷ 52 ∷ 57 ∷ 54 ∷ 55 ∷ 50 ∷ 57 ∷ 54 ∷ [])) (gives nothing) ∷ []) ∷
+    (decoding (context (43 ∷ 55 ∷ [])) (gives (Some 7)) ∷ decoding (context (52 ∷ 50 ∷ 57 ∷ 52 ∷ 57 ∷ 54 ∷ 55 ∷ 50 ∷ 57 ∷ 54 ∷ [])) (gives None) ∷ []) ∷
     -- Depth 64 passes, 65 is 4
     (reading-module (encode (deep 62)) (fine (more (deep 62) none)) ∷ reading-module (encode (deep 63)) (refused Deep 192) ∷ extract card11 ∷ extract card11-deeper ∷ []) ∷
     (resolve card12 ∷ []) ∷

@@ -1,7 +1,7 @@
 -- Demand 3, first part: a namespace import is kept whole or taken apart completely. Its words as definitions, and its statement.
 -- Document 01, 'Demand 3's words'.
+use Rattle.std.specs.Prelude.{Option, None, Some}
 use Rattle.std.specs.Prelude.{ℕ, ◌≡◌, Bool, true, false, cond, ◌&&◌, List, [], ◌∷◌, ◌++◌, eqb, take, drop, get_or}
-use Rattle.std.proofs.Math.Option.{Option, none as nothing, some}
 use Rattle.modes.specs.declared.Modes.{Modes}
 use Rattle.scope.specs.Id.{export}
 use Rattle.scope.specs.Modules.{Modules, number_of, request}
@@ -58,12 +58,12 @@ Every P (s ∷ l) = P s × Every P l
 
 -- the specifiers of the import with the literal x at a place
 abbrev pub Declares : Fields → ℕ → List ℕ → Fields → Type 0
-Declares items k x fs = (cs : Fields) × (item_at k items ≡ some (field 0x10 x cs)) × (specifiers_in cs ≡ fs)
+Declares items k x fs = (cs : Fields) × (item_at k items ≡ Some (field 0x10 x cs)) × (specifiers_in cs ≡ fs)
 
 -- 'the first 90 with byte 3 and the declaration's literal': its specifiers
 unfoldable pub record_for : List ℕ → Fields → Option Fields
-record_for x none = nothing
-record_for x (more f fs) = cond (eqb (get_or (fixed_of f) 0 0) 3 && same_literal (drop 13 (fixed_of f)) x) (some (parts_of f)) (record_for x fs)
+record_for x none = None
+record_for x (more f fs) = cond (eqb (get_or (fixed_of f) 0 0) 3 && same_literal (drop 13 (fixed_of f)) x) (Some (parts_of f)) (record_for x fs)
 
 -- 'as the declaration's 20s in *out*, without outside name, and as 91s without alias': the properties in the context c
 abbrev pub property_fields : ℕ → List ℕ → List (List ℕ) → Fields
@@ -79,12 +79,12 @@ pub record TakenApart (i c x : List ℕ) (k : ℕ) (ps : List (List ℕ)) (items
   pub used : Every (Rewritten c) (uses_of items outs i)
   -- declaration and resolved record list exactly these, in order
   pub declares : Declares outs k x (property_fields 0x20 c ps)
-  pub records : record_for x list ≡ some (property_fields 0x91 c ps)
+  pub records : record_for x list ≡ Some (property_fields 0x91 c ps)
 
 pub record Kept (i x : List ℕ) (k : ℕ) (items outs list : Fields) : Type 0 where
   -- declaration and record keep it, marked "all"
   pub declares : Declares outs k x (more (field 0x22 i none) none)
-  pub records : record_for x list ≡ some (more (field 0x92 (i ++ 1 ∷ []) none) none)
+  pub records : record_for x list ≡ Some (more (field 0x92 (i ++ 1 ∷ []) none) none)
   -- no use changes
   pub used : Every Unchanged (uses_of items outs i)
 
@@ -100,7 +100,7 @@ takes rows x hs = let us : List How = filter is_use hs in is_some (file_of (valu
 
 -- 'A source resolves to the module of the file its table names.'
 abbrev pub ResolvesTo : List Row → Modules → List ℕ → ℕ → Type 0
-ResolvesTo rows ms x n = (file : ℕ) × (file_of (value_of x) rows ≡ some file) × (number_of file ms ≡ some n)
+ResolvesTo rows ms x n = (file : ℕ) × (file_of (value_of x) rows ≡ Some file) × (number_of file ms ≡ Some n)
 
 -- taken apart where the first argument says so, and kept otherwise; hs is how i stands in the lent items
 abbrev pub Ends : Bool → List ℕ → List ℕ → ℕ → List How → Fields → Lent → Extracted → Resolved → Type 0
@@ -119,6 +119,6 @@ abbrev pub KeptOrApart : Type 0
 KeptOrApart =
     (l : Lent) (room : Lengths) (ms : Modules) (r : Extracted) (m : Modes) (n : ℕ) (q : Resolved) (items : Fields) (own : ℕ × Modules) →
     extracted l room ms ≡ done r → resolved (handed_on m l r) n r.modules ≡ done q →
-    Bytes l.tree → items_read (read Module l.tree) ≡ done items → request l.file ms ≡ some own → well_placed own.0 items ≡ true →
+    Bytes l.tree → items_read (read Module l.tree) ≡ done items → request l.file ms ≡ Some own → well_placed own.0 items ≡ true →
     (k : ℕ) (x i : List ℕ) → Declares items k x (more (field 0x22 i none) none) → among (value_of x) (atoms_in l.externals) ≡ false →
     Ends (takes (rows_in l.table) x (stands items i)) i x k (stands items i) items l r q

@@ -1,9 +1,10 @@
 -- Demand 3 on whole calls, by computation: trees at both ends, and for each clause of 'well placed' what becomes of a tree that breaks it. All
 -- are our own.
+use Rattle.std.specs.Prelude.{Some}
 use Rattle.std.specs.Prelude.{ℕ, ◌≡◌, refl, Bool, true, false}
 use Rattle.std.proofs.Common.{sym, ap, ◌∙◌, true≢false}
 use mathlib.Core.List.{List, [], ◌∷◌, ◌++◌, cons≢nil}
-use Rattle.std.proofs.Math.Option.{some, get_or}
+use Rattle.std.specs.Option.{unwrap_or}
 use Rattle.modes.specs.Bits.{modes_of}
 use Rattle.scope.specs.Id.{default_atom, export}
 use Rattle.scope.specs.Modules.{Module, Modules, unmarked, number_of}
@@ -172,7 +173,7 @@ unlike : {A : Type 0} {u v : A} (p : A → Bool) → u ≡ v → p u ≡ true �
 unlike p e h k = true≢false (sym h ∙ ap p e ∙ k)
 
 -- a source resolves to one module
-one-module : (rows : List Row) (ms : Modules) (l : List ℕ) {j file k : ℕ} → ResolvesTo rows ms l j → file_of (value_of l) rows ≡ some file → number_of file ms ≡ some k → j ≡ k
+one-module : (rows : List Row) (ms : Modules) (l : List ℕ) {j file k : ℕ} → ResolvesTo rows ms l j → file_of (value_of l) rows ≡ Some file → number_of file ms ≡ Some k → j ≡ k
 one-module rows ms l {file = file} (g, e, h) u v = let z : g ≡ file = cc in cc
 
 -- the id i is not the property p in the export context of module k
@@ -191,7 +192,7 @@ shared-source-fails : Wrong true 0 (own a) shared_source
     (from_m (named (exp x) ∷ []) ∷ from_m (namespace (own b) ∷ []) ∷ statement (ident (exp x)) ∷ [])
     (record_m (as_all (own a) ∷ as_all (own b) ∷ as-name (exp x) ∷ []) ∷ [])
 unfolding ending
-shared-source-fails = record { told = refl; left = (refl, refl); fails = λ e. unlike (λ o. has 0x92 (head_of (get_or o none))) e.2.records refl refl }
+shared-source-fails = record { told = refl; left = (refl, refl); fails = λ e. unlike (λ o. has 0x92 (head_of (unwrap_or o none))) e.2.records refl refl }
 
 -- share no local id: import * as a from './m'; import * as a from './n'; a.x
 -- The use becomes x in the other source's export context, 7.

@@ -1,6 +1,5 @@
 -- A worked list of calls, by computation: which calls wrap which modules, and the marks after it. It is our own.
 use Rattle.std.specs.Prelude.{ℕ, ◌≡◌, refl, true, false, List, [], ◌∷◌, ◌++◌, map}
-use Rattle.std.proofs.Math.Option.{bind, Option-elim}
 use Rattle.scope.specs.declared.Mark.TheVariants.{Stored, Cjs, Wrapping}
 use Rattle.scope.specs.Id.{module_id}
 use Rattle.scope.specs.Modules.{gen, files_in, request_all, marking}
@@ -48,7 +47,7 @@ numbers = 0 ∷ 1 ∷ 2 ∷ []
 
 -- nothing is wrapped, neither by the calls nor in the scope
 quiet-wraps : map (λ n. wraps_any n quiet []) numbers ≡ false ∷ false ∷ false ∷ []
-unfolding computing computing-resolved gen files_in request_all marking after wraps wraps_any bind Option-elim
+unfolding computing computing-resolved gen files_in request_all marking after wraps wraps_any
 quiet-wraps = refl
 
 quiet-after : after_all quiet [] ≡
@@ -59,7 +58,7 @@ quiet-after = refl
 
 -- both modules are wrapped
 wrapping-wraps : map (λ n. wraps_any n (quiet ++ wrapping) []) numbers ≡ true ∷ true ∷ false ∷ []
-unfolding computing computing-resolved gen files_in request_all marking after wraps wraps_any bind Option-elim
+unfolding computing computing-resolved gen files_in request_all marking after wraps wraps_any
 wrapping-wraps = refl
 
 wrapping-after : after_all (quiet ++ wrapping) [] ≡

@@ -1,7 +1,7 @@
 -- The files of a scope, requested anew: what a host does that lends, for its next call, the files of the scope that came back.
 -- Document 01: 'Its calls start a fresh scope and first request a lent list of files in it'.
+use Rattle.std.specs.Prelude.{None}
 use Rattle.std.specs.Prelude.{ℕ, ◌≡◌, List, [], map}
-use Rattle.std.proofs.Math.Option.{none}
 use Rattle.scope.specs.Modules.{Modules, unmarked, request_all}
 use Rattle.resolving_rules.specs.Call.{Lent, Left, resolving}
 use Rattle.theorems.specs.Lists.{Call, after_all}
@@ -18,7 +18,7 @@ without_marks ms = map (λ m. unmarked m.file) ms
 -- have, and none is refused.
 abbrev pub SameNumbers : Type 0
 SameNumbers =
-    (calls : List Call) → request_all (files_of (after_all calls [])) [] ≡ record { modules = without_marks (after_all calls []); refusal = none }
+    (calls : List Call) → request_all (files_of (after_all calls [])) [] ≡ record { modules = without_marks (after_all calls []); refusal = None }
 
 -- Resolving reads no mark and sets none: without marks it leaves the same refusal, the same list and the same numbers.
 abbrev pub ResolvesByFiles : Type 0

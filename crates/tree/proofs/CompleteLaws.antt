@@ -1,4 +1,5 @@
 -- Every tree within the grammar, the depth and the lengths reads back to itself, wherever it stands.
+use Rattle.std.specs.Prelude.{Option, Some}
 use Prim.Native.Nat.{ℕ, ◌+◌, ◌-◌, ◌/◌, ◌%◌, ◌≤◌, ◌<◌}
 use mathlib.Core.Path.{◌≡◌, refl, sym, ap, ap₂, ◌∙◌}
 use mathlib.Core.Bool.{true}
@@ -7,12 +8,9 @@ use native.Mathlib.Omega.{arith}
 use lib.ListN.{length, get_or, length-append}
 use lib.Seq.{slice, length-slice, take-length}
 use borrow.Author.Tests.{le-leb, lt-ltb, eq-eqb, ne_eqb}
-use Rattle.tree.specs.declared.layout.Reach.{Reach}
-use Rattle.tree.specs.declared.layout.Reach.TheVariants.{Upto}
 use Rattle.tree.specs.declared.grammar.Set.{Set}
 use Rattle.tree.specs.declared.grammar.Slot.TheVariants.{Nothing}
 use Rattle.tree.specs.declared.grammar.Rule.{Rule}
-use Rattle.tree.specs.declared.grammar.Step.TheVariants.{Go}
 use Rattle.tree.specs.declared.read.Head.{Head}
 use Rattle.tree.specs.declared.read.Head.TheVariants.{Done, Child}
 use Rattle.tree.specs.Layout.{skip_at}
@@ -53,7 +51,7 @@ framed-here s at stop t c h k e =
     }
 
 extent-here : (s : List ℕ) (at end : ℕ) → at + 3 + length_at s at ≤ end →
-    extent_at s at end ≡ Upto (at + 3 + length_at s at)
+    extent_at s at end ≡ Some (at + 3 + length_at s at)
 unfolding extent_at skip_at
 extent-here s at end h =
     let a : 3 ≤ end - at = omega arith in
@@ -64,8 +62,8 @@ head-done : (s : List ℕ) (at end d : ℕ) (q : Rule) → at ≡ end → done_a
 unfolding head_at
 head-done s at end d q e h = rw (eq-eqb at end e, h)
 
-head-child : (s : List ℕ) (at end d : ℕ) (q q' : Rule) (stop : ℕ) → (at ≡ end → ⊥) → step_at q (get_or s at 0) ≡ Go q' →
-    extent_at s at end ≡ Upto stop → d < 64 →
+head-child : (s : List ℕ) (at end d : ℕ) (q q' : Rule) (stop : ℕ) → (at ≡ end → ⊥) → step_at q (get_or s at 0) ≡ Some q' →
+    extent_at s at end ≡ Some stop → d < 64 →
     head_at s at end d q ≡ Child q' stop
 unfolding head_at on_step on_extent
 head-child s at end d q q' stop n e x h = rw (ne_eqb at end n, e, x, lt-ltb d 64 h)
@@ -87,18 +85,18 @@ row-child s at end d q q' p stop f fs le h a b =
     children-step s at end d q p le ∙ ap (λ (x : Head). on_head x children_at s at end d p) h ∙ ap₂ (both more) a b
 
 field-parts : (s : List ℕ) (at stop d b t : ℕ) (x : List ℕ) (cs : Fields) → get_or s at 0 ≡ t →
-    fixed_at s t (at + 3) stop ≡ Upto b → slice (at + 3) b s ≡ x →
+    fixed_at s t (at + 3) stop ≡ Some b → slice (at + 3) b s ≡ x →
     children_at s b stop d (rule_of t) at ≡ fine cs → content_at s at stop d ≡ fine (field t x cs)
 unfolding content_at content_by on_fixed
 field-parts s at stop d b t x cs e h w r =
-    ap (λ (y : Reach). on_fixed y children_at s at stop d) (ap (λ (u : ℕ). fixed_at s u (at + 3) stop) e ∙ h)
+    ap (λ (y : Option ℕ). on_fixed y children_at s at stop d) (ap (λ (u : ℕ). fixed_at s u (at + 3) stop) e ∙ h)
     ∙ ap (mapped (field (get_or s at 0) (slice (at + 3) b s))) (ap (λ (u : ℕ). children_at s b stop d (rule_of u) at) e ∙ r)
     ∙ ap₂ (λ (u : ℕ) (v : List ℕ). fine (field u v cs)) e w
 
 -- the fixed bytes of a tree are found where it stands
 fixed-here : (s : List ℕ) (at stop t : ℕ) (x : List ℕ) (cs : Fields) → stop ≤ length s → at ≤ stop → Exact t x →
     FormedAll cs (rule_of t) → slice at stop s ≡ x ++ encodes cs →
-    fixed_at s t at stop ≡ Upto (at + length x)
+    fixed_at s t at stop ≡ Some (at + length x)
 unfolding encode
 fixed-here s at stop t x cs k h ex w e =
     let m = slice-split at stop s x (encodes cs) h k e in
@@ -108,7 +106,7 @@ fixed-here s at stop t x cs k h ex w e =
     fixed-same t x s 0 at (length x) (length x) stop (omega arith)
     (λ j l. let y : 0 + j ≡ j = omega arith in
     ap (λ (n : ℕ). get_or x n 0) y ∙ sym (ap (λ (u : List ℕ). get_or u j 0) m.1) ∙ get_d-slice at (at + length x) s j (omega arith)) m.0
-    (λ o. let none-left = ap (λ (u : Fields). length (encodes u)) (formed-none cs (rw (open-rule t o) at w)) in omega arith) (ex ∙ ap Upto z)
+    (λ o. let none-left = ap (λ (u : Fields). length (encodes u)) (formed-none cs (rw (open-rule t o) at w)) in omega arith) (ex ∙ ap Some z)
 
 field-here : (s : List ℕ) (at stop d t : ℕ) (x : List ℕ) (cs : Fields) → at ≤ stop → stop ≤ length s →
     Formed (field t x cs) → slice at stop s ≡ encode (field t x cs) →
@@ -141,7 +139,7 @@ row-here s at end d q p (field t x cs) fs h k w dd e ihf ihr =
     let where-to : at + 3 + length_at s at ≡ stop = omega arith in
     let ne : at ≡ end → ⊥ = λ z. omega arith in
     row-child s at end d q w.0 p stop f fs h
-    (head-child s at end d q w.0 stop ne (ap (step_at q) g.tag ∙ w.1) (extent-here s at end (omega arith) ∙ ap Upto where-to) dd)
+    (head-child s at end d q w.0 stop ne (ap (step_at q) g.tag ∙ w.1) (extent-here s at end (omega arith) ∙ ap Some where-to) dd)
     (ihf stop le m.0 m.1) (ihr stop w.0 m.0 w.3 m.2)
 
 none-here : (s : List ℕ) (at end : ℕ) → at ≤ end → end ≤ length s → slice at end s ≡ encodes none → at ≡ end

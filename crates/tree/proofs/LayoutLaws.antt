@@ -6,40 +6,20 @@ use mathlib.Core.List.{List, [], ◌∷◌, ◌++◌}
 use native.Mathlib.Omega.{arith}
 use lib.Dec.{eqb}
 use lib.ListN.{length, get_or}
+use lib.Pointwise.{pointwise}
 use lib.Seq.{slice, slice_empty, slice-cons}
-use borrow.Author.Tests.{eq-eqb, ne_eqb, eqb-true, eqb-false}
+use borrow.Author.Tests.{eq-eqb, eqb-true, eqb-false}
 use Rattle.tree.specs.Layout.{Bytes, same, two, four, two_at, four_at, atom_at, context_at}
 use Rattle.tree.proofs.Table.{both-true}
 use Rattle.tree.proofs.SliceLaws.{slice-join}
 
-step : (s t : List ℕ) (a b e f : ℕ) → a < e → e ≤ length s → b < f → f ≤ length t →
-    same (slice a e s) (slice b f t) ≡ eqb (get_or s a 0) (get_or t b 0) && same (slice (a + 1) e s) (slice (b + 1) f t)
+-- the code's test of two runs
+pub same-pointwise : (l m : List ℕ) → pointwise eqb l m ≡ same l m
 unfolding same
-step s t a b e f ha hs hb ht =
-    let ea : suc a ≡ a + 1 = omega arith in
-    let eb : suc b ≡ b + 1 = omega arith in
-    ap₂ same (slice-cons a e s 0 ha hs ∙ ap (λ (n : ℕ). get_or s a 0 ∷ slice n e s) ea)
-    (slice-cons b f t 0 hb ht ∙ ap (λ (n : ℕ). get_or t b 0 ∷ slice n f t) eb)
-
--- two runs from a and b, of which i bytes are passed, agree in the next
-pub same-more : (s t : List ℕ) (a b i e f : ℕ) → a + i < e → e ≤ length s → b + i < f → f ≤ length t →
-    get_or s (a + i) 0 ≡ get_or t (b + i) 0 →
-    same (slice (a + i) e s) (slice (b + i) f t) ≡ same (slice (a + (i + 1)) e s) (slice (b + (i + 1)) f t)
-same-more s t a b i e f ha hs hb ht h =
-    let ea : a + i + 1 ≡ a + (i + 1) = omega arith in
-    let eb : b + i + 1 ≡ b + (i + 1) = omega arith in
-    step s t (a + i) (b + i) e f ha hs hb ht ∙ ap (λ (x : Bool). x && same (slice (a + i + 1) e s) (slice (b + i + 1) f t)) (eq-eqb _ _ h)
-    ∙ ap₂ (λ (x y : ℕ). same (slice x e s) (slice y f t)) ea eb
-
-pub same-other : (s t : List ℕ) (a b i e f : ℕ) → a + i < e → e ≤ length s → b + i < f → f ≤ length t →
-    (get_or s (a + i) 0 ≡ get_or t (b + i) 0 → ⊥) →
-    same (slice (a + i) e s) (slice (b + i) f t) ≡ false
-same-other s t a b i e f ha hs hb ht h =
-    step s t (a + i) (b + i) e f ha hs hb ht ∙ ap (λ (x : Bool). x && same (slice (a + i + 1) e s) (slice (b + i + 1) f t)) (ne_eqb _ _ h)
-
-pub same-end : (s t : List ℕ) (a b e f : ℕ) → a ≡ e → b ≡ f → same (slice a e s) (slice b f t) ≡ true
-unfolding same
-same-end s t a b e f ha hb = ap₂ same (ap (λ (n : ℕ). slice n e s) ha ∙ slice_empty e s) (ap (λ (n : ℕ). slice n f t) hb ∙ slice_empty f t)
+same-pointwise [] [] = refl
+same-pointwise [] (y ∷ m) = refl
+same-pointwise (x ∷ l) [] = refl
+same-pointwise (x ∷ l) (y ∷ m) = ap (λ (b : Bool). eqb x y && b) (same-pointwise l m)
 
 -- runs that are the same are equal, and equal runs are the same
 pub same-refl : (l : List ℕ) → same l l ≡ true
@@ -50,8 +30,8 @@ same-refl (x ∷ l) = rw (eq-eqb x x refl) (same-refl l)
 pub same-equal : (l m : List ℕ) → same l m ≡ true → l ≡ m
 unfolding same
 same-equal [] [] e = refl
-same-equal [] (y ∷ m) e = absurd (let z : ◌≡◌ {A = ℕ} 0 1 = cc in omega arith)
-same-equal (x ∷ l) [] e = absurd (let z : ◌≡◌ {A = ℕ} 0 1 = cc in omega arith)
+same-equal [] (y ∷ m) e = cc
+same-equal (x ∷ l) [] e = cc
 same-equal (x ∷ l) (y ∷ m) e = let h = both-true (eqb x y) (same l m) e in ap₂ ◌∷◌ (eqb-true x y h.0) (same-equal l m h.1)
 
 -- ---- numbers and the bytes that hold them
@@ -98,7 +78,7 @@ module _ (code : ℕ → List ℕ) (m n : ℕ) (one : code m ≡ code n → m �
   agree true false s e = absurd (eqb-false m n e (one (same-equal (code m) (code n) s)))
   agree false true s e =
       let h : true ≡ false = sym (same-refl (code m)) ∙ ap (λ (k : ℕ). same (code m) (code k)) (eqb-true m n e) ∙ s in
-      absurd (let z : ◌≡◌ {A = ℕ} 0 1 = cc in omega arith)
+      cc
 
   pub same-code : same (code m) (code n) ≡ eqb m n
   same-code = agree (same (code m) (code n)) (eqb m n) refl refl

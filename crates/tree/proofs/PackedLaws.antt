@@ -1,6 +1,7 @@
 -- The packed grammar says what the grammar says: this is computed for each of the 256 tags, of its bits against the 32 numbers of sets and of
 -- its rule. Without its lowest byte a packed rule is the rule without its first slot; so what it says to a tag, and whether it lacks a part,
 -- is told by its lowest byte or by what is left of it.
+use Rattle.std.specs.Prelude.{Some, None}
 use Prim.Native.Nat.{ℕ, suc, ◌-◌, ◌/◌, ◌%◌, ◌^◌, ◌≤◌, ◌<◌}
 use mathlib.Core.Path.{◌≡◌, refl, sym, ap, ◌∙◌}
 use mathlib.Core.Bool.{Bool, true, false, ◌&&◌, cond}
@@ -14,7 +15,6 @@ use Rattle.tree.specs.declared.grammar.Slot.TheVariants.{Nothing}
 use Rattle.tree.specs.declared.grammar.Rule.{Rule}
 use Rattle.tree.specs.declared.grammar.Fit.{Fit}
 use Rattle.tree.specs.declared.grammar.Fit.TheVariants.{Stay, Used, Over, No}
-use Rattle.tree.specs.declared.grammar.Step.TheVariants.{Go, No as Refused}
 use Rattle.tree.specs.Grammar.{find, within, holds_at, rule_of, parts0, parts4, rest_of, on_fit, slot_at, step_by, step_at, full_at, done_at}
 use Rattle.tree.specs.Packed.{set_numbers, unpack_set, unpack_slot, unpack_rule, entry_at, sets_at, packed_rule_at}
 use Rattle.tree.specs.Read.{top}
@@ -29,7 +29,7 @@ agree false b = cond b false true
 agree-true : (a b : Bool) → agree a b ≡ true → b ≡ a
 unfolding agree
 agree-true true b e = e
-agree-true false true e = absurd (let z : ◌≡◌ {A = ℕ} 0 1 = cc in omega arith)
+agree-true false true e = cc
 agree-true false false e = refl
 
 -- bit i of n says whether t is in set i
@@ -120,7 +120,7 @@ pub rule-none : unpack_rule 0 ≡ parts0
 unfolding unpack_rule unpack_slot
 rule-none = refl
 
-pub step-end : (t : ℕ) → step_at (unpack_rule 0) t ≡ Refused
+pub step-end : (t : ℕ) → step_at (unpack_rule 0) t ≡ None
 unfolding step_at step_by slot_at unpack_rule unpack_slot
 step-end t = refl
 
@@ -171,13 +171,13 @@ module _ (t n sets : ℕ) (byte : t < 256) (small : n < 2 ^ 32) (these : sets �
   pub step-nothing : n % 256 ≡ 0 → step_at (unpack_rule n) t ≡ step_at (unpack_rule (n / 256)) t
   step-nothing z = step-by-fit Over (fit-nothing (n % 256) t z)
 
-  pub step-used : (n % 256 ≡ 0 → ⊥) → sets / 2 ^ (n % 256 % 32) % 2 ≡ 1 → n % 256 < 96 → step_at (unpack_rule n) t ≡ Go (unpack_rule (n / 256))
-  step-used z b l = step-by-fit Used (fit-used (n % 256) t z (holds-true b) l) ∙ ap Go (rest-by n small)
+  pub step-used : (n % 256 ≡ 0 → ⊥) → sets / 2 ^ (n % 256 % 32) % 2 ≡ 1 → n % 256 < 96 → step_at (unpack_rule n) t ≡ Some (unpack_rule (n / 256))
+  step-used z b l = step-by-fit Used (fit-used (n % 256) t z (holds-true b) l) ∙ ap Some (rest-by n small)
 
-  pub step-stay : sets / 2 ^ (n % 256 % 32) % 2 ≡ 1 → 96 ≤ n % 256 → step_at (unpack_rule n) t ≡ Go (unpack_rule n)
+  pub step-stay : sets / 2 ^ (n % 256 % 32) % 2 ≡ 1 → 96 ≤ n % 256 → step_at (unpack_rule n) t ≡ Some (unpack_rule n)
   step-stay b l = step-by-fit Stay (fit-stay (n % 256) t (holds-true b) l)
 
-  pub step-off : (n % 256 ≡ 0 → ⊥) → (sets / 2 ^ (n % 256 % 32) % 2 ≡ 1 → ⊥) → n % 256 < 64 → step_at (unpack_rule n) t ≡ Refused
+  pub step-off : (n % 256 ≡ 0 → ⊥) → (sets / 2 ^ (n % 256 % 32) % 2 ≡ 1 → ⊥) → n % 256 < 64 → step_at (unpack_rule n) t ≡ None
   step-off z b l = step-by-fit No (fit-no (n % 256) t z (holds-false b) l)
 
   pub step-over : (sets / 2 ^ (n % 256 % 32) % 2 ≡ 1 → ⊥) → 64 ≤ n % 256 → step_at (unpack_rule n) t ≡ step_at (unpack_rule (n / 256)) t

@@ -1,4 +1,5 @@
 -- Reading: what it finds lies inside, its fuel is always enough, and what the code makes of each head.
+use Rattle.std.specs.Prelude.{Option, Some, None, Result, Ok, Err}
 use Prim.Native.Nat.{ℕ, zero, suc, ◌+◌, ◌-◌, ◌≤◌, ◌<◌}
 use mathlib.Core.Path.{◌≡◌, refl, ap, ap₂, subst, ◌∙◌}
 use mathlib.Core.Bool.{Bool, true, false, cond}
@@ -6,20 +7,15 @@ use mathlib.Core.List.{List}
 use lib.Dec.{ltb, leb, eqb}
 use lib.ListN.{get_or, length}
 use lib.Seq.{slice}
-use borrow.Author.Tests.{ltb-true, eqb-true}
+use borrow.Author.Tests.{ltb-true, eqb-true, eq-eqb}
 use native.Mathlib.Omega.{arith}
-use Rattle.tree.specs.declared.layout.Reach.{Reach}
-use Rattle.tree.specs.declared.layout.Reach.TheVariants.{Upto, Short}
 use Rattle.tree.specs.declared.grammar.Set.{Set}
 use Rattle.tree.specs.declared.grammar.Rule.{Rule}
-use Rattle.tree.specs.declared.grammar.Step.{Step}
-use Rattle.tree.specs.declared.grammar.Step.TheVariants.{Go, No}
 use Rattle.tree.specs.declared.read.Why.{Why}
 use Rattle.tree.specs.declared.read.Why.TheVariants.{Cut, Lacking, Deep}
 use Rattle.tree.specs.declared.read.Head.{Head}
 use Rattle.tree.specs.declared.read.Head.TheVariants.{Done, Missing, Bad, Child}
-use Rattle.tree.specs.declared.read.Verdict.{Verdict}
-use Rattle.tree.specs.declared.read.Verdict.TheVariants.{Good, Refused}
+use Rattle.tree.specs.declared.read.Unread.{Unread}
 use Rattle.tree.specs.Layout.{skip_at}
 use Rattle.tree.specs.Tree.{field, Fields, more}
 use Rattle.tree.specs.Grammar.{rule_of, step_at, done_at}
@@ -34,16 +30,16 @@ HeadIn at end d Missing = Unit
 HeadIn at end d (Bad w) = Unit
 HeadIn at end d (Child q stop) = (at + 3 ≤ stop) × (stop ≤ end) × (d < 64)
 
-extent-head : (r : Reach) (q : Rule) (at end d : ℕ) → ReachIn (at + 3) end r → HeadIn at end d (on_extent r q d)
+extent-head : (r : Option ℕ) (q : Rule) (at end d : ℕ) → ReachIn (at + 3) end r → HeadIn at end d (on_extent r q d)
 unfolding on_extent
-extent-head Short q at end d h = tt
-extent-head (Upto stop) q at end d h =
+extent-head None q at end d h = tt
+extent-head (Some stop) q at end d h =
     cond-ind (HeadIn at end d) (ltb d 64) (Child q stop) (Bad Deep) (λ e. (h.0, h.1, ltb-true d 64 e)) (λ e. tt)
 
-step-head : (x : Step) (s : List ℕ) (at end d : ℕ) → at ≤ end → HeadIn at end d (on_step x s at end d)
+step-head : (x : Option Rule) (s : List ℕ) (at end d : ℕ) → at ≤ end → HeadIn at end d (on_step x s at end d)
 unfolding on_step
-step-head No s at end d h = tt
-step-head (Go q) s at end d h = extent-head (extent_at s at end) q at end d (extent-in s at end h)
+step-head None s at end d h = tt
+step-head (Some q) s at end d h = extent-head (extent_at s at end) q at end d (extent-in s at end h)
 
 pub head-in : (s : List ℕ) (at end d : ℕ) (q : Rule) → at ≤ end → HeadIn at end d (head_at s at end d q)
 unfolding head_at
@@ -59,12 +55,12 @@ child-in s at end d q le e = subst (HeadIn at end d) e (head-in s at end d q le)
 abbrev Agree : Kids → Kids → List ℕ → ℕ → ℕ → Type 0
 Agree k k' s at end = (a e d : ℕ) (q : Rule) (p : ℕ) → at < a → a ≤ e → e ≤ end → k s a e d q p ≡ k' s a e d q p
 
-fixed-agree : (r : Reach) (k k' : Kids) (s : List ℕ) (at stop end d : ℕ) → ReachIn (at + 3) stop r → stop ≤ end →
+fixed-agree : (r : Option ℕ) (k k' : Kids) (s : List ℕ) (at stop end d : ℕ) → ReachIn (at + 3) stop r → stop ≤ end →
     Agree k k' s at end →
     on_fixed r k s at stop d ≡ on_fixed r k' s at stop d
 unfolding on_fixed
-fixed-agree Short k k' s at stop end d h le g = refl
-fixed-agree (Upto b) k k' s at stop end d h le g =
+fixed-agree None k k' s at stop end d h le g = refl
+fixed-agree (Some b) k k' s at stop end d h le g =
     ap (mapped (field (get_or s at 0) (slice (at + 3) b s))) (g b stop d (rule_of (get_or s at 0)) at (omega arith) h.1 le)
 
 content-agree : (k k' : Kids) (s : List ℕ) (at stop end d : ℕ) → at + 3 ≤ stop → stop ≤ end → Agree k k' s at end →
@@ -98,9 +94,10 @@ children-step s at end d q p le =
     head-agree (head_at s at end d q) (children (end - at)) children_at s at end d p (head-in s at end d q le)
     (λ a e d' q' p' l₁ l₂ l₃. enough (end - at) (suc (e - a)) s a e d' q' p' l₂ (omega arith) (omega arith))
 
-abbrev pub after : Verdict → Verdict → Verdict
-after Good v = v
-after (Refused w p) v = Refused w p
+-- the first, then the second; the first refusal stands
+abbrev pub after : Result Unit Unread → Result Unit Unread → Result Unit Unread
+after (Ok u) v = v
+after (Err e) v = Err e
 
 pub verdict-mapped : {A B : Type 0} (f : A → B) (r : Reading A) → verdict (mapped f r) ≡ verdict r
 verdict-mapped f (fine a) = refl
@@ -112,21 +109,21 @@ verdict-both f (fine a) b = verdict-mapped (f a) b
 verdict-both f (refused w p) b = refl
 
 -- the content's verdict, by its fixed bytes
-pub content-short : (s : List ℕ) (at stop d : ℕ) → fixed_at s (get_or s at 0) (at + 3) stop ≡ Short →
-    verdict (content_at s at stop d) ≡ Refused Lacking at
+pub content-short : (s : List ℕ) (at stop d : ℕ) → fixed_at s (get_or s at 0) (at + 3) stop ≡ None →
+    verdict (content_at s at stop d) ≡ Err (record { why = Lacking; place = at })
 unfolding content_at content_by on_fixed
 content-short s at stop d e = rw e
 
-pub content-upto : (s : List ℕ) (at stop d b : ℕ) → fixed_at s (get_or s at 0) (at + 3) stop ≡ Upto b →
+pub content-upto : (s : List ℕ) (at stop d b : ℕ) → fixed_at s (get_or s at 0) (at + 3) stop ≡ Some b →
     verdict (content_at s at stop d) ≡ verdict (children_at s b stop d (rule_of (get_or s at 0)) at)
 unfolding content_at content_by on_fixed
 content-upto s at stop d b e = rw e (verdict-mapped (field (get_or s at 0) (slice (at + 3) b s)) (children_at s b stop d (rule_of (get_or s at 0)) at))
 
 -- the children's verdict, by their head
-abbrev pub verdict-by : Head → List ℕ → ℕ → ℕ → ℕ → ℕ → Verdict
-verdict-by Done s at end d p = Good
-verdict-by Missing s at end d p = Refused Lacking p
-verdict-by (Bad w) s at end d p = Refused w at
+abbrev pub verdict-by : Head → List ℕ → ℕ → ℕ → ℕ → ℕ → Result Unit Unread
+verdict-by Done s at end d p = Ok tt
+verdict-by Missing s at end d p = Err (record { why = Lacking; place = p })
+verdict-by (Bad w) s at end d p = Err (record { why = w; place = at })
 verdict-by (Child q stop) s at end d p = after (verdict (content_at s at stop (d + 1))) (verdict (children_at s stop end d q p))
 
 on-head : (h : Head) (s : List ℕ) (at end d p : ℕ) →
@@ -142,16 +139,26 @@ pub children-verdict : (s : List ℕ) (at end d : ℕ) (q : Rule) (p : ℕ) (h :
 children-verdict s at end d q p h le e =
     ap verdict (children-step s at end d q p le) ∙ on-head (head_at s at end d q) s at end d p ∙ ap (λ (x : Head). verdict-by x s at end d p) e
 
-pub after-good : {v : Verdict} (w : Verdict) → v ≡ Good → after v w ≡ w
-after-good w e = ap (λ (x : Verdict). after x w) e
+-- the verdict at the end of the parts
+pub end-done : (s : List ℕ) (at end d : ℕ) (q : Rule) (p : ℕ) → at ≡ end → done_at q ≡ true → verdict (children_at s at end d q p) ≡ Ok tt
+unfolding head_at
+end-done s at end d q p e x = children-verdict s at end d q p Done (omega arith) (rw (eq-eqb at end e, x))
 
-pub after-refused : {v : Verdict} {w : Why} {p : ℕ} (u : Verdict) → v ≡ Refused w p → after v u ≡ Refused w p
-after-refused u e = ap (λ (x : Verdict). after x u) e
+pub end-lacks : (s : List ℕ) (at end d : ℕ) (q : Rule) (p : ℕ) → at ≡ end → done_at q ≡ false →
+    verdict (children_at s at end d q p) ≡ Err (record { why = Lacking; place = p })
+unfolding head_at
+end-lacks s at end d q p e x = children-verdict s at end d q p Missing (omega arith) (rw (eq-eqb at end e, x))
+
+pub after-good : {v : Result Unit Unread} (w : Result Unit Unread) → v ≡ Ok tt → after v w ≡ w
+after-good w e = rw e
+
+pub after-refused : {v : Result Unit Unread} {r : Unread} (w : Result Unit Unread) → v ≡ Err r → after v w ≡ Err r
+after-refused w e = rw e
 
 -- ---- what an accepted reading says
 
 pub no-refused : {A : Type 0} {w : Why} {p : ℕ} {a : A} → refused w p ≡ fine a → ⊥
-no-refused {A} {w} {p} {a} e = let z : ◌≡◌ {A = ℕ} 0 1 = cc in omega arith
+no-refused e = cc
 
 pub fine-inj : {A : Type 0} {a b : A} → fine a ≡ fine b → a ≡ b
 fine-inj e = cc
@@ -171,32 +178,32 @@ abbrev pub Says : List ℕ → ℕ → ℕ → Rule → Head → Type 0
 Says s at end q Done = (at ≡ end) × (done_at q ≡ true)
 Says s at end q Missing = Unit
 Says s at end q (Bad w) = Unit
-Says s at end q (Child q' stop) = (step_at q (get_or s at 0) ≡ Go q') × (stop ≡ at + 3 + length_at s at) × (extent_at s at end ≡ Upto stop)
+Says s at end q (Child q' stop) = (step_at q (get_or s at 0) ≡ Some q') × (stop ≡ at + 3 + length_at s at) × (extent_at s at end ≡ Some stop)
 
-abbrev Stops : List ℕ → ℕ → Reach → Type 0
-Stops s at Short = Unit
-Stops s at (Upto stop) = stop ≡ at + 3 + length_at s at
+abbrev Stops : List ℕ → ℕ → Option ℕ → Type 0
+Stops s at None = Unit
+Stops s at (Some stop) = stop ≡ at + 3 + length_at s at
 
 extent-says : (s : List ℕ) (at end : ℕ) → Stops s at (extent_at s at end)
 unfolding extent_at skip_at
 extent-says s at end =
-    cond-ind (Stops s at) (leb 3 (end - at)) (skip_at (at + 3) (length_at s at) end) Short
-    (λ e. cond-ind (Stops s at) (leb (length_at s at) (end - (at + 3))) (Upto (at + 3 + length_at s at)) Short (λ _. refl) (λ _. tt)) (λ e. tt)
+    cond-ind (Stops s at) (leb 3 (end - at)) (skip_at (at + 3) (length_at s at) end) None
+    (λ e. cond-ind (Stops s at) (leb (length_at s at) (end - (at + 3))) (Some (at + 3 + length_at s at)) None (λ _. refl) (λ _. tt)) (λ e. tt)
 
-pub extent-length : (s : List ℕ) (at end : ℕ) {stop : ℕ} → extent_at s at end ≡ Upto stop → stop ≡ at + 3 + length_at s at
+pub extent-length : (s : List ℕ) (at end : ℕ) {stop : ℕ} → extent_at s at end ≡ Some stop → stop ≡ at + 3 + length_at s at
 extent-length s at end e = subst (Stops s at) e (extent-says s at end)
 
-on-extent-says : (r : Reach) (s : List ℕ) (at end d : ℕ) (q q' : Rule) → step_at q (get_or s at 0) ≡ Go q' → Stops s at r →
+on-extent-says : (r : Option ℕ) (s : List ℕ) (at end d : ℕ) (q q' : Rule) → step_at q (get_or s at 0) ≡ Some q' → Stops s at r →
     extent_at s at end ≡ r → Says s at end q (on_extent r q' d)
 unfolding on_extent
-on-extent-says Short s at end d q q' e h x = tt
-on-extent-says (Upto stop) s at end d q q' e h x = cond-ind (Says s at end q) (ltb d 64) (Child q' stop) (Bad Deep) (λ _. (e, h, x)) (λ _. tt)
+on-extent-says None s at end d q q' e h x = tt
+on-extent-says (Some stop) s at end d q q' e h x = cond-ind (Says s at end q) (ltb d 64) (Child q' stop) (Bad Deep) (λ _. (e, h, x)) (λ _. tt)
 
-on-step-says : (x : Step) (s : List ℕ) (at end d : ℕ) (q : Rule) → step_at q (get_or s at 0) ≡ x →
+on-step-says : (x : Option Rule) (s : List ℕ) (at end d : ℕ) (q : Rule) → step_at q (get_or s at 0) ≡ x →
     Says s at end q (on_step x s at end d)
 unfolding on_step
-on-step-says No s at end d q e = tt
-on-step-says (Go q') s at end d q e = on-extent-says (extent_at s at end) s at end d q q' e (extent-says s at end) refl
+on-step-says None s at end d q e = tt
+on-step-says (Some q') s at end d q e = on-extent-says (extent_at s at end) s at end d q q' e (extent-says s at end) refl
 
 pub head-says : (s : List ℕ) (at end d : ℕ) (q : Rule) → Says s at end q (head_at s at end d q)
 unfolding head_at
@@ -216,10 +223,12 @@ unfolding read
 read-children root s fs e = read_by (eqb (length s) 0) (children_at s 0 (length s) 0 (top root) 0) fs e
 
 -- what the code calls good was read
-pub good-fine : {A : Type 0} (r : Reading A) → verdict r ≡ Good → (a : A) × (r ≡ fine a)
+pub good-fine : {A : Type 0} (r : Reading A) → verdict r ≡ Ok tt → (a : A) × (r ≡ fine a)
 good-fine (fine a) e = (a, refl)
-good-fine (refused w p) e = absurd (let z : ◌≡◌ {A = ℕ} 0 1 = cc in omega arith)
+good-fine (refused w p) e = cc
 
-pub verdict-refused : {A : Type 0} (r : Reading A) {w : Why} {p : ℕ} → verdict r ≡ Refused w p → r ≡ refused w p
-verdict-refused (fine a) e = absurd (let z : ◌≡◌ {A = ℕ} 0 1 = cc in omega arith)
-verdict-refused (refused v o) e = cc
+pub verdict-refused : {A : Type 0} (r : Reading A) {w : Why} {p : ℕ} → verdict r ≡ Err (record { why = w; place = p }) → r ≡ refused w p
+verdict-refused (fine a) e = cc
+verdict-refused (refused v o) {w} {p} e =
+    let h : ◌≡◌ {A = Unread} (record { why = v; place = o }) (record { why = w; place = p }) = cc in
+    ap (λ (u : Unread). refused u.why u.place) h

@@ -1,4 +1,5 @@
 -- What is read is within the grammar, the depth and the lengths, and its bytes are those that were read.
+use Rattle.std.specs.Prelude.{Option, Some, None}
 use Prim.Native.Nat.{ℕ, zero, suc, ◌+◌, ◌-◌, ◌*◌, ◌/◌, ◌%◌, ◌≤◌, ◌<◌}
 use mathlib.Core.Path.{◌≡◌, refl, sym, ap, ap₂, subst, ◌∙◌}
 use mathlib.Core.Bool.{true}
@@ -7,12 +8,9 @@ use native.Mathlib.Omega.{arith}
 use native.Mathlib.Numerals.{add-one}
 use lib.ListN.{length, get_or}
 use lib.Seq.{slice, slice_empty, slice-cons, length-slice, take-length}
-use Rattle.tree.specs.declared.layout.Reach.{Reach}
-use Rattle.tree.specs.declared.layout.Reach.TheVariants.{Upto, Short}
 use Rattle.tree.specs.declared.grammar.Set.{Set}
 use Rattle.tree.specs.declared.grammar.Slot.TheVariants.{Nothing}
 use Rattle.tree.specs.declared.grammar.Rule.{Rule}
-use Rattle.tree.specs.declared.grammar.Step.TheVariants.{Go}
 use Rattle.tree.specs.declared.read.Head.{Head}
 use Rattle.tree.specs.declared.read.Head.TheVariants.{Done, Missing, Bad, Child}
 use Rattle.tree.specs.Tree.{Field, field, Fields, none, more, tag_of, framed, encode, encodes, size, depth, depths}
@@ -51,8 +49,8 @@ frame-here s at stop c bs h le e ec =
     ∙ ap (λ (n : ℕ). get_or s (at + 2) 0 ∷ slice n stop s) e₃)))
 
 -- the fixed bytes that were found are just those of the tag
-found-exact : (s : List ℕ) (t at stop b : ℕ) → at ≤ stop → b ≤ length s → ReachIn at stop (Upto b) →
-    fixed_at s t at stop ≡ Upto b → Exact t (slice at b s)
+found-exact : (s : List ℕ) (t at stop b : ℕ) → at ≤ stop → b ≤ length s → ReachIn at stop (Some b) →
+    fixed_at s t at stop ≡ Some b → Exact t (slice at b s)
 found-exact s t at stop b le len i e =
     let x = slice at b s in
     let n : length x ≡ b - at = length-slice at b s len in
@@ -60,7 +58,7 @@ found-exact s t at stop b le len i e =
     let e₂ : 0 + length x ≡ length x = omega arith in
     fixed-same t s x at 0 (length x) stop (length x) le
     (λ k l. let z : k ≡ 0 + k = omega arith in sym (get_d-slice at b s k (omega arith)) ∙ ap (λ (j : ℕ). get_or x j 0) z)
-    (omega arith) (λ _. e₂) (e ∙ ap Upto e₁) ∙ ap Upto e₂
+    (omega arith) (λ _. e₂) (e ∙ ap Some e₁) ∙ ap Some e₂
 
 -- what holds of parts that a reading accepts at depth d
 abbrev pub SoundRow : List ℕ → ℕ → ℕ → ℕ → Rule → Fields → Type 0
@@ -79,8 +77,8 @@ unfolding length_at
 length-small s at bs = omega (arith, bs (at + 1), bs (at + 2))
 
 field-sound : (s : List ℕ) (at stop d b : ℕ) (cs : Fields) → Bytes s → at + 3 ≤ stop → stop ≤ length s →
-    stop ≡ at + 3 + length_at s at → ReachIn (at + 3) stop (Upto b) →
-    fixed_at s (get_or s at 0) (at + 3) stop ≡ Upto b →
+    stop ≡ at + 3 + length_at s at → ReachIn (at + 3) stop (Some b) →
+    fixed_at s (get_or s at 0) (at + 3) stop ≡ Some b →
     SoundRow s b stop d (rule_of (get_or s at 0)) cs →
     SoundAt s at stop d (field (get_or s at 0) (slice (at + 3) b s) cs)
 unfolding encode
@@ -96,13 +94,13 @@ field-sound s at stop d b cs bs h le st i x w =
     let p = depth-parts t c cs in
     (enc, (omega arith, found-exact s t (at + 3) stop b h (omega arith) i x, w.1), (λ l. let deep = w.2 l in omega arith), refl)
 
-fixed-sound : (r : Reach) (k : Kids) (s : List ℕ) (at stop d : ℕ) (f : Field) → Bytes s → Sound k s → at + 3 ≤ stop →
+fixed-sound : (r : Option ℕ) (k : Kids) (s : List ℕ) (at stop d : ℕ) (f : Field) → Bytes s → Sound k s → at + 3 ≤ stop →
     stop ≤ length s → stop ≡ at + 3 + length_at s at →
     ReachIn (at + 3) stop r → fixed_at s (get_or s at 0) (at + 3) stop ≡ r → on_fixed r k s at stop d ≡ fine f →
     SoundAt s at stop d f
 unfolding on_fixed
-fixed-sound Short k s at stop d f bs ih h le st i x e = absurd (no-refused e)
-fixed-sound (Upto b) k s at stop d f bs ih h le st i x e =
+fixed-sound None k s at stop d f bs ih h le st i x e = absurd (no-refused e)
+fixed-sound (Some b) k s at stop d f bs ih h le st i x e =
     let m = mapped-fine (field (get_or s at 0) (slice (at + 3) b s)) (k s b stop d (rule_of (get_or s at 0)) at) f e in
     subst (SoundAt s at stop d) m.2 (field-sound s at stop d b m.0 bs h le st i x (ih b stop d (rule_of (get_or s at 0)) at m.0 i.1 le m.1))
 
@@ -111,7 +109,7 @@ unfolding encode
 none-sound s at end d q e h = (sym (ap (λ (n : ℕ). slice n end s) e ∙ slice_empty end s), h, λ l. let z = depth-none in omega arith)
 
 more-sound : (s : List ℕ) (at stop end d : ℕ) (q q' : Rule) (f : Field) (fs : Fields) → at ≤ stop → stop ≤ end →
-    end ≤ length s → step_at q (get_or s at 0) ≡ Go q' →
+    end ≤ length s → step_at q (get_or s at 0) ≡ Some q' →
     d < 64 → SoundAt s at stop (d + 1) f → SoundRow s stop end d q' fs → SoundRow s at end d q (more f fs)
 unfolding encode
 more-sound s at stop end d q q' f fs h k len y lt w v =
@@ -157,7 +155,7 @@ row-sound s at end q bs le len w =
     (r.0, r.1)
 
 -- and where it accepts a field
-pub whole-sound : (s : List ℕ) (at end stop : ℕ) → Bytes s → at ≤ end → end ≤ length s → extent_at s at end ≡ Upto stop →
+pub whole-sound : (s : List ℕ) (at end stop : ℕ) → Bytes s → at ≤ end → end ≤ length s → extent_at s at end ≡ Some stop →
     Whole s at stop →
     (encode (tree_at s at stop) ≡ slice at stop s) × Formed (tree_at s at stop)
 unfolding content_at content_by

@@ -1,4 +1,5 @@
 -- What stands in bytes: steps from a place to its field, its parts and its siblings, also where reading accepted them.
+use Rattle.std.specs.Prelude.{Option, Some, None}
 use Prim.Native.Nat.{ℕ, zero, suc, ◌+◌, ◌-◌, ◌≤◌, ◌<◌}
 use mathlib.Core.Path.{◌≡◌, refl, sym, ap, ap₂, subst, ◌∙◌}
 use mathlib.Core.Bool.{true, false}
@@ -8,12 +9,9 @@ use native.Mathlib.Omega.{arith}
 use lib.ListN.{get_or, length}
 use lib.Seq.{slice}
 use borrow.Author.Tests.{lt-leb}
-use Rattle.tree.specs.declared.layout.Reach.{Reach}
-use Rattle.tree.specs.declared.layout.Reach.TheVariants.{Upto, Short}
 use Rattle.tree.specs.declared.grammar.Set.{Set}
 use Rattle.tree.specs.declared.grammar.Slot.TheVariants.{Nothing}
 use Rattle.tree.specs.declared.grammar.Rule.{Rule}
-use Rattle.tree.specs.declared.grammar.Step.TheVariants.{Go}
 use Rattle.tree.specs.declared.read.Head.{Head}
 use Rattle.tree.specs.declared.read.Head.TheVariants.{Done, Missing, Bad, Child}
 use Rattle.tree.specs.Tree.{Field, field, Fields, none, more, tag_of}
@@ -28,17 +26,17 @@ use Rattle.tree.proofs.ReadLaws.{HeadIn, head-in, children-step, no-refused, fin
 abbrev Agree : Rows → Rows → List ℕ → ℕ → ℕ → Type 0
 Agree k k' s at end = (a e : ℕ) → at < a → a ≤ e → e ≤ end → k s a e ≡ k' s a e
 
-tree-agree : (r : Reach) (k k' : Rows) (s : List ℕ) (at stop end : ℕ) → ReachIn (at + 3) stop r → stop ≤ end →
+tree-agree : (r : Option ℕ) (k k' : Rows) (s : List ℕ) (at stop end : ℕ) → ReachIn (at + 3) stop r → stop ≤ end →
     Agree k k' s at end → tree_on r k s at stop ≡ tree_on r k' s at stop
 unfolding tree_on
-tree-agree Short k k' s at stop end i le g = refl
-tree-agree (Upto b) k k' s at stop end i le g = ap (field (get_or s at 0) (slice (at + 3) b s)) (g b stop (omega arith) i.1 le)
+tree-agree None k k' s at stop end i le g = refl
+tree-agree (Some b) k k' s at stop end i le g = ap (field (get_or s at 0) (slice (at + 3) b s)) (g b stop (omega arith) i.1 le)
 
-row-agree : (r : Reach) (k k' : Rows) (s : List ℕ) (at end : ℕ) → ReachIn (at + 3) end r → Agree k k' s at end →
+row-agree : (r : Option ℕ) (k k' : Rows) (s : List ℕ) (at end : ℕ) → ReachIn (at + 3) end r → Agree k k' s at end →
     row_on r k s at end ≡ row_on r k' s at end
 unfolding row_on tree_by
-row-agree Short k k' s at end i g = refl
-row-agree (Upto stop) k k' s at end i g =
+row-agree None k k' s at end i g = refl
+row-agree (Some stop) k k' s at end i g =
     ap₂ more
     (tree-agree (fixed_at s (get_or s at 0) (at + 3) stop) k k' s at stop end (fixed-in s (get_or s at 0) (at + 3) stop i.0) i.1 g)
     (g stop end (omega arith) i.1 (omega arith))
@@ -57,35 +55,35 @@ row-step s at end le =
     (λ a e l₁ l₂ l₃. enough (end - at) (suc (e - a)) s a e l₂ (omega arith) (omega arith))
 
 -- from a place to its first field and the fields after it
-pub row-more : (s : List ℕ) (at end stop : ℕ) → at ≤ end → extent_at s at end ≡ Upto stop →
+pub row-more : (s : List ℕ) (at end stop : ℕ) → at ≤ end → extent_at s at end ≡ Some stop →
     row_at s at end ≡ more (tree_at s at stop) (row_at s stop end)
 unfolding tree_at row_on
-row-more s at end stop le e = row-step s at end le ∙ ap (λ (r : Reach). row_on r row_at s at end) e
+row-more s at end stop le e = row-step s at end le ∙ ap (λ (r : Option ℕ). row_on r row_at s at end) e
 
-pub row-none : (s : List ℕ) (at end : ℕ) → at ≤ end → extent_at s at end ≡ Short → row_at s at end ≡ none
+pub row-none : (s : List ℕ) (at end : ℕ) → at ≤ end → extent_at s at end ≡ None → row_at s at end ≡ none
 unfolding row_on
-row-none s at end le e = row-step s at end le ∙ ap (λ (r : Reach). row_on r row_at s at end) e
+row-none s at end le e = row-step s at end le ∙ ap (λ (r : Option ℕ). row_on r row_at s at end) e
 
 -- from a field to its children
-pub tree-upto : (s : List ℕ) (at stop b : ℕ) → fixed_at s (get_or s at 0) (at + 3) stop ≡ Upto b →
+pub tree-upto : (s : List ℕ) (at stop b : ℕ) → fixed_at s (get_or s at 0) (at + 3) stop ≡ Some b →
     tree_at s at stop ≡ field (get_or s at 0) (slice (at + 3) b s) (row_at s b stop)
 unfolding tree_at tree_by tree_on
-tree-upto s at stop b e = ap (λ (r : Reach). tree_on r row_at s at stop) e
+tree-upto s at stop b e = ap (λ (r : Option ℕ). tree_on r row_at s at stop) e
 
-pub tree-short : (s : List ℕ) (at stop : ℕ) → fixed_at s (get_or s at 0) (at + 3) stop ≡ Short →
+pub tree-short : (s : List ℕ) (at stop : ℕ) → fixed_at s (get_or s at 0) (at + 3) stop ≡ None →
     tree_at s at stop ≡ field 0 [] none
 unfolding tree_at tree_by tree_on
-tree-short s at stop e = ap (λ (r : Reach). tree_on r row_at s at stop) e
+tree-short s at stop e = ap (λ (r : Option ℕ). tree_on r row_at s at stop) e
 
 abbrev Standing : Kids → List ℕ → Type 0
 Standing k s = (at end d : ℕ) (q : Rule) (p : ℕ) (fs : Fields) → at ≤ end → k s at end d q p ≡ fine fs → row_at s at end ≡ fs
 
-fixed-standing : (r : Reach) (k : Kids) (s : List ℕ) (at stop d : ℕ) (f : Field) → Standing k s →
+fixed-standing : (r : Option ℕ) (k : Kids) (s : List ℕ) (at stop d : ℕ) (f : Field) → Standing k s →
     fixed_at s (get_or s at 0) (at + 3) stop ≡ r → ReachIn (at + 3) stop r →
     on_fixed r k s at stop d ≡ fine f → tree_at s at stop ≡ f
 unfolding on_fixed
-fixed-standing Short k s at stop d f ih x i e = absurd (no-refused e)
-fixed-standing (Upto b) k s at stop d f ih x i e =
+fixed-standing None k s at stop d f ih x i e = absurd (no-refused e)
+fixed-standing (Some b) k s at stop d f ih x i e =
     let m = mapped-fine (field (get_or s at 0) (slice (at + 3) b s)) (k s b stop d (rule_of (get_or s at 0)) at) f e in
     tree-upto s at stop b x ∙ ap (field (get_or s at 0) (slice (at + 3) b s)) (ih b stop d (rule_of (get_or s at 0)) at m.0 i.1 m.1) ∙ m.2
 
@@ -95,7 +93,7 @@ unfolding content_by
 content-standing k s at stop d f ih h e =
     fixed-standing (fixed_at s (get_or s at 0) (at + 3) stop) k s at stop d f ih refl (fixed-in s (get_or s at 0) (at + 3) stop h) e
 
-nothing-left : (s : List ℕ) (at end : ℕ) → at ≡ end → extent_at s at end ≡ Short
+nothing-left : (s : List ℕ) (at end : ℕ) → at ≡ end → extent_at s at end ≡ None
 unfolding extent_at
 nothing-left s at end e = rw (lt-leb 3 (end - at) (omega arith))
 
@@ -131,16 +129,16 @@ whole-standing s at stop d f h e = content-standing children_at s at stop d f (r
 pub read-standing : (root : Set) (s : List ℕ) (fs : Fields) → read root s ≡ fine fs → row_at s 0 (length s) ≡ fs
 read-standing root s fs e = row-standing s 0 (length s) 0 (top root) 0 fs (omega arith) (read-children root s fs e)
 
-whole-on : (r : Reach) (s : List ℕ) (at stop d : ℕ) (f : Field) → on_fixed r children_at s at stop d ≡ fine f →
-    (b : ℕ) × (r ≡ Upto b) × Row s b stop (rule_of (get_or s at 0))
+whole-on : (r : Option ℕ) (s : List ℕ) (at stop d : ℕ) (f : Field) → on_fixed r children_at s at stop d ≡ fine f →
+    (b : ℕ) × (r ≡ Some b) × Row s b stop (rule_of (get_or s at 0))
 unfolding on_fixed
-whole-on Short s at stop d f e = absurd (no-refused e)
-whole-on (Upto b) s at stop d f e =
+whole-on None s at stop d f e = absurd (no-refused e)
+whole-on (Some b) s at stop d f e =
     let m = mapped-fine (field (get_or s at 0) (slice (at + 3) b s)) (children_at s b stop d (rule_of (get_or s at 0)) at) f e in
     (b, refl, (d, at, m.0, m.1))
 
 pub whole-step : (s : List ℕ) (at stop : ℕ) → Whole s at stop →
-    (b : ℕ) × (fixed_at s (get_or s at 0) (at + 3) stop ≡ Upto b) × Row s b stop (rule_of (get_or s at 0))
+    (b : ℕ) × (fixed_at s (get_or s at 0) (at + 3) stop ≡ Some b) × Row s b stop (rule_of (get_or s at 0))
 unfolding content_at content_by
 whole-step s at stop w = whole-on (fixed_at s (get_or s at 0) (at + 3) stop) s at stop w.0 w.1 w.2
 
@@ -150,7 +148,7 @@ whole-tag s at stop w = let m = whole-step s at stop w in ap tag_of (tree-upto s
 
 -- a row that has not ended has a first field, which its rule takes
 abbrev pub First : List ℕ → ℕ → ℕ → Rule → Type 0
-First s at end q = (q' : Rule) × (stop : ℕ) × (step_at q (get_or s at 0) ≡ Go q') × (extent_at s at end ≡ Upto stop) × Whole s at stop × Row s stop end q'
+First s at end q = (q' : Rule) × (stop : ℕ) × (step_at q (get_or s at 0) ≡ Some q') × (extent_at s at end ≡ Some stop) × Whole s at stop × Row s stop end q'
 
 abbrev Ended : ℕ → ℕ → Rule → Type 0
 Ended at end q = (at ≡ end) × (done_at q ≡ true)
@@ -176,13 +174,13 @@ row-next s at end q le w n = ⊎_elim (λ e. absurd (n e.0)) (λ f. f) (row-case
 
 pub row-first : (s : List ℕ) (at end : ℕ) (q : Rule) → at ≤ end → Row s at end q → done_at q ≡ false → First s at end q
 row-first s at end q le w n =
-    ⊎_elim (λ e. absurd (let d = e.1 in let z : ◌≡◌ {A = ℕ} 0 1 = cc in omega arith)) (λ f. f) (row-cases s at end q le w)
+    ⊎_elim (λ e. let d = e.1 in cc) (λ f. f) (row-cases s at end q le w)
 
 -- a row whose place has no field has ended, and lacks nothing
-pub row-end : (s : List ℕ) (at end : ℕ) (q : Rule) → at ≤ end → Row s at end q → extent_at s at end ≡ Short →
+pub row-end : (s : List ℕ) (at end : ℕ) (q : Rule) → at ≤ end → Row s at end q → extent_at s at end ≡ None →
     (at ≡ end) × (done_at q ≡ true)
 row-end s at end q le w x =
-    ⊎_elim (λ e. e) (λ f. absurd (let e = f.3 in let z : ◌≡◌ {A = ℕ} 0 1 = cc in omega arith)) (row-cases s at end q le w)
+    ⊎_elim (λ e. e) (λ f. let e = f.3 in cc) (row-cases s at end q le w)
 
 pub read-row : (root : Set) (s : List ℕ) (fs : Fields) → read root s ≡ fine fs → Row s 0 (length s) (top root)
 read-row root s fs e = (0, 0, fs, read-children root s fs e)
@@ -191,7 +189,7 @@ read-row root s fs e = (0, 0, fs, read-children root s fs e)
 pub record Rooted (root : Set) (s : List ℕ) (fs : Fields) : Type 0 where
   pub room : 3 ≤ length s
   pub tag : holds_at root (get_or s 0 0) ≡ true
-  pub extent : extent_at s 0 (length s) ≡ Upto (length s)
+  pub extent : extent_at s 0 (length s) ≡ Some (length s)
   pub whole : Whole s 0 (length s)
   pub tree : fs ≡ more (tree_at s 0 (length s)) none
 
@@ -205,7 +203,7 @@ read-field root s fs e =
     let one = step-one root Nothing Nothing Nothing (get_or s 0 0) f.0 f.2 in
     let i = extent-upto s 0 (length s) (omega arith) f.3 in
     let all : stop ≡ length s = none-left s stop (length s) i.1 (subst (Row s stop (length s)) one.1 f.5) in
-    let x : extent_at s 0 (length s) ≡ Upto (length s) = f.3 ∙ ap Upto all in
+    let x : extent_at s 0 (length s) ≡ Some (length s) = f.3 ∙ ap Some all in
     record {
       room = omega arith;
       tag = one.0;

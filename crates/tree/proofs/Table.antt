@@ -27,7 +27,7 @@ passes g (e ∷ l) = g e.0 e.1 && passes g l
 
 pub both-true : (a b : Bool) → a && b ≡ true → (a ≡ true) × (b ≡ true)
 both-true true b e = (refl, e)
-both-true false b e = absurd (let z : ◌≡◌ {A = ℕ} 0 1 = cc in omega arith)
+both-true false b e = cc
 
 found : {A : Type 0} (g : ℕ → A → Bool) (t k : ℕ) (x y : A) (b : Bool) → eqb t k ≡ b → g k x ≡ true → g t y ≡ true →
     g t (cond b x y) ≡ true

@@ -1,5 +1,6 @@
 -- Fixed bytes by their width. The packed widths are those of the grammar: this is computed for each of the 256 tags. Below 9 no piece has a
 -- kind byte, and skipping two values is skipping the sum of their widths. A 75 has a spread byte alone.
+use Rattle.std.specs.Prelude.{Option, Some, None}
 use Prim.Native.Nat.{ℕ, zero, suc, ◌+◌, ◌-◌, ◌≤◌, ◌<◌}
 use mathlib.Core.Path.{◌≡◌, refl, sym, ap, ◌∙◌}
 use mathlib.Core.Bool.{Bool, true, false, cond}
@@ -8,13 +9,10 @@ use native.Mathlib.Omega.{arith}
 use lib.Dec.{leb, ltb, eqb}
 use lib.ListN.{get_or}
 use borrow.Author.Tests.{le-leb, lt-leb, leb-true, leb-false, eqb-true, lt-ltb, le-ltb, ne_eqb}
-use Rattle.tree.specs.declared.layout.Reach.{Reach}
-use Rattle.tree.specs.declared.layout.Reach.TheVariants.{Upto, Short}
 use Rattle.tree.specs.declared.grammar.Value.{Value}
 use Rattle.tree.specs.declared.grammar.Value.TheVariants.{Empty}
 use Rattle.tree.specs.declared.grammar.Piece.{Piece}
 use Rattle.tree.specs.declared.grammar.Piece.TheVariants.{Plain, Source, Original, Outside, Spread, KeyValue}
-use Rattle.tree.specs.declared.access.Choice.TheVariants.{Bad}
 use Rattle.tree.specs.Layout.{skip_at}
 use Rattle.tree.specs.Grammar.{pieces_of}
 use Rattle.tree.specs.Access.{value_at, kinds, choice_of, on_choice, kind_at, piece_at, then_piece, fixed_at}
@@ -40,7 +38,7 @@ module _ (s : List ℕ) (at stop : ℕ) (inside : at ≤ stop) where
   skip-more a b true h e =
       let l = leb-true b (stop - (at + a)) e in
       let z : at + a + b ≡ at + (a + b) = omega arith in
-      rw (e, le-leb (a + b) (stop - at) (omega arith)) (ap Upto z)
+      rw (e, le-leb (a + b) (stop - at) (omega arith)) (ap Some z)
   skip-more a b false h e =
       let l = leb-false b (stop - (at + a)) e in
       rw (e, lt-leb (a + b) (stop - at) (omega arith))
@@ -55,7 +53,7 @@ module _ (s : List ℕ) (at stop : ℕ) (inside : at ≤ stop) where
       then_piece (piece_at s p at stop) s q stop ≡ skip_at at (piece_width p + piece_width q) stop
   unfolding piece_at
   pieces-skip (Plain v) (Plain w) h =
-      ap (λ (r : Reach). then_piece r s (Plain w) stop) (value-skips v at stop) ∙ then-skip (value_width v) w _ refl
+      ap (λ (r : Option ℕ). then_piece r s (Plain w) stop) (value-skips v at stop) ∙ then-skip (value_width v) w _ refl
   pieces-skip (Plain v) Source h = absurd (omega arith)
   pieces-skip (Plain v) Original h = absurd (omega arith)
   pieces-skip (Plain v) Outside h = absurd (omega arith)
@@ -79,29 +77,29 @@ module _ (s : List ℕ) (at stop : ℕ) (inside : at ≤ stop) where
       pieces-skip (pieces_of t).first (pieces_of t).second w.1 ∙ ap (λ (n : ℕ). skip_at at n stop) (sym w.0)
 
 -- a spread byte is 0 or 1
-spread-good : (s : List ℕ) (b at stop : ℕ) → b < 2 → at ≤ stop → then_piece (on_choice (choice_of Spread b) at stop) s (Plain Empty) stop ≡ Upto at
+spread-good : (s : List ℕ) (b at stop : ℕ) → b < 2 → at ≤ stop → then_piece (on_choice (choice_of Spread b) at stop) s (Plain Empty) stop ≡ Some at
 unfolding on_choice choice_of kinds value_at skip_at then_piece piece_at
 spread-good s zero at stop h l =
     let y : at + 0 + 0 ≡ at = omega arith in
-    rw (le-leb 0 (stop - at) (omega arith), le-leb 0 (stop - (at + 0)) (omega arith)) (ap Upto y)
+    rw (le-leb 0 (stop - at) (omega arith), le-leb 0 (stop - (at + 0)) (omega arith)) (ap Some y)
 spread-good s (suc zero) at stop h l =
     let y : at + 0 + 0 ≡ at = omega arith in
-    rw (le-leb 0 (stop - at) (omega arith), le-leb 0 (stop - (at + 0)) (omega arith)) (ap Upto y)
+    rw (le-leb 0 (stop - at) (omega arith), le-leb 0 (stop - (at + 0)) (omega arith)) (ap Some y)
 spread-good s (suc (suc b)) at stop h l = absurd (omega arith)
 
-spread-wrong : (b : ℕ) → 2 ≤ b → choice_of Spread b ≡ Bad
+spread-wrong : (b : ℕ) → 2 ≤ b → choice_of Spread b ≡ None
 unfolding choice_of kinds
 spread-wrong b h = rw (ne_eqb b 0 (λ e. omega arith), ne_eqb b 1 (λ e. omega arith))
 
 module _ (s : List ℕ) (at stop : ℕ) where
-  pub spread-upto : at < stop → get_or s at 0 < 2 → fixed_at s 0x75 at stop ≡ Upto (at + 1)
+  pub spread-upto : at < stop → get_or s at 0 < 2 → fixed_at s 0x75 at stop ≡ Some (at + 1)
   unfolding fixed_at pieces_of piece_at kind_at
   spread-upto h b = rw (lt-ltb at stop h) (spread-good s (get_or s at 0) (at + 1) stop b (omega arith))
 
-  pub spread-bad : at < stop → 2 ≤ get_or s at 0 → fixed_at s 0x75 at stop ≡ Short
+  pub spread-bad : at < stop → 2 ≤ get_or s at 0 → fixed_at s 0x75 at stop ≡ None
   unfolding fixed_at pieces_of piece_at kind_at on_choice then_piece
   spread-bad h b = rw (lt-ltb at stop h, spread-wrong (get_or s at 0) b)
 
-  pub spread-cut : stop ≤ at → fixed_at s 0x75 at stop ≡ Short
+  pub spread-cut : stop ≤ at → fixed_at s 0x75 at stop ≡ None
   unfolding fixed_at pieces_of piece_at kind_at then_piece
   spread-cut h = rw (le-ltb at stop h)

@@ -1,5 +1,5 @@
 -- The grammar (document 01, 'Tree'): for each tag its parts and its fixed bytes, tag by tag in the document's order.
-use Rattle.std.specs.Prelude.{ℕ, zero, suc, List, [], ◌∷◌, Bool, true, false, ◌&&◌, ◌||◌, cond, leb, eqb}
+use Rattle.std.specs.Prelude.{ℕ, zero, suc, List, [], ◌∷◌, Bool, true, false, ◌&&◌, ◌||◌, cond, leb, eqb, Option, Some, None}
 use Rattle.tree.specs.declared.grammar.Set.{Set}
 use Rattle.tree.specs.declared.grammar.Set.TheVariants.{Module, Item, Specifier, ExportSpecifier, Attributes, Attribute, Declaration}
 use Rattle.tree.specs.declared.grammar.Set.TheVariants.{Statement, Declarator, Block, Pattern, PatternProperty, Expression, Callee, Target}
@@ -10,8 +10,6 @@ use Rattle.tree.specs.declared.grammar.Slot.TheVariants.{Nothing, One, Maybe, Ma
 use Rattle.tree.specs.declared.grammar.Rule.{Rule}
 use Rattle.tree.specs.declared.grammar.Fit.{Fit}
 use Rattle.tree.specs.declared.grammar.Fit.TheVariants.{Stay, Used, Over, No}
-use Rattle.tree.specs.declared.grammar.Step.{Step}
-use Rattle.tree.specs.declared.grammar.Step.TheVariants.{Go, No as Refused}
 use Rattle.tree.specs.declared.grammar.Value.TheVariants.{Empty, Byte, Atom, Id, Literal, Number}
 use Rattle.tree.specs.declared.grammar.Piece.{Piece}
 use Rattle.tree.specs.declared.grammar.Piece.TheVariants.{Plain, Source, Original, Outside, Spread, KeyValue}
@@ -202,19 +200,19 @@ abbrev pub rest_of : Rule → Rule
 rest_of r = parts3 r.second r.third r.fourth
 
 -- by what the first slot of r says: r stays, is left without that slot, or the next slots answer
-abbrev pub on_fit : Fit → Rule → Step → Step
-on_fit Stay r o = Go r
-on_fit Used r o = Go (rest_of r)
+abbrev pub on_fit : Fit → Rule → Option Rule → Option Rule
+on_fit Stay r o = Some r
+on_fit Used r o = Some (rest_of r)
 on_fit Over r o = o
-on_fit No r o = Refused
+on_fit No r o = None
 
 -- what the first n slots of a rule say to a tag
-unfoldable pub step_by : ℕ → Rule → ℕ → Step
-step_by zero r t = Refused
+unfoldable pub step_by : ℕ → Rule → ℕ → Option Rule
+step_by zero r t = None
 step_by (suc n) r t = on_fit (slot_at r.first t) r (step_by n (rest_of r) t)
 
 -- the rule that is left behind a field with this tag, or refused
-unfoldable pub step_at : Rule → ℕ → Step
+unfoldable pub step_at : Rule → ℕ → Option Rule
 step_at r t = step_by 4 r t
 
 abbrev pub full_at : Slot → Bool

@@ -1,16 +1,14 @@
 -- Atoms, contexts, ids and literals in bytes (document 01, before 'Scope'). A literal's width, value and equality stand here alone.
-use Rattle.std.specs.Prelude.{ℕ, ◌+◌, ◌-◌, ◌*◌, ◌/◌, ◌%◌, ◌<◌, List, [], ◌∷◌, Bool, true, false, ◌&&◌, cond, leb, eqb, get_or, take, drop}
+use Rattle.std.specs.Prelude.{ℕ, ◌+◌, ◌-◌, ◌*◌, ◌/◌, ◌%◌, ◌<◌, List, [], ◌∷◌, Bool, true, false, ◌&&◌, cond, leb, eqb, get_or, take, drop, Option, Some, None}
 use Rattle.std.proofs.Math.Seq.{slice}
-use Rattle.tree.specs.declared.layout.Reach.{Reach}
-use Rattle.tree.specs.declared.layout.Reach.TheVariants.{Upto, Short}
 
 -- every element is a byte
 abbrev pub Bytes : List ℕ → Type 0
 Bytes s = (i : ℕ) → get_or s i 0 < 256
 
 -- n bytes from `at`, inside stop
-unfoldable pub skip_at : ℕ → ℕ → ℕ → Reach
-skip_at at n stop = cond (leb n (stop - at)) (Upto (at + n)) Short
+unfoldable pub skip_at : ℕ → ℕ → ℕ → Option ℕ
+skip_at at n stop = cond (leb n (stop - at)) (Some (at + n)) None
 
 -- 'Integers are big-endian': a number as two bytes, and as four
 abbrev pub two : ℕ → List ℕ
@@ -62,7 +60,7 @@ abbrev pub literal_at : List ℕ → ℕ → List ℕ
 literal_at s at = slice at (at + literal_width) s
 
 -- where the literal at `at` ends, inside stop
-unfoldable pub literal_end : ℕ → ℕ → Reach
+unfoldable pub literal_end : ℕ → ℕ → Option ℕ
 literal_end at stop = skip_at at literal_width stop
 
 -- a literal's value is its atom: its bytes, and the number at a place

@@ -1,6 +1,6 @@
 -- The grammar packed into numbers, as the code has it: a slot is a byte, a rule is four of them, a tag has a bit for each set that it is in.
 -- A model of the tables in the code: `read` does not reach it, and PackedLaws shows that it says what Grammar says.
-use Rattle.std.specs.Prelude.{ℕ, ◌/◌, ◌%◌, cond, List, [], ◌∷◌, eqb, ltb}
+use Rattle.std.specs.Prelude.{ℕ, ◌/◌, ◌%◌, cond, List, [], ◌∷◌, eqb, ltb, Option, Some, None, Result, Ok, Err}
 use Rattle.tree.specs.declared.grammar.Set.{Set}
 use Rattle.tree.specs.declared.grammar.Set.TheVariants.{Module, Item, Specifier, ExportSpecifier, Attributes, Attribute, Declaration}
 use Rattle.tree.specs.declared.grammar.Set.TheVariants.{Statement, Declarator, Block, Pattern, PatternProperty, Expression, Callee, Target}
@@ -9,14 +9,9 @@ use Rattle.tree.specs.declared.grammar.Set.TheVariants.{Forced}
 use Rattle.tree.specs.declared.grammar.Slot.{Slot}
 use Rattle.tree.specs.declared.grammar.Slot.TheVariants.{Nothing, One, Maybe, Many}
 use Rattle.tree.specs.declared.grammar.Rule.{Rule}
-use Rattle.tree.specs.declared.grammar.Step.{Step}
-use Rattle.tree.specs.declared.grammar.Step.TheVariants.{Go, No}
-use Rattle.tree.specs.declared.grammar.PackedStep.{PackedStep}
-use Rattle.tree.specs.declared.grammar.PackedStep.TheVariants.{Go as GoPacked, No as NoPacked}
+use Rattle.tree.specs.declared.read.Why.{Why}
 use Rattle.tree.specs.declared.read.Head.{Head}
-use Rattle.tree.specs.declared.read.Head.TheVariants.{Done, Missing, Bad, Child}
-use Rattle.tree.specs.declared.read.PackedHead.{PackedHead}
-use Rattle.tree.specs.declared.read.PackedHead.TheVariants.{Done as DonePacked, Missing as MissingPacked, Bad as BadPacked, Child as ChildPacked}
+use Rattle.tree.specs.declared.read.Head.TheVariants.{Bad, Child}
 use Rattle.tree.specs.Grammar.{find, parts4}
 use Rattle.tree.specs.Runs.{Run, lookup}
 
@@ -67,15 +62,13 @@ unpack_rule n =
     parts4 (unpack_slot (n % 256)) (unpack_slot (n / 256 % 256)) (unpack_slot (n / 256 / 256 % 256)) (unpack_slot (n / 256 / 256 / 256 % 256))
 
 -- what the code answers, with the rules unpacked
-abbrev pub unpack_step : PackedStep → Step
-unpack_step (GoPacked n) = Go (unpack_rule n)
-unpack_step NoPacked = No
+abbrev pub unpack_step : Option ℕ → Option Rule
+unpack_step (Some n) = Some (unpack_rule n)
+unpack_step None = None
 
-abbrev pub unpack_head : PackedHead → Head
-unpack_head DonePacked = Done
-unpack_head MissingPacked = Missing
-unpack_head (BadPacked w) = Bad w
-unpack_head (ChildPacked n stop) = Child (unpack_rule n) stop
+abbrev pub unpack_head : Result (ℕ × ℕ) Why → Head
+unpack_head (Ok (n, stop)) = Child (unpack_rule n) stop
+unpack_head (Err w) = Bad w
 
 -- for each tag its sets, a bit for each, and above these 32 bits its rule: tags below 80
 abbrev pub low_entries : List Run

@@ -1,19 +1,14 @@
 -- Reading bytes by the grammar (document 01, 'Where a call turns back', lines on reading): the tree, or why not and where.
-use Rattle.std.specs.Prelude.{cond, ℕ, zero, suc, ◌+◌, ◌-◌, List, ltb, eqb, length, get_or}
+use Rattle.std.specs.Prelude.{cond, ℕ, zero, suc, ◌+◌, ◌-◌, List, ltb, eqb, length, get_or, Option, Some, None, Result, Ok, Err}
 use Rattle.std.proofs.Math.Seq.{slice}
-use Rattle.tree.specs.declared.layout.Reach.{Reach}
-use Rattle.tree.specs.declared.layout.Reach.TheVariants.{Upto, Short}
 use Rattle.tree.specs.declared.grammar.Set.{Set}
 use Rattle.tree.specs.declared.grammar.Slot.TheVariants.{One}
 use Rattle.tree.specs.declared.grammar.Rule.{Rule}
-use Rattle.tree.specs.declared.grammar.Step.{Step}
-use Rattle.tree.specs.declared.grammar.Step.TheVariants.{Go, No}
 use Rattle.tree.specs.declared.read.Why.{Why}
 use Rattle.tree.specs.declared.read.Why.TheVariants.{Misplaced, Cut, Lacking, Deep}
 use Rattle.tree.specs.declared.read.Head.{Head}
 use Rattle.tree.specs.declared.read.Head.TheVariants.{Done, Missing, Bad, Child}
-use Rattle.tree.specs.declared.read.Verdict.{Verdict}
-use Rattle.tree.specs.declared.read.Verdict.TheVariants.{Good, Refused}
+use Rattle.tree.specs.declared.read.Unread.{Unread}
 use Rattle.tree.specs.Tree.{Field, field, Fields, none, more}
 use Rattle.tree.specs.Grammar.{parts1, rule_of, step_at, done_at}
 use Rattle.tree.specs.Access.{fixed_at, extent_at}
@@ -31,17 +26,17 @@ refusal_of Lacking = 3
 refusal_of Deep = 4
 
 -- a verdict's number and place: 0 and 0 where the bytes are accepted
-abbrev pub number_of : Verdict → ℕ
-number_of Good = 0
-number_of (Refused w p) = refusal_of w
+abbrev pub number_of : Result Unit Unread → ℕ
+number_of (Ok u) = 0
+number_of (Err e) = refusal_of e.why
 
-abbrev pub place_of : Verdict → ℕ
-place_of Good = 0
-place_of (Refused w p) = p
+abbrev pub place_of : Result Unit Unread → ℕ
+place_of (Ok u) = 0
+place_of (Err e) = e.place
 
-abbrev pub verdict : {A : Type 0} → Reading A → Verdict
-verdict (fine a) = Good
-verdict (refused w p) = Refused w p
+abbrev pub verdict : {A : Type 0} → Reading A → Result Unit Unread
+verdict (fine a) = Ok tt
+verdict (refused w p) = Err (record { why = w; place = p })
 
 abbrev pub mapped : {A B : Type 0} → (A → B) → Reading A → Reading B
 mapped f (fine a) = fine (f a)
@@ -52,13 +47,13 @@ abbrev pub both : {A B C : Type 0} → (A → B → C) → Reading A → Reading
 both f (fine a) r = mapped (f a) r
 both f (refused w p) r = refused w p
 
-unfoldable pub on_extent : Reach → Rule → ℕ → Head
-on_extent Short q d = Bad Cut
-on_extent (Upto stop) q d = cond (ltb d 64) (Child q stop) (Bad Deep)
+unfoldable pub on_extent : Option ℕ → Rule → ℕ → Head
+on_extent None q d = Bad Cut
+on_extent (Some stop) q d = cond (ltb d 64) (Child q stop) (Bad Deep)
 
-unfoldable pub on_step : Step → List ℕ → ℕ → ℕ → ℕ → Head
-on_step No s at end d = Bad Misplaced
-on_step (Go q) s at end d = on_extent (extent_at s at end) q d
+unfoldable pub on_step : Option Rule → List ℕ → ℕ → ℕ → ℕ → Head
+on_step None s at end d = Bad Misplaced
+on_step (Some q) s at end d = on_extent (extent_at s at end) q d
 
 -- what stands at `at` inside `end`, where the rule q is left and d is the depth of the field around:
 -- 'Reading tests a field's tag and length, its depth, then its content'
@@ -69,9 +64,9 @@ head_at s at end d q = cond (eqb at end) (cond (done_at q) Done Missing) (on_ste
 abbrev pub Kids : Type 0
 Kids = List ℕ → ℕ → ℕ → ℕ → Rule → ℕ → Reading Fields
 
-unfoldable pub on_fixed : Reach → Kids → List ℕ → ℕ → ℕ → ℕ → Reading Field
-on_fixed Short k s at stop d = refused Lacking at
-on_fixed (Upto b) k s at stop d = mapped (field (get_or s at 0) (slice (at + 3) b s)) (k s b stop d (rule_of (get_or s at 0)) at)
+unfoldable pub on_fixed : Option ℕ → Kids → List ℕ → ℕ → ℕ → ℕ → Reading Field
+on_fixed None k s at stop d = refused Lacking at
+on_fixed (Some b) k s at stop d = mapped (field (get_or s at 0) (slice (at + 3) b s)) (k s b stop d (rule_of (get_or s at 0)) at)
 
 -- the field at `at` up to stop, whose depth is d, its parts read by k
 unfoldable pub content_by : Kids → List ℕ → ℕ → ℕ → ℕ → Reading Field

@@ -1,16 +1,14 @@
 -- Trees within the grammar, the depth and the lengths: those that can be read.
-use Rattle.std.specs.Prelude.{ℕ, ◌+◌, ◌≤◌, ◌<◌, ◌≡◌, true, List, length}
-use Rattle.tree.specs.declared.layout.Reach.TheVariants.{Upto}
+use Rattle.std.specs.Prelude.{ℕ, ◌+◌, ◌≤◌, ◌<◌, ◌≡◌, true, List, length, Some}
 use Rattle.tree.specs.declared.grammar.Set.{Set}
 use Rattle.tree.specs.declared.grammar.Rule.{Rule}
-use Rattle.tree.specs.declared.grammar.Step.TheVariants.{Go}
 use Rattle.tree.specs.Tree.{Field, field, Fields, none, more, tag_of, sizes, depth}
 use Rattle.tree.specs.Grammar.{holds_at, rule_of, step_at, done_at}
 use Rattle.tree.specs.Access.{fixed_at}
 
 -- x is just what the pieces of the tag t take
 abbrev pub Exact : ℕ → List ℕ → Type 0
-Exact t x = fixed_at x t 0 (length x) ≡ Upto (length x)
+Exact t x = fixed_at x t 0 (length x) ≡ Some (length x)
 
 abbrev mutual
   -- a content that two bytes can measure, the tag's fixed bytes, and parts by the tag's rule
@@ -20,7 +18,7 @@ abbrev mutual
   -- the rest of a row of parts, where the rule q is left
   pub FormedAll : Fields → Rule → Type 0
   FormedAll none q = done_at q ≡ true
-  FormedAll (more f fs) q = (q' : Rule) × (step_at q (tag_of f) ≡ Go q') × Formed f × FormedAll fs q'
+  FormedAll (more f fs) q = (q' : Rule) × (step_at q (tag_of f) ≡ Some q') × Formed f × FormedAll fs q'
 
 -- a tree that may stand at this root: 'Module depth is 1, the deepest 64'
 abbrev pub Within : Set → Field → Type 0

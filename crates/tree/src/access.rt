@@ -5,14 +5,7 @@ ghost use Rattle.tree.specs.Width.{value_width, width_at, width_rows};
 ghost use Rattle.tree.specs.Access.{value_at, choice_of, kind_at, key_at, piece_at, fixed_at, extent_at};
 
 use crate::grammar::{Piece, Value, nibble_of, pieces_of};
-use crate::layout::{ATOM, ID, LITERAL, Reach, skip, wide};
-
-// What a kind byte chooses.
-#[derive(Drop)]
-pub enum Choice {
-    Take(Value),
-    Bad,
-}
+use crate::layout::{ATOM, ID, LITERAL, skip};
 
 // How many bytes a value takes.
 fn value_width(v: Value) -> usize
@@ -28,54 +21,52 @@ fn value_width(v: Value) -> usize
     }
 }
 
-fn value_end(v: Value, at: usize, stop: usize) -> Reach
+fn value_end(v: Value, at: usize, stop: usize) -> Option<usize>
     requires { at ≤ stop }
     ensures { result ≡ value_at v at stop }
 {
     skip(at, value_width(v), stop)
 }
 
-fn choice_of(p: Piece, b: u8) -> Choice
+// What a kind byte chooses.
+#[tactic(auto, unfolding(crate::specs::Access::choice_of, crate::specs::Access::kinds))]
+fn choice_of(p: Piece, b: u8) -> Option<Value>
     ensures { result ≡ choice_of p b }
 {
     match p {
         Piece::Source => match b {
-            0 => Choice::Take(Value::Empty),
-            1 => Choice::Take(Value::Literal),
-            _ => Choice::Bad,
+            0 => Some(Value::Empty),
+            1 => Some(Value::Literal),
+            _ => None,
         },
         Piece::Original => match b {
-            1 => Choice::Take(Value::Id),
-            2 => Choice::Take(Value::Atom),
-            _ => Choice::Bad,
+            1 => Some(Value::Id),
+            2 => Some(Value::Atom),
+            _ => None,
         },
         Piece::Outside => match b {
-            0 => Choice::Take(Value::Empty),
-            1 => Choice::Take(Value::Id),
-            2 => Choice::Take(Value::Atom),
-            _ => Choice::Bad,
+            0 => Some(Value::Empty),
+            1 => Some(Value::Id),
+            2 => Some(Value::Atom),
+            _ => None,
         },
         Piece::Spread => match b {
-            0 => Choice::Take(Value::Empty),
-            1 => Choice::Take(Value::Empty),
-            _ => Choice::Bad,
+            0 | 1 => Some(Value::Empty),
+            _ => None,
         },
-        Piece::Plain(_) => Choice::Bad,
-        Piece::KeyValue => Choice::Bad,
+        Piece::Plain(_) | Piece::KeyValue => None,
     }
 }
 
-fn kind_end(s: &[u8], p: Piece, at: usize, stop: usize) -> Reach
+#[tactic(auto, unfolding(crate::specs::Access::kind_at, crate::specs::Access::on_choice))]
+fn kind_end(s: &[u8], p: Piece, at: usize, stop: usize) -> Option<usize>
     requires { (at ≤ stop) × (stop ≤ length s.now) }
     ensures { result ≡ kind_at s.now p at stop }
 {
     if at < stop {
-        match choice_of(p, s[at]) {
-            Choice::Take(v) => value_end(v, at + 1, stop),
-            Choice::Bad => Reach::Short,
-        }
+        value_end(choice_of(p, s[at])?, at + 1, stop)
     } else {
-        Reach::Short
+        None
     }
 }
 
@@ -84,27 +75,24 @@ const LAST_KEY_KIND: u8 = 1;
 
 const LAST_VALUE_KIND: u8 = 1;
 
-fn key_end(s: &[u8], at: usize, stop: usize) -> Reach
+#[tactic(auto, unfolding(crate::specs::Access::key_at))]
+fn key_end(s: &[u8], at: usize, stop: usize) -> Option<usize>
     requires { (at ≤ stop) × (stop ≤ length s.now) }
     ensures { result ≡ key_at s.now at stop }
 {
-    if stop - at < 3 {
-        return Reach::Short;
-    }
-    if s[at] > LAST_KEY_KIND {
-        return Reach::Short;
-    }
-    if s[at + 1] > LAST_VALUE_KIND {
-        return Reach::Short;
-    }
-    if wide(s[at + 2]) <= stop - (at + 3) {
-        Reach::Upto(stop)
+    if 3 <= stop - at
+        && s[at] <= LAST_KEY_KIND
+        && s[at + 1] <= LAST_VALUE_KIND
+        && usize::from(s[at + 2]) <= stop - (at + 3)
+    {
+        Some(stop)
     } else {
-        Reach::Short
+        None
     }
 }
 
-fn piece_end(s: &[u8], p: Piece, at: usize, stop: usize) -> Reach
+#[tactic(auto, unfolding(crate::specs::Access::piece_at))]
+fn piece_end(s: &[u8], p: Piece, at: usize, stop: usize) -> Option<usize>
     requires { (at ≤ stop) × (stop ≤ length s.now) }
     ensures { result ≡ piece_at s.now p at stop }
 {
@@ -135,25 +123,26 @@ fn widths(row: u8) -> u64
 fn width_of(tag: u8) -> usize
     ensures { result ≡ width_at tag }
 {
-    wide(nibble_of(widths(tag / 16), tag))
+    usize::from(nibble_of(widths(tag / 16), tag))
 }
 
 // Where the spread byte at `at` of a 75 ends.
-fn spread_end(s: &[u8], at: usize, stop: usize) -> Reach
+fn spread_end(s: &[u8], at: usize, stop: usize) -> Option<usize>
     requires { stop ≤ length s.now }
     ensures { result ≡ fixed_at s.now 0x75 at stop }
 {
-    if at < stop {
-        if s[at] < 2 {
-            return Reach::Upto(at + 1);
-        }
+    if at < stop && s[at] < 2 {
+        Some(at + 1)
+    } else {
+        None
     }
-    Reach::Short
 }
 
-// The same as `fixed`, piece by piece: for tags with a kind byte. It is called from more than one place, so that the compiler keeps it
-// out of `fixed`, which is then short enough to stand in its callers.
-pub fn pieces_end(s: &[u8], tag: u8, at: usize, stop: usize) -> Reach
+// The same as `fixed`, piece by piece: for tags with a kind byte. It is kept out of `fixed`, which is then short enough to stand in its
+// callers.
+#[inline(never)]
+#[tactic(auto, unfolding(crate::specs::Access::fixed_at, crate::specs::Access::then_piece))]
+pub fn pieces_end(s: &[u8], tag: u8, at: usize, stop: usize) -> Option<usize>
     requires { (at ≤ stop) × (stop ≤ length s.now) }
     ensures { result ≡ fixed_at s.now tag at stop }
 {
@@ -161,16 +150,11 @@ pub fn pieces_end(s: &[u8], tag: u8, at: usize, stop: usize) -> Reach
         return spread_end(s, at, stop);
     }
     let ps = pieces_of(tag);
-    let first = ps.first;
-    let second = ps.second;
-    match piece_end(s, first, at, stop) {
-        Reach::Upto(b) => piece_end(s, second, b, stop),
-        Reach::Short => Reach::Short,
-    }
+    piece_end(s, ps.second, piece_end(s, ps.first, at, stop)?, stop)
 }
 
 // Where the fixed bytes from `at` of a field with this tag end: its parts start there.
-pub fn fixed(s: &[u8], tag: u8, at: usize, stop: usize) -> Reach
+pub fn fixed(s: &[u8], tag: u8, at: usize, stop: usize) -> Option<usize>
     requires { (at ≤ stop) × (stop ≤ length s.now) }
     ensures { result ≡ fixed_at s.now tag at stop }
 {
@@ -183,14 +167,15 @@ pub fn fixed(s: &[u8], tag: u8, at: usize, stop: usize) -> Reach
 }
 
 // Where the field at `at` ends, if it is whole inside `end`: the next one starts there.
-pub fn extent(s: &[u8], at: usize, end: usize) -> Reach
+#[tactic(auto, unfolding(crate::specs::Access::extent_at, crate::specs::Access::length_at))]
+pub fn extent(s: &[u8], at: usize, end: usize) -> Option<usize>
     requires { (at ≤ end) × (end ≤ length s.now) }
     ensures { result ≡ extent_at s.now at end }
 {
     if 3 <= end - at {
-        let n = wide(s[at + 1]) * 256 + wide(s[at + 2]);
-        skip(at + 3, n, end)
+        let n = u16::from_be_bytes([s[at + 1], s[at + 2]]);
+        skip(at + 3, usize::from(n), end)
     } else {
-        Reach::Short
+        None
     }
 }

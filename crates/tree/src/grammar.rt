@@ -11,7 +11,7 @@ use crate::grammar::Piece::*;
 use crate::grammar::Value::*;
 
 // Sets of tags.
-#[derive(Drop)]
+#[derive(Clone, Copy, PartialEq, Eq)]
 pub enum Set {
     Module,
     Item,
@@ -41,7 +41,7 @@ pub enum Set {
 }
 
 // A place for parts: none, one, at most one, any number.
-#[derive(Drop)]
+#[derive(Clone, Copy, PartialEq, Eq)]
 pub enum Slot {
     Nothing,
     One(Set),
@@ -50,7 +50,7 @@ pub enum Slot {
 }
 
 // The parts of a field: up to four slots in a row. What is left of a rule is again a rule.
-#[derive(Drop)]
+#[derive(Clone, Copy, PartialEq, Eq)]
 pub struct Rule {
     pub first: Slot,
     pub second: Slot,
@@ -59,7 +59,7 @@ pub struct Rule {
 }
 
 // What a slot says to a tag: it is taken and the slot stays, or the slot is used up; the slot is passed over; refused.
-#[derive(Drop)]
+#[derive(Clone, Copy, PartialEq, Eq)]
 pub enum Fit {
     Stay,
     Used,
@@ -67,15 +67,8 @@ pub enum Fit {
     No,
 }
 
-// What a rule says to a tag: the rule that is left behind it, or refused.
-#[derive(Drop)]
-pub enum Step {
-    Go(Rule),
-    No,
-}
-
 // Bytes with no choice in them.
-#[derive(Drop)]
+#[derive(Clone, Copy, PartialEq, Eq)]
 pub enum Value {
     Empty,
     Byte,
@@ -86,7 +79,7 @@ pub enum Value {
 }
 
 // A piece of the fixed bytes: a value, or a kind byte with what it chooses.
-#[derive(Drop)]
+#[derive(Clone, Copy, PartialEq, Eq)]
 pub enum Piece {
     Plain(Value),
     // 0, or 1 and a literal
@@ -101,7 +94,7 @@ pub enum Piece {
     KeyValue,
 }
 
-#[derive(Drop)]
+#[derive(Clone, Copy, PartialEq, Eq)]
 pub struct Pieces {
     pub first: Piece,
     pub second: Piece,
@@ -143,8 +136,7 @@ fn first_piece(n: u8) -> Piece
         5 => Source,
         6 => Spread,
         7 => KeyValue,
-        8 => Plain(Id),
-        9 => Plain(Id),
+        8 | 9 => Plain(Id),
         10 => Original,
         _ => Plain(Empty),
     }
@@ -154,8 +146,7 @@ fn second_piece(n: u8) -> Piece
     ensures { Answers second_pieces n (piece_number result) }
 {
     match n {
-        9 => Outside,
-        10 => Outside,
+        9 | 10 => Outside,
         _ => Plain(Empty),
     }
 }
@@ -171,12 +162,7 @@ pub fn pieces_of(tag: u8) -> Pieces
 }
 
 // The code has rules packed: a byte for each slot, the first one lowest. A byte is the number of the slot's set, and 32 for one, 64 for
-// at most one, 96 for any number; 0 is no slot. What such a rule says to a tag: the rule that is left behind it, or refused.
-#[derive(Drop)]
-pub enum PackedStep {
-    Go(u32),
-    No,
-}
+// at most one, 96 for any number; 0 is no slot.
 
 // What the grammar says of a tag: a bit for each set that it is in, and above these 32 bits its packed rule. The bits from 25 on, which
 // are of no set, go with those of the first set, as in `unpack_set`.
@@ -190,7 +176,7 @@ fn entry_of(tag: u8) -> u64
     }
 }
 
-// Tags below 80.
+// Tags below 80. Each tag has an arm of its own, which makes the match a lookup.
 fn low_entry(tag: u8) -> u64
     ensures { Answers low_entries tag result }
 {
@@ -266,6 +252,7 @@ fn high_entry(tag: u8) -> u64
 }
 
 // The sets that a tag is in, a bit for each.
+#[tactic(auto, unfolding(crate::specs::Packed::sets_at))]
 fn sets_of(tag: u8) -> u32
     ensures { result ≡ sets_at tag }
 {
@@ -279,30 +266,25 @@ pub fn rule_of(tag: u8) -> u32
     (entry_of(tag) / 4294967296) as u32
 }
 
-// What the rule says to the tag: its slots are asked in turn.
-pub fn step_by(whole: u32, tag: u8) -> PackedStep
+// What the rule says to the tag: the rule that is left behind it, or None where it is refused. Its slots are asked in turn.
+pub fn step_by(whole: u32, tag: u8) -> Option<u32>
     ensures { unpack_step result ≡ step_at (unpack_rule whole) tag }
 {
     let sets = sets_of(tag);
     let mut rule = whole;
     while rule != 0 {
         let slot = rule % 256;
-        if slot == 0 {
-            rule = rule / 256;
-            continue;
-        }
-        if (sets >> (slot % 32)) % 2 == 1 {
-            if slot < 96 {
-                return PackedStep::Go(rule / 256);
+        if slot != 0 {
+            if (sets >> (slot % 32)) % 2 == 1 {
+                return Some(if slot < 96 { rule / 256 } else { rule });
             }
-            return PackedStep::Go(rule);
+            if slot < 64 {
+                return None;
+            }
         }
-        if slot < 64 {
-            return PackedStep::No;
-        }
-        rule = rule / 256;
+        rule /= 256;
     }
-    PackedStep::No
+    None
 }
 
 // Nothing is lacking.
@@ -312,14 +294,10 @@ pub fn done(whole: u32) -> bool
     let mut rule = whole;
     while rule != 0 {
         let slot = rule % 256;
-        if slot == 0 {
-            rule = rule / 256;
-            continue;
-        }
-        if slot < 64 {
+        if slot != 0 && slot < 64 {
             return false;
         }
-        rule = rule / 256;
+        rule /= 256;
     }
     true
 }
@@ -328,33 +306,7 @@ pub fn done(whole: u32) -> bool
 fn set_number(set: Set) -> u32
     ensures { (set ≡ find (result - 32) set_numbers Module) × (32 ≤ result) × (result < 64) }
 {
-    match set {
-        Set::Module => 32,
-        Set::Item => 33,
-        Set::Specifier => 34,
-        Set::ExportSpecifier => 35,
-        Set::Attributes => 36,
-        Set::Attribute => 37,
-        Set::Declaration => 38,
-        Set::Statement => 39,
-        Set::Declarator => 40,
-        Set::Block => 41,
-        Set::Pattern => 42,
-        Set::PatternProperty => 43,
-        Set::Expression => 44,
-        Set::Callee => 45,
-        Set::Target => 46,
-        Set::Body => 47,
-        Set::Member => 48,
-        Set::SuperMember => 49,
-        Set::Argument => 50,
-        Set::Property => 51,
-        Set::Records => 52,
-        Set::Collected => 53,
-        Set::Lazy => 54,
-        Set::Dynamic => 55,
-        Set::Forced => 56,
-    }
+    32 + set as u32
 }
 
 // The rule of one field of a set.

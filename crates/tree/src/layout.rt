@@ -3,40 +3,24 @@ ghost use Rattle.std.specs.Prelude.{◌≡◌, ◌+◌, ◌≤◌, length};
 ghost use Rattle.std.proofs.Math.Seq.{slice};
 ghost use Rattle.tree.specs.Layout.{skip_at, literal_end, two_at, four_at, same, literal_width, literal_value};
 
-// How far something reaches: up to a place, or past the bytes that there are.
-#[derive(Drop)]
-pub enum Reach {
-    Upto(usize),
-    Short,
-}
-
 pub const ATOM: usize = 2;
 
 pub const ID: usize = 6;
 
 pub const LITERAL: usize = 6;
 
-// A byte as a wider number.
-pub fn wide(x: u8) -> usize
-    ensures { result ≡ x }
-{
-    x as usize
-}
-
-// n bytes from `at`, inside stop.
-pub fn skip(at: usize, n: usize, stop: usize) -> Reach
+// Where n bytes from `at` end, if that is inside stop.
+#[tactic(auto, unfolding(crate::specs::Layout::skip_at))]
+pub fn skip(at: usize, n: usize, stop: usize) -> Option<usize>
     requires { at ≤ stop }
     ensures { result ≡ skip_at at n stop }
 {
-    if n <= stop - at {
-        Reach::Upto(at + n)
-    } else {
-        Reach::Short
-    }
+    if n <= stop - at { Some(at + n) } else { None }
 }
 
-// Where the literal at `at` ends.
-pub fn literal_end(at: usize, stop: usize) -> Reach
+// Where the literal at `at` ends, if that is inside stop.
+#[tactic(auto, unfolding(crate::specs::Layout::literal_end))]
+pub fn literal_end(at: usize, stop: usize) -> Option<usize>
     requires { at ≤ stop }
     ensures { result ≡ literal_end at stop }
 {
@@ -48,7 +32,7 @@ pub fn atom_at(s: &[u8], at: usize) -> u16
     requires { at + 2 ≤ length s.now }
     ensures { result ≡ two_at s.now at }
 {
-    (s[at] as u16) * 256 + (s[at + 1] as u16)
+    u16::from_be_bytes([s[at], s[at + 1]])
 }
 
 // The value of the literal at `at`, as a number.
@@ -64,7 +48,7 @@ pub fn context_at(s: &[u8], at: usize) -> u32
     requires { at + 4 ≤ length s.now }
     ensures { result ≡ four_at s.now at }
 {
-    (atom_at(s, at) as u32) * 65536 + (atom_at(s, at + 2) as u32)
+    u32::from_be_bytes([s[at], s[at + 1], s[at + 2], s[at + 3]])
 }
 
 // Whether n bytes of s from a on are those of t from b on.
@@ -72,12 +56,5 @@ pub fn same_run(s: &[u8], a: usize, t: &[u8], b: usize, n: usize) -> bool
     requires { (a + n ≤ length s.now) × (b + n ≤ length t.now) }
     ensures { result ≡ same (slice a (a + n) s.now) (slice b (b + n) t.now) }
 {
-    let mut i = 0;
-    while i < n {
-        if s[a + i] != t[b + i] {
-            return false;
-        }
-        i += 1;
-    }
-    true
+    s[a..a + n] == t[b..b + n]
 }

@@ -1,11 +1,10 @@
 -- Answers as numbers and bytes. Document 01: 'The host passes numbers and byte slices and gets the same back'.
-use Rattle.std.specs.Prelude.{ℕ, ◌+◌, ◌-◌, ◌*◌, ◌%◌, Bool, cond, List, [], ◌∷◌, ◌++◌, length, replicate}
-use Rattle.std.proofs.Math.Option.{Option, none, some}
+use Rattle.std.specs.Prelude.{ℕ, ◌+◌, ◌-◌, ◌*◌, ◌%◌, Bool, cond, List, [], ◌∷◌, ◌++◌, length, replicate, Option, None, Some, Result}
 use Rattle.report.specs.declared.Report.{Report}
 use Rattle.scope.specs.Modules.{Module, Modules}
 use Rattle.writer.specs.Bytes.{two_bytes, four_bytes}
 use Rattle.detection.specs.Detection.{Outcome, answers, refuses}
-use Rattle.metadata.specs.declared.Encoded.{Encoded}
+use Rattle.metadata.specs.declared.EncodeError.{EncodeError}
 use Rattle.metadata.specs.Calls.{encoded_number, encoded_place}
 use Rattle.metadata.specs.Metadata.{Metadata}
 use Rattle.tree.specs.Read.{Reading, fine, refused, refusal_of}
@@ -16,8 +15,8 @@ packed number place = number * 4294967296 + place % 4294967296
 
 -- of an answer that may be a refusal: 0 where it is none
 abbrev pub packed_in : Option (ℕ × ℕ) → ℕ
-packed_in none = 0
-packed_in (some r) = packed r.0 r.1
+packed_in None = 0
+packed_in (Some r) = packed r.0 r.1
 
 abbrev pub bit : Bool → ℕ
 bit b = cond b 1 0
@@ -27,7 +26,7 @@ abbrev pub detect_answer : Outcome → ℕ
 detect_answer (answers b) = bit b
 detect_answer (refuses n p) = packed n p
 
-abbrev pub encode_answer_of : Encoded → ℕ
+abbrev pub encode_answer_of : Result ℕ EncodeError → ℕ
 encode_answer_of r = packed (encoded_number r) (encoded_place r)
 
 -- decoding: the answer, and injected, whether there is a context, and the context
@@ -36,8 +35,8 @@ decode_answer_of (fine m) = 0
 decode_answer_of (refused w p) = packed (refusal_of w) p
 
 abbrev pub context_bytes : Option ℕ → List ℕ
-context_bytes none = 0 ∷ 0 ∷ 0 ∷ 0 ∷ 0 ∷ []
-context_bytes (some c) = 1 ∷ four_bytes c
+context_bytes None = 0 ∷ 0 ∷ 0 ∷ 0 ∷ 0 ∷ []
+context_bytes (Some c) = 1 ∷ four_bytes c
 
 abbrev pub bytes_of : Metadata → List ℕ
 bytes_of m = bit m.injected ∷ context_bytes m.context
@@ -48,7 +47,7 @@ metadata_bytes (refused w p) = 0 ∷ 0 ∷ 0 ∷ 0 ∷ 0 ∷ 0 ∷ []
 
 -- what a context stands for that is told by a flag and a number
 abbrev pub metadata_given : Bool → Bool → ℕ → Metadata
-metadata_given injected known c = record { injected = injected; context = cond known (some c) none }
+metadata_given injected known c = record { injected = injected; context = cond known (Some c) None }
 
 -- ---- A report as bytes
 

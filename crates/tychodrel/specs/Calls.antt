@@ -1,7 +1,6 @@
 -- What the calls give and leave that start a scope. Document 01: 'Its calls start a fresh scope and first request a lent list
 -- of files in it (.. 5 there comes first, place 0)'.
-use Rattle.std.specs.Prelude.{ℕ, ◌≤◌, ◌≡◌, List, [], replicate}
-use Rattle.std.proofs.Math.Option.{Option, none, some}
+use Rattle.std.specs.Prelude.{ℕ, ◌≤◌, ◌≡◌, List, [], replicate, Option, None, Some}
 use Rattle.report.specs.declared.Report.{Report}
 use Rattle.report.specs.Counts.{no_counts}
 use Rattle.scope.specs.Modules.{Modules, Refusal, files_in, request_all}
@@ -13,8 +12,8 @@ use Rattle.tychodrel.specs.Answer.{packed_in, scope_bytes, report_bytes}
 
 -- after their request: refused or not, and the modules that were given
 abbrev pub on_files : {A : Type 0} → Refusal → Modules → (Modules → A) → (ℕ × ℕ → Modules → A) → A
-on_files none ms go stop = go ms
-on_files (some r) ms go stop = stop r ms
+on_files None ms go stop = go ms
+on_files (Some r) ms go stop = stop r ms
 
 -- what a call gives in a fresh scope with these files
 unfoldable pub with_files : {A : Type 0} → List ℕ → (Modules → A) → (ℕ × ℕ → Modules → A) → A
@@ -27,7 +26,7 @@ with_files files go stop =
 abbrev pub extract_none : Lengths → ℕ × ℕ → Modules → Extraction
 extract_none room r ms =
     record {
-      refusal = some r;
+      refusal = Some r;
       modules = ms;
       report = no_counts;
       work = replicate room.work 0;
@@ -39,7 +38,7 @@ abbrev pub extract_call : List ℕ → Extracting → Lengths → Extraction
 extract_call files l room = with_files files (extraction l room) (extract_none room)
 
 abbrev pub resolve_none : ℕ → ℕ × ℕ → Modules → Resolution
-resolve_none room r ms = record { refusal = some r; modules = ms; report = no_counts; list = replicate room 0 }
+resolve_none room r ms = record { refusal = Some r; modules = ms; report = no_counts; list = replicate room 0 }
 
 abbrev pub resolve_call : List ℕ → Resolving → ℕ → Resolution
 resolve_call files l room = with_files files (resolving l room) (resolve_none room)
@@ -48,8 +47,8 @@ resolve_call files l room = with_files files (resolving l room) (resolve_none ro
 
 -- a refusal's number is not 0: so a zero upper half is acceptance
 abbrev pub Numbered : Option (ℕ × ℕ) → Type 0
-Numbered none = Unit {0}
-Numbered (some r) = 1 ≤ r.0
+Numbered None = Unit {0}
+Numbered (Some r) = 1 ≤ r.0
 
 -- a call answers a, and leaves s in the array for the scope and b in that for the report
 pub record Tells (refusal : Option (ℕ × ℕ)) (ms : Modules) (counts : Report) (a : ℕ) (s b : List ℕ) : Type 0 where

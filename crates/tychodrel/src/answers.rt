@@ -7,10 +7,10 @@ ghost use Rattle.resolving.specs.Answer.{why_number};
 ghost use Rattle.resolving.specs.Answer.{answer_refusal as resolve_refusal};
 ghost use Rattle.tychodrel.specs.Answer.{packed, packed_in, encode_answer_of};
 
-use extraction::ExtractAnswer;
-use metadata::Encoded;
-use resolving::ResolveAnswer;
-use tree::read::Why;
+use extraction::ExtractError;
+use metadata::EncodeError;
+use resolving::ResolveError;
+use tree::read::{Unread, Why};
 
 pub fn pack(number: u8, place: usize) -> u64
     ensures { result ≡ packed number place }
@@ -30,13 +30,20 @@ pub fn number_of(why: Why) -> u8
     }
 }
 
-pub fn encoded_answer(r: Encoded) -> u64
+// A refusal by reading.
+pub fn unread_answer(unread: Unread) -> u64
+    ensures { result ≡ packed (refusal_of unread.why) unread.place }
+{
+    pack(number_of(unread.why), unread.place)
+}
+
+pub fn encoded_answer(r: Result<usize, EncodeError>) -> u64
     ensures { result ≡ encode_answer_of r }
 {
     match r {
-        Encoded::Done(_) => 0,
-        Encoded::Broken(why, place) => pack(number_of(why), place),
-        Encoded::NoRoom => pack(9, 0),
+        Ok(_) => 0,
+        Err(EncodeError::Broken(unread)) => unread_answer(unread),
+        Err(EncodeError::NoRoom) => pack(9, 0),
     }
 }
 
@@ -52,16 +59,16 @@ fn walk_number(why: steps::Why) -> u8
     }
 }
 
-pub fn extract_answer(r: ExtractAnswer) -> u64
+pub fn extract_answer(r: Result<(), ExtractError>) -> u64
     ensures { result ≡ packed_in (extract_refusal r) }
 {
     match r {
-        ExtractAnswer::Extracted => 0,
-        ExtractAnswer::BadLists => pack(1, 0),
-        ExtractAnswer::NamedTwice => pack(2, 0),
-        ExtractAnswer::Unread(why, place) => pack(number_of(why), place),
-        ExtractAnswer::Refused(why, place) => pack(walk_number(why), place),
-        ExtractAnswer::NoRoom => pack(9, 0),
+        Ok(()) => 0,
+        Err(ExtractError::BadLists) => pack(1, 0),
+        Err(ExtractError::NamedTwice) => pack(2, 0),
+        Err(ExtractError::Unread(unread)) => unread_answer(unread),
+        Err(ExtractError::Refused(refusal)) => pack(walk_number(refusal.why), refusal.place),
+        Err(ExtractError::NoRoom) => pack(9, 0),
     }
 }
 
@@ -75,16 +82,16 @@ fn list_number(why: resolving::specifiers::Why) -> u8
     }
 }
 
-pub fn resolve_answer(r: ResolveAnswer) -> u64
+pub fn resolve_answer(r: Result<(), ResolveError>) -> u64
     ensures { result ≡ packed_in (resolve_refusal r) }
 {
     match r {
-        ResolveAnswer::Listed => 0,
-        ResolveAnswer::BadTable => pack(1, 0),
-        ResolveAnswer::NamedTwice => pack(2, 0),
-        ResolveAnswer::Unread(_, place) => pack(10, place),
-        ResolveAnswer::TooManyFiles(place) => pack(5, place),
-        ResolveAnswer::Refused(why, place) => pack(list_number(why), place),
-        ResolveAnswer::NoRoom => pack(9, 0),
+        Ok(()) => 0,
+        Err(ResolveError::BadTable) => pack(1, 0),
+        Err(ResolveError::NamedTwice) => pack(2, 0),
+        Err(ResolveError::Unread(unread)) => pack(10, unread.place),
+        Err(ResolveError::TooManyFiles(place)) => pack(5, place),
+        Err(ResolveError::Refused(refusal)) => pack(list_number(refusal.why), refusal.place),
+        Err(ResolveError::NoRoom) => pack(9, 0),
     }
 }

@@ -7,7 +7,6 @@ mod counts; // a report as bytes
 mod listing; // a scope as bytes
 
 ghost use Rattle.std.specs.Prelude.{◌≡◌, [], length};
-ghost use Rattle.std.proofs.Math.Option.{some};
 ghost use Rattle.detection.specs.Detection.{detect};
 ghost use Rattle.metadata.specs.MetadataValue.{metadata_of};
 ghost use Rattle.metadata.specs.Calls.{decode_call, encode_answer, encode_out};
@@ -22,22 +21,22 @@ ghost use Rattle.resolving.specs.Answer.{lent_as as records_as};
 ghost use Rattle.tychodrel.specs.Answer.{bit, detect_answer, encode_answer_of, decode_answer_of, bytes_of, metadata_bytes, metadata_given};
 ghost use Rattle.tychodrel.specs.Calls.{extract_call, resolve_call, Tells, Leaves, LeavesList};
 
-use answers::{encoded_answer, extract_answer, number_of, pack, resolve_answer};
+use answers::{encoded_answer, extract_answer, pack, resolve_answer, unread_answer};
 use counts::report_bytes;
-use detection::{DetectAnswer, is_es6};
+use detection::{DetectError, is_es6};
 use extraction::extract_import_info;
 use listing::scope_bytes;
-use metadata::{Decoded, ExportCtxt, ExportMetadata};
+use metadata::ExportMetadata;
 use modes::modes_of;
 use report::no_counts;
 use resolving::resolve_imports;
 use scope::id::{FileName, SyntaxContext};
-use scope::{FileAnswer, Requested, Scope};
+use scope::{Requested, Scope};
 
 fn bit_of(on: bool) -> u8
     ensures { result ≡ bit on }
 {
-    if on { 1 } else { 0 }
+    u8::from(on)
 }
 
 // Whether a module is an ES module: 1 or 0.
@@ -45,25 +44,23 @@ pub fn tychodrel_detect(modes: u32, tree: &[u8]) -> u64
     ensures { result ≡ detect_answer (detect (modes_of modes) tree.now) }
 {
     match is_es6(modes_of(modes), tree) {
-        DetectAnswer::Es6(es6) => bit_of(es6) as u64,
-        DetectAnswer::TooLong => pack(1, 0),
-        DetectAnswer::Unread(why, place) => pack(number_of(why), place),
+        Ok(es6) => bit_of(es6) as u64,
+        Err(DetectError::TooLong) => pack(1, 0),
+        Err(DetectError::Unread(unread)) => unread_answer(unread),
     }
 }
 
 fn metadata_given(injected: bool, has_context: bool, context: u32) -> ExportMetadata
     ensures { metadata_of result ≡ metadata_given injected has_context context }
 {
-    if has_context {
-        ExportMetadata {
-            injected,
-            export_ctxt: ExportCtxt::Some(SyntaxContext(context)),
-        }
+    let export_ctxt = if has_context {
+        Some(SyntaxContext(context))
     } else {
-        ExportMetadata {
-            injected,
-            export_ctxt: ExportCtxt::None,
-        }
+        None
+    };
+    ExportMetadata {
+        injected,
+        export_ctxt,
     }
 }
 
@@ -86,9 +83,8 @@ fn bytes_of(m: ExportMetadata) -> [u8; 6]
     ensures { result ≡ bytes_of (metadata_of m) }
 {
     let i = bit_of(m.injected);
-    let ctxt = m.export_ctxt;
-    match ctxt {
-        ExportCtxt::Some(c) => {
+    match m.export_ctxt {
+        Some(c) => {
             let n = c.0;
             [
                 i,
@@ -99,7 +95,7 @@ fn bytes_of(m: ExportMetadata) -> [u8; 6]
                 (n % 65536 % 256) as u8,
             ]
         }
-        ExportCtxt::None => [i, 0, 0, 0, 0, 0],
+        None => [i, 0, 0, 0, 0, 0],
     }
 }
 
@@ -108,13 +104,13 @@ pub fn tychodrel_decode_metadata(attributes: &[u8], metadata: &mut [u8; 6]) -> u
     ensures { (result ≡ decode_answer_of (decode_call attributes.now)) × (metadata.new ≡ metadata_bytes (decode_call attributes.now)) }
 {
     match ExportMetadata::decode(attributes) {
-        Decoded::Done(m) => {
+        Ok(m) => {
             *metadata = bytes_of(m);
             0
         }
-        Decoded::Broken(why, place) => {
-            *metadata = [0, 0, 0, 0, 0, 0];
-            pack(number_of(why), place)
+        Err(unread) => {
+            *metadata = [0; 6];
+            unread_answer(unread)
         }
     }
 }
@@ -128,7 +124,7 @@ fn request_files(files: &[u8]) -> Requested
 
 // A 257th file among those that are lent.
 fn refuse_files(entry: Scope, scope: &mut [u8; 770], report: &mut [u8; 32]) -> u64
-    ensures { Tells (some too_many_files) (modules_of entry) no_counts result scope.new report.new }
+    ensures { Tells (Some too_many_files) (modules_of entry) no_counts result scope.new report.new }
 {
     *scope = scope_bytes(entry);
     *report = report_bytes(no_counts());
@@ -157,9 +153,8 @@ pub fn tychodrel_extract(
 {
     let requested = request_files(files);
     let entry = requested.scope;
-    let given = requested.answer;
-    match given {
-        FileAnswer::Given => extract_in(
+    match requested.answer {
+        Ok(()) => extract_in(
             entry,
             FileName(file),
             modes,
@@ -172,7 +167,7 @@ pub fn tychodrel_extract(
             out,
             records,
         ),
-        FileAnswer::TooManyFiles => {
+        Err(_) => {
             writer::clear(work);
             writer::clear(out);
             writer::clear(records);
@@ -211,12 +206,9 @@ fn extract_in(
         out,
         records,
     );
-    let after = r.scope;
-    let counts = r.report;
-    let answer = r.answer;
-    *scope = scope_bytes(after);
-    *report = report_bytes(counts);
-    extract_answer(answer)
+    *scope = scope_bytes(r.scope);
+    *report = report_bytes(r.report);
+    extract_answer(r.answer)
 }
 
 // Resolves records, in a fresh scope in which the files are requested first; `scope` then holds the scope as bytes,
@@ -235,10 +227,9 @@ pub fn tychodrel_resolve(
 {
     let requested = request_files(files);
     let entry = requested.scope;
-    let given = requested.answer;
-    match given {
-        FileAnswer::Given => resolve_in(entry, modes, table, records, scope, report, list),
-        FileAnswer::TooManyFiles => {
+    match requested.answer {
+        Ok(()) => resolve_in(entry, modes, table, records, scope, report, list),
+        Err(_) => {
             writer::clear(list);
             refuse_files(entry, scope, report)
         },
@@ -259,10 +250,7 @@ fn resolve_in(
         scope.new report.new list.new }
 {
     let r = resolve_imports(entry, modes_of(modes), table, records, list);
-    let after = r.scope;
-    let counts = r.report;
-    let answer = r.answer;
-    *scope = scope_bytes(after);
-    *report = report_bytes(counts);
-    resolve_answer(answer)
+    *scope = scope_bytes(r.scope);
+    *report = report_bytes(r.report);
+    resolve_answer(r.answer)
 }

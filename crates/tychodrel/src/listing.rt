@@ -27,11 +27,9 @@ fn put_modules(cells: &[u64], n: usize, out: &mut [u8], o: usize) -> usize
     ensures { Wrote out.old o (modules_bytes (modules_in n 0 cells.now)) out.new result }
 {
     let mut to = o;
-    let mut i = 0;
-    while i < n {
+    for i in 0..n {
         to = put_u16(out, to, low_file(cells[2 * i]));
         to = put(out, to, low_marks(cells[2 * i + 1]));
-        i += 1;
     }
     to
 }

@@ -1,9 +1,9 @@
 -- Calls: one that does not meet the require conditions is its walked parts; one that does is then amended.
+use Rattle.std.specs.Prelude.{Option, None, Some, Ok, Err}
 use Prim.Native.Nat.{ℕ, ◌+◌, ◌≤◌}
 use mathlib.Core.Path.{◌≡◌, refl, sym, ap, subst, ◌∙◌}
 use mathlib.Core.Bool.{Bool}
 use mathlib.Core.List.{List, [], append-nil}
-use mathlib.Core.Option.{Option, none as nothing, some}
 use lib.ListN.{get_or}
 use Rattle.tree.specs.Layout.{Bytes}
 use Rattle.tree.specs.Tree.{Field, field, Fields, encode}
@@ -22,13 +22,9 @@ use Rattle.state.specs.Cells.{Env, literal_by, Valued, Shows}
 use Rattle.state.specs.declared.Literal.{Literal}
 use Rattle.expressions.specs.After.{required_after}
 use Rattle.expressions.specs.Require.{SourceIs, RequiredIs}
-use Rattle.expressions.specs.declared.require.Source.{Source}
-use Rattle.expressions.specs.declared.require.Source.TheVariants.{Is, Other}
 use Rattle.expressions.proofs.RequiredLaws.{parts-required}
-use Rattle.steps.specs.declared.Why.{Why}
-use Rattle.steps.specs.declared.Step.{Step}
-use Rattle.steps.specs.declared.Step.TheVariants.{Done, Refused}
-use Rattle.steps.specs.Step.{Reads, Sound, SoundAll}
+use Rattle.steps.specs.declared.Refusal.{Refusal}
+use Rattle.steps.specs.Step.{Reads, Sound, SoundAll, Step}
 use Rattle.steps.proofs.SoundLaws.{sound-parts}
 use Rattle.steps.proofs.StepsLaws.{done-refused, steps-by}
 use Rattle.walking.specs.declared.Way.TheVariants.{Children}
@@ -42,11 +38,11 @@ pub sound-shaped : {s : List ℕ} {at end : ℕ} → Bytes s → at ≤ end → 
 sound-shaped {s} {at} {end} b le w = formed-shaped-all (row_at s at end) w.rule (row-sound s at end w.rule b le w.fits w.row).1
 
 -- what was asked for, by the answer
-module _ {f : Setting → State → Option (List ℕ)} {s t : List ℕ} {r : Source} (m : RequiredIs f s t r) where
-  pub source-other : r ≡ Other → (x : Env) (u : State) → Shows x t u → Reads x s → f x.setting u ≡ nothing
+module _ {f : Setting → State → Option (List ℕ)} {s t : List ℕ} {r : Option Literal} (m : RequiredIs f s t r) where
+  pub source-other : r ≡ None → (x : Env) (u : State) → Shows x t u → Reads x s → f x.setting u ≡ None
   source-other e x u w k = subst (SourceIs x (f x.setting u)) e (m.is u w k)
 
-  pub source-is : {n : Literal} → r ≡ Is n → (x : Env) (u : State) → Shows x t u → Reads x s → (f x.setting u ≡ some (literal_by x n)) × Valued x n
+  pub source-is : {n : Literal} → r ≡ Some n → (x : Env) (u : State) → Shows x t u → Reads x s → (f x.setting u ≡ Some (literal_by x n)) × Valued x n
   source-is e x u w k = subst (SourceIs x (f x.setting u)) e (m.is u w k)
 
 module _ (object : Bool) (s : List ℕ) (bytes : Bytes s) (at stop : ℕ) (h : at + 3 ≤ stop) (q : get_or s at 0 ≡ 0x65) where
@@ -96,7 +92,7 @@ module _ (object : Bool) (s : List ℕ) (bytes : Bytes s) (at stop : ℕ) (h : a
 
   -- what is known of its walked parts: whether they meet the require conditions was told before
   abbrev Told : Setting → State → Field → Type 0
-  Told e u f = (required e f ≡ required_after e (tree_at s at stop) u) × ((l : List ℕ) → required e f ≡ some l → Called f)
+  Told e u f = (required e f ≡ required_after e (tree_at s at stop) u) × ((l : List ℕ) → required e f ≡ Some l → Called f)
 
   facts : (y : Env) (u : State) → FourBytes u → Sound s at stop → After (call_parts y u) (λ f v. Told y.setting u f)
   facts y u f w =
@@ -109,43 +105,43 @@ module _ (object : Bool) (s : List ℕ) (bytes : Bytes s) (at stop : ℕ) (h : a
       go : (e : Setting) (m : Outcome (Fields × State)) →
           After m
           (λ ds v. (required e (field 0x65 [] ds) ≡ required_after e (field 0x65 [] Row65) u)
-          × ((l : List ℕ) → required e (field 0x65 [] ds) ≡ some l → Called (field 0x65 [] ds))) →
+          × ((l : List ℕ) → required e (field 0x65 [] ds) ≡ Some l → Called (field 0x65 [] ds))) →
           After (onto m (λ r. done (field 0x65 [] r.0, r.1))) (λ g v. Told e u g)
       go e (done r) k = (k.0 ∙ ap (λ (f : Field). required_after e f u) (sym (tree-bare 0x65 refl s at stop h q)), k.1)
       go e (refused n p) k = tt
 
-  unrequired : (e : Setting) (m : Outcome (Field × State)) → After m (λ f v. required e f ≡ nothing) → onto m (requiring e) ≡ m
+  unrequired : (e : Setting) (m : Outcome (Field × State)) → After m (λ f v. required e f ≡ None) → onto m (requiring e) ≡ m
   unfolding require
   unrequired e (done r) k = ap (λ (l : Option (List ℕ)). require l e r.0 at r.1) k
   unrequired e (refused n p) k = refl
 
   module _ {t : List ℕ} (one : InPass first t) where
-    pub call-plain : {out t' out' : List ℕ} {o : ℕ} {k : Step} {r : Source} → RequiredIs (λ e. required_after e (tree_at s at stop)) s t r → r ≡ Other →
+    pub call-plain : {out t' out' : List ℕ} {o : ℕ} {k : Step} {r : Option Literal} → RequiredIs (λ e. required_after e (tree_at s at stop)) s t r → r ≡ None →
         FieldSteps s at stop call_parts t out o t' out' k → FieldSteps s at stop (λ y. walk (tree_at s at stop) y.setting object at) t out o t' out' k
     call-plain n z m =
         steps-by _ m (λ y u w k. (
           k,
           walk-call y (one y u w) u
               ∙ unrequired y.setting (call_parts y u)
-              (after-weaken (call_parts y u) _ (λ f v. required y.setting f ≡ nothing) (λ f v i. i.0 ∙ source-other n z y u w k.1) (facts y u (four-shown w) k.0)),
+              (after-weaken (call_parts y u) _ (λ f v. required y.setting f ≡ None) (λ f v i. i.0 ∙ source-other n z y u w k.1) (facts y u (four-shown w) k.0)),
         ))
 
     -- its parts are refused
-    pub call-turned : {out t' out' : List ℕ} {o r : ℕ} {v : Why} → FieldSteps s at stop call_parts t out o t' out' (Refused v r) →
-        FieldSteps s at stop (λ y. walk (tree_at s at stop) y.setting object at) t out o t' out' (Refused v r)
+    pub call-turned : {out t' out' : List ℕ} {o : ℕ} {v : Refusal} → FieldSteps s at stop call_parts t out o t' out' (Err v) →
+        FieldSteps s at stop (λ y. walk (tree_at s at stop) y.setting object at) t out o t' out' (Err v)
     call-turned m =
         record {
           good = m.good;
           size = m.size;
           made = λ p z u w k. done-refused z refl;
-          turned = λ j n z {x = y} u w k.
-              walk-call y (one y u w) u ∙ ap (λ (i : Outcome (Field × State)). onto i (requiring y.setting)) (m.turned j n z u w k);
+          turned = λ j z {x = y} u w k.
+              walk-call y (one y u w) u ∙ ap (λ (i : Outcome (Field × State)). onto i (requiring y.setting)) (m.turned j z u w k);
         }
 
     -- they are walked, and the call is amended
-    pub call-required : (n : Literal) {out t1 out1 t2 out2 : List ℕ} {o p : ℕ} {k : Step} {r : Source} → RequiredIs (λ e. required_after e (tree_at s at stop)) s t r → r ≡ Is n →
-        FieldSteps s at stop call_parts t out o t1 out1 (Done p) →
-        Amends (Bare n) (λ y f. require (some (literal_by y n)) y.setting f at) o p t1 out1 t2 out2 k →
+    pub call-required : (n : Literal) {out t1 out1 t2 out2 : List ℕ} {o p : ℕ} {k : Step} {r : Option Literal} → RequiredIs (λ e. required_after e (tree_at s at stop)) s t r → r ≡ Some n →
+        FieldSteps s at stop call_parts t out o t1 out1 (Ok p) →
+        Amends (Bare n) (λ y f. require (Some (literal_by y n)) y.setting f at) o p t1 out1 t2 out2 k →
         FieldSteps s at stop (λ y. walk (tree_at s at stop) y.setting object at) t out o t2 out2 k
     call-required n {out} {t1} {out1} {o = o} {p} told e m a =
         record {
@@ -155,7 +151,7 @@ module _ (object : Bool) (s : List ℕ) (bytes : Bytes s) (at stop : ℕ) (h : a
               let d = m.made p refl u w k in
               let f = after-done (call_parts y u) _ (d.value, d.state) d.is (facts y u (four-shown w) k.0) in
               let v = source-is told e y u w k.1 in
-              let l : required y.setting d.value ≡ some (literal_by y n) = f.0 ∙ v.0 in
+              let l : required y.setting d.value ≡ Some (literal_by y n) = f.0 ∙ v.0 in
               let g = a.made i z d.state d.shows (k.1.nothing_bound, v.1) out d.value [] (f.1 (literal_by y n) l)
               (wrote-as d.wrote (sym (append-nil (encode d.value)))) in
               record {
@@ -165,15 +161,15 @@ module _ (object : Bool) (s : List ℕ) (bytes : Bytes s) (at stop : ℕ) (h : a
                 wrote = wrote-as g.wrote (append-nil (encode g.value));
                 shows = g.shows;
               };
-          turned = λ j i z {x = y} u w k.
+          turned = λ j z {x = y} u w k.
               let d = m.made p refl u w k in
               let f = after-done (call_parts y u) _ (d.value, d.state) d.is (facts y u (four-shown w) k.0) in
               let v = source-is told e y u w k.1 in
-              joined y (one y u w) u d.value d.state d.is (f.0 ∙ v.0) ∙ a.turned j i z d.state d.shows (k.1.nothing_bound, v.1) d.value;
+              joined y (one y u w) u d.value d.state d.is (f.0 ∙ v.0) ∙ a.turned j z d.state d.shows (k.1.nothing_bound, v.1) d.value;
         }
       where
-        joined : (y : Env) → y.setting.pass ≡ first → (u : State) (f : Field) (v : State) → call_parts y u ≡ done (f, v) → required y.setting f ≡ some (literal_by y n) →
-            walk (tree_at s at stop) y.setting object at u ≡ require (some (literal_by y n)) y.setting f at v
+        joined : (y : Env) → y.setting.pass ≡ first → (u : State) (f : Field) (v : State) → call_parts y u ≡ done (f, v) → required y.setting f ≡ Some (literal_by y n) →
+            walk (tree_at s at stop) y.setting object at u ≡ require (Some (literal_by y n)) y.setting f at v
         joined y b u f v i l =
             walk-call y b u ∙ ap (λ (m : Outcome (Field × State)). onto m (requiring y.setting)) i
             ∙ ap (λ (o : Option (List ℕ)). require o y.setting f at v) l

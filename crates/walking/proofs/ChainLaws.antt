@@ -1,9 +1,9 @@
 -- In the second pass an expression that is to become an id does so at once and leaves the state alone; any other 63 stays one.
+use Rattle.std.specs.Prelude.{Option, None, Some}
 use Prim.Native.Nat.{ℕ, ◌+◌}
 use mathlib.Core.Path.{◌≡◌, refl, sym, ap, subst, ◌∙◌}
 use mathlib.Core.Bool.{Bool, true, false, cond}
 use mathlib.Core.List.{List, [], ◌∷◌, ◌++◌}
-use mathlib.Core.Option.{Option, none as nothing, some}
 use lib.Dec.{eqb}
 use borrow.Author.Tests.{eqb-true}
 use Rattle.tree.specs.Tree.{Field, field, Fields, none, more, tag_of, fixed_of, size}
@@ -22,20 +22,20 @@ use Rattle.scope.proofs.Laws.{none-some}
 
 -- ---- A 63 that is no usage
 
-unwritten : (us : List Usage) (c : Option (List ℕ)) (q f : Field) → ident_of (as_property us c q f) ≡ nothing → as_property us c q f ≡ f
+unwritten : (us : List Usage) (c : Option (List ℕ)) (q f : Field) → ident_of (as_property us c q f) ≡ None → as_property us c q f ≡ f
 unfolding as_property ident_of
 unwritten [] c q f h = refl
-unwritten (u ∷ us) nothing q f h = refl
-unwritten (u ∷ us) (some c) q f h = go (has 0x70 q) h
+unwritten (u ∷ us) None q f h = refl
+unwritten (u ∷ us) (Some c) q f h = go (has 0x70 q) h
   where
-    go : (b : Bool) → ident_of (cond b (field 0x60 (fixed_of q ++ c) none) f) ≡ nothing → cond b (field 0x60 (fixed_of q ++ c) none) f ≡ f
+    go : (b : Bool) → ident_of (cond b (field 0x60 (fixed_of q ++ c) none) f) ≡ None → cond b (field 0x60 (fixed_of q ++ c) none) f ≡ f
     go true h = none-some (sym h)
     go false h = refl
 
-rewritten-same : (o : Option (Field × Field)) (f : Field) (s : State) → ident_of (rewritten o f s) ≡ nothing → rewritten o f s ≡ f
+rewritten-same : (o : Option (Field × Field)) (f : Field) (s : State) → ident_of (rewritten o f s) ≡ None → rewritten o f s ≡ f
 unfolding rewritten
-rewritten-same nothing f s h = refl
-rewritten-same (some m) f s h = unwritten (usages_of (fixed_of m.0) s.usages) (imported_as (fixed_of m.0) s.imported) m.1 f h
+rewritten-same None f s h = refl
+rewritten-same (Some m) f s h = unwritten (usages_of (fixed_of m.0) s.usages) (imported_as (fixed_of m.0) s.imported) m.1 f h
 
 second-63 : (e : Setting) (x : List ℕ) (ds : Fields) (object : Bool) (p : ℕ) (s : State) →
     after_expression second e (field 0x63 x ds) object p s ≡ done (rewritten (on_ident (field 0x63 x ds)) (field 0x63 x ds) s, s)
@@ -43,7 +43,7 @@ unfolding after_expression
 second-63 e x ds object p s = refl
 
 module _ (e : Setting) (two : e.pass ≡ second) where
-  pub member-stays : (x : List ℕ) (cs : Fields) (object : Bool) (p : ℕ) (s : State) → Regular (field 0x63 x cs) → ident_after (field 0x63 x cs) second s ≡ nothing →
+  pub member-stays : (x : List ℕ) (cs : Fields) (object : Bool) (p : ℕ) (s : State) → Regular (field 0x63 x cs) → ident_after (field 0x63 x cs) second s ≡ None →
       walk (field 0x63 x cs) e object p s ≡ around 0x63 x (walk_member cs e (inside p x)) s
   member-stays x cs object p s w h =
       walk-63 e x cs object p s ∙ go (walk_member cs e (inside p x) s) (sym (walk-63 e x cs object p s))
@@ -58,22 +58,22 @@ module _ (e : Setting) (two : e.pass ≡ second) where
           let f = field 0x63 x r.0 in
           let b = after-done (walk (field 0x63 x cs) e object p s) (Became e (field 0x63 x cs) s) (rewritten (on_ident f) f r.1, r.1)
           (sym z ∙ passed r.0 r.1) (walk-ident e (field 0x63 x cs) object p s w) in
-          let n : ident_of (rewritten (on_ident f) f r.1) ≡ nothing = sym b.0 ∙ ap (λ (k : Pass). ident_after (field 0x63 x cs) k s) two ∙ h in
+          let n : ident_of (rewritten (on_ident f) f r.1) ≡ None = sym b.0 ∙ ap (λ (k : Pass). ident_after (field 0x63 x cs) k s) two ∙ h in
           passed r.0 r.1 ∙ ap (λ (g : Field). done (g, r.1)) (rewritten-same (on_ident f) f r.1 n)
 
   -- ---- A chain that becomes an id
 
   -- what a 63 on the id j becomes
   abbrev As : List ℕ → Field → State → List ℕ → Type 0
-  As j q s i = as_ident (usages_of j s.usages) (imported_as j s.imported) q ≡ some i
+  As j q s i = as_ident (usages_of j s.usages) (imported_as j s.imported) q ≡ Some i
 
-  as-name : (us : List Usage) (c : Option (List ℕ)) (q : Field) (i : List ℕ) → as_ident us c q ≡ some i → tag_of q ≡ 0x70
+  as-name : (us : List Usage) (c : Option (List ℕ)) (q : Field) (i : List ℕ) → as_ident us c q ≡ Some i → tag_of q ≡ 0x70
   unfolding as_ident
   as-name [] c q i h = none-some h
-  as-name (u ∷ us) nothing q i h = none-some h
-  as-name (u ∷ us) (some c) q i h = go (has 0x70 q) refl h
+  as-name (u ∷ us) None q i h = none-some h
+  as-name (u ∷ us) (Some c) q i h = go (has 0x70 q) refl h
     where
-      go : (b : Bool) → has 0x70 q ≡ b → cond b (some (fixed_of q ++ c)) nothing ≡ some i → tag_of q ≡ 0x70
+      go : (b : Bool) → has 0x70 q ≡ b → cond b (Some (fixed_of q ++ c)) None ≡ Some i → tag_of q ≡ 0x70
       go true k h = eqb-true (tag_of q) 0x70 k
       go false k h = none-some h
 
@@ -107,9 +107,9 @@ module _ (e : Setting) (two : e.pass ≡ second) where
   -- the law of an object
   abbrev ObjectWalks : Fields → Type 0
   ObjectWalks none = Unit {0}
-  ObjectWalks (more o fs) = (p : ℕ) (s : State) (j : List ℕ) → ident_after o second s ≡ some j → walk o e true p s ≡ done (field 0x60 j none, s)
+  ObjectWalks (more o fs) = (p : ℕ) (s : State) (j : List ℕ) → ident_after o second s ≡ Some j → walk o e true p s ≡ done (field 0x60 j none, s)
 
-  chain-member : (x : List ℕ) (cs : Fields) (object : Bool) (p : ℕ) (s : State) (i : List ℕ) → Two cs → RegularAll cs → ObjectWalks cs → member_after cs second s ≡ some i →
+  chain-member : (x : List ℕ) (cs : Fields) (object : Bool) (p : ℕ) (s : State) (i : List ℕ) → Two cs → RegularAll cs → ObjectWalks cs → member_after cs second s ≡ Some i →
       walk (field 0x63 x cs) e object p s ≡ done (field 0x60 i none, s)
   unfolding ident_after becomes
   chain-member x none object p s i m w o h = none-some h
@@ -119,19 +119,19 @@ module _ (e : Setting) (two : e.pass ≡ second) where
       last : qs ≡ none
       last = cc m.2
 
-      go : (v : Option (List ℕ)) → ident_after c second s ≡ v → becomes second v q s ≡ some i → walk (field 0x63 x (more c (more q qs))) e object p s ≡ done (field 0x60 i none, s)
-      go nothing k h = none-some h
-      go (some j) k h =
+      go : (v : Option (List ℕ)) → ident_after c second s ≡ v → becomes second v q s ≡ Some i → walk (field 0x63 x (more c (more q qs))) e object p s ≡ done (field 0x60 i none, s)
+      go None k h = none-some h
+      go (Some j) k h =
           subst (λ (l : Fields). walk (field 0x63 x (more c (more q l))) e object p s ≡ done (field 0x60 i none, s)) (sym last)
           (chain-63 x c q object p s j i (o (inside p x) s j k) w.1.0 h)
 
   ident-at-once : (t : ℕ) (x : List ℕ) (cs : Fields) (object : Bool) (p : ℕ) (s : State) (i : List ℕ) → Regular (field t x cs) → ObjectWalks cs →
-      ident_after (field t x cs) second s ≡ some i →
+      ident_after (field t x cs) second s ≡ Some i →
       walk (field t x cs) e object p s ≡ done (field 0x60 i none, s)
   unfolding ident_after
   ident-at-once t x cs object p s i w o h = go (eqb t 0x63) refl (eqb t 0x60) refl h
     where
-      go : (a : Bool) → eqb t 0x63 ≡ a → (b : Bool) → eqb t 0x60 ≡ b → cond a (member_after cs second s) (cond b (some x) nothing) ≡ some i →
+      go : (a : Bool) → eqb t 0x63 ≡ a → (b : Bool) → eqb t 0x60 ≡ b → cond a (member_after cs second s) (cond b (Some x) None) ≡ Some i →
           walk (field t x cs) e object p s ≡ done (field 0x60 i none, s)
       go true k b l h =
           subst (λ (u : ℕ). walk (field u x cs) e object p s ≡ done (field 0x60 i none, s)) (sym (eqb-true t 0x63 k))
@@ -144,7 +144,7 @@ module _ (e : Setting) (two : e.pass ≡ second) where
       go false k false l h = none-some h
 
   mutual
-    pub ident-walks : (f : Field) (object : Bool) (p : ℕ) (s : State) (i : List ℕ) → Regular f → ident_after f second s ≡ some i → walk f e object p s ≡ done (field 0x60 i none, s)
+    pub ident-walks : (f : Field) (object : Bool) (p : ℕ) (s : State) (i : List ℕ) → Regular f → ident_after f second s ≡ Some i → walk f e object p s ≡ done (field 0x60 i none, s)
     ident-walks (field t x cs) object p s i w h = ident-at-once t x cs object p s i w (object-walks cs w.1) h
 
     object-walks : (cs : Fields) → RegularAll cs → ObjectWalks cs

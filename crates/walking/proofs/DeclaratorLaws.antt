@@ -1,18 +1,16 @@
 -- Declarators: the pattern, then what stands behind it; an initialiser that meets the require conditions is amended.
+use Rattle.std.specs.Prelude.{Option, None, Some, Ok, Err}
 use Prim.Native.Nat.{ℕ, ◌+◌, ◌≤◌, ◌<◌}
 use native.Mathlib.Omega.{arith}
 use mathlib.Core.Path.{◌≡◌, refl, sym, ap, subst, ◌∙◌}
 use mathlib.Core.Bool.{Bool, true, false}
 use mathlib.Core.List.{List, [], ◌++◌, append-nil}
-use mathlib.Core.Option.{Option, none as nothing, some}
 use lib.Dec.{eqb}
 use lib.ListN.{get_or}
 use lib.Seq.{length-take-le}
 use borrow.Author.Tests.{eqb-true, eqb-false}
 use Rattle.scope.specs.Id.{export}
 use Rattle.scope.proofs.Laws.{none-some}
-use Rattle.tree.specs.declared.layout.Reach.{Reach}
-use Rattle.tree.specs.declared.layout.Reach.TheVariants.{Upto, Short}
 use Rattle.tree.specs.Layout.{Bytes, name_of}
 use Rattle.tree.specs.Tree.{Field, field, Fields, none, more, tag_of, fixed_of, encode, encodes, size}
 use Rattle.tree.specs.Access.{fixed_at, extent_at}
@@ -37,14 +35,10 @@ use Rattle.state.specs.Cells.{Env, Good, literal_by}
 use Rattle.state.specs.declared.Literal.{Literal}
 use Rattle.expressions.specs.After.{required_after}
 use Rattle.expressions.specs.Require.{RequiredIs}
-use Rattle.expressions.specs.declared.require.Source.{Source}
-use Rattle.expressions.specs.declared.require.Source.TheVariants.{Is, Other}
 use Rattle.expressions.proofs.RequiredLaws.{none-after, walk-required}
 use Rattle.expressions.proofs.BindingLaws.{walk-binds}
-use Rattle.steps.specs.declared.Why.{Why}
-use Rattle.steps.specs.declared.Step.{Step}
-use Rattle.steps.specs.declared.Step.TheVariants.{Done, Refused}
-use Rattle.steps.specs.Step.{Reads, SoundAll, Steps}
+use Rattle.steps.specs.declared.Refusal.{Refusal}
+use Rattle.steps.specs.Step.{Reads, SoundAll, Step, Steps}
 use Rattle.steps.proofs.SoundLaws.{read-size, read-inside, sound_all-first, sound_all-rest}
 use Rattle.steps.proofs.StepsLaws.{done-refused, steps-by, steps-as, steps-give, steps-map, pair_of, steps-pair, steps-turned}
 use Rattle.walking.specs.Walking.{FieldSteps, initialised, behind, declared, Sole, Declares, Behind, Called, Amends}
@@ -64,7 +58,7 @@ callee-called n f (y, ds, gs, z, w) =
 module _ (e : Setting) where
   -- it is a call if it meets the conditions
   abbrev IfCalled : Field → Type 0
-  IfCalled f = (l : List ℕ) → required e f ≡ some l → Called f
+  IfCalled f = (l : List ℕ) → required e f ≡ Some l → Called f
 
   expression-called : (k : Pass) (ds : Fields) (object : Bool) (p : ℕ) (u : State) → IfCalled (field 0x65 [] ds) → After (after_expression k e (field 0x65 [] ds) object p u) (λ g v. IfCalled g)
   expression-called first ds object p u h =
@@ -108,20 +102,20 @@ initialised-more e q i rest p u = refl
 call-bare : (s : List ℕ) (at stop : ℕ) → at + 3 ≤ stop → tag_of (tree_at s at stop) ≡ 0x65 → fixed_of (tree_at s at stop) ≡ []
 call-bare s at stop h k = go (fixed_at s (get_or s at 0) (at + 3) stop) refl
   where
-    go : (r : Reach) → fixed_at s (get_or s at 0) (at + 3) stop ≡ r → fixed_of (tree_at s at stop) ≡ []
-    go Short z = ap fixed_of (tree-short s at stop z)
-    go (Upto b) z = ap fixed_of (tree-bare 0x65 refl s at stop h (ap tag_of (sym (tree-upto s at stop b z)) ∙ k))
+    go : (r : Option ℕ) → fixed_at s (get_or s at 0) (at + 3) stop ≡ r → fixed_of (tree_at s at stop) ≡ []
+    go None z = ap fixed_of (tree-short s at stop z)
+    go (Some b) z = ap fixed_of (tree-bare 0x65 refl s at stop h (ap tag_of (sym (tree-upto s at stop b z)) ∙ k))
 
 module _ (object : Bool) (s : List ℕ) (bytes : Bytes s) (at end p pattern : ℕ) (le : at ≤ end) (q : Field) where
-  pub behind-over : {t out : List ℕ} {o : ℕ} → extent_at s at end ≡ Short → Good t →
-      Steps encodes (Behind s at end pattern q) (λ y. behind y.setting object s at end p q) t out o t out (Done o)
+  pub behind-over : {t out : List ℕ} {o : ℕ} → extent_at s at end ≡ None → Good t →
+      Steps encodes (Behind s at end pattern q) (λ y. behind y.setting object s at end p q) t out o t out (Ok o)
   unfolding initialised encode
   behind-over x g =
       steps-give encodes _ (λ y. behind y.setting object s at end p q) none g refl
       (λ y u w. ap (λ (fs : Fields). onto (walk_all fs y.setting object at u) (λ b. initialised y.setting q b.0 p b.1)) (row-none s at end le x)
       ∙ ap (λ (m : Outcome (Fields × State)). onto m (λ b. initialised y.setting q b.0 p b.1)) (all-none object y.setting at u))
 
-  module _ (stop : ℕ) (x : extent_at s at end ≡ Upto stop) where
+  module _ (stop : ℕ) (x : extent_at s at end ≡ Some stop) where
     -- what is known of the walked initialiser
     abbrev Known : Setting → State → Fields → Type 0
     Known e u ds = (i : Field) × (rest : Fields) × (ds ≡ more i rest) × (required e i ≡ required_after e (tree_at s at stop) u) × IfCalled e i
@@ -144,7 +138,7 @@ module _ (object : Bool) (s : List ℕ) (bytes : Bytes s) (at end p pattern : �
         (walk-called e (tree_at s at stop) object at u f g.regular h.2 (call-bare s at stop (read-inside g.read).0))))
 
     -- it does not meet the require conditions
-    unrequired : (e : Setting) (m : Outcome (Fields × State)) → After m (λ ds v. (i : Field) × (rest : Fields) × (ds ≡ more i rest) × (required e i ≡ nothing)) →
+    unrequired : (e : Setting) (m : Outcome (Fields × State)) → After m (λ ds v. (i : Field) × (rest : Fields) × (ds ≡ more i rest) × (required e i ≡ None)) →
         onto m (λ b. initialised e q b.0 p b.1) ≡ m
     unfolding initialised require_lazily
     unrequired e (refused n k) h = refl
@@ -166,7 +160,7 @@ module _ (object : Bool) (s : List ℕ) (bytes : Bytes s) (at end p pattern : �
               ∙ all-one object y.setting (tree_at s at stop) at u,
         ))
 
-    pub behind-plain : {t out t' out' : List ℕ} {o : ℕ} {k : Step} {r : Source} → RequiredIs (λ e. required_after e (tree_at s at stop)) s t r → r ≡ Other →
+    pub behind-plain : {t out t' out' : List ℕ} {o : ℕ} {k : Step} {r : Option Literal} → RequiredIs (λ e. required_after e (tree_at s at stop)) s t r → r ≡ None →
         FieldSteps s at stop (λ y. walk (tree_at s at stop) y.setting object at) t out o t' out' k →
         Steps encodes (Behind s at end pattern q) (λ y. behind y.setting object s at end p q) t out o t' out' k
     behind-plain n z m =
@@ -177,21 +171,21 @@ module _ (object : Bool) (s : List ℕ) (bytes : Bytes s) (at end p pattern : �
               (λ ds v i. (i.0, i.1, i.2, i.3 ∙ source-other n z y u w k.1)) (known y.setting u (four-shown w) k.0)),
         ))
 
-    pub behind-turned : {t out t' out' : List ℕ} {o r : ℕ} {v : Why} → FieldSteps s at stop (λ y. walk (tree_at s at stop) y.setting object at) t out o t' out' (Refused v r) →
-        Steps encodes (Behind s at end pattern q) (λ y. behind y.setting object s at end p q) t out o t' out' (Refused v r)
+    pub behind-turned : {t out t' out' : List ℕ} {o : ℕ} {v : Refusal} → FieldSteps s at stop (λ y. walk (tree_at s at stop) y.setting object at) t out o t' out' (Err v) →
+        Steps encodes (Behind s at end pattern q) (λ y. behind y.setting object s at end p q) t out o t' out' (Err v)
     behind-turned m =
         record {
           good = m.good;
           size = m.size;
           made = λ i z u w k. done-refused z refl;
-          turned = λ j i z {x = y} u w k.
-              ap (λ (d : Outcome (Fields × State)). onto d (λ b. initialised y.setting q b.0 p b.1)) ((sole-row m).turned j i z u w (k.0, k.1, k.3));
+          turned = λ j z {x = y} u w k.
+              ap (λ (d : Outcome (Fields × State)). onto d (λ b. initialised y.setting q b.0 p b.1)) ((sole-row m).turned j z u w (k.0, k.1, k.3));
         }
 
     -- it does, and is amended
-    pub behind-required : (n : Literal) {t out t1 out1 t2 out2 : List ℕ} {o r : ℕ} {k : Step} {f : Source} → RequiredIs (λ e. required_after e (tree_at s at stop)) s t f → f ≡ Is n →
-        FieldSteps s at stop (λ y. walk (tree_at s at stop) y.setting object at) t out o t1 out1 (Done r) →
-        Amends (Bound n pattern q) (λ y f. require_lazily (some (literal_by y n)) y.setting q f p) o r t1 out1 t2 out2 k →
+    pub behind-required : (n : Literal) {t out t1 out1 t2 out2 : List ℕ} {o r : ℕ} {k : Step} {f : Option Literal} → RequiredIs (λ e. required_after e (tree_at s at stop)) s t f → f ≡ Some n →
+        FieldSteps s at stop (λ y. walk (tree_at s at stop) y.setting object at) t out o t1 out1 (Ok r) →
+        Amends (Bound n pattern q) (λ y f. require_lazily (Some (literal_by y n)) y.setting q f p) o r t1 out1 t2 out2 k →
         Steps encodes (Behind s at end pattern q) (λ y. behind y.setting object s at end p q) t out o t2 out2 k
     behind-required n {t} {out} {t1} {out1} {o = o} {r} told c m a =
         record {
@@ -202,7 +196,7 @@ module _ (object : Bool) (s : List ℕ) (bytes : Bytes s) (at end p pattern : �
               let f = after-done (walk_all (row_at s at end) y.setting object at u) (λ ds v. Known y.setting u ds) (d.value, d.state) d.is
               (known y.setting u (four-shown w) k.0) in
               let v = source-is told c y u w k.1 in
-              let l : required y.setting f.0 ≡ some (literal_by y n) = f.3 ∙ v.0 in
+              let l : required y.setting f.0 ≡ Some (literal_by y n) = f.3 ∙ v.0 in
               let g = a.made i z d.state d.shows (k.2, v.1) out f.0 (encodes f.1) (f.4 (literal_by y n) l)
               (wrote-as d.wrote (ap encodes f.2 ∙ encodes-more f.0 f.1)) in
               record {
@@ -212,27 +206,27 @@ module _ (object : Bool) (s : List ℕ) (bytes : Bytes s) (at end p pattern : �
                 wrote = wrote-as g.wrote (sym (encodes-more g.value f.1));
                 shows = g.shows;
               };
-          turned = λ j i z {x = y} u w k.
+          turned = λ j z {x = y} u w k.
               let d = (sole-row m).made r refl u w (k.0, k.1, k.3) in
               let f = after-done (walk_all (row_at s at end) y.setting object at u) (λ ds v. Known y.setting u ds) (d.value, d.state) d.is
               (known y.setting u (four-shown w) k.0) in
               let v = source-is told c y u w k.1 in
               joined y u d.value d.state f.0 f.1 d.is f.2 (f.3 ∙ v.0)
-              ∙ ap (λ (b : Outcome (Field × State)). onto b (λ j. done (more j.0 f.1, j.1))) (a.turned j i z d.state d.shows (k.2, v.1) f.0);
+              ∙ ap (λ (b : Outcome (Field × State)). onto b (λ j. done (more j.0 f.1, j.1))) (a.turned j z d.state d.shows (k.2, v.1) f.0);
         }
       where
         joined : (y : Env) (u : State) (ds : Fields) (v : State) (i : Field) (rest : Fields) → walk_all (row_at s at end) y.setting object at u ≡ done (ds, v) →
-            ds ≡ more i rest → required y.setting i ≡ some (literal_by y n) →
-            behind y.setting object s at end p q u ≡ onto (require_lazily (some (literal_by y n)) y.setting q i p v) (λ j. done (more j.0 rest, j.1))
+            ds ≡ more i rest → required y.setting i ≡ Some (literal_by y n) →
+            behind y.setting object s at end p q u ≡ onto (require_lazily (Some (literal_by y n)) y.setting q i p v) (λ j. done (more j.0 rest, j.1))
         joined y u ds v i rest h z l =
             ap (λ (b : Outcome (Fields × State)). onto b (λ b. initialised y.setting q b.0 p b.1)) h
             ∙ ap (λ (fs : Fields). initialised y.setting q fs p v) z ∙ initialised-more y.setting q i rest p v
             ∙ ap (λ (o : Option (List ℕ)). onto (require_lazily o y.setting q i p v) (λ j. done (more j.0 rest, j.1))) l
 
 -- where the pattern ends
-pub behind-from : (object : Bool) (s : List ℕ) (at stop p pattern : ℕ) {from : ℕ} → extent_at s at stop ≡ Upto from → {t out t' out' : List ℕ} {o : ℕ} {k : Step} →
+pub behind-from : (object : Bool) (s : List ℕ) (at stop p pattern : ℕ) {from : ℕ} → extent_at s at stop ≡ Some from → {t out t' out' : List ℕ} {o : ℕ} {k : Step} →
     ((q : Field) → Steps encodes (Behind s from stop pattern q) (λ y. behind y.setting object s from stop p q) t out o t' out' k) →
-    (q : Field) (f : ℕ) → extent_at s at stop ≡ Upto f → Steps encodes (Behind s f stop pattern q) (λ y. behind y.setting object s f stop p q) t out o t' out' k
+    (q : Field) (f : ℕ) → extent_at s at stop ≡ Some f → Steps encodes (Behind s f stop pattern q) (λ y. behind y.setting object s f stop p q) t out o t' out' k
 behind-from object s at stop p pattern x {t} {out} {t'} {out'} {o} {k} m q f z =
     subst (λ (n : ℕ). Steps encodes (Behind s n stop pattern q) (λ y. behind y.setting object s n stop p q) t out o t' out' k) (upto-inj (sym x ∙ z)) (m q)
 
@@ -250,15 +244,15 @@ declarator-more e q (more i rest) p u = go (require_lazily (required e i) e q i 
     go (refused n k) = refl
 
 module _ (object : Bool) (s : List ℕ) (bytes : Bytes s) (at end p : ℕ) (le : at ≤ end) where
-  pub declared-over : {t out : List ℕ} {o : ℕ} → extent_at s at end ≡ Short → Good t → Steps encodes (λ y u. Declares s at end y)
-      (λ y. declared y.setting object s at end p) t out o t out (Done o)
+  pub declared-over : {t out : List ℕ} {o : ℕ} → extent_at s at end ≡ None → Good t → Steps encodes (λ y u. Declares s at end y)
+      (λ y. declared y.setting object s at end p) t out o t out (Ok o)
   unfolding declarator encode
   declared-over x g =
       steps-give encodes _ (λ y. declared y.setting object s at end p) none g refl
       (λ y u w. ap (λ (fs : Fields). onto (walk_all fs y.setting object at u) (λ b. declarator y.setting b.0 p b.1)) (row-none s at end le x)
       ∙ ap (λ (m : Outcome (Fields × State)). onto m (λ b. declarator y.setting b.0 p b.1)) (all-none object y.setting at u))
 
-  module _ (stop : ℕ) (x : extent_at s at end ≡ Upto stop) where
+  module _ (stop : ℕ) (x : extent_at s at end ≡ Some stop) where
     split-here : SoundAll s at end → (y : Env) (u : State) →
         declared y.setting object s at end p u ≡
         pair_of more (λ v. walk (tree_at s at stop) v.setting object at) (λ q v. behind v.setting object s stop end p q) y u
@@ -284,7 +278,7 @@ module _ (object : Bool) (s : List ℕ) (bytes : Bytes s) (at end p : ℕ) (le :
         go e (refused n k) = refl
 
     pub declared-then : 0 < at → {t out t1 out1 t2 out2 : List ℕ} {o r : ℕ} {k : Step} →
-        FieldSteps s at stop (λ y. walk (tree_at s at stop) y.setting object at) t out o t1 out1 (Done r) →
+        FieldSteps s at stop (λ y. walk (tree_at s at stop) y.setting object at) t out o t1 out1 (Ok r) →
         ((q : Field) → Steps encodes (Behind s stop end at q) (λ y. behind y.setting object s stop end p q) t1 out1 r t2 out2 k) →
         Steps encodes (λ y u. Declares s at end y) (λ y. declared y.setting object s at end p) t out o t2 out2 k
     declared-then pos one rest =
@@ -297,8 +291,8 @@ module _ (object : Bool) (s : List ℕ) (bytes : Bytes s) (at end p : ℕ) (le :
         (sound_all-rest le w.0 x, w.1, b ∙ sym (w.1.pattern at stop pos g.read), w.2 stop x)))
         (λ y u w. (w, split-here w.0 y u))
 
-    pub declared-turned : {t out t1 out1 : List ℕ} {o r : ℕ} {v : Why} → FieldSteps s at stop (λ y. walk (tree_at s at stop) y.setting object at) t out o t1 out1 (Refused v r) →
-        Steps encodes (λ y u. Declares s at end y) (λ y. declared y.setting object s at end p) t out o t1 out1 (Refused v r)
+    pub declared-turned : {t out t1 out1 : List ℕ} {o : ℕ} {v : Refusal} → FieldSteps s at stop (λ y. walk (tree_at s at stop) y.setting object at) t out o t1 out1 (Err v) →
+        Steps encodes (λ y u. Declares s at end y) (λ y. declared y.setting object s at end p) t out o t1 out1 (Err v)
     declared-turned one =
         steps-as (λ y. declared y.setting object s at end p)
         (steps-turned encode encodes encodes more encodes-more (λ y u. Declares s at end y)

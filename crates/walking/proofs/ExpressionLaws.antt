@@ -1,14 +1,12 @@
 -- Idents, members and calls: what is written for each, and what follows its parts, is what the walk makes of it.
+use Rattle.std.specs.Prelude.{Option, None, Some, Ok, Err}
 use Prim.Native.Nat.{ℕ, ◌+◌, ◌≤◌, ◌<◌}
 use native.Mathlib.Omega.{arith}
 use mathlib.Core.Path.{◌≡◌, refl, sym, ap, subst, ◌∙◌}
 use mathlib.Core.Bool.{Bool, true, false, cond}
 use mathlib.Core.List.{List, []}
-use mathlib.Core.Option.{none as nothing, some}
 use lib.ListN.{get_or}
 use lib.Seq.{slice}
-use Rattle.tree.specs.declared.layout.Reach.{Reach}
-use Rattle.tree.specs.declared.layout.Reach.TheVariants.{Upto, Short}
 use Rattle.tree.specs.Layout.{id_at}
 use Rattle.tree.specs.Tree.{Field, field, Fields, none, encode}
 use Rattle.tree.specs.Access.{fixed_at}
@@ -29,10 +27,8 @@ use Rattle.extraction_rules.proofs.AlikeLaws.{Regular}
 use Rattle.state.specs.Cells.{Env, Good, id_by, Shows}
 use Rattle.state.specs.Does.{is_second, Turns, Tells, Says}
 use Rattle.expressions.specs.After.{ident_after}
-use Rattle.steps.specs.declared.Step.{Step}
-use Rattle.steps.specs.declared.Step.TheVariants.{Done, Refused}
-use Rattle.steps.specs.declared.Why.{Why}
-use Rattle.steps.specs.Step.{Reads, Sound, Steps}
+use Rattle.steps.specs.declared.Refusal.{Refusal}
+use Rattle.steps.specs.Step.{Reads, Sound, Step, Steps}
 use Rattle.steps.proofs.SoundLaws.{read-short, read-inside}
 use Rattle.steps.proofs.StepsLaws.{steps-done, steps-never, steps-by, steps-write, then_of, steps-then, steps-then-turned}
 use Rattle.walking.specs.Walking.{FieldSteps, InPass, forced_by, ForcedFirst}
@@ -59,7 +55,7 @@ module _ {t : List ℕ} {b : Bool} (m : Says (λ e. is_second e.pass) t b) where
 
 -- ---- A 60
 
-module _ (s : List ℕ) (at from stop : ℕ) (x : fixed_at s (get_or s at 0) (at + 3) stop ≡ Upto from) (q : get_or s at 0 ≡ 0x60) where
+module _ (s : List ℕ) (at from stop : ℕ) (x : fixed_at s (get_or s at 0) (at + 3) stop ≡ Some from) (q : get_or s at 0 ≡ 0x60) where
   pub ident-tree : Sound s at stop → tree_at s at stop ≡ field 0x60 (id_at s (at + 3)) none
   ident-tree w =
       let z = tree-upto s at stop from x in
@@ -78,7 +74,7 @@ module _ (s : List ℕ) (at from stop : ℕ) (x : fixed_at s (get_or s at 0) (at
 -- its id is forced as the pass has it, and it is written
 pub ident-written : (s : List ℕ) (at stop : ℕ) (object : Bool) (id : Id) {t t' out out' : List ℕ} {o p : ℕ} → get_or s at 0 ≡ 0x60 → at + 9 ≤ stop → id_by id ≡ id_at s (at + 3) →
     ForcedFirst object (id_by id) t t' → Wrote out o (encode (field 0x60 (id_by id) none)) out' p →
-    FieldSteps s at stop (λ y. walk (tree_at s at stop) y.setting object at) t out o t' out' (Done p)
+    FieldSteps s at stop (λ y. walk (tree_at s at stop) y.setting object at) t out o t' out' (Ok p)
 ident-written s at stop object id q h i g v =
     let x = plain-upto 0x60 id-value refl s (get_or s at 0) (at + 3) stop q (omega arith) in
     steps-done g.good v.size (λ y u w k. record {
@@ -94,9 +90,9 @@ pub ident-short : (s : List ℕ) (at stop : ℕ) (act : Env → Act Field) {t ou
     FieldSteps s at stop act t out o t out k
 ident-short s at stop act k q h g = steps-never encode _ act k g (λ y u w. go w.0 (fixed_at s (get_or s at 0) (at + 3) stop) refl)
   where
-    go : Sound s at stop → (r : Reach) → fixed_at s (get_or s at 0) (at + 3) stop ≡ r → ⊥
-    go w Short e = read-short w.read e
-    go w (Upto b) e =
+    go : Sound s at stop → (r : Option ℕ) → fixed_at s (get_or s at 0) (at + 3) stop ≡ r → ⊥
+    go w None e = read-short w.read e
+    go w (Some b) e =
         let z = plain-ends 0x60 id-value refl s (get_or s at 0) (at + 3) stop b q e in
         let i = upto-in s (get_or s at 0) (at + 3) stop (read-inside w.read).0 e in
         omega arith
@@ -129,8 +125,8 @@ module _ (i : List ℕ) {t : List ℕ} where
 
 -- in the second pass: what becomes an id is written as one
 pub member-ident : (s : List ℕ) (at stop : ℕ) (object : Bool) (id : Id) {t out out' : List ℕ} {o p : ℕ} → Good t → InPass second t →
-    Tells (ident_after (tree_at s at stop) second) t (some (id_by id)) → Wrote out o (encode (field 0x60 (id_by id) none)) out' p →
-    FieldSteps s at stop (λ y. walk (tree_at s at stop) y.setting object at) t out o t out' (Done p)
+    Tells (ident_after (tree_at s at stop) second) t (Some (id_by id)) → Wrote out o (encode (field 0x60 (id_by id) none)) out' p →
+    FieldSteps s at stop (λ y. walk (tree_at s at stop) y.setting object at) t out o t out' (Ok p)
 member-ident s at stop object id g two n v =
     steps-write encode _ _ (field 0x60 (id_by id) none) (λ u. u) (record { good = g; shows = λ u w. w }) v
     (λ y u w k. ident-walks y.setting (two y u w) (tree_at s at stop) object at u (id_by id) k.0.regular (sym (n.is u w)))
@@ -141,7 +137,7 @@ module _ (object : Bool) (s : List ℕ) (at stop : ℕ) (h : at + 3 ≤ stop) (q
   unfolding walk
   target-63 e u = ap (λ (f : Field). walk_target f e at u) (tree-bare 0x63 refl s at stop h q)
 
-  pub member-other : {t out t' out' : List ℕ} {o : ℕ} {k : Step} → InPass second t → Tells (ident_after (tree_at s at stop) second) t nothing →
+  pub member-other : {t out t' out' : List ℕ} {o : ℕ} {k : Step} → InPass second t → Tells (ident_after (tree_at s at stop) second) t None →
       FieldSteps s at stop (λ y. walk_target (tree_at s at stop) y.setting at) t out o t' out' k →
       FieldSteps s at stop (λ y. walk (tree_at s at stop) y.setting object at) t out o t' out' k
   member-other two n m =
@@ -179,15 +175,15 @@ module _ (object : Bool) (s : List ℕ) (at stop : ℕ) (h : at + 3 ≤ stop) (q
           ∙ ap (λ (m : Outcome (Unit {0} × State)). onto m (λ b. done (field 0x63 [] r.0, b.1))) (k r.1)
 
   module _ {t out t1 out1 : List ℕ} {o : ℕ} (one : InPass first t) where
-    pub member-used : {t2 : List ℕ} {p : ℕ} {k : Step} → FieldSteps s at stop (λ y. walk_target (tree_at s at stop) y.setting at) t out o t1 out1 (Done p) →
+    pub member-used : {t2 : List ℕ} {p : ℕ} {k : Step} → FieldSteps s at stop (λ y. walk_target (tree_at s at stop) y.setting at) t out o t1 out1 (Ok p) →
         Steps (λ _. []) (λ y u. Sound s at stop) (λ y. usage (on_ident (tree_at s at stop)) y.setting at) t1 out1 p t2 out1 k →
         FieldSteps s at stop (λ y. walk (tree_at s at stop) y.setting object at) t out o t2 out1 k
     member-used m n =
         steps-by _ (steps-then encode (field 0 [] none) (λ y u. Sound s at stop × Reads y s) m n (λ y u w. w) (λ y u w a v z. w.0))
         (λ y u w k. (k, walk-used y (one y u w) k.0 u))
 
-    pub member-turned : {r : ℕ} {v : Why} → FieldSteps s at stop (λ y. walk_target (tree_at s at stop) y.setting at) t out o t1 out1 (Refused v r) →
-        FieldSteps s at stop (λ y. walk (tree_at s at stop) y.setting object at) t out o t1 out1 (Refused v r)
+    pub member-turned : {v : Refusal} → FieldSteps s at stop (λ y. walk_target (tree_at s at stop) y.setting at) t out o t1 out1 (Err v) →
+        FieldSteps s at stop (λ y. walk (tree_at s at stop) y.setting object at) t out o t1 out1 (Err v)
     member-turned m =
         steps-by _ (steps-then-turned encode (λ y u. Sound s at stop × Reads y s) (λ y. usage (on_ident (tree_at s at stop)) y.setting at) m (λ y u w. w))
         (λ y u w k. (k, walk-used y (one y u w) k.0 u))

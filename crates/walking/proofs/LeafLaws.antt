@@ -1,4 +1,5 @@
 -- Fields that the walk leaves as they are, so that they are copied: those without parts, and names of identifiers.
+use Rattle.std.specs.Prelude.{Option, None, Some, Ok}
 use Prim.Native.Nat.{ℕ, ◌+◌, ◌≤◌}
 use native.Mathlib.Omega.{arith}
 use mathlib.Core.Path.{◌≡◌, refl, sym, ap, subst, ◌∙◌}
@@ -7,10 +8,7 @@ use mathlib.Core.Bool.{true, false}
 use mathlib.Core.List.{List, []}
 use lib.ListN.{get_or}
 use lib.Seq.{slice}
-use Rattle.tree.specs.declared.layout.Reach.{Reach}
-use Rattle.tree.specs.declared.layout.Reach.TheVariants.{Upto, Short}
 use Rattle.tree.specs.declared.grammar.Rule.{Rule}
-use Rattle.tree.specs.declared.grammar.Step.TheVariants.{Go}
 use Rattle.tree.specs.declared.grammar.Value.TheVariants.{Atom as atom-value, Id as id-value}
 use Rattle.tree.specs.Layout.{Bytes, atom_at, id_at}
 use Rattle.tree.specs.Tree.{Field, field, Fields, none, more, tag_of, parts_of, size}
@@ -30,7 +28,6 @@ use Rattle.extraction_rules.specs.Walk.{walk, walk_member}
 use Rattle.extraction_rules.proofs.AlikeLaws.{Two, Regular}
 use Rattle.expressions.proofs.IdentLaws.{walk-70}
 use Rattle.state.specs.Cells.{Env, Good, Shows}
-use Rattle.steps.specs.declared.Step.TheVariants.{Done}
 use Rattle.steps.specs.Step.{Sound, SoundAll}
 use Rattle.steps.proofs.SoundLaws.{read-short, read-inside, read-parts, read-bytes, sound-parts, sound_all-first, sound_all-rest}
 use Rattle.steps.proofs.StepsLaws.{steps-done}
@@ -44,7 +41,7 @@ use Rattle.walking.proofs.ExpressionLaws.{ident-tree}
 
 -- a field that a rule leaves as it is, with the state
 pub as-stands : (rule : Env → Act Field) {s : List ℕ} {at stop : ℕ} (bytes : Bytes s) {t out out' : List ℕ} {o p : ℕ} → Good t → Wrote out o (slice at stop s) out' p →
-    ((y : Env) (u : State) → Shows y t u → Sound s at stop → rule y u ≡ done (tree_at s at stop, u)) → FieldSteps s at stop rule t out o t out' (Done p)
+    ((y : Env) (u : State) → Shows y t u → Sound s at stop → rule y u ≡ done (tree_at s at stop, u)) → FieldSteps s at stop rule t out o t out' (Ok p)
 as-stands rule {s} {at} {stop} bytes g v h =
     steps-done g v.size (λ y u w k. record {
       value = tree_at s at stop;
@@ -63,8 +60,8 @@ node-none way e p u (field n x cs) z =
     ∙ ap (λ (m : Outcome (Fields × State)). onto m (λ r. done (field n x r.0, r.1))) (by-none way e (inside p x) u)
     ∙ ap (λ (ds : Fields). done (field n x ds, u)) (sym z)
 
-pub node-leaf : (way : Way) (s : List ℕ) (bytes : Bytes s) (at from stop : ℕ) {t out out' : List ℕ} {o p : ℕ} → fixed_at s (get_or s at 0) (at + 3) stop ≡ Upto from → from ≡ stop →
-    Good t → Wrote out o (slice at stop s) out' p → FieldSteps s at stop (λ y. node_by way (tree_at s at stop) y.setting at) t out o t out' (Done p)
+pub node-leaf : (way : Way) (s : List ℕ) (bytes : Bytes s) (at from stop : ℕ) {t out out' : List ℕ} {o p : ℕ} → fixed_at s (get_or s at 0) (at + 3) stop ≡ Some from → from ≡ stop →
+    Good t → Wrote out o (slice at stop s) out' p → FieldSteps s at stop (λ y. node_by way (tree_at s at stop) y.setting at) t out o t out' (Ok p)
 node-leaf way s bytes at from stop x z g v =
     as-stands (λ y. node_by way (tree_at s at stop) y.setting at) bytes g v (λ y u _ w.
     node-none way y.setting at u (tree_at s at stop)
@@ -101,28 +98,28 @@ ident-rule = refl
 ident-ends : (s : List ℕ) (at stop : ℕ) → Sound s at stop → get_or s at 0 ≡ 0x60 → at + 9 ≡ stop
 ident-ends s at stop w q = go (fixed_at s (get_or s at 0) (at + 3) stop) refl
   where
-    go : (r : Reach) → fixed_at s (get_or s at 0) (at + 3) stop ≡ r → at + 9 ≡ stop
-    go Short e = read-short w.read e
-    go (Upto b) e =
+    go : (r : Option ℕ) → fixed_at s (get_or s at 0) (at + 3) stop ≡ r → at + 9 ≡ stop
+    go None e = read-short w.read e
+    go (Some b) e =
         let z = plain-ends 0x60 id-value refl s (get_or s at 0) (at + 3) stop b q e in
         let i = upto-in s (get_or s at 0) (at + 3) stop (read-inside w.read).0 e in
         ⊎_elim (λ d. let n = d.0 in omega arith)
-        (λ f. absurd (no-step (get_or s b 0) (subst (λ (r : Rule). step_at r (get_or s b 0) ≡ Go f.0) (ap rule_of q ∙ ident-rule) f.2)))
+        (λ f. absurd (no-step (get_or s b 0) (subst (λ (r : Rule). step_at r (get_or s b 0) ≡ Some f.0) (ap rule_of q ∙ ident-rule) f.2)))
         (row-cases s b stop (rule_of (get_or s at 0)) i.1 (read-parts w.read e))
 
 ident_whole : (s : List ℕ) (at stop : ℕ) → Sound s at stop → get_or s at 0 ≡ 0x60 → tree_at s at stop ≡ field 0x60 (id_at s (at + 3)) none
 ident_whole s at stop w q = go (fixed_at s (get_or s at 0) (at + 3) stop) refl
   where
-    go : (r : Reach) → fixed_at s (get_or s at 0) (at + 3) stop ≡ r → tree_at s at stop ≡ field 0x60 (id_at s (at + 3)) none
-    go Short e = read-short w.read e
-    go (Upto b) e = ident-tree s at b stop e q w
+    go : (r : Option ℕ) → fixed_at s (get_or s at 0) (at + 3) stop ≡ r → tree_at s at stop ≡ field 0x60 (id_at s (at + 3)) none
+    go None e = read-short w.read e
+    go (Some b) e = ident-tree s at b stop e q w
 
 name-whole : (s : List ℕ) (at stop : ℕ) → Sound s at stop → get_or s at 0 ≡ 0x70 → tree_at s at stop ≡ field 0x70 (atom_at s (at + 3)) none
 name-whole s at stop w q = go (fixed_at s (get_or s at 0) (at + 3) stop) refl
   where
-    go : (r : Reach) → fixed_at s (get_or s at 0) (at + 3) stop ≡ r → tree_at s at stop ≡ field 0x70 (atom_at s (at + 3)) none
-    go Short e = read-short w.read e
-    go (Upto b) e =
+    go : (r : Option ℕ) → fixed_at s (get_or s at 0) (at + 3) stop ≡ r → tree_at s at stop ≡ field 0x70 (atom_at s (at + 3)) none
+    go None e = read-short w.read e
+    go (Some b) e =
         let z = tree-upto s at stop b e in
         let r = subst Regular z w.regular in
         let d : b ≡ at + 3 + 2 = plain-ends 0x70 atom-value refl s (get_or s at 0) (at + 3) stop b q e in
@@ -148,14 +145,14 @@ named s at stop h w (a, b, c, _) = go (extent_at s (at + 3) stop) refl
     all : SoundAll s (at + 3) stop
     all = sound-parts w (bare-upto 0x63 refl s (get_or s at 0) (at + 3) stop a h)
 
-    second-at : (m : ℕ) → extent_at s (at + 3) stop ≡ Upto m → (r : Reach) → extent_at s m stop ≡ r → Named s at stop
-    second-at m e Short e2 =
+    second-at : (m : ℕ) → extent_at s (at + 3) stop ≡ Some m → (r : Option ℕ) → extent_at s m stop ≡ r → Named s at stop
+    second-at m e None e2 =
         let i = extent-upto s (at + 3) stop h e in
         let x = two.2 in
         let y = row-more s (at + 3) stop m h e in
         let z = row-none s m stop i.1 e2 in
         absurd (let n : ◌≡◌ {A = ℕ} 0 1 = cc in omega arith)
-    second-at m e (Upto k) e2 =
+    second-at m e (Some k) e2 =
         let i = extent-upto s (at + 3) stop h e in
         let f = sound_all-first h all e in
         let g = sound_all-first i.1 (sound_all-rest h all e) e2 in
@@ -177,12 +174,12 @@ named s at stop h w (a, b, c, _) = go (extent_at s (at + 3) stop) refl
               name-whole s m k g (ap (λ (d : ℕ). get_or s d 0) l ∙ c) ∙ ap (λ (d : ℕ). field 0x70 (atom_at s d) none) j;
         }
 
-    go : (r : Reach) → extent_at s (at + 3) stop ≡ r → Named s at stop
-    go Short e =
+    go : (r : Option ℕ) → extent_at s (at + 3) stop ≡ r → Named s at stop
+    go None e =
         let x = two.2 in
         let y = row-none s (at + 3) stop h e in
         absurd (let n : ◌≡◌ {A = ℕ} 0 1 = cc in omega arith)
-    go (Upto m) e = second-at m e (extent_at s m stop) refl
+    go (Some m) e = second-at m e (extent_at s m stop) refl
 
 member-stays : (e : Setting) (s : List ℕ) (at stop : ℕ) (u : State) → at + 3 ≤ stop → get_or s at 0 ≡ 0x63 → Named s at stop →
     node_by Member (tree_at s at stop) e at u ≡ done (tree_at s at stop, u)
@@ -195,6 +192,6 @@ member-stays e s at stop u h a d =
     ∙ ap (λ (f : Field). done (f, u)) (sym z)
 
 pub node-name : (s : List ℕ) (bytes : Bytes s) (at stop : ℕ) {t out out' : List ℕ} {o p : ℕ} → at + 3 ≤ stop → NameIs s at true → Good t → Wrote out o (slice at stop s) out' p →
-    FieldSteps s at stop (λ y. node_by Member (tree_at s at stop) y.setting at) t out o t out' (Done p)
+    FieldSteps s at stop (λ y. node_by Member (tree_at s at stop) y.setting at) t out o t out' (Ok p)
 node-name s bytes at stop h n g v =
     as-stands (λ y. node_by Member (tree_at s at stop) y.setting at) bytes g v (λ y u _ w. member-stays y.setting s at stop u h n.0 (named s at stop h w n))

@@ -1,10 +1,10 @@
 -- A 63 of a 60 and a 70 as an expression: what it becomes in the second pass, and its usage in the first.
+use Rattle.std.specs.Prelude.{Option, None, Some, Ok}
 use Prim.Native.Nat.{ℕ, ◌+◌, ◌≤◌}
 use native.Mathlib.Omega.{arith}
 use mathlib.Core.Path.{◌≡◌, refl, sym, ap, subst, ◌∙◌}
 use mathlib.Core.Bool.{Bool, true, false}
 use mathlib.Core.List.{List, [], ◌∷◌, ◌++◌}
-use mathlib.Core.Option.{Option, none as nothing, some}
 use lib.ListN.{length}
 use lib.Seq.{slice}
 use Rattle.scope.specs.declared.id.Id.{Id}
@@ -24,12 +24,8 @@ use Rattle.extraction_rules.specs.Walk.{walk}
 use Rattle.extraction_rules.proofs.AlikeLaws.{Regular}
 use Rattle.state.specs.Cells.{Env, Good, id_by, Shows}
 use Rattle.state.specs.Does.{Tells, any, context_by}
-use Rattle.state.specs.declared.Context.{Context}
-use Rattle.state.specs.declared.Context.TheVariants.{Of, Nowhere}
 use Rattle.expressions.specs.After.{as_ident, becomes, ident_after}
-use Rattle.steps.specs.declared.Step.{Step}
-use Rattle.steps.specs.declared.Step.TheVariants.{Done}
-use Rattle.steps.specs.Step.{Sound, Steps}
+use Rattle.steps.specs.Step.{Sound, Step, Steps}
 use Rattle.steps.proofs.StepsLaws.{steps-done, steps-did}
 use Rattle.walking.specs.Walking.{FieldSteps, NameIs, InPass}
 use Rattle.walking.proofs.NodeLaws.{as-target}
@@ -46,22 +42,22 @@ name-after : (i a : List ℕ) (u : State) → ident_after (name_on i a) second u
 unfolding ident_after becomes
 name-after i a u = refl
 
-as-unused : (us : List Usage) (c : Option (List ℕ)) (q : Field) → any us ≡ false → as_ident us c q ≡ nothing
+as-unused : (us : List Usage) (c : Option (List ℕ)) (q : Field) → any us ≡ false → as_ident us c q ≡ None
 unfolding as_ident
 as-unused [] c q h = refl
 as-unused (u ∷ us) c q h = absurd (let z : ◌≡◌ {A = ℕ} 0 1 = cc in omega arith)
 
-as-nowhere : (us : List Usage) (q : Field) → as_ident us nothing q ≡ nothing
+as-nowhere : (us : List Usage) (q : Field) → as_ident us None q ≡ None
 unfolding as_ident
 as-nowhere [] q = refl
 as-nowhere (u ∷ us) q = refl
 
-as-used : (us : List Usage) (c a : List ℕ) → any us ≡ true → as_ident us (some c) (field 0x70 a none) ≡ some (a ++ c)
+as-used : (us : List Usage) (c a : List ℕ) → any us ≡ true → as_ident us (Some c) (field 0x70 a none) ≡ Some (a ++ c)
 unfolding as_ident
 as-used [] c a h = absurd (let z : ◌≡◌ {A = ℕ} 0 1 = cc in omega arith)
 as-used (u ∷ us) c a h = refl
 
-unimported : (e : Setting) (i a : List ℕ) (p : ℕ) (u : State) → imported_as i u.imported ≡ nothing → usage (on_ident (name_on i a)) e p u ≡ done (tt, u)
+unimported : (e : Setting) (i a : List ℕ) (p : ℕ) (u : State) → imported_as i u.imported ≡ None → usage (on_ident (name_on i a)) e p u ≡ done (tt, u)
 unfolding on_ident usage use_imported
 unimported e i a p u h = rw h refl
 
@@ -78,8 +74,8 @@ module _ (s : List ℕ) (bytes : Bytes s) (at stop : ℕ) (h : at + 3 ≤ stop) 
   module _ {t : List ℕ} (g : Good t) where
     -- in the second pass it stays
     stays : (object : Bool) {out out' : List ℕ} {o p : ℕ} → InPass second t → Wrote out o (slice at stop s) out' p →
-        ((y : Env) (u : State) → Sound s at stop → Shows y t u → ident_after (name_on (id_by id) (atom_at s (at + 15))) second u ≡ nothing) →
-        FieldSteps s at stop (λ y. walk (tree_at s at stop) y.setting object at) t out o t out' (Done p)
+        ((y : Env) (u : State) → Sound s at stop → Shows y t u → ident_after (name_on (id_by id) (atom_at s (at + 15))) second u ≡ None) →
+        FieldSteps s at stop (λ y. walk (tree_at s at stop) y.setting object at) t out o t out' (Ok p)
     stays object two v k =
         as-stands (λ y. walk (tree_at s at stop) y.setting object at) bytes g v (λ y u r w.
         let d = named s at stop h w n in
@@ -92,15 +88,15 @@ module _ (s : List ℕ) (bytes : Bytes s) (at stop : ℕ) (h : at + 3 ≤ stop) 
         ∙ ap (λ (f : Field). done (f, u)) (sym z))
 
     pub name-unused : (object : Bool) {b : Bool} {out out' : List ℕ} {o p : ℕ} → InPass second t → Tells (λ u. any (usages_of (id_by id) u.usages)) t b → b ≡ false →
-        Wrote out o (slice at stop s) out' p → FieldSteps s at stop (λ y. walk (tree_at s at stop) y.setting object at) t out o t out' (Done p)
+        Wrote out o (slice at stop s) out' p → FieldSteps s at stop (λ y. walk (tree_at s at stop) y.setting object at) t out o t out' (Ok p)
     name-unused object {b} two m e v =
         stays object two v (λ y u w r.
         name-after (id_by id) (atom_at s (at + 15)) u
         ∙ as-unused (usages_of (id_by id) u.usages) (imported_as (id_by id) u.imported) (field 0x70 (atom_at s (at + 15)) none)
         (sym (m.is u r) ∙ e))
 
-    pub name-nowhere : (object : Bool) {c : Context} {out out' : List ℕ} {o p : ℕ} → InPass second t → Tells (λ u. imported_as (id_by id) u.imported) t (context_by c) → c ≡ Nowhere →
-        Wrote out o (slice at stop s) out' p → FieldSteps s at stop (λ y. walk (tree_at s at stop) y.setting object at) t out o t out' (Done p)
+    pub name-nowhere : (object : Bool) {c : Option SyntaxContext} {out out' : List ℕ} {o p : ℕ} → InPass second t → Tells (λ u. imported_as (id_by id) u.imported) t (context_by c) → c ≡ None →
+        Wrote out o (slice at stop s) out' p → FieldSteps s at stop (λ y. walk (tree_at s at stop) y.setting object at) t out o t out' (Ok p)
     name-nowhere object two m e v =
         stays object two v (λ y u w r.
         name-after (id_by id) (atom_at s (at + 15)) u
@@ -108,9 +104,9 @@ module _ (s : List ℕ) (bytes : Bytes s) (at stop : ℕ) (h : at + 3 ≤ stop) 
         ∙ as-nowhere (usages_of (id_by id) u.usages) (field 0x70 (atom_at s (at + 15)) none))
 
     -- or becomes a 60
-    pub name-becomes : (object : Bool) {b : Bool} {c : Context} {a : ℕ} {d : SyntaxContext} {out out' : List ℕ} {o p : ℕ} → InPass second t →
-        Tells (λ u. any (usages_of (id_by id) u.usages)) t b → b ≡ true → Tells (λ u. imported_as (id_by id) u.imported) t (context_by c) → c ≡ Of d → a ≡ two_at s (at + 15) →
-        Wrote out o (encode (field 0x60 (two a ++ four d.0) none)) out' p → FieldSteps s at stop (λ y. walk (tree_at s at stop) y.setting object at) t out o t out' (Done p)
+    pub name-becomes : (object : Bool) {b : Bool} {c : Option SyntaxContext} {a : ℕ} {d : SyntaxContext} {out out' : List ℕ} {o p : ℕ} → InPass second t →
+        Tells (λ u. any (usages_of (id_by id) u.usages)) t b → b ≡ true → Tells (λ u. imported_as (id_by id) u.imported) t (context_by c) → c ≡ Some d → a ≡ two_at s (at + 15) →
+        Wrote out o (encode (field 0x60 (two a ++ four d.0) none)) out' p → FieldSteps s at stop (λ y. walk (tree_at s at stop) y.setting object at) t out o t out' (Ok p)
     name-becomes object {b} {a = a} {d} again m e k f z v =
         steps-done g v.size (λ y u r w. record {
           value = field 0x60 (two a ++ four d.0) none;
@@ -120,7 +116,7 @@ module _ (s : List ℕ) (bytes : Bytes s) (at stop : ℕ) (h : at + 3 ≤ stop) 
               (ap (λ (f : Field). ident_after f second u) (name-tree w.0) ∙ name-after (id_by id) (atom_at s (at + 15)) u
               ∙ ap (λ (c : Option (List ℕ)). as_ident (usages_of (id_by id) u.usages) c (field 0x70 (atom_at s (at + 15)) none)) (sym (k.is u r) ∙ ap context_by f)
               ∙ as-used (usages_of (id_by id) u.usages) (four d.0) (atom_at s (at + 15)) (sym (m.is u r) ∙ e)
-              ∙ ap (λ (l : List ℕ). some (l ++ four d.0)) (sym (ap two z ∙ two_at-is s (at + 15) bytes (fits n.3))));
+              ∙ ap (λ (l : List ℕ). Some (l ++ four d.0)) (sym (ap two z ∙ two_at-is s (at + 15) bytes (fits n.3))));
           wrote = v;
           shows = r;
         })
@@ -134,8 +130,8 @@ module _ (s : List ℕ) (bytes : Bytes s) (at stop : ℕ) (h : at + 3 ≤ stop) 
         FieldSteps s at stop (λ y. walk (tree_at s at stop) y.setting object at) t out o t2 out1 k
     name-first object one v = member-used object s at stop h n.0 one (as-target (node-name s bytes at stop h n g v))
 
-    pub name-unimported : {c : Context} {out : List ℕ} {p : ℕ} → Tells (λ u. imported_as (id_by id) u.imported) t (context_by c) → c ≡ Nowhere →
-        Steps (λ _. []) (λ y u. Sound s at stop) (λ y. usage (on_ident (tree_at s at stop)) y.setting at) t out p t out (Done p)
+    pub name-unimported : {c : Option SyntaxContext} {out : List ℕ} {p : ℕ} → Tells (λ u. imported_as (id_by id) u.imported) t (context_by c) → c ≡ None →
+        Steps (λ _. []) (λ y u. Sound s at stop) (λ y. usage (on_ident (tree_at s at stop)) y.setting at) t out p t out (Ok p)
     name-unimported m e =
         steps-did g (λ y u r w. record {
           state = u;

@@ -1,4 +1,5 @@
 -- A field that was read: what its row is walked to makes it by its way, and that is what the walk makes of it, by its tag.
+use Rattle.std.specs.Prelude.{Option, None, Some}
 use Prim.Native.Nat.{ℕ, ◌+◌, ◌≤◌}
 use native.Mathlib.Omega.{arith}
 use mathlib.Core.Path.{◌≡◌, refl, sym, ap, subst, ◌∙◌}
@@ -7,11 +8,8 @@ use mathlib.Core.Bool.{Bool, false}
 use mathlib.Core.List.{List}
 use lib.ListN.{length, get_or}
 use lib.Seq.{slice}
-use Rattle.tree.specs.declared.layout.Reach.{Reach}
-use Rattle.tree.specs.declared.layout.Reach.TheVariants.{Upto, Short}
 use Rattle.tree.specs.Tree.{Field, field, Fields, encode, encodes, tag_of, fixed_of}
 use Rattle.tree.specs.declared.grammar.Rule.{Rule}
-use Rattle.tree.specs.declared.grammar.Step.TheVariants.{Go}
 use Rattle.tree.specs.declared.grammar.Slot.TheVariants.{Nothing, Maybe}
 use Rattle.tree.specs.declared.grammar.Set.TheVariants.{Pattern, Expression}
 use Rattle.tree.specs.Grammar.{within, parts0, parts1, rule_of, step_at}
@@ -30,8 +28,7 @@ use Rattle.extraction_rules.proofs.RuleLaws.{maybe-step}
 use Rattle.extraction_rules.proofs.AlikeLaws.{Regular}
 use Rattle.state.specs.Cells.{Env, Good}
 use Rattle.state.specs.Does.{Turns}
-use Rattle.steps.specs.declared.Step.{Step}
-use Rattle.steps.specs.Step.{Reads, Sound, Steps, Begun, Ended, with_parts}
+use Rattle.steps.specs.Step.{Reads, Sound, Step, Steps, Begun, Ended, with_parts}
 use Rattle.steps.proofs.SoundLaws.{read-short, read-inside, read-tag, read-parts, row-read, inside-fixed, sound-parts}
 use Rattle.steps.proofs.StepsLaws.{steps-as, steps-changed, steps-never, steps-field}
 use Rattle.walking.specs.declared.Way.{Way}
@@ -40,21 +37,21 @@ use Rattle.walking.specs.Walking.{FieldSteps, RowSteps, row_by, node_by, declare
 use Rattle.walking.proofs.TagLaws.{around, walk-23, walk-42, plain-by, block-by, super-by, assignment-by, target-by}
 
 -- bytes that are no field cannot have been read
-pub walk-short : (act : Env → Act Field) {s : List ℕ} {at stop : ℕ} {t out : List ℕ} {o : ℕ} (k : Step) → Good t → fixed_at s (get_or s at 0) (at + 3) stop ≡ Short →
+pub walk-short : (act : Env → Act Field) {s : List ℕ} {at stop : ℕ} {t out : List ℕ} {o : ℕ} (k : Step) → Good t → fixed_at s (get_or s at 0) (at + 3) stop ≡ None →
     FieldSteps s at stop act t out o t out k
 walk-short act k g x = steps-never encode _ act k g (λ y u w. read-short w.0.read x)
 
 -- no field stands in no bytes
-pub none-left : (s : List ℕ) (at : ℕ) → extent_at s at at ≡ Short
+pub none-left : (s : List ℕ) (at : ℕ) → extent_at s at at ≡ None
 none-left s at = go (extent_at s at at) refl
   where
-    go : (r : Reach) → extent_at s at at ≡ r → extent_at s at at ≡ Short
-    go Short e = e
-    go (Upto k) e = let i = extent-upto s at at (omega arith) e in absurd (omega arith)
+    go : (r : Option ℕ) → extent_at s at at ≡ r → extent_at s at at ≡ None
+    go None e = e
+    go (Some k) e = let i = extent-upto s at at (omega arith) e in absurd (omega arith)
 
 -- ---- A field from its row
 
-module _ (s : List ℕ) (at from stop : ℕ) (h : at + 3 ≤ stop) (len : stop ≤ length s) (x : fixed_at s (get_or s at 0) (at + 3) stop ≡ Upto from) where
+module _ (s : List ℕ) (at from stop : ℕ) (h : at + 3 ≤ stop) (len : stop ≤ length s) (x : fixed_at s (get_or s at 0) (at + 3) stop ≡ Some from) where
   abbrev fixed_bytes : List ℕ
   fixed_bytes = slice (at + 3) from s
 
@@ -92,18 +89,18 @@ module _ (s : List ℕ) (at from stop : ℕ) (h : at + 3 ≤ stop) (len : stop �
       ))
 
 -- a 42 has a pattern and at most an initialiser
-declarator-first : (t : ℕ) (q : Rule) → step_at (rule_of 0x42) t ≡ Go q → q ≡ parts1 (Maybe Expression)
+declarator-first : (t : ℕ) (q : Rule) → step_at (rule_of 0x42) t ≡ Some q → q ≡ parts1 (Maybe Expression)
 unfolding rule_of within
 declarator-first t q e = (step-one Pattern (Maybe Expression) Nothing Nothing t q e).1
 
-declarator-second : (t : ℕ) (q : Rule) → step_at (parts1 (Maybe Expression)) t ≡ Go q → q ≡ parts0
+declarator-second : (t : ℕ) (q : Rule) → step_at (parts1 (Maybe Expression)) t ≡ Some q → q ≡ parts0
 declarator-second t q e = ⊎_elim (λ v. v.1) (λ v. absurd (no-step t v)) (maybe-step Expression Nothing Nothing Nothing t q e)
 
 row-over : (s : List ℕ) (at end : ℕ) → at ≤ end → Row s at end parts0 → at ≡ end
 row-over s at end le w = ⊎_elim (λ d. d.0) (λ f. absurd (no-step (get_or s at 0) f.2)) (row-cases s at end parts0 le w)
 
-sole-behind : {s : List ℕ} {at stop : ℕ} → Sound s at stop → get_or s at 0 ≡ 0x42 → fixed_at s (get_or s at 0) (at + 3) stop ≡ Upto (at + 3) → at + 3 ≤ stop →
-    (m : ℕ) → extent_at s (at + 3) stop ≡ Upto m → Sole s m stop
+sole-behind : {s : List ℕ} {at stop : ℕ} → Sound s at stop → get_or s at 0 ≡ 0x42 → fixed_at s (get_or s at 0) (at + 3) stop ≡ Some (at + 3) → at + 3 ≤ stop →
+    (m : ℕ) → extent_at s (at + 3) stop ≡ Some m → Sole s m stop
 sole-behind {s} {at} {stop} w q x h m e n f =
     let len = (read-inside w.read).1 in
     let i = extent-upto s (at + 3) stop h e in
@@ -111,7 +108,7 @@ sole-behind {s} {at} {stop} w q x h m e n f =
     let a = (row-read (rule_of 0x42) h len (subst (λ (k : ℕ). Row s (at + 3) stop (rule_of k)) q (read-parts w.read x)) e).1 in
     let b = (row-read (parts1 (Maybe Expression)) i.1 len (subst (Row s m stop) (declarator-first (get_or s (at + 3) 0) a.0 a.1) a.2) f).1 in
     let z = row-over s n stop j.1 (subst (Row s n stop) (declarator-second (get_or s m 0) b.0 b.1) b.2) in
-    subst (λ (k : ℕ). extent_at s n k ≡ Short) z (none-left s n)
+    subst (λ (k : ℕ). extent_at s n k ≡ None) z (none-left s n)
 
 -- a 42, once its parts are declared
 pub node-42 : (object : Bool) (s : List ℕ) (at stop : ℕ) → at + 3 ≤ stop → stop ≤ length s → get_or s at 0 ≡ 0x42 →
@@ -129,7 +126,7 @@ node-42 object s at stop h len q r b m e =
     ∙ ap (λ (n : ℕ). around n (slice (at + 3) (at + 3) s) (declared y.setting object s (at + 3) stop at) u) (sym q))
     (λ y u w z. (sound-parts w x, z, sole-behind w q x h))
   where
-    x : fixed_at s (get_or s at 0) (at + 3) stop ≡ Upto (at + 3)
+    x : fixed_at s (get_or s at 0) (at + 3) stop ≡ Some (at + 3)
     x = bare-upto 0x42 refl s (get_or s at 0) (at + 3) stop q h
 
     joined : (e : Setting) (i : Outcome (Fields × State)) →

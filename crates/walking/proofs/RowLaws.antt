@@ -1,11 +1,11 @@
 -- Rows of fields: the first field by its way and then the rest are the row; a loop over a row.
+use Rattle.std.specs.Prelude.{None, Some, Ok, Err}
 use Prim.Native.Nat.{ℕ, ◌+◌, ◌≤◌}
 use native.Mathlib.Omega.{arith}
 use mathlib.Core.Path.{◌≡◌, refl, ap, subst, ◌∙◌}
 use mathlib.Core.Bool.{Bool, true}
 use mathlib.Core.List.{List, []}
 use lib.ListN.{length}
-use Rattle.tree.specs.declared.layout.Reach.TheVariants.{Upto, Short}
 use Rattle.tree.specs.Layout.{Bytes}
 use Rattle.tree.specs.Tree.{Field, field, Fields, none, more, encode, encodes, size}
 use Rattle.tree.specs.Access.{extent_at}
@@ -17,10 +17,8 @@ use Rattle.inputs.specs.Outcome.{done}
 use Rattle.extraction_rules.specs.State.{State, Setting, Act}
 use Rattle.extraction_rules.specs.Walk.{walk, walk_all, walk_target}
 use Rattle.state.specs.Cells.{Env, Good}
-use Rattle.steps.specs.declared.Why.{Why}
-use Rattle.steps.specs.declared.Step.{Step}
-use Rattle.steps.specs.declared.Step.TheVariants.{Done, Refused}
-use Rattle.steps.specs.Step.{Reads, SoundAll}
+use Rattle.steps.specs.declared.Refusal.{Refusal}
+use Rattle.steps.specs.Step.{Reads, SoundAll, Step}
 use Rattle.steps.proofs.SoundLaws.{read-size, read-inside, sound_all-first, sound_all-rest}
 use Rattle.steps.proofs.StepsLaws.{steps-is, steps-give, steps-as, pair_of, steps-pair, steps-turned}
 use Rattle.walking.specs.declared.Way.{Way}
@@ -75,12 +73,12 @@ rest_by way s stop end = λ v. row_by (Children (others_by way)) (row_at s stop 
 
 module _ (way : Way) {s : List ℕ} (bytes : Bytes s) {at end : ℕ} (le : at ≤ end) where
   -- no field is left
-  pub row-over : extent_at s at end ≡ Short → {t out : List ℕ} {o : ℕ} → Good t → RowSteps s at end (λ y. row_by way (row_at s at end) y.setting at) t out o t out (Done o)
+  pub row-over : extent_at s at end ≡ None → {t out : List ℕ} {o : ℕ} → Good t → RowSteps s at end (λ y. row_by way (row_at s at end) y.setting at) t out o t out (Ok o)
   row-over x g =
       steps-give encodes (λ y u. SoundAll s at end × Reads y s) (λ y. row_by way (row_at s at end) y.setting at) none g encodes-none
       (λ y u w. ap (λ (fs : Fields). row_by way fs y.setting at u) (row-none s at end le x) ∙ by-none way y.setting at u)
 
-  module _ {stop : ℕ} (x : extent_at s at end ≡ Upto stop) where
+  module _ {stop : ℕ} (x : extent_at s at end ≡ Some stop) where
     split-here : SoundAll s at end → (y : Env) (u : State) →
         row_by way (row_at s at end) y.setting at u ≡ pair_of more (λ v. first_by way (tree_at s at stop) v.setting at) (λ _. rest_by way s stop end) y u
     split-here w y u =
@@ -91,7 +89,7 @@ module _ (way : Way) {s : List ℕ} (bytes : Bytes s) {at end : ℕ} (le : at �
         ∙ ap (λ (p : ℕ). pair_of more (λ v. first_by way (tree_at s at stop) v.setting at) (λ _ v. row_by (Children (others_by way)) (row_at s stop end) v.setting p) y u) z
 
     -- the first field, then the rest
-    pub row-then : {t out t1 out1 t2 out2 : List ℕ} {o p : ℕ} {k : Step} → FieldSteps s at stop (λ y. first_by way (tree_at s at stop) y.setting at) t out o t1 out1 (Done p) →
+    pub row-then : {t out t1 out1 t2 out2 : List ℕ} {o p : ℕ} {k : Step} → FieldSteps s at stop (λ y. first_by way (tree_at s at stop) y.setting at) t out o t1 out1 (Ok p) →
         RowSteps s stop end (rest_by way s stop end) t1 out1 p t2 out2 k → RowSteps s at end (λ y. row_by way (row_at s at end) y.setting at) t out o t2 out2 k
     row-then first others =
         steps-as (λ y. row_by way (row_at s at end) y.setting at)
@@ -99,8 +97,8 @@ module _ (way : Way) {s : List ℕ} (bytes : Bytes s) {at end : ℕ} (le : at �
         (λ y u w. (sound_all-first le w.0 x, w.1)) (λ y u w f v q. (sound_all-rest le w.0 x, w.1)))
         (λ y u w. (w, split-here w.0 y u))
 
-    pub row-turned : {t out t1 out1 : List ℕ} {o q : ℕ} {v : Why} → FieldSteps s at stop (λ y. first_by way (tree_at s at stop) y.setting at) t out o t1 out1 (Refused v q) →
-        RowSteps s at end (λ y. row_by way (row_at s at end) y.setting at) t out o t1 out1 (Refused v q)
+    pub row-turned : {t out t1 out1 : List ℕ} {o : ℕ} {v : Refusal} → FieldSteps s at stop (λ y. first_by way (tree_at s at stop) y.setting at) t out o t1 out1 (Err v) →
+        RowSteps s at end (λ y. row_by way (row_at s at end) y.setting at) t out o t1 out1 (Err v)
     row-turned first =
         steps-as (λ y. row_by way (row_at s at end) y.setting at)
         (steps-turned encode encodes encodes more encodes-more (λ y u. SoundAll s at end × Reads y s) (λ _. rest_by way s stop end) first (λ y u w. (sound_all-first le w.0 x, w.1)))
@@ -123,12 +121,12 @@ going-start g le = record { good = g; kept = refl; size = refl; after = omega ar
 
 module _ {way : Way} {s : List ℕ} {from end : ℕ} {t₀ out₀ : List ℕ} {o : ℕ} {by : Way} {t out : List ℕ} {at to : ℕ} (bytes : Bytes s)
     (g : Going way s from end t₀ out₀ o by t out at to) where
-  pub going-over : extent_at s at end ≡ Short → RowSteps s from end (λ y. row_by way (row_at s from end) y.setting from) t₀ out₀ o t out (Done to)
-  going-over x = g.rest t out (Done to) (row-over by bytes g.inside x g.good)
+  pub going-over : extent_at s at end ≡ None → RowSteps s from end (λ y. row_by way (row_at s from end) y.setting from) t₀ out₀ o t out (Ok to)
+  going-over x = g.rest t out (Ok to) (row-over by bytes g.inside x g.good)
 
-  module _ {stop : ℕ} (x : extent_at s at end ≡ Upto stop) {t1 out1 : List ℕ} {k : Step}
+  module _ {stop : ℕ} (x : extent_at s at end ≡ Some stop) {t1 out1 : List ℕ} {k : Step}
       (m : FieldSteps s at stop (λ y. first_by by (tree_at s at stop) y.setting at) t out to t1 out1 k) where
-    pub going-more : {p : ℕ} {b : Bool} → k ≡ Done p → b ≡ others_by by → length t1 ≡ length t → Going way s from end t₀ out₀ o (Children b) t1 out1 stop p
+    pub going-more : {p : ℕ} {b : Bool} → k ≡ Ok p → b ≡ others_by by → length t1 ≡ length t → Going way s from end t₀ out₀ o (Children b) t1 out1 stop p
     going-more {p} {b} z e n =
         let i = extent-upto s at end g.inside x in
         let a = g.after in
@@ -143,5 +141,5 @@ module _ {way : Way} {s : List ℕ} {from end : ℕ} {t₀ out₀ : List ℕ} {o
               (subst (λ (c : Bool). RowSteps s stop end (λ v. row_by (Children c) (row_at s stop end) v.setting stop) t1 out1 p t' out' j) e r));
         }
 
-    pub going-turned : {v : Why} {q : ℕ} → k ≡ Refused v q → RowSteps s from end (λ y. row_by way (row_at s from end) y.setting from) t₀ out₀ o t1 out1 (Refused v q)
+    pub going-turned : {v : Refusal} → k ≡ Err v → RowSteps s from end (λ y. row_by way (row_at s from end) y.setting from) t₀ out₀ o t1 out1 (Err v)
     going-turned z = g.rest t1 out1 _ (row-turned by bytes g.inside x (steps-is m z))

@@ -1,11 +1,11 @@
 -- In the first pass the usage of a walked 63 is that of the 63 before it was walked.
+use Rattle.std.specs.Prelude.{Option, None, Some}
 use Prim.Native.Nat.{ℕ, ◌+◌}
 use native.Mathlib.Omega.{arith}
 use mathlib.Core.Path.{◌≡◌, refl, sym, ap, subst, ◌∙◌}
 use mathlib.Core.Logic.{◌⊎◌, inl, inr}
 use mathlib.Core.Bool.{Bool, true, false, cond}
 use mathlib.Core.List.{List}
-use mathlib.Core.Option.{Option, none as nothing, some}
 use lib.Dec.{eqb}
 use borrow.Author.Tests.{eqb-true, eqb-false, eq-eqb, ne_eqb}
 use Rattle.tree.specs.Layout.{value_of}
@@ -27,15 +27,15 @@ Like q r = (tag_of r ≡ tag_of q) × (tag_of q ≡ 0x70 → r ≡ q)
 property-like : (n : Option ℕ) (i : List ℕ) (q r : Field) (at p : ℕ) (s : State) → Like q r → (tag_of q ≡ 0x70) ⊎ (tag_of q ≡ 0x72) →
     use_property n i r at p s ≡ use_property n i q at p s
 unfolding use_property
-property-like nothing i q r at p s l t = refl
-property-like (some n) i q r at p s l (inl k) = ap (λ (f : Field). use_property (some n) i f at p s) (l.1 k)
-property-like (some n) i q r at p s l (inr k) = rw (eq-eqb (tag_of r) 0x72 (l.0 ∙ k), eq-eqb (tag_of q) 0x72 k) refl
+property-like None i q r at p s l t = refl
+property-like (Some n) i q r at p s l (inl k) = ap (λ (f : Field). use_property (Some n) i f at p s) (l.1 k)
+property-like (Some n) i q r at p s l (inr k) = rw (eq-eqb (tag_of r) 0x72 (l.0 ∙ k), eq-eqb (tag_of q) 0x72 k) refl
 
 from-like : (o : Option Record) (e : Setting) (i : List ℕ) (q r : Field) (at p : ℕ) (s : State) → Like q r → (tag_of q ≡ 0x70) ⊎ (tag_of q ≡ 0x72) →
     use_from o e i r at p s ≡ use_from o e i q at p s
 unfolding use_from
-from-like nothing e i q r at p s l t = refl
-from-like (some c) e i q r at p s l t = go (module_for e (value_of c.literal) p s)
+from-like None e i q r at p s l t = refl
+from-like (Some c) e i q r at p s l t = go (module_for e (value_of c.literal) p s)
   where
     go : (m : Outcome (Option ℕ × State)) → onto m (λ a. use_property a.0 i r at p a.1) ≡ onto m (λ a. use_property a.0 i q at p a.1)
     go (done a) = property-like a.0 i q r at p a.1 l t
@@ -44,10 +44,10 @@ from-like (some c) e i q r at p s l t = go (module_for e (value_of c.literal) p 
 imported-like : (o : Option (List ℕ)) (e : Setting) (i : List ℕ) (q r : Field) (at p : ℕ) (s : State) → Like q r → (tag_of q ≡ 0x70) ⊎ ((tag_of q ≡ 0x71) ⊎ (tag_of q ≡ 0x72)) →
     use_imported o e i r at p s ≡ use_imported o e i q at p s
 unfolding use_imported
-imported-like nothing e i q r at p s l t = refl
-imported-like (some c) e i q r at p s l (inl k) = ap (λ (f : Field). use_imported (some c) e i f at p s) (l.1 k)
-imported-like (some c) e i q r at p s l (inr (inl k)) = rw (eq-eqb (tag_of r) 0x71 (l.0 ∙ k), eq-eqb (tag_of q) 0x71 k) refl
-imported-like (some c) e i q r at p s l (inr (inr k)) =
+imported-like None e i q r at p s l t = refl
+imported-like (Some c) e i q r at p s l (inl k) = ap (λ (f : Field). use_imported (Some c) e i f at p s) (l.1 k)
+imported-like (Some c) e i q r at p s l (inr (inl k)) = rw (eq-eqb (tag_of r) 0x71 (l.0 ∙ k), eq-eqb (tag_of q) 0x71 k) refl
+imported-like (Some c) e i q r at p s l (inr (inr k)) =
     let a : eqb (tag_of r) 0x71 ≡ false = ne_eqb (tag_of r) 0x71 (λ z. let v : ◌≡◌ {A = ℕ} 0x72 0x71 = sym k ∙ sym l.0 ∙ z in omega arith) in
     let b : eqb (tag_of q) 0x71 ≡ false = ne_eqb (tag_of q) 0x71 (λ z. let v : ◌≡◌ {A = ℕ} 0x72 0x71 = sym k ∙ z in omega arith) in
     rw (a, b) (from-like (used_record e.own i s.collected) e i q r at p s l (inr k))
@@ -64,7 +64,7 @@ unfolding on_ident usage
 usage-like e x o o' q q' p u a l t = go (eqb (tag_of o) 0x60) refl
   where
     go : (b : Bool) → eqb (tag_of o) 0x60 ≡ b →
-        usage (cond {A = Option (Field × Field)} (eqb (tag_of o') 0x60) (some (o', q')) nothing) e p u ≡ usage (cond {A = Option (Field × Field)} (eqb (tag_of o) 0x60) (some (o, q)) nothing) e p u
+        usage (cond {A = Option (Field × Field)} (eqb (tag_of o') 0x60) (Some (o', q')) None) e p u ≡ usage (cond {A = Option (Field × Field)} (eqb (tag_of o) 0x60) (Some (o, q)) None) e p u
     go true k =
         let z = a.1 (eqb-true (tag_of o) 0x60 k) in
         rw (z, k) (imported-like (imported_as (fixed_of o) u.imported) e (fixed_of o) q q' (p + 3 + size o) p u l t)

@@ -1,21 +1,22 @@
 -- What the functions of the walk do: each walks a field or a row of fields that was read, as the rules do, and writes what becomes of it.
+use Rattle.std.specs.Prelude.{Option, None, Some, Ok, Err}
 use Rattle.std.specs.Prelude.{ℕ, ◌+◌, ◌≤◌, ◌≡◌, Bool, true, false, cond, List, [], ◌++◌, length, get_or}
 use Rattle.writer.specs.Wrote.{Wrote}
 use Rattle.tree.specs.Tree.{Field, field, Fields, none, more, encode, encodes}
-use Rattle.tree.specs.declared.layout.Reach.TheVariants.{Upto, Short}
 use Rattle.tree.specs.Access.{extent_at}
 use Rattle.tree.specs.Standing.{row_at}
 use Rattle.inputs.specs.Outcome.{done, refused, onto}
 use Rattle.inputs.specs.Fields.{inside}
 use Rattle.extraction_rules.specs.State.{State, Pass, first, second, Setting, Act, ◌>>=◌, give}
-use Rattle.extraction_rules.specs.First.{force_id, bindings, required, collect, add_lazy, require_lazily, declarator}
+use Rattle.extraction_rules.specs.First.{force_id, bindings, required, collect, add_lazy, mark_required, require_lazily, declarator}
 use Rattle.extraction_rules.specs.Walk.{walk, walk_all, walk_member, walk_assignment, walk_target}
-use Rattle.state.specs.Cells.{Env, Good, Shows}
-use Rattle.state.specs.Does.{place_in}
-use Rattle.steps.specs.declared.Why.{Why}
-use Rattle.steps.specs.declared.Step.{Step}
-use Rattle.steps.specs.declared.Step.TheVariants.{Done, Refused}
-use Rattle.steps.specs.Step.{Reads, Sound, SoundAll, Made, Steps}
+use Rattle.state.specs.Cells.{Env, Good, literal_by, Valued, Shows}
+use Rattle.state.specs.Does.{place_in, Gave}
+use Rattle.state.specs.declared.Literal.{Literal}
+use Rattle.scope.specs.declared.id.ModuleId.{ModuleId}
+use Rattle.expressions.specs.Require.{called}
+use Rattle.steps.specs.declared.Refusal.{Refusal}
+use Rattle.steps.specs.Step.{Reads, Sound, SoundAll, Made, Step, Effect, Steps}
 use Rattle.steps.specs.Refusal.{refusal_of}
 use Rattle.walking.specs.declared.Way.{Way}
 use Rattle.walking.specs.declared.Way.TheVariants.{Children, Member, Assignment}
@@ -73,11 +74,11 @@ declared e object s at end p = λ u. onto (walk_all (row_at s at end) e object a
 
 -- at most one field stands there
 abbrev pub Sole : List ℕ → ℕ → ℕ → Type 0
-Sole s at end = (stop : ℕ) → extent_at s at end ≡ Upto stop → extent_at s stop end ≡ Short
+Sole s at end = (stop : ℕ) → extent_at s at end ≡ Some stop → extent_at s stop end ≡ None
 
 -- a pattern, and at most an initialiser
 abbrev pub Declares : List ℕ → ℕ → ℕ → Env → Type 0
-Declares s at end x = SoundAll s at end × Reads x s × ((stop : ℕ) → extent_at s at end ≡ Upto stop → Sole s stop end)
+Declares s at end x = SoundAll s at end × Reads x s × ((stop : ℕ) → extent_at s at end ≡ Some stop → Sole s stop end)
 
 -- where the pattern binds what stands at a place
 abbrev pub Behind : List ℕ → ℕ → ℕ → ℕ → Field → Env → State → Type 0
@@ -108,10 +109,24 @@ recorded l p = λ s. cond s.top (collect (record { literal = l; specifiers = non
 abbrev pub Called : Field → Type 0
 Called f = (y : List ℕ) × (ds gs : Fields) × (f ≡ field 0x65 [] (more (field 0x60 y ds) gs)) × (length y ≡ 6)
 
+-- the module of a required source, if one is found, is marked, and a call that stands written at o, with bs behind it up to p, is amended by it
+pub record Marked (l : Literal) (at o : ℕ) (t out t' out' : List ℕ) : Type 0 where
+  pub found : Option ModuleId
+  pub gave : {x : Env} (f : Field) (s : State) → Shows x t s → Valued x l → Gave x (mark_required x.setting (literal_by x l) f at s) (called found f) t'
+  pub writes : {i : List ℕ} {p : ℕ} (f : Field) (bs : List ℕ) → Called f → Wrote i o (encode f ++ bs) out p → Wrote i o (encode (called found f) ++ bs) out' p
+
+-- or the mark is refused
+pub record Marks (l : Literal) (at o : ℕ) (t out t' out' : List ℕ) (k : Effect) : Type 0 where
+  pub good : Good t'
+  pub size : length out' ≡ length out
+  pub marked : k ≡ Ok tt → Marked l at o t out t' out'
+  pub turned : (e : Refusal) → k ≡ Err e → {x : Env} (f : Field) (s : State) → Shows x t s → Valued x l →
+      mark_required x.setting (literal_by x l) f at s ≡ refused (refusal_of e.why) e.place
+
 -- a call that stands written at o, with bs behind it up to p, is amended by a rule, or the rule is refused
 pub record Amends (P : Env → Type 0) (act : Env → Field → Act Field) (o p : ℕ) (t out t' out' : List ℕ) (k : Step) : Type 0 where
   pub good : Good t'
   pub size : length out' ≡ length out
-  pub made : (q : ℕ) → k ≡ Done q → {x : Env} (s : State) → Shows x t s → P x → (l : List ℕ) (f : Field) (bs : List ℕ) → Called f → Wrote l o (encode f ++ bs) out p →
+  pub made : (q : ℕ) → k ≡ Ok q → {x : Env} (s : State) → Shows x t s → P x → (l : List ℕ) (f : Field) (bs : List ℕ) → Called f → Wrote l o (encode f ++ bs) out p →
       Made (λ g. encode g ++ bs) x (act x f s) l o t' out' q
-  pub turned : (w : Why) (q : ℕ) → k ≡ Refused w q → {x : Env} (s : State) → Shows x t s → P x → (f : Field) → act x f s ≡ refused (refusal_of w) q
+  pub turned : (e : Refusal) → k ≡ Err e → {x : Env} (s : State) → Shows x t s → P x → (f : Field) → act x f s ≡ refused (refusal_of e.why) e.place

@@ -3,34 +3,32 @@
 #![tactic(auto)]
 
 ghost use Rattle.std.specs.Prelude.{◌<◌, ◌≡◌, Bool, true, false, List, [], ℕ, ◌+◌, ◌≤◌, length, get_or};
-ghost use Rattle.std.proofs.Math.Option.{some};
 ghost use Rattle.tree.specs.Access.{extent_at};
 ghost use Rattle.tree.specs.Tree.{Field, Fields, encodes};
 ghost use Rattle.tree.specs.Standing.{tree_at, row_at};
-ghost use Rattle.tree.specs.declared.layout.Reach.TheVariants.{Upto};
 ghost use Rattle.extraction_rules.specs.First.{add_lazy, require as require-rule, require_lazily, bindings};
 ghost use Rattle.extraction_rules.specs.Walk.{walk as walk-rule};
 ghost use Rattle.state.specs.Cells.{place_limit, Good, id_by, literal_by, Valued};
 ghost use Rattle.state.specs.Does.{place_in};
 ghost use Rattle.steps.specs.Step.{Steps};
 ghost use Rattle.walking.specs.declared.Way.TheVariants.{Member as member-way};
-ghost use Rattle.walking.specs.Walking.{recorded, FieldSteps, RowSteps, others_by, first_by, row_by, node_by, NameIs, Declares, Amends, Behind, behind, declared, ForcedFirst};
+ghost use Rattle.walking.specs.Walking.{recorded, FieldSteps, RowSteps, others_by, first_by, row_by, node_by, NameIs, Declares, Amends, Marks, Behind, behind, declared, ForcedFirst};
 
 use expressions::ident::ident_after;
-use expressions::require::{Required, Source, mark_required, required_at, set_callee};
+use expressions::require::{mark_required, required_at, set_callee};
 use expressions::usages::usage;
 use imports::export::export_specifier;
 use scope::id::{Atom, Id};
+use state::Literal;
 use state::collected::collect;
 use state::forced::force_id;
 use state::ident::{id_at, put_ident};
 use state::imported::{has_usages, imported_as};
 use state::rest::{add_lazy, is_top, set_top};
 use state::setting::{is_second, place_of};
-use state::{Context, Literal, Place, Room};
-use steps::{Effect, Ident, Step, Why, begin_field, end_field};
+use steps::{Effect, Refusal, Step, Why, begin_field, end_field};
 use tree::access::{extent, fixed};
-use tree::layout::{Reach, atom_at};
+use tree::layout::atom_at;
 
 // How the parts of a field are walked: all alike; as those of a 63, with *object* set for the first and clear for the others; as those of a
 // 66, whose first is a target.
@@ -90,11 +88,11 @@ fn node(s: &[u8], at: usize, stop: usize, way: Way, t: &mut [u64], out: &mut [u8
         (λ x. node_by way (tree_at s.now at stop) x.setting at)
         t.old out.old o t.new out.new result }
 {
-    let Reach::Upto(from) = fixed(s, s[at], at + 3, stop) else {
-        return Step::Done(o);
+    let Some(from) = fixed(s, s[at], at + 3, stop) else {
+        return Ok(o);
     };
     if from == stop {
-        return Step::Done(writer::copy(out, o, s, at, stop));
+        return Ok(writer::copy(out, o, s, at, stop));
     }
     let content = begin_field(s, at, from, out, o);
     let r = parts(s, from, stop, way, t, out, content);
@@ -120,19 +118,12 @@ fn parts(
     let mut at = from;
     let mut to = o;
     let mut by = way;
-    loop {
-        let Reach::Upto(stop) = extent(s, at, end) else {
-            return Step::Done(to);
-        };
-        match part(s, at, stop, by, t, out, to) {
-            Step::Done(p) => {
-                to = p;
-                at = stop;
-                by = Way::Children(others(by));
-            },
-            Step::Refused(why, place) => return Step::Refused(why, place),
-        }
+    while let Some(stop) = extent(s, at, end) {
+        to = part(s, at, stop, by, t, out, to)?;
+        at = stop;
+        by = Way::Children(others(by));
     }
+    Ok(to)
 }
 
 // Whether *object* is set for all parts but the first.
@@ -140,9 +131,8 @@ fn others(way: Way) -> bool
     ensures { result ≡ others_by way }
 {
     match way {
-        Way::Children(object) => object,
+        Way::Children(object) | Way::Assignment(object) => object,
         Way::Member => false,
-        Way::Assignment(object) => object,
     }
 }
 
@@ -169,8 +159,8 @@ fn exported(s: &[u8], at: usize, stop: usize, t: &mut [u64], out: &mut [u8], o: 
         (λ x. walk-rule (tree_at s.now at stop) x.setting object at)
         t.old out.old o t.new out.new result }
 {
-    let Reach::Upto(from) = fixed(s, 0x23, at + 3, stop) else {
-        return Step::Done(o);
+    let Some(from) = fixed(s, 0x23, at + 3, stop) else {
+        return Ok(o);
     };
     export_specifier(s, at, from, stop, t, out, o)
 }
@@ -190,11 +180,11 @@ fn ident(
         t.old out.old o t.new out.new result }
 {
     if stop < at + 9 {
-        return Step::Done(o);
+        return Ok(o);
     }
     let id = id_at(s, at + 3);
     force_first(t, id, object);
-    Step::Done(put_ident(out, o, id))
+    Ok(put_ident(out, o, id))
 }
 
 // A 63 that is an expression: usage in the first pass; in the second a usage becomes a 60.
@@ -217,17 +207,13 @@ fn member(
     }
     if is_second(t) {
         return match ident_after(s, at, stop, true, t) {
-            Ident::Is(id) => Step::Done(put_ident(out, o, id)),
-            Ident::Other => chain(s, at, stop, t, out, o),
+            Some(id) => Ok(put_ident(out, o, id)),
+            None => chain(s, at, stop, t, out, o),
         };
     }
-    match chain(s, at, stop, t, out, o) {
-        Step::Done(p) => match usage(s, at, stop, t) {
-            Effect::Fine => Step::Done(p),
-            Effect::Refused(why, place) => Step::Refused(why, place),
-        },
-        Step::Refused(why, place) => Step::Refused(why, place),
-    }
+    let p = chain(s, at, stop, t, out, o)?;
+    usage(s, at, stop, t)?;
+    Ok(p)
 }
 
 // A 63 of a 60 and a 70: as `member` has it, with the id and the name read where they stand.
@@ -240,21 +226,18 @@ fn name(s: &[u8], at: usize, stop: usize, t: &mut [u64], out: &mut [u8], o: usiz
     let id = id_at(s, at + 6);
     if is_second(t) {
         if !has_usages(t, id) {
-            return Step::Done(writer::copy(out, o, s, at, stop));
+            return Ok(writer::copy(out, o, s, at, stop));
         }
-        let Context::Of(c) = imported_as(t, id) else {
-            return Step::Done(writer::copy(out, o, s, at, stop));
+        let Some(c) = imported_as(t, id) else {
+            return Ok(writer::copy(out, o, s, at, stop));
         };
-        return Step::Done(put_ident(out, o, Id(Atom(atom_at(s, at + 15)), c)));
+        return Ok(put_ident(out, o, Id(Atom(atom_at(s, at + 15)), c)));
     }
     let p = writer::copy(out, o, s, at, stop);
-    let Context::Of(_) = imported_as(t, id) else {
-        return Step::Done(p);
-    };
-    match usage(s, at, stop, t) {
-        Effect::Fine => Step::Done(p),
-        Effect::Refused(why, place) => Step::Refused(why, place),
+    if imported_as(t, id).is_some() {
+        usage(s, at, stop, t)?;
     }
+    Ok(p)
 }
 
 // A 63 or the target of a 66, with its parts alone. A name of an identifier is copied: with *object* set nothing is forced.
@@ -266,7 +249,7 @@ fn chain(s: &[u8], at: usize, stop: usize, t: &mut [u64], out: &mut [u8], o: usi
         t.old out.old o t.new out.new result }
 {
     if is_name(s, at, stop) {
-        return Step::Done(writer::copy(out, o, s, at, stop));
+        return Ok(writer::copy(out, o, s, at, stop));
     }
     node(s, at, stop, Way::Member, t, out, o)
 }
@@ -276,19 +259,7 @@ fn is_name(s: &[u8], at: usize, stop: usize) -> bool
     requires { (at + 3 ≤ stop) × (stop ≤ length s.now) }
     ensures { NameIs s.now at result }
 {
-    if stop - at < 17 {
-        return false;
-    }
-    if s[at] != 0x63 {
-        return false;
-    }
-    if s[at + 3] != 0x60 {
-        return false;
-    }
-    if s[at + 12] != 0x70 {
-        return false;
-    }
-    true
+    17 <= stop - at && s[at] == 0x63 && s[at + 3] == 0x60 && s[at + 12] == 0x70
 }
 
 // A 65: in the first pass a call of require marks its module and makes a record.
@@ -309,13 +280,11 @@ fn call(
     if is_second(t) {
         return node(s, at, stop, Way::Children(object), t, out, o);
     }
-    let Source::Is(literal) = required_at(s, at, stop, t) else {
+    let Some(literal) = required_at(s, at, stop, t) else {
         return node(s, at, stop, Way::Children(object), t, out, o);
     };
-    match node(s, at, stop, Way::Children(object), t, out, o) {
-        Step::Done(p) => require(literal, at, t, out, o, p),
-        Step::Refused(why, place) => Step::Refused(why, place),
-    }
+    let p = node(s, at, stop, Way::Children(object), t, out, o)?;
+    require(literal, at, t, out, o, p)
 }
 
 // A 42: after its parts, an initialiser that is a call of require makes a lazy record.
@@ -353,13 +322,11 @@ fn pattern(
     ensures { Steps encodes (λ x u. Declares s.now (at + 3) stop x) (λ x. declared x.setting object s.now (at + 3) stop at)
         t.old out.old o t.new out.new result }
 {
-    let Reach::Upto(end) = extent(s, at + 3, stop) else {
-        return Step::Done(o);
+    let Some(end) = extent(s, at + 3, stop) else {
+        return Ok(o);
     };
-    match walk(s, at + 3, end, object, t, out, o) {
-        Step::Done(p) => initialiser(s, at, stop, object, t, out, p),
-        Step::Refused(why, place) => Step::Refused(why, place),
-    }
+    let p = walk(s, at + 3, end, object, t, out, o)?;
+    initialiser(s, at, stop, object, t, out, p)
 }
 
 // What stands behind the pattern of the 42 at `at` up to stop: the initialiser, if there is one.
@@ -374,23 +341,21 @@ fn initialiser(
     o: usize,
 ) -> Step
     requires { (at + 3 ≤ stop) × (stop ≤ length s.now) × Good t.old }
-    ensures { (q : Field) (from : ℕ) → extent_at s.now (at + 3) stop ≡ Upto from →
+    ensures { (q : Field) (from : ℕ) → extent_at s.now (at + 3) stop ≡ Some from →
         Steps encodes (Behind s.now from stop (at + 3) q)
         (λ x. behind x.setting object s.now from stop at q) t.old out.old o t.new out.new result }
 {
-    let Reach::Upto(from) = extent(s, at + 3, stop) else {
-        return Step::Done(o);
+    let Some(from) = extent(s, at + 3, stop) else {
+        return Ok(o);
     };
-    let Reach::Upto(end) = extent(s, from, stop) else {
-        return Step::Done(o);
+    let Some(end) = extent(s, from, stop) else {
+        return Ok(o);
     };
-    let Source::Is(literal) = required_at(s, from, end, t) else {
+    let Some(literal) = required_at(s, from, end, t) else {
         return walk(s, from, end, object, t, out, o);
     };
-    match walk(s, from, end, object, t, out, o) {
-        Step::Done(p) => require_lazily(literal, at, at + 3, t, out, o, p),
-        Step::Refused(why, place) => Step::Refused(why, place),
-    }
+    let p = walk(s, from, end, object, t, out, o)?;
+    require_lazily(literal, at, at + 3, t, out, o, p)
 }
 
 // In the first pass the id of a 60 is forced, with *object* clear.
@@ -398,29 +363,34 @@ fn force_first(t: &mut [u64], id: Id, object: bool)
     requires { Good t.old }
     ensures { ForcedFirst object (id_by id) t.old t.new }
 {
-    if object {
-        return;
+    if !object && !is_second(t) {
+        force_id(t, id);
     }
-    if is_second(t) {
-        return;
-    }
-    force_id(t, id);
 }
 
 // The call at `at`, written from o up to p, requires a literal: the module is marked, the callee set, the record made.
 fn require(literal: Literal, at: usize, t: &mut [u64], out: &mut [u8], o: usize, p: usize) -> Step
     requires { Good t.old }
-    ensures { Amends (λ x. (x.bound 0 ≡ Fields.none) × Valued x literal) (λ x f. require-rule (some (literal_by x literal)) x.setting f at) o p
+    ensures { Amends (λ x. (x.bound 0 ≡ Fields.none) × Valued x literal) (λ x f. require-rule (Some (literal_by x literal)) x.setting f at) o p
         t.old out.old t.new out.new result }
 {
-    match mark_required(literal, t) {
-        Required::Marked(n) => {
-            set_callee(out, o, n);
-            make_record(literal, at, t, p)
-        },
-        Required::Unresolved => make_record(literal, at, t, p),
-        Required::TooMany => Step::Refused(Why::TooManyFiles, at),
+    mark(literal, at, t, out, o)?;
+    make_record(literal, at, t, p)
+}
+
+// The module that the call at `at`, written at o, requires is marked, and the callee set.
+fn mark(literal: Literal, at: usize, t: &mut [u64], out: &mut [u8], o: usize) -> Effect
+    requires { Good t.old }
+    ensures { Marks literal at o t.old out.old t.new out.new result }
+{
+    let module = mark_required(literal, t).map_err(|_| Refusal {
+        why: Why::TooManyFiles,
+        place: at,
+    })?;
+    if let Some(n) = module {
+        set_callee(out, o, n);
     }
+    Ok(())
 }
 
 // 'Record without specifiers: collected if *top*, else lazy.'
@@ -431,10 +401,11 @@ fn make_record(literal: Literal, at: usize, t: &mut [u64], p: usize) -> Step
     if !is_top(t) {
         return make_lazy(literal, 0, at, t, p);
     }
-    match collect(t, literal) {
-        Place::Index(_) => Step::Done(p),
-        Place::NoRoom => Step::Refused(Why::TableFull, at),
-    }
+    collect(t, literal).map_err(|_| Refusal {
+        why: Why::TableFull,
+        place: at,
+    })?;
+    Ok(p)
 }
 
 // A lazy record whose pattern stands at a place.
@@ -444,10 +415,11 @@ fn make_lazy(literal: Literal, place: u32, at: usize, t: &mut [u64], p: usize) -
         Steps (λ _. []) (λ x u. Unit {0}) (λ x. add_lazy (record { literal = literal_by x literal; specifiers = x.bound place }) at) t.old out p
         t.new out result }
 {
-    match add_lazy(t, literal, place) {
-        Room::Made => Step::Done(p),
-        Room::Full => Step::Refused(Why::TableFull, at),
-    }
+    add_lazy(t, literal, place).map_err(|_| Refusal {
+        why: Why::TableFull,
+        place: at,
+    })?;
+    Ok(p)
 }
 
 // The initialiser of the 42 at `at`, written at o, requires a literal: the module is marked, the callee set, a lazy record made.
@@ -463,16 +435,10 @@ fn require_lazily(
     requires { Good t.old }
     ensures { (q : Field) →
         Amends (λ x. (bindings q ≡ x.bound (place_in x.setting.pass pattern)) × Valued x literal)
-        (λ x f. require_lazily (some (literal_by x literal)) x.setting q f at) o p t.old
+        (λ x f. require_lazily (Some (literal_by x literal)) x.setting q f at) o p t.old
         out.old t.new out.new result }
 {
     let place = place_of(t, pattern);
-    match mark_required(literal, t) {
-        Required::Marked(n) => {
-            set_callee(out, o, n);
-            make_lazy(literal, place, at, t, p)
-        },
-        Required::Unresolved => make_lazy(literal, place, at, t, p),
-        Required::TooMany => Step::Refused(Why::TooManyFiles, at),
-    }
+    mark(literal, at, t, out, o)?;
+    make_lazy(literal, place, at, t, p)
 }

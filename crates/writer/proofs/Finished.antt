@@ -1,22 +1,24 @@
 -- Zeros behind what is written, and the buffer that a call hands back: what is written and finished is delivered.
 use mathlib.Core.Bool.{Bool, true, false, cond}
-use mathlib.Core.List.{List, ◌++◌, append-nil}
+use mathlib.Core.List.{List, [], ◌++◌, append-nil}
 use mathlib.Core.Path.{◌≡◌, refl, ap, sym, ◌∙◌}
-use Prim.Native.Nat.{ℕ, suc, ◌+◌, ◌-◌, ◌≤◌, ◌<◌, min}
-use native.Mathlib.Numerals.{add-one}
+use Prim.Native.Nat.{ℕ, ◌+◌, ◌-◌, ◌≤◌, ◌<◌, min}
 use native.Mathlib.Omega.{arith}
 use borrow.Author.Tests.{leb-true, leb-false, le-leb, lt-leb}
-use lib.ListN.{length, take, drop, replicate, set, length-set}
-use lib.Seq.{sets-eq, take_all, take-suc-set, take-append_seam, append_snoc}
+use lib.ListN.{length, take, drop, replicate, length-drop, drop_of_length-le}
+use borrow.Rule.Slice.PartMut.{put_mid, mid_of, mid_len}
+use lib.Seq.{sets-eq, take_all, take-append_seam}
 use Rattle.writer.specs.Wrote.{Wrote}
 use Rattle.writer.specs.Finished.{has_room, zeroed_from, zeroed, Finished, delivered, Delivered}
 
--- zeros from i on are one at i, and zeros behind it
-pub zeroed-next : (l : List ℕ) (i : ℕ) → i < length l → zeroed_from (i + 1) (set l i 0) ≡ zeroed_from i l
+-- what is stored from n to the end is all zero
+pub zeroed-behind : (l m : List ℕ) (n : ℕ) → n ≤ length l → m ≡ replicate (length (mid_of n (length l - n) l)) 0 →
+    put_mid n (length l - n) l m ≡ zeroed_from n l
 unfolding zeroed_from
-zeroed-next l i h =
-    let e : length l - i ≡ suc (length l - suc i) = omega arith in
-    rw (add-one, length-set, take-suc-set l i 0 h, e) (append_snoc (take i l) 0 (replicate (length l - suc i) 0))
+zeroed-behind l m n h e =
+    let k = mid_len n (length l) l (omega arith) in
+    let d : drop (length l - n) (drop n l) ≡ [] = drop_of_length-le (drop n l) (simp length-drop (omega arith)) in
+    rw (d, append-nil m, e, k)
 
 -- past the end there is nothing to zero
 pub zeroed-end : (l : List ℕ) (i : ℕ) → length l ≤ i → zeroed_from i l ≡ l

@@ -1,7 +1,7 @@
 -- The algebra of writing: nothing, one run after another, and a field whose length is filled in once its content is written.
 -- That only the whole output's length is tested, at the end, rests on these: where the whole is short enough each part is.
 use mathlib.Core.Bool.{Bool, true, false, cond}
-use mathlib.Core.List.{List, [], ◌∷◌, ◌++◌}
+use mathlib.Core.List.{List, [], ◌∷◌, ◌++◌, append_assoc}
 use mathlib.Core.Path.{◌≡◌, refl, ap, sym, ◌∙◌}
 use Prim.Native.Nat.{ℕ, suc, ◌+◌, ◌-◌, ◌≤◌, ◌<◌}
 use native.Mathlib.Nat.{add-zero}
@@ -9,8 +9,11 @@ use native.Mathlib.Numerals.{add-one}
 use native.Mathlib.Omega.{arith}
 use borrow.Author.Tests.{le-leb, leb-true}
 use lib.Dec.{leb}
-use lib.ListN.{length, take, get_or, set, length-append, length-set, length-take, drop_of_length-le}
-use lib.Seq.{sets, length-sets, set_comm, slice, slice-cons}
+use lib.ListN.{length, take, drop, get_or, set, length-append, length-set, length-take, length-drop, drop_of_length-le}
+use lib.Seq.{sets, sets-eq, length-sets, set_comm, slice, slice-cons, drop-drop}
+use borrow.Rule.Slice.PartMut.{put_mid, same_len_mid, mid_len}
+use Rattle.std.specs.List.{between}
+use Rattle.std.proofs.lemmas.Slice.{between_is}
 use Rattle.writer.specs.Bytes.{two_bytes, framed}
 use Rattle.writer.specs.Wrote.{capped, Wrote, Opened, closed}
 
@@ -126,3 +129,24 @@ slice-none s at end h = drop_of_length-le (take end s) {i = at} (simp length-tak
 pub wrote-slice : (s : List ℕ) (at end : ℕ) {l m k : List ℕ} {o p q : ℕ} → at < end → end ≤ length s →
     Wrote l o (get_or s at 0 ∷ []) m p → Wrote m p (slice (at + 1) end s) k q → Wrote l o (slice at end s) k q
 wrote-slice s at end h g v w = rw (slice-cons at end s 0 h g, ← add-one at) (wrote-then v w)
+
+-- a part of s is stored as a whole
+module _ (l m s : List ℕ) (o from end : ℕ) (g : end ≤ length s) (h : o + (end - from) ≤ length l) (e : m ≡ between from end s) where
+  stored : m ≡ slice from end s
+  stored = e ∙ between_is s from end
+
+  long : length (slice from end s) ≡ end - from
+  long = simp (length-drop, length-take) (omega arith)
+
+  pub wrote-whole : Wrote l o (slice from end s) (put_mid o (o + (end - from) - o) l m) (o + (end - from))
+  wrote-whole =
+      let p = o + (end - from) in
+      let n = long in
+      record {
+        at = omega arith;
+        bytes = λ f.
+            let z : o + (p - o) ≡ o + length (slice from end s) = omega arith in
+            let b : take o l ++ (m ++ drop (p - o) (drop o l)) ≡ take o l ++ (slice from end s ++ drop (o + length (slice from end s)) l) = cc (drop-drop (p - o) o l, stored) in
+            b ∙ sym (rw append_assoc at (sets-eq (slice from end s) l o (omega arith)));
+        size = same_len_mid o (p - o) l m (ap length stored ∙ long ∙ (omega arith) ∙ sym (mid_len o p l h));
+      }

@@ -1,6 +1,6 @@
 // The field writer. A field is opened, its content written, and then it is closed, which fills its length in. Positions go on
 // where a buffer has no room left, so that a walk measures what it does not write, and never stops for lack of room: `finish`
-// tests, once, whether the whole stands in the buffer.
+// tests, once, whether the whole stands in the buffer. Those past the longest field count as one, so a sum may saturate.
 #![tactic(auto)]
 
 ghost use Rattle.std.specs.Prelude.{◌≡◌, [], ◌∷◌, ◌+◌, ◌-◌, ◌≤◌, length, set};
@@ -11,19 +11,6 @@ ghost use Rattle.writer.specs.Finished.{has_room, zeroed_from, zeroed, Finished}
 
 // The longest field: 3 bytes of head, and 65,535 of content.
 const LONGEST: usize = 65538;
-
-// The position n bytes behind o. Those past the longest field are all one, so that no position overflows.
-fn advance(o: usize, n: usize) -> usize
-    ensures { capped result ≡ capped (o + n) }
-{
-    if LONGEST < o {
-        return LONGEST + 1;
-    }
-    if LONGEST < n {
-        return LONGEST + 1;
-    }
-    o + n
-}
 
 // Stores b at o, where there is room.
 fn store(out: &mut [u8], o: usize, b: u8)
@@ -42,7 +29,7 @@ pub fn put(out: &mut [u8], o: usize, b: u8) -> usize
         out[o] = b;
         return o + 1;
     }
-    advance(o, 1)
+    o.saturating_add(1)
 }
 
 // Writes n in two bytes.
@@ -66,11 +53,9 @@ fn copy_part(out: &mut [u8], o: usize, s: &[u8], from: usize, end: usize) -> usi
     requires { end ≤ length s.now }
     ensures { Wrote out.old o (slice from end s.now) out.new result }
 {
-    let mut at = from;
     let mut to = o;
-    while at < end {
+    for at in from..end {
         to = put(out, to, s[at]);
-        at += 1;
     }
     to
 }
@@ -81,10 +66,8 @@ fn copy_whole(out: &mut [u8], o: usize, s: &[u8], from: usize, end: usize) -> us
     ensures { Wrote out.old o (slice from end s.now) out.new result }
 {
     let n = end - from;
-    let mut i = 0;
-    while i < n {
+    for i in 0..n {
         out[o + i] = s[from + i];
-        i += 1;
     }
     o + n
 }
@@ -97,10 +80,8 @@ pub fn copy(out: &mut [u8], o: usize, s: &[u8], from: usize, end: usize) -> usiz
     if end <= from {
         return o;
     }
-    if o <= out.len() {
-        if end - from <= out.len() - o {
-            return copy_whole(out, o, s, from, end);
-        }
+    if o <= out.len() && end - from <= out.len() - o {
+        return copy_whole(out, o, s, from, end);
     }
     copy_part(out, o, s, from, end)
 }
@@ -117,18 +98,16 @@ pub fn open_field(out: &mut [u8], o: usize, tag: u8) -> usize
     ensures { Opened out.old o tag out.new result }
 {
     store(out, o, tag);
-    advance(o, 3)
+    o.saturating_add(3)
 }
 
 // Fills in the length of the field at o, whose content ends at p.
 pub fn close_field(out: &mut [u8], o: usize, p: usize)
     ensures { out.new ≡ closed out.old o p }
 {
-    let c = advance(o, 3);
-    if c <= p {
-        if p <= LONGEST {
-            put_u16(out, o + 1, (p - c) as u16);
-        }
+    let c = o.saturating_add(3);
+    if c <= p && p <= LONGEST {
+        put_u16(out, o + 1, (p - c) as u16);
     }
 }
 
@@ -136,23 +115,15 @@ pub fn close_field(out: &mut [u8], o: usize, p: usize)
 pub fn has_room(n: usize, room: usize) -> bool
     ensures { result ≡ has_room n room }
 {
-    if LONGEST < n {
-        return false;
-    }
-    if room < n {
-        return false;
-    }
-    true
+    n <= LONGEST && n <= room
 }
 
 // Zeros every byte from n on.
 pub fn clear_from(out: &mut [u8], n: usize)
     ensures { out.new ≡ zeroed_from n out.old }
 {
-    let mut i = n;
-    while i < out.len() {
-        out[i] = 0;
-        i += 1;
+    if n < out.len() {
+        out[n..].fill(0);
     }
 }
 
@@ -160,7 +131,7 @@ pub fn clear_from(out: &mut [u8], n: usize)
 pub fn clear(out: &mut [u8])
     ensures { out.new ≡ zeroed out.old }
 {
-    clear_from(out, 0);
+    out.fill(0);
 }
 
 // Ends the field of n bytes that was written at 0: zeros behind it, or, where it has no room, everywhere. False is refusal 9.

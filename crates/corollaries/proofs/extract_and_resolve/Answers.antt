@@ -5,23 +5,23 @@ use Rattle.extraction.specs.Answer.{lent_as, room_in}
 use Rattle.corollaries.proofs.PairLaws.{pairs-both, pairs-unlisted, pairs-unextracted}
 use Rattle.corollaries.proofs.extract_and_resolve.Goals as goal
 
-pub returns-in-Listed : goal.returns-in-Listed
-returns-in-Listed c =
+pub returns-in-Ok-answer : goal.returns-in-Ok-answer
+returns-in-Ok-answer c =
     pairs-both (lent_as c.args.file.0 c.args.modes c.args.externals.now c.args.table.now c.args.tree.now)
     (room_in c.args.work.now c.args.out.now c.args.records.now) (length c.args.list.now) c.args.scope
-    c.extract_import_info-r.result c.extract_import_info-r.ensures.0 c.resolve_front-q.result c.in-Extracted.is
-    c.resolve_front-q.ensures c.in-Listed.is (λ i. (c.type_inv.tree i).fits)
+    c.extract_import_info-r.result c.extract_import_info-r.ensures.0 c.resolve_front-q.result c.in-Ok.is
+    c.resolve_front-q.ensures c.in-Ok-answer.is (λ i. (c.type_inv.tree i).fits)
 
-pub returns-in_default-listed : goal.returns-in_default-listed
-returns-in_default-listed c =
+pub returns-in-Err-answer : goal.returns-in-Err-answer
+returns-in-Err-answer c =
     pairs-unlisted (lent_as c.args.file.0 c.args.modes c.args.externals.now c.args.table.now c.args.tree.now)
     (room_in c.args.work.now c.args.out.now c.args.records.now) (length c.args.list.now) c.args.scope
     c.extract_import_info-r.result c.extract_import_info-r.ensures.0 c.resolve_front-q.result c.resolve_front-q.ensures
-    c.in_default-listed.not-Listed
+    c.in-Err-answer.is
 
-pub returns-in_default : goal.returns-in_default
-returns-in_default c =
+pub returns-in-Err : goal.returns-in-Err
+returns-in-Err c =
     pairs-unextracted (lent_as c.args.file.0 c.args.modes c.args.externals.now c.args.table.now c.args.tree.now)
     (room_in c.args.work.now c.args.out.now c.args.records.now) (length c.args.list.now) c.args.scope
     c.extract_import_info-r.result c.extract_import_info-r.ensures.0 c.extract_import_info-r.result.scope
-    c.in_default.not-Extracted
+    c.in-Err.is

@@ -18,7 +18,7 @@ found_other-other_here-requires t c =
     let a = c.args in
     let i =
     upto-in a.s.now _ (a.at + 3) a.stop c.requires.0
-    (sym c.fixed.ensures ∙ c.in-Upto.is) in
+    (sym c.fixed.ensures ∙ c.in-Some.is) in
     omega arith
 
 pub found_other-found_other_in-requires : goal.found_other-found_other_in-requires
@@ -26,27 +26,21 @@ found_other-found_other_in-requires t c =
     let a = c.args in
     let i =
     upto-in a.s.now _ (a.at + 3) a.stop c.requires.0
-    (sym c.fixed.ensures ∙ c.in-Upto.is) in
+    (sym c.fixed.ensures ∙ c.in-Some.is) in
     omega arith
 
 pub found_other-returns-then-other_here : goal.found_other-returns-then-other_here
 found_other-returns-then-other_here t c =
     let a = c.args in
-    sym (found-upto a.s.now a.at a.stop _
-    (sym c.fixed.ensures ∙ c.in-Upto.is)
-    ∙ rw (sym c.other_here.ensures ∙ c.if-other_here.true))
+    rw (found-upto a.s.now a.at a.stop _ (sym c.fixed.ensures ∙ c.in-Some.is), ← c.other_here.ensures, c.if-other_here.true)
 
 pub found_other-returns-else-other_here : goal.found_other-returns-else-other_here
 found_other-returns-else-other_here t c =
     let a = c.args in
-    c.found_other_in.ensures
-    ∙
-    sym (found-upto a.s.now a.at a.stop _
-    (sym c.fixed.ensures ∙ c.in-Upto.is)
-    ∙ rw (sym c.other_here.ensures ∙ c.if-other_here.false))
+    rw (found-upto a.s.now a.at a.stop _ (sym c.fixed.ensures ∙ c.in-Some.is), ← c.other_here.ensures, c.if-other_here.false) c.found_other_in.ensures
 
-pub found_other_in-returns-in_default : goal.found_other_in-returns-in_default
-found_other_in-returns-in_default t c =
+pub found_other_in-returns : goal.found_other_in-returns
+found_other_in-returns t c =
     let a = c.args in
     let l = c.loop-stop in
     sym (l.invariant.2 ∙ found-none a.s.now l.at a.end l.invariant.1 (sym c.extent.ensures ∙ c.in_default.is))
@@ -55,7 +49,7 @@ pub found_other_in-found_other-requires : goal.found_other_in-found_other-requir
 found_other_in-found_other-requires t c =
     let a = c.args in
     let l = c.loop-stop in
-    let x = sym c.extent.ensures ∙ c.in-Upto.is in
+    let x = sym c.extent.ensures ∙ c.in-Some.is in
     let i = extent-upto a.s.now l.at a.end l.invariant.1 x in
     omega arith
 
@@ -63,14 +57,14 @@ pub found_other_in-returns-then-found_other : goal.found_other_in-returns-then-f
 found_other_in-returns-then-found_other t c =
     let a = c.args in
     let l = c.loop-stop in
-    let x = sym c.extent.ensures ∙ c.in-Upto.is in
+    let x = sym c.extent.ensures ∙ c.in-Some.is in
     sym (l.invariant.2 ∙ found-more a.s.now l.at a.end _ l.invariant.1 x ∙ rw (sym c.found_other.ensures ∙ c.if-found_other.true))
 
 pub found_other_in-loop-stop-smaller : goal.found_other_in-loop-stop-smaller
 found_other_in-loop-stop-smaller t c =
     let a = c.args in
     let l = c.loop-stop in
-    let x = sym c.extent.ensures ∙ c.in-Upto.is in
+    let x = sym c.extent.ensures ∙ c.in-Some.is in
     let i = extent-upto a.s.now l.at a.end l.invariant.1 x in
     omega arith
 
@@ -78,6 +72,6 @@ pub found_other_in-loop-stop-preserved : goal.found_other_in-loop-stop-preserved
 found_other_in-loop-stop-preserved t c =
     let a = c.args in
     let l = c.loop-stop in
-    let x = sym c.extent.ensures ∙ c.in-Upto.is in
+    let x = sym c.extent.ensures ∙ c.in-Some.is in
     let i = extent-upto a.s.now l.at a.end l.invariant.1 x in
     (omega arith, omega arith, l.invariant.2 ∙ found-more a.s.now l.at a.end _ l.invariant.1 x ∙ rw (sym c.found_other.ensures ∙ c.if-found_other.false))

@@ -8,8 +8,8 @@ use Rattle.tree.proofs.AccessLaws.{extent-upto}
 use Rattle.detection.proofs.DetectionLaws.{forced-none, forced-more, accepted-next}
 use Rattle.detection.proofs.forced_es6.Goals as goal
 
-pub returns-in_default : goal.returns-in_default
-returns-in_default c =
+pub returns : goal.returns
+returns c =
     let a = c.args in
     let l = c.loop-stop in
     sym (l.invariant.2 ∙ forced-none a.s.now l.at a.end l.invariant.1 (sym c.extent.ensures ∙ c.in_default.is))
@@ -18,7 +18,7 @@ pub bounds-s-at : goal.bounds-s-at
 bounds-s-at c =
     let a = c.args in
     let l = c.loop-stop in
-    let x = sym c.extent.ensures ∙ c.in-Upto.is in
+    let x = sym c.extent.ensures ∙ c.in-Some.is in
     let i = extent-upto a.s.now l.at a.end l.invariant.1 x in
     omega arith
 
@@ -26,14 +26,14 @@ pub returns-in-16-to-20 : goal.returns-in-16-to-20
 returns-in-16-to-20 c =
     let a = c.args in
     let l = c.loop-stop in
-    let x = sym c.extent.ensures ∙ c.in-Upto.is in
+    let x = sym c.extent.ensures ∙ c.in-Some.is in
     sym (l.invariant.2 ∙ forced-more a.s.now l.at a.end _ l.invariant.1 l.invariant.3 x ∙ rw (within-true 0x10 0x14 (get_or a.s.now l.at 0) (omega arith) (omega arith)))
 
 pub loop-stop-smaller-in_default-s : goal.loop-stop-smaller-in_default-s
 loop-stop-smaller-in_default-s c =
     let a = c.args in
     let l = c.loop-stop in
-    let x = sym c.extent.ensures ∙ c.in-Upto.is in
+    let x = sym c.extent.ensures ∙ c.in-Some.is in
     let i = extent-upto a.s.now l.at a.end l.invariant.1 x in
     omega arith
 
@@ -41,7 +41,7 @@ pub loop-stop-preserved-in_default-s : goal.loop-stop-preserved-in_default-s
 loop-stop-preserved-in_default-s c =
     let a = c.args in
     let l = c.loop-stop in
-    let x = sym c.extent.ensures ∙ c.in-Upto.is in
+    let x = sym c.extent.ensures ∙ c.in-Some.is in
     let i = extent-upto a.s.now l.at a.end l.invariant.1 x in (
       omega arith,
       omega arith,
@@ -54,7 +54,7 @@ pub loop-stop-smaller : goal.loop-stop-smaller
 loop-stop-smaller c =
     let a = c.args in
     let l = c.loop-stop in
-    let x = sym c.extent.ensures ∙ c.in-Upto.is in
+    let x = sym c.extent.ensures ∙ c.in-Some.is in
     let i = extent-upto a.s.now l.at a.end l.invariant.1 x in
     omega arith
 
@@ -62,7 +62,7 @@ pub loop-stop-preserved : goal.loop-stop-preserved
 loop-stop-preserved c =
     let a = c.args in
     let l = c.loop-stop in
-    let x = sym c.extent.ensures ∙ c.in-Upto.is in
+    let x = sym c.extent.ensures ∙ c.in-Some.is in
     let i = extent-upto a.s.now l.at a.end l.invariant.1 x in (
       omega arith,
       omega arith,

@@ -2,6 +2,7 @@
 -- a module that was read stand from 3 on and are accepted, which `items_es6` requires. Why and where are those of the verdict.
 use mathlib.Core.Path.{sym, ap, ◌∙◌}
 use native.Mathlib.Omega.{arith}
+use Rattle.std.proofs.lemmas.Result.{err_from_is_err_and}
 use Rattle.tree.specs.declared.grammar.Set.TheVariants.{Module}
 use Rattle.tree.specs.Read.{read}
 use Rattle.tree.proofs.ReadLaws.{verdict-refused}
@@ -17,17 +18,19 @@ returns-then-tree-gt-MOST c =
 pub items_es6-requires : goal.items_es6-requires
 items_es6-requires c =
     let a = c.args in
-    let i = items-accepted a.tree.now (sym c.read_tree.ensures ∙ c.in-Good.is) in
+    let i = items-accepted a.tree.now (sym c.read_tree.ensures ∙ c.in_ok-read_tree.was) in
     (i.0, omega arith, i.1)
 
-pub returns-in-Good : goal.returns-in-Good
-returns-in-Good c =
+pub returns : goal.returns
+returns c =
     let a = c.args in
-    let e = sym c.read_tree.ensures ∙ c.in-Good.is in
+    let e = sym c.read_tree.ensures ∙ c.in_ok-read_tree.was in
     (ap answers c.items_es6.ensures ∙ sym (detect-read a.modes a.tree.now c.if-tree-gt-MOST.false e), tt)
 
-pub returns-in-Refused : goal.returns-in-Refused
-returns-in-Refused c =
+pub returns-in_err-read_tree : goal.returns-in_err-read_tree
+returns-in_err-read_tree c =
     let a = c.args in
-    let e = sym c.read_tree.ensures ∙ c.in-Refused.is in
-    (sym (detect-refused a.modes a.tree.now _ _ c.if-tree-gt-MOST.false e), verdict-refused (read Module a.tree.now) e)
+    let u = c.in_err-read_tree.field-0.0 in
+    let e = sym c.read_tree.ensures ∙ c.in_err-read_tree.was in
+    let passed = err_from_is_err_and c.from_residual.result c.from_residual.ensures.1 in
+    rw (passed.1, passed.2) (sym (detect-refused a.modes a.tree.now u c.if-tree-gt-MOST.false e), verdict-refused (read Module a.tree.now) e)

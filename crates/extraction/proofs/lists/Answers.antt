@@ -1,4 +1,6 @@
 -- `lists`: the tests of the code are those of `lists_of`, in the same order; each return has its law of ListsLaws.
+use Rattle.std.proofs.Common.{◌≡◌, Err, rules}
+use Rattle.extraction.specs.declared.ExtractError.TheVariants.{Unread as NoTree}
 use Rattle.extraction.proofs.ListsLaws.{lists-bad, lists-twice, lists-read, lists-unread}
 use Rattle.extraction.proofs.lists.Goals as goal
 
@@ -10,12 +12,14 @@ pub returns-then-names_twice : goal.returns-then-names_twice
 returns-then-names_twice c =
     lists-twice c.args.externals.now c.args.table.now c.args.tree.now c.bad_lists.ensures c.names_twice.ensures c.if-bad_lists.false c.if-names_twice.true
 
-pub returns-in-Good : goal.returns-in-Good
-returns-in-Good c =
+pub returns : goal.returns
+returns c =
     lists-read c.args.externals.now c.args.table.now c.args.tree.now c.bad_lists.ensures c.names_twice.ensures c.read_tree.ensures
-    c.if-bad_lists.false c.if-names_twice.false c.in-Good.is
+    c.if-bad_lists.false c.if-names_twice.false c.in_ok-read_tree.was
 
-pub returns-in-Refused : goal.returns-in-Refused
-returns-in-Refused c =
-    lists-unread c.args.externals.now c.args.table.now c.args.tree.now c.bad_lists.ensures c.names_twice.ensures c.read_tree.ensures
-    c.if-bad_lists.false c.if-names_twice.false c.in-Refused.is
+pub returns-in_err-read_tree : goal.returns-in_err-read_tree
+returns-in_err-read_tree c =
+    let h : c.from_residual.result ≡ Err (NoTree c.in_err-read_tree.field-0.0) = search rules in
+    rw h
+    (lists-unread c.args.externals.now c.args.table.now c.args.tree.now c.bad_lists.ensures c.names_twice.ensures c.read_tree.ensures
+    c.if-bad_lists.false c.if-names_twice.false c.in_err-read_tree.was)

@@ -1,25 +1,19 @@
--- `is_external`: the invariant says that the atom is among all externals just where it is among those from i on. `external-here` and
--- `external-on` go from the number that is compared to the two bytes: each is below 256, so equal numbers are equal bytes.
-use mathlib.Core.Path.{sym, ◌∙◌}
-use Prim.Native.Nat.{◌+◌}
+-- `is_external`: the chunks of two bytes are the atoms (`atoms-yielded`), and an atom among them is found by its number (`among-any`).
+use Prim.Native.Nat.{ℕ}
+use mathlib.Core.Path.{◌∙◌}
+use mathlib.Core.List.{List}
 use native.Mathlib.Omega.{arith}
-use Rattle.inputs.proofs.TableLaws.{external-here, external-on, external-end}
+use lib.Dec.{eqb}
+use Rattle.std.proofs.Common.{rules, tests}
+use Rattle.std.proofs.lemmas.Iterator.Search.{any_from_yields_List}
+use Rattle.tree.specs.Layout.{two_at}
+use Rattle.inputs.proofs.TableLaws.{atoms-yielded, among-any}
 use Rattle.inputs.proofs.is_external.Goals as goal
-
-pub returns-then-atom-atom_at : goal.returns-then-atom-atom_at
-returns-then-atom-atom_at c =
-    sym (c.loop-i.invariant.0
-    ∙ external-here c.args.externals.now c.loop-i.i c.args.atom.0 (omega arith) (c.type_inv.externals c.loop-i.i).fits
-    (c.type_inv.externals (c.loop-i.i + 1)).fits (omega arith) (c.if-atom-atom_at.true ∙ c.atom_at.ensures))
-
-pub loop-i-preserved : goal.loop-i-preserved
-loop-i-preserved c = (
-  c.loop-i.invariant.0
-      ∙ external-on c.args.externals.now c.loop-i.i c.args.atom.0 (omega arith) (c.type_inv.externals c.loop-i.i).fits
-      (c.type_inv.externals (c.loop-i.i + 1)).fits (omega arith) (λ e. c.if-atom-atom_at.false (e ∙ sym c.atom_at.ensures)),
-  omega arith,
-)
 
 pub returns : goal.returns
 returns c =
-    sym (c.loop-i.invariant.0 ∙ external-end c.args.externals.now c.loop-i.i c.args.atom.0 (omega arith))
+    let l = c.args.externals.now in
+    let m = c.args.atom.0 in
+    let road = atoms-yielded l c.chunks_exact.ensures.rest c.chunks_exact.ensures.size in
+    any_from_yields_List (λ (x : List ℕ). eqb m (two_at x 0)) _ _ c.any.result c.any.ensures.ran road (λ x b q k. search (rules, tests))
+    ∙ among-any m (omega arith) l (λ i. (c.type_inv.externals i).fits)

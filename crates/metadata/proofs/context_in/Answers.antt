@@ -1,32 +1,19 @@
--- `context_in`: by whether the content starts with the key, and by what parses.
+-- `context_in`: by whether the content starts with the key (`context-untold`), and by what parses behind it (`context-told`).
 use mathlib.Core.Path.{sym, ap, ◌∙◌}
-use Rattle.metadata.specs.MetadataValue.{number_by}
+use Rattle.metadata.specs.MetadataValue.{context_of}
 use Rattle.metadata.proofs.DecodeLaws.{context-told, context-untold}
 use Rattle.metadata.proofs.context_in.Goals as goal
 
-pub returns-then-not-starts_with : goal.returns-then-not-starts_with
-returns-then-not-starts_with c =
-    let a = c.args in
-    sym (context-untold a.s.now a.from a.end c.requires.1 (sym c.starts_with.ensures ∙ c.if-not-starts_with.true))
+pub returns-in_err-value : goal.returns-in_err-value
+returns-in_err-value c =
+    ap context_of c.from_residual.ensures ∙ sym (context-untold c.args.content.now c.in_err-value.ensures.cases)
 
-pub parse-requires : goal.parse-requires
-parse-requires c =
-    let a = c.args in
-    let w = context-told a.s.now a.from a.end c.requires.1 (sym c.starts_with.ensures ∙ c.if-not-starts_with.false) in
-    (w.0, c.requires.1)
+pub returns-in_err-parse : goal.returns-in_err-parse
+returns-in_err-parse c =
+    let told = context-told c.args.content.now c.in_ok-value.ensures.cases.0 c.in_ok-value.ensures.cases.1 in
+    ap context_of c.from_residual-in_err-parse.ensures ∙ c.in_err-parse.ensures ∙ sym told
 
-pub returns-in-Number : goal.returns-in-Number
-returns-in-Number c =
-    let a = c.args in
-    let w =
-    context-told a.s.now a.from a.end c.requires.1
-    (sym c.starts_with.ensures ∙ c.if-not-starts_with.false) in
-    sym (ap number_by c.in-Number.is) ∙ c.parse.ensures ∙ sym w.1
-
-pub returns-in-Nothing : goal.returns-in-Nothing
-returns-in-Nothing c =
-    let a = c.args in
-    let w =
-    context-told a.s.now a.from a.end c.requires.1
-    (sym c.starts_with.ensures ∙ c.if-not-starts_with.false) in
-    sym (ap number_by c.in-Nothing.is) ∙ c.parse.ensures ∙ sym w.1
+pub returns : goal.returns
+returns c =
+    let told = context-told c.args.content.now c.in_ok-value.ensures.cases.0 c.in_ok-value.ensures.cases.1 in
+    c.in_ok-parse.ensures ∙ sym told

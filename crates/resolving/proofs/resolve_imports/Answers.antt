@@ -1,55 +1,36 @@
--- `resolve_imports`: the steps in their order; each return is the law of AnswerLaws for the answer of the step that it follows.
--- Records that passed the tests were read (`records-good`), and once all sources have their numbers, `numbers-all` says that `listing` finds them.
-use mathlib.Core.Path.{sym, ap, ◌∙◌}
+-- `resolve_imports`: a call that turns back before its list leaves the scope and zeros (`refused-early`). One that does not has read its records
+-- (`given-read`), and each of their sources has its number (`given-all`), as `listing` asks; what it leaves is what the list leaves (`answers-list`).
+use lib.ListN.{length}
+use mathlib.Core.Path.{ap, ◌∙◌}
+use Rattle.report.specs.declared.Report.{Report}
 use Rattle.scope.specs.ScopeValue.{modules_of}
-use Rattle.inputs.specs.Table.{rows_in}
-use Rattle.resolving_rules.specs.Resolve.{sources_in}
-use Rattle.resolving.specs.declared.sources.NumberAnswer.{NumberAnswer}
-use Rattle.resolving.specs.Records.{records_in}
-use Rattle.resolving.specs.Numbers.{on_number}
-use Rattle.resolving.proofs.NumbersLaws.{numbers-all}
-use Rattle.resolving.proofs.AnswerLaws.{records-good, refused-bad, refused-twice, refused-unread, refused-over, answers-list}
+use Rattle.writer.specs.Finished.{zeroed}
+use Rattle.resolving.specs.Answer.{left_by}
+use Rattle.resolving.proofs.AnswerLaws.{given-read, given-all, refused-early, answers-list}
 use Rattle.resolving.proofs.resolve_imports.Goals as goal
 
-pub returns-in-BadTable : goal.returns-in-BadTable
-returns-in-BadTable c =
+pub listing-requires : goal.listing-requires
+listing-requires c =
     let a = c.args in
-    refused-bad a.modes a.table.now a.records.now a.scope a.list.now c.lists.ensures c.in-BadTable.is c.refuse.ensures
+    let given = c.in-Ok.ensures.rules a.modes in (
+      given-read a.modes a.table.now a.records.now (modules_of a.scope) given (λ i. (c.type_inv.records i).fits),
+      given-all a.modes a.table.now a.records.now (modules_of a.scope) given,
+    )
 
-pub returns-in-NamedTwice : goal.returns-in-NamedTwice
-returns-in-NamedTwice c =
+pub returns-in-Ok : goal.returns-in-Ok
+returns-in-Ok c =
     let a = c.args in
-    refused-twice a.modes a.table.now a.records.now a.scope a.list.now c.lists.ensures c.in-NamedTwice.is c.refuse-in-NamedTwice.ensures
+    let given = c.in-Ok.ensures.rules a.modes in
+    let k = c.listing in (
+      ap (λ (n : Report). left_by k.result (modules_of c.in-Ok.new) n k.new.list) c.no_counts.ensures
+          ∙ k.ensures.list ∙ answers-list a.modes a.table.now a.records.now (modules_of a.scope) (length a.list.now) given,
+      k.ensures.read,
+    )
 
-pub returns-in-Unread : goal.returns-in-Unread
-returns-in-Unread c =
+pub returns-in-Err : goal.returns-in-Err
+unfolding zeroed
+returns-in-Err c =
     let a = c.args in
-    refused-unread a.modes a.table.now a.records.now a.scope a.list.now c.lists.ensures c.in-Unread.is c.refuse-in-Unread.ensures
-
-pub number_sources-n-requires : goal.number_sources-n-requires
-number_sources-n-requires c =
-    let a = c.args in
-    records-good a.table.now a.records.now c.lists.ensures c.in-Good.is (λ i. (c.type_inv.records i).fits)
-
-pub returns-in-TooManyFiles : goal.returns-in-TooManyFiles
-returns-in-TooManyFiles c =
-    let a = c.args in
-    let new = c.number_sources-n.result.scope in
-    let over = sym c.number_sources-n.ensures ∙ ap (λ (e : NumberAnswer). on_number e (modules_of new)) c.in-TooManyFiles.is in
-    refused-over a.modes a.table.now a.records.now a.scope a.list.now c.lists.ensures c.in-Good.is over c.refuse-in-TooManyFiles.ensures
-
-pub listing-listed-requires : goal.listing-listed-requires
-listing-listed-requires c =
-    let a = c.args in
-    let new = c.number_sources-n.result.scope in
-    let given = sym c.number_sources-n.ensures ∙ ap (λ (e : NumberAnswer). on_number e (modules_of new)) c.in-Given.is in
-    let good = records-good a.table.now a.records.now c.lists.ensures c.in-Good.is (λ i. (c.type_inv.records i).fits) in
-    (good, numbers-all (rows_in a.table.now) (sources_in (records_in a.records.now)) (modules_of a.scope) (modules_of new) 3 given)
-
-pub returns : goal.returns
-returns c =
-    let a = c.args in
-    let new = c.number_sources-n.result.scope in
-    let given = sym c.number_sources-n.ensures ∙ ap (λ (e : NumberAnswer). on_number e (modules_of new)) c.in-Given.is in
-    answers-list a.modes a.table.now a.records.now a.scope a.list.now c.lists.ensures c.in-Good.is
-    new given c.listing-listed.result c.listing-listed.ensures c.no_counts.ensures c.list_answer.ensures
+    let turned = c.in-Err.ensures in
+    let early = refused-early a.modes a.table.now a.records.now (modules_of a.scope) (length a.list.now) c.in-Err.error (turned.rules a.modes) c.refuse.ensures.1 in
+    rw c.refuse.ensures.0 (early, turned.unread)

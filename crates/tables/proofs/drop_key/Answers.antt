@@ -5,22 +5,26 @@ use Prim.Native.Nat.{ℕ}
 use native.Mathlib.Omega.{arith}
 use Rattle.tables.proofs.RowLaws.{Dropping, drop-starts, drop-skips, drop-keeps}
 use Rattle.tables.proofs.OnlyLaws.{rows-dropped}
+use Rattle.tables.proofs.drop_key.Goals.{then-k-key, else-k-key}
 use Rattle.tables.proofs.drop_key.Goals as goal
 
 pub loop-i-init : goal.loop-i-init
 loop-i-init c =
     drop-starts c.args.key c.args.b.base c.count_of-n.result c.args.t.now
 
-pub loop-i-preserved-then-k-key : goal.loop-i-preserved-then-k-key
-loop-i-preserved-then-k-key c =
-    drop-skips c.args.key c.args.b.base c.count_of-n.result c.args.t.now c.loop-i.i c.loop-i.kept c.loop-i.t
-    c.loop-i.invariant c.loop-i-test.true (sym c.key_in-k.ensures ∙ c.if-k-key.true)
-
 pub loop-i-preserved : goal.loop-i-preserved
 loop-i-preserved c =
-    drop-keeps c.args.key c.args.b.base c.count_of-n.result c.args.t.now c.loop-i.i c.loop-i.kept c.loop-i.t
-    c.loop-i.invariant c.loop-i-test.true c.key_in-k.result c.value_in-v.result _ c.key_in-k.ensures c.value_in-v.ensures
-    c.if-k-key.false c.put_row.ensures
+    elim c.if-k-key.branch [
+      | then-k-key w ↦
+          rw (w.t-is, w.kept-is)
+          (drop-keeps c.args.key c.args.b.base c.count_of-n.result c.args.t.now c.loop-i.i c.loop-i.kept c.loop-i.t
+          c.loop-i.invariant c.loop-i-test.true c.key_in-k.result c.value_in-v.result _ c.key_in-k.ensures c.value_in-v.ensures
+          w.if-k-key.true w.put_row.ensures)
+      | else-k-key w ↦
+          rw (w.t-is, w.kept-is)
+          (drop-skips c.args.key c.args.b.base c.count_of-n.result c.args.t.now c.loop-i.i c.loop-i.kept c.loop-i.t
+          c.loop-i.invariant c.loop-i-test.true (sym c.key_in-k.ensures ∙ w.if-k-key.false))
+    ]
 
 pub returns : goal.returns
 returns c =

@@ -3,7 +3,7 @@
 use mathlib.Core.Path.{sym, ◌∙◌}
 use Rattle.tables.proofs.RowLaws.{found-start, found-begin, found-low, found-high, found-here, found-end}
 use native.Mathlib.Omega.{arith}
-use Rattle.tables.proofs.find_from.Goals.{then-lo-k+else-k-hi, else-lo-k}
+use Rattle.tables.proofs.find_from.Goals.{else-lo-k-via-then-lo-k+else-k-hi, else-lo-k-via-else-lo-k}
 use Rattle.tables.proofs.find_from.Goals as goal
 
 pub loop-i-init : goal.loop-i-init
@@ -18,10 +18,10 @@ returns-then-k-hi c =
 pub loop-i-preserved : goal.loop-i-preserved
 loop-i-preserved c =
     c.loop-i.invariant
-    ∙ elim c.if-lo-k.branch [
-      | then-lo-k+else-k-hi w ↦
+    ∙ elim c.else-lo-k.branch [
+      | else-lo-k-via-then-lo-k+else-k-hi w ↦
           found-high c.args.lo c.args.hi c.count_of-n.result c.loop-i.i c.args.b.base c.args.t.now c.loop-i-test.true (omega arith) (omega arith)
-      | else-lo-k w ↦
+      | else-lo-k-via-else-lo-k w ↦
           found-low c.args.lo c.args.hi c.count_of-n.result c.loop-i.i c.args.b.base c.args.t.now c.loop-i-test.true (omega arith)
     ]
 

@@ -3,7 +3,7 @@
 use mathlib.Core.Path.{sym, ap, ◌∙◌}
 use Prim.Native.Nat.{ℕ, ◌-◌}
 use native.Mathlib.Omega.{arith}
-use Rattle.tables.specs.Rows.{lesser, least_by}
+use Rattle.tables.specs.Rows.{lesser}
 use Rattle.tables.proofs.RowLaws.{least-start, least-here, least-other, least-end, back}
 use Rattle.tables.proofs.least_value.Goals as goal
 
@@ -16,7 +16,7 @@ loop-i-preserved-then-key_in-key c =
     let rest = c.loop-i.invariant.0 ∙ back c.args.key c.count_of-i.result c.loop-i.i c.args.b.base c.args.t.now c.loop-i-test.true in
     let here = least-here c.args.key c.count_of-i.result (c.loop-i.i - 1) c.args.b.base c.args.t.now (omega arith)
     (sym c.key_in.ensures ∙ c.if-key_in-key.true) in
-    (c.lesser_of-best.ensures ∙ ap (λ (v : ℕ). lesser v (least_by c.loop-i.best)) c.value_in.ensures ∙ ap (lesser _) rest ∙ sym here, omega arith)
+    (c.lesser_of-best.ensures ∙ ap (λ (v : ℕ). lesser v c.loop-i.best) c.value_in.ensures ∙ ap (lesser _) rest ∙ sym here, omega arith)
 
 pub loop-i-preserved : goal.loop-i-preserved
 loop-i-preserved c =

@@ -2,11 +2,8 @@
 -- The row before them is joined by `least-here` where it has the key, by `least-other` where not.
 use mathlib.Core.Path.{◌≡◌}
 use Prim.Native.Nat.{◌≤◌, ◌+◌, ◌*◌, ◌-◌}
-use Rattle.tables.specs.Rows.{rows_from, least_by, least_of}
+use Rattle.tables.specs.Rows.{rows_from, least_of}
 use Rattle.tables.proofs.least_value.Given as goal
 
 abbrev pub invariant-loop-i : goal.invariant-loop-i
-invariant-loop-i l = (least_by l.best ≡ least_of l.key (rows_from (l.initial.i - l.i) (l.base + 2 * l.i) l.t)) × (l.i ≤ l.initial.i)
-
-abbrev pub decreases-loop-i : goal.decreases-loop-i
-decreases-loop-i l = l.i
+invariant-loop-i l = (l.best ≡ least_of l.key (rows_from (l.initial.i - l.i) (l.base + 2 * l.i) l.t)) × (l.i ≤ l.initial.i)

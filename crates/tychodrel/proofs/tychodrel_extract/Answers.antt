@@ -3,12 +3,12 @@
 use Rattle.tychodrel.proofs.ExportedLaws.{extract-given, extract-refused}
 use Rattle.tychodrel.proofs.tychodrel_extract.Goals as goal
 
-pub returns-in-Given : goal.returns-in-Given
-returns-in-Given c =
-    extract-given c.request_files-requested.result c.args.files.now _ _ c.request_files-requested.ensures c.in-Given.is c.extract_in.ensures
+pub returns-in-Ok : goal.returns-in-Ok
+returns-in-Ok c =
+    extract-given c.request_files-requested.result c.args.files.now _ _ c.request_files-requested.ensures c.in-Ok.is c.extract_in.ensures
 
-pub returns-in-TooManyFiles : goal.returns-in-TooManyFiles
-returns-in-TooManyFiles c =
+pub returns-in-Err : goal.returns-in-Err
+returns-in-Err c =
     extract-refused c.request_files-requested.result c.args.files.now _ c.args.work.now c.args.out.now c.args.records.now
-    c.request_files-requested.ensures c.in-TooManyFiles.is c.refuse_files.ensures c.clear.ensures c.clear-in-TooManyFiles.ensures
-    c.clear-in-TooManyFiles-2.ensures
+    c.request_files-requested.ensures c.in-Err.is c.refuse_files.ensures c.clear.ensures c.clear-in-Err.ensures
+    c.clear-in-Err-2.ensures

@@ -3,11 +3,11 @@
 use Rattle.tychodrel.proofs.ExportedLaws.{resolve-given, resolve-refused}
 use Rattle.tychodrel.proofs.tychodrel_resolve.Goals as goal
 
-pub returns-in-Given : goal.returns-in-Given
-returns-in-Given c =
-    resolve-given c.request_files-requested.result c.args.files.now _ _ c.request_files-requested.ensures c.in-Given.is c.resolve_in.ensures
+pub returns-in-Ok : goal.returns-in-Ok
+returns-in-Ok c =
+    resolve-given c.request_files-requested.result c.args.files.now _ _ c.request_files-requested.ensures c.in-Ok.is c.resolve_in.ensures
 
-pub returns-in-TooManyFiles : goal.returns-in-TooManyFiles
-returns-in-TooManyFiles c =
-    resolve-refused c.request_files-requested.result c.args.files.now _ c.args.list.now c.request_files-requested.ensures c.in-TooManyFiles.is
+pub returns-in-Err : goal.returns-in-Err
+returns-in-Err c =
+    resolve-refused c.request_files-requested.result c.args.files.now _ c.args.list.now c.request_files-requested.ensures c.in-Err.is
     c.refuse_files.ensures c.clear.ensures

@@ -10,12 +10,8 @@ returns-in_default c =
     λ object. walk-short _ _ c.requires.3 (ap (λ (n : ℕ). fixed_at c.args.s.now n (c.args.at + 3) c.args.stop) c.requires.0 ∙ sym c.fixed.ensures
     ∙ c.in_default.is)
 
-pub export_specifier-requires : goal.export_specifier-requires
-export_specifier-requires c =
-    (c.requires.1, c.requires.2, c.requires.0, sym c.fixed.ensures ∙ c.in-Upto.is, c.requires.3)
-
 pub returns : goal.returns
 returns c =
-    λ object. node-23 c.args.s.now c.args.at c.in-Upto.from c.args.stop c.requires.1 c.requires.2
-    (ap (λ (n : ℕ). fixed_at c.args.s.now n (c.args.at + 3) c.args.stop) c.requires.0 ∙ sym c.fixed.ensures ∙ c.in-Upto.is) object c.requires.0
+    λ object. node-23 c.args.s.now c.args.at c.in-Some.from c.args.stop c.requires.1 c.requires.2
+    (ap (λ (n : ℕ). fixed_at c.args.s.now n (c.args.at + 3) c.args.stop) c.requires.0 ∙ sym c.fixed.ensures ∙ c.in-Some.is) object c.requires.0
     c.export_specifier.ensures

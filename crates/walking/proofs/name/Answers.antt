@@ -1,5 +1,6 @@
 -- `name`: where a 63 of a 60 and a 70 stands its parts are known (NameLaws). In the second pass it stays without usages or context, else it becomes
 -- the 60 that is written; in the first it is copied, and the usage of an id that is not imported is none.
+use Rattle.std.proofs.Common.{◌≡◌, None, Err, rules}
 use native.Mathlib.Omega.{arith}
 use Rattle.steps.proofs.StepsLaws.{effects-fine, effects-turned}
 use Rattle.walking.proofs.ExpressionLaws.{pass-second, pass-first}
@@ -20,21 +21,24 @@ pub returns-then-is_second : goal.returns-then-is_second
 returns-then-is_second c =
     λ object. name-becomes c.args.s.now (λ i. omega (arith, c.type_inv.s i)) c.args.at c.args.stop c.requires.1 c.requires.0 c.id_at-id.result
     c.id_at-id.ensures c.requires.3 object (pass-second c.is_second.ensures c.if-is_second.true) c.has_usages.ensures c.if-not-has_usages.false c.imported_as.ensures
-    c.in-Of.is c.atom_at.ensures c.put_ident.ensures
+    c.in-Some.is c.atom_at.ensures c.put_ident.ensures
 
-pub returns-in_default-imported_as : goal.returns-in_default-imported_as
-returns-in_default-imported_as c =
+pub returns-in_err-usage : goal.returns-in_err-usage
+returns-in_err-usage c =
+    let h : c.from_residual.result ≡ Err c.in_err-usage.field-0.0 = search rules in
+    rw h
+    (λ object. name-first c.args.s.now (λ i. omega (arith, c.type_inv.s i)) c.args.at c.args.stop c.requires.1 c.requires.0 c.id_at-id.result
+    c.id_at-id.ensures c.requires.3 object (pass-first c.is_second.ensures c.if-is_second.false) c.copy-p.ensures (effects-turned c.usage.ensures c.in_err-usage.was))
+
+pub returns-in_ok-usage : goal.returns-in_ok-usage
+returns-in_ok-usage c =
+    λ object. name-first c.args.s.now (λ i. omega (arith, c.type_inv.s i)) c.args.at c.args.stop c.requires.1 c.requires.0 c.id_at-id.result
+    c.id_at-id.ensures c.requires.3 object (pass-first c.is_second.ensures c.if-is_second.false) c.copy-p.ensures (effects-fine c.usage.ensures c.in_ok-usage.was)
+
+pub returns-else-is_some : goal.returns-else-is_some
+returns-else-is_some c =
+    let h : c.imported_as-2.result ≡ None = search rules in
     λ object. name-first c.args.s.now (λ i. omega (arith, c.type_inv.s i)) c.args.at c.args.stop c.requires.1 c.requires.0 c.id_at-id.result
     c.id_at-id.ensures c.requires.3 object (pass-first c.is_second.ensures c.if-is_second.false) c.copy-p.ensures
     (name-unimported c.args.s.now (λ i. omega (arith, c.type_inv.s i)) c.args.at c.args.stop c.requires.1 c.requires.0 c.id_at-id.result
-    c.id_at-id.ensures c.requires.3 c.imported_as-2.ensures c.in_default-imported_as.is)
-
-pub returns-in-Fine : goal.returns-in-Fine
-returns-in-Fine c =
-    λ object. name-first c.args.s.now (λ i. omega (arith, c.type_inv.s i)) c.args.at c.args.stop c.requires.1 c.requires.0 c.id_at-id.result
-    c.id_at-id.ensures c.requires.3 object (pass-first c.is_second.ensures c.if-is_second.false) c.copy-p.ensures (effects-fine c.usage.ensures c.in-Fine.is)
-
-pub returns-in-Refused : goal.returns-in-Refused
-returns-in-Refused c =
-    λ object. name-first c.args.s.now (λ i. omega (arith, c.type_inv.s i)) c.args.at c.args.stop c.requires.1 c.requires.0 c.id_at-id.result
-    c.id_at-id.ensures c.requires.3 object (pass-first c.is_second.ensures c.if-is_second.false) c.copy-p.ensures (effects-turned c.usage.ensures c.in-Refused.is)
+    c.id_at-id.ensures c.requires.3 c.imported_as-2.ensures h)

@@ -1,16 +1,13 @@
--- `require`: by what `mark_required` gave; each answer has its law of AmendLaws: the module is marked, then the record is made.
--- `require-marked` also has the callee set in what was written.
-use Rattle.walking.proofs.AmendLaws.{require-marked, require-unresolved, require-full}
+-- `require`: after the mark the record is made (`require-marked`), or its refusal is passed on (`require-turned`).
+use Rattle.std.proofs.Common.{◌≡◌, Err, rules}
+use Rattle.walking.proofs.AmendLaws.{require-marked, require-turned}
 use Rattle.walking.proofs.require.Goals as goal
 
-pub returns-in-Marked : goal.returns-in-Marked
-returns-in-Marked c =
-    require-marked c.args.literal c.args.at c.mark_required.ensures c.in-Marked.n c.in-Marked.is c.set_callee.ensures (c.make_record.ensures _)
+pub returns-in_err-mark : goal.returns-in_err-mark
+returns-in_err-mark c =
+    let h : c.from_residual.result ≡ Err c.in_err-mark.field-0.0 = search rules in
+    rw h (require-turned c.args.literal c.args.at c.mark.ensures c.in_err-mark.was)
 
-pub returns-in-Unresolved : goal.returns-in-Unresolved
-returns-in-Unresolved c =
-    require-unresolved c.args.literal c.args.at c.mark_required.ensures c.in-Unresolved.is (c.make_record-in-Unresolved.ensures _)
-
-pub returns-in-TooMany : goal.returns-in-TooMany
-returns-in-TooMany c =
-    require-full c.args.literal c.args.at c.mark_required.ensures c.in-TooMany.is
+pub returns : goal.returns
+returns c =
+    require-marked c.args.literal c.args.at c.mark.ensures c.in_ok-mark.was (c.make_record.ensures _)

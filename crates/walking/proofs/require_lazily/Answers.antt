@@ -1,18 +1,14 @@
--- `require_lazily`: by what `mark_required` gave; each answer has its law of AmendLaws: the module is marked, then the lazy record is made.
--- `lazily-marked` also has the callee set in what was written.
-use Rattle.walking.proofs.AmendLaws.{lazily-marked, lazily-unresolved, lazily-full}
+-- `require_lazily`: after the mark the lazy record is made (`lazily-marked`), or its refusal is passed on (`lazily-turned`).
+use Rattle.std.proofs.Common.{◌≡◌, Err, rules}
+use Rattle.walking.proofs.AmendLaws.{lazily-marked, lazily-turned}
 use Rattle.walking.proofs.require_lazily.Goals as goal
 
-pub returns-in-Marked : goal.returns-in-Marked
-returns-in-Marked c =
-    λ q. lazily-marked c.args.literal c.args.at c.args.pattern q c.mark_required.ensures c.place_of-place.ensures.0 c.in-Marked.n c.in-Marked.is
-    c.set_callee.ensures (c.make_lazy.ensures _)
+pub returns-in_err-mark : goal.returns-in_err-mark
+returns-in_err-mark c =
+    let h : c.from_residual.result ≡ Err c.in_err-mark.field-0.0 = search rules in
+    rw h
+    (λ q. lazily-turned c.args.literal c.args.at c.args.pattern q c.mark.ensures c.place_of-place.ensures.0 c.in_err-mark.was)
 
-pub returns-in-Unresolved : goal.returns-in-Unresolved
-returns-in-Unresolved c =
-    λ q. lazily-unresolved c.args.literal c.args.at c.args.pattern q c.mark_required.ensures c.place_of-place.ensures.0 c.in-Unresolved.is
-    (c.make_lazy-in-Unresolved.ensures _)
-
-pub returns-in-TooMany : goal.returns-in-TooMany
-returns-in-TooMany c =
-    λ q. lazily-full c.args.literal c.args.at c.args.pattern q c.mark_required.ensures c.place_of-place.ensures.0 c.in-TooMany.is
+pub returns : goal.returns
+returns c =
+    λ q. lazily-marked c.args.literal c.args.at c.args.pattern q c.mark.ensures c.place_of-place.ensures.0 c.in_ok-mark.was (c.make_lazy.ensures _)

@@ -1,8 +1,9 @@
--- `clear`: it zeroes from 0 on.
-use mathlib.Core.Path.{◌∙◌}
-use Rattle.writer.proofs.Finished.{zeroed-all}
+-- `clear`: `fill` leaves as many zeros as there were bytes.
+use borrow.Author.Rules.{rules}
+use Rattle.writer.specs.Finished.{zeroed}
 use Rattle.writer.proofs.clear.Goals as goal
 
 pub returns : goal.returns
+unfolding zeroed
 returns c =
-    c.clear_from.ensures ∙ zeroed-all _
+    search rules

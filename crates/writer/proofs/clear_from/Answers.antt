@@ -1,15 +1,14 @@
--- `clear_from`: the invariant: zeroing what is left, from here, zeroes all.
-use mathlib.Core.Path.{sym, ◌∙◌}
+-- `clear_from`: `fill` leaves zeros from n on (`zeroed-behind`); past the end there is nothing to zero (`zeroed-end`).
+use mathlib.Core.Path.{sym}
+use borrow.Author.Rules.{rules}
 use native.Mathlib.Omega.{arith}
-use lib.ListN.{length-set}
-use Rattle.writer.proofs.Finished.{zeroed-next, zeroed-end}
+use Rattle.writer.proofs.Finished.{zeroed-behind, zeroed-end}
 use Rattle.writer.proofs.clear_from.Goals as goal
 
-pub loop-i-preserved : goal.loop-i-preserved
-loop-i-preserved c =
-    let here = c.loop-i in
-    (zeroed-next here.out here.i (omega arith) ∙ here.invariant.0, simp length-set here.invariant.1)
+pub returns-then-n-out : goal.returns-then-n-out
+returns-then-n-out c =
+    zeroed-behind c.args.out.now _ c.args.n (omega arith) (search rules)
 
-pub returns : goal.returns
-returns c =
-    let here = c.loop-i in sym (zeroed-end here.out here.i (omega arith)) ∙ here.invariant.0
+pub returns-else-n-out : goal.returns-else-n-out
+returns-else-n-out c =
+    sym (zeroed-end c.args.out.now c.args.n (omega arith))

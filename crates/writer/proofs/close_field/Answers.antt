@@ -7,15 +7,10 @@ use Rattle.writer.proofs.close_field.Goals as goal
 
 pub returns-then-p-le-LONGEST : goal.returns-then-p-le-LONGEST
 returns-then-p-le-LONGEST c =
-    let start = c.advance-c in
+    let start = c.saturating_add-c in
     let a = c.args in
     c.put_u16.ensures.bytes (omega arith)
-    ∙ sym (closed-fills a.out.now a.o start.result a.p start.ensures (omega arith) (omega arith))
-
-pub returns-else-p-le-LONGEST : goal.returns-else-p-le-LONGEST
-returns-else-p-le-LONGEST c =
-    let a = c.args in
-    sym (closed-long a.out.now a.o a.p (λ g h. omega arith))
+    ∙ sym (closed-fills a.out.now a.o start.result a.p (omega arith) (omega arith) (omega arith))
 
 pub returns-else-c-p : goal.returns-else-c-p
 returns-else-c-p c =

@@ -12,6 +12,3 @@ abbrev pub invariant-loop-i : goal.invariant-loop-i
 invariant-loop-i it = ((l : List ℕ) (p : ℕ) → Wrote it.out (it.o + it.i) (slice (it.from + it.i) it.end it.s) l p → Wrote it.initial.out it.o (slice it.from it.end it.s) l p)
     × (length it.out ≡ length it.initial.out)
     × (it.i ≤ it.end - it.from)
-
-abbrev pub decreases-loop-i : goal.decreases-loop-i
-decreases-loop-i l = l.end - l.from - l.i

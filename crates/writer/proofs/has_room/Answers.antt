@@ -1,17 +1,15 @@
--- `has_room`: the two tests together say that n is at most the lesser of 65,538 and the room (`has_room-true`, else `no-room`).
-use mathlib.Core.Path.{sym}
+-- `has_room`: the two tests together say that n is at most the lesser of 65,538 and the room.
 use native.Mathlib.Omega.{arith}
-use Rattle.writer.proofs.Finished.{has_room-true, no-room}
+use Rattle.std.proofs.lemmas.Bool.Decides.{nat_tests}
+use Rattle.writer.specs.Finished.{has_room}
 use Rattle.writer.proofs.has_room.Goals as goal
 
-pub returns-then-n-gt-LONGEST : goal.returns-then-n-gt-LONGEST
-returns-then-n-gt-LONGEST c =
-    sym (no-room c.args.n c.args.room (omega arith))
+pub returns-then-n-le-LONGEST : goal.returns-then-n-le-LONGEST
+unfolding has_room
+returns-then-n-le-LONGEST c =
+    grind (arith, nat_tests)
 
-pub returns-then-room-n : goal.returns-then-room-n
-returns-then-room-n c =
-    sym (no-room c.args.n c.args.room (omega arith))
-
-pub returns : goal.returns
-returns c =
-    sym (has_room-true c.args.n c.args.room (omega arith) (omega arith))
+pub returns-else-n-le-LONGEST : goal.returns-else-n-le-LONGEST
+unfolding has_room
+returns-else-n-le-LONGEST c =
+    grind (arith, nat_tests)

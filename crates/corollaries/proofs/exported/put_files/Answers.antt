@@ -1,5 +1,4 @@
 -- `put_files`: the invariant says that with the files from module i on all of them are written; `file-written` splits off the one at i.
--- The measure is n - i.
 use Prim.Native.Nat.{◌+◌, ◌*◌}
 use mathlib.Core.Path.{refl, ◌∙◌}
 use native.Mathlib.Omega.{arith}

@@ -1,5 +1,4 @@
 -- `put_files`: the invariant says that with the files from module i on all of them are written; `file-written` splits off the one at i.
--- The measure is n - i.
 use Prim.Native.Nat.{ℕ, ◌-◌, ◌≤◌}
 use mathlib.Core.Path.{◌≡◌}
 use mathlib.Core.List.{List}
@@ -12,6 +11,3 @@ abbrev pub invariant-loop-i : goal.invariant-loop-i
 invariant-loop-i it = ((l : List ℕ) (p : ℕ) → Wrote it.files it.to (files_from (it.n - it.i) it.i it.scope) l p → Wrote it.initial.files 0 (files_back it.scope) l p)
     × (length it.files ≡ length it.initial.files)
     × (it.n ≤ 256)
-
-abbrev pub decreases-loop-i : goal.decreases-loop-i
-decreases-loop-i l = l.n - l.i

@@ -6,14 +6,10 @@ use Rattle.scope.specs.declared.id.SyntaxContext.{SyntaxContext}
 use Rattle.expressions.proofs.CalleeLaws.{callee-past, callee-set}
 use Rattle.expressions.proofs.require.set_callee.Goals as goal
 
-pub returns-then-out-lt8 : goal.returns-then-out-lt8
-returns-then-out-lt8 c =
-    callee-past c.args.n.0 c.args.o (omega arith)
-
 pub returns-then-o-out : goal.returns-then-o-out
 returns-then-o-out c =
     callee-set c.args.n.0 c.args.o (ap (λ (x : SyntaxContext). x.0) c.export_ctxt.ensures) (omega arith) c.put_u32.ensures
 
-pub returns-else-o-out : goal.returns-else-o-out
-returns-else-o-out c =
+pub returns-else-out-ge8 : goal.returns-else-out-ge8
+returns-else-out-ge8 c =
     callee-past c.args.n.0 c.args.o (omega arith)

@@ -9,15 +9,15 @@ pub returns-in-64 : goal.returns-in-64
 returns-in-64 c =
     item-40 c.args.s.now (λ i. omega (arith, c.type_inv.s i)) c.args.at c.args.stop c.in-64.is c.requires.2
 
-pub returns-in-Upto : goal.returns-in-Upto
-returns-in-Upto c =
+pub returns-in-Some : goal.returns-in-Some
+returns-in-Some c =
     item-41 c.args.s.now (λ i. omega (arith, c.type_inv.s i)) c.args.at c.args.stop c.in-65.is c.requires.0 (sym c.extent.ensures
-    ∙ c.in-Upto.is) c.walk.ensures
+    ∙ c.in-Some.is) c.walk.ensures
 
-pub returns-in-Short : goal.returns-in-Short
-returns-in-Short c =
+pub returns-in-None : goal.returns-in-None
+returns-in-None c =
     item-bare c.args.s.now (λ i. omega (arith, c.type_inv.s i)) c.args.at c.args.stop c.in-65.is c.requires.0 (sym
-    c.extent.ensures ∙ c.in-Short.is) c.requires.2
+    c.extent.ensures ∙ c.in-None.is) c.requires.2
 
 pub returns-in_default : goal.returns-in_default
 returns-in_default c =

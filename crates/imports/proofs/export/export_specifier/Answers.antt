@@ -5,6 +5,7 @@ use native.Mathlib.Omega.{arith}
 use mathlib.Core.Path.{ap}
 use Rattle.imports.proofs.WidthLaws.{framing-as, framed-in}
 use Rattle.imports.proofs.ExportLaws.{export-first, export-second, export-room, export-string, export-outside, export-made}
+use Rattle.imports.proofs.export.export_specifier.Goals.{then-s-at-eq2-via-then-s-at-eq2, then-s-at-eq2-via-else-s-at-eq2+then-s-at-eq2-2}
 use Rattle.imports.proofs.export.export_specifier.Goals as goal
 
 pub bounds-s-at : goal.bounds-s-at
@@ -16,18 +17,18 @@ bounds-s-at c =
 
 pub returns-then-s-at-eq2 : goal.returns-then-s-at-eq2
 returns-then-s-at-eq2 c =
-    export-string c.requires.2 (framing-as c.requires.0 c.requires.1 c.requires.2 c.requires.3) c.requires.4 c.if-s-at-eq2.true
+    let w = framing-as c.requires.0 c.requires.1 c.requires.2 c.requires.3 in
+    elim c.then-s-at-eq2.branch [
+      | then-s-at-eq2-via-then-s-at-eq2 v ↦ export-string c.requires.2 w c.requires.4 v.if-s-at-eq2.true
+      | then-s-at-eq2-via-else-s-at-eq2+then-s-at-eq2-2 v ↦ export-outside c.requires.2 w v.if-s-at-eq2.false c.requires.4 v.if-s-at-eq2-2.true
+    ]
 
-pub bounds-s-at-2 : goal.bounds-s-at-2
-bounds-s-at-2 c =
+pub bounds-s-at-else-s-at-eq2 : goal.bounds-s-at-else-s-at-eq2
+bounds-s-at-else-s-at-eq2 c =
     let w = framing-as c.requires.0 c.requires.1 c.requires.2 c.requires.3 in
     let h = export-second c.requires.2 w c.if-s-at-eq2.false in
     let i = framed-in w in
     omega arith
-
-pub returns-then-s-at-eq2-2 : goal.returns-then-s-at-eq2-2
-returns-then-s-at-eq2-2 c =
-    export-outside c.requires.2 (framing-as c.requires.0 c.requires.1 c.requires.2 c.requires.3) c.if-s-at-eq2.false c.requires.4 c.if-s-at-eq2-2.true
 
 pub id_at-requires : goal.id_at-requires
 id_at-requires c =
@@ -35,14 +36,6 @@ id_at-requires c =
     let h = export-second c.requires.2 w c.if-s-at-eq2.false in
     let i = framed-in w in
     omega arith
-
-pub force_id-requires : goal.force_id-requires
-force_id-requires c =
-    c.requires.4
-
-pub own_module-own-requires : goal.own_module-own-requires
-own_module-own-requires c =
-    c.force_id.ensures.good
 
 pub put_exported-requires : goal.put_exported-requires
 put_exported-requires c =

@@ -9,11 +9,7 @@ returns-in_default c =
     extending-other c.args.i (tree_at c.args.s.now c.args.at c.args.stop) c.namespace_at.result
     c.namespace_at.ensures c.requires.2 c.in_default.is
 
-pub add_namespace-requires : goal.add_namespace-requires
-add_namespace-requires c =
-    (c.requires.2, c.requires.3)
-
-pub returns : goal.returns
-returns c =
+pub returns-in-Some : goal.returns-in-Some
+returns-in-Some c =
     extending-is c.args.i (tree_at c.args.s.now c.args.at c.args.stop) c.namespace_at.result
-    c.namespace_at.ensures c.in-Is.id c.in-Is.is c.add_namespace.ensures
+    c.namespace_at.ensures c.in-Some.id c.in-Some.is c.add_namespace.ensures

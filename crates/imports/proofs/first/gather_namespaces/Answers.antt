@@ -11,27 +11,23 @@ loop-stop-init c =
     filling-start c.args.i c.args.s.now c.args.from c.args.end
     c.requires.2 c.requires.0 c.requires.3
 
-pub extent-requires : goal.extent-requires
-extent-requires c =
-    (c.loop-stop.invariant.before, c.requires.1)
-
-pub returns-in_default : goal.returns-in_default
-returns-in_default c =
+pub returns : goal.returns
+returns c =
     filling-end c.args.i c.args.s.now c.args.from c.args.end c.loop-stop.invariant (sym c.extent.ensures ∙ c.in_default.is)
 
 pub gather_namespace-requires : goal.gather_namespace-requires
 gather_namespace-requires c =
     let i =
     extent-upto c.args.s.now c.loop-stop.at c.args.end c.loop-stop.invariant.before
-    (sym c.extent.ensures ∙ c.in-Upto.is) in let f = c.requires.1 in
+    (sym c.extent.ensures ∙ c.in-Some.is) in let f = c.requires.1 in
     (i.0, omega arith, c.loop-stop.invariant.good, c.loop-stop.invariant.below)
 
 pub loop-stop-smaller : goal.loop-stop-smaller
 loop-stop-smaller c =
-    let i = extent-upto c.args.s.now c.loop-stop.at c.args.end c.loop-stop.invariant.before (sym c.extent.ensures ∙ c.in-Upto.is) in let f = c.requires.1 in omega arith
+    let i = extent-upto c.args.s.now c.loop-stop.at c.args.end c.loop-stop.invariant.before (sym c.extent.ensures ∙ c.in-Some.is) in let f = c.requires.1 in omega arith
 
 pub loop-stop-preserved : goal.loop-stop-preserved
 loop-stop-preserved c =
     filling-more c.args.i c.args.s.now c.args.from c.args.end c.loop-stop.invariant
-    (sym c.extent.ensures ∙ c.in-Upto.is) c.gather_namespace.ensures
+    (sym c.extent.ensures ∙ c.in-Some.is) c.gather_namespace.ensures
     c.gather_namespace.auto.t

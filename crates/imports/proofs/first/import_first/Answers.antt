@@ -1,12 +1,15 @@
--- `import_first`: an import that was read has its literal (`head-short`). An external one stays (`first-external`). Any other goes by what
--- `module_for` gave; each answer has its law of FirstLaws. `head-value` says that the literal's value is the tree's source.
--- `import_first`: an import that was read has its literal (`head-short`). An external one stays (`first-external`). Any other goes by what
--- `module_for` gave; each answer has its law of FirstLaws. `head-value` says that the literal's value is the tree's source.
-use Rattle.imports.proofs.HeadLaws.{headed, head-in, head-value, head-short}
+-- `import_first`: an import that was read has its literal (`head-short`). An external one stays (`first-external`). Any other is written by its
+-- module and then collected: `put-collected` and `put-turned` make that the rule for an import whose module is known, and `first-module` and
+-- `first-many` find the module. `head-value` says that the literal's value is the tree's source.
 use native.Mathlib.Omega.{arith}
-use mathlib.Core.Path.{sym, ◌∙◌}
-use Rattle.imports.proofs.HeadLaws.{head-in, head-value, head-short}
-use Rattle.imports.proofs.FirstLaws.{first-external, first-module, first-nowhere, first-many}
+use mathlib.Core.Path.{◌≡◌, sym, ◌∙◌}
+use Rattle.std.proofs.Common.{Ok, Err, rules}
+use Rattle.scope.specs.declared.TooManyFiles.{TooManyFiles}
+use Rattle.steps.specs.Refusal.{refusal}
+use Rattle.steps.specs.declared.Why.TheVariants.{TooManyFiles as too-many}
+use Rattle.steps.proofs.StepsLaws.{steps-is}
+use Rattle.imports.proofs.HeadLaws.{headed, head-in, head-value, head-short}
+use Rattle.imports.proofs.FirstLaws.{first-external, first-module, first-many, put-collected, put-turned}
 use Rattle.imports.proofs.first.import_first.Goals as goal
 
 pub returns-in_default : goal.returns-in_default
@@ -15,38 +18,39 @@ returns-in_default c =
 
 pub literal_at-literal-requires : goal.literal_at-literal-requires
 literal_at-literal-requires c =
-    let i = head-in (headed c.requires.0 c.requires.1 c.requires.2 (sym c.fixed.ensures ∙ c.in-Upto.is)) in
+    let i = head-in (headed c.requires.0 c.requires.1 c.requires.2 (sym c.fixed.ensures ∙ c.in-Some.is)) in
     let f = c.requires.1 in
     omega arith
 
 pub returns-then-is_external : goal.returns-then-is_external
 returns-then-is_external c =
-    let w = headed c.requires.0 c.requires.1 c.requires.2 (sym c.fixed.ensures ∙ c.in-Upto.is) in
+    let w = headed c.requires.0 c.requires.1 c.requires.2 (sym c.fixed.ensures ∙ c.in-Some.is) in
     first-external (λ i. (c.type_inv.s i).fits) w c.literal_at-literal.result.value.0 (head-value w _ c.literal_at-literal.ensures.0)
     c.is_external.ensures c.requires.3 c.if-is_external.true c.copy.ensures
 
-pub import_resolved-requires : goal.import_resolved-requires
-import_resolved-requires c =
-    (c.requires.0, c.requires.1, c.requires.2, c.module_for.ensures.good)
+pub returns-in_err-module : goal.returns-in_err-module
+returns-in_err-module c =
+    let w = headed c.requires.0 c.requires.1 c.requires.2 (sym c.fixed.ensures ∙ c.in-Some.is) in
+    let h : c.from_residual.result ≡ Err (refusal too-many c.args.at) = search rules in
+    let k : (e : TooManyFiles) × (c.module_for.result ≡ Err e) = search rules in
+    rw h
+    (first-many (λ i. (c.type_inv.s i).fits) w c.literal_at-literal.result.value.0 (head-value w _ c.literal_at-literal.ensures.0)
+    c.is_external.ensures c.if-is_external.false c.module_for.ensures k.1)
 
-pub import_unresolved-requires : goal.import_unresolved-requires
-import_unresolved-requires c =
-    (c.requires.0, c.requires.1, c.requires.2, c.module_for.ensures.good)
+pub returns-in_err-p : goal.returns-in_err-p
+returns-in_err-p c =
+    let w = headed c.requires.0 c.requires.1 c.requires.2 (sym c.fixed.ensures ∙ c.in-Some.is) in
+    let m : c.module_for.result ≡ Ok c.in_ok-module.module = search rules in
+    let h : c.from_residual-in_err-p.result ≡ Err c.in_err-p.field-0.0 = search rules in
+    rw h
+    (first-module (λ i. (c.type_inv.s i).fits) w c.literal_at-literal.result.value.0 (head-value w _ c.literal_at-literal.ensures.0)
+    c.is_external.ensures c.if-is_external.false c.module_for.ensures c.in_ok-module.module m
+    (put-turned (λ i. (c.type_inv.s i).fits) w _ (steps-is c.put_import.ensures c.in_err-p.was)))
 
-pub returns-in-Is : goal.returns-in-Is
-returns-in-Is c =
-    let w = headed c.requires.0 c.requires.1 c.requires.2 (sym c.fixed.ensures ∙ c.in-Upto.is) in
+pub returns : goal.returns
+returns c =
+    let w = headed c.requires.0 c.requires.1 c.requires.2 (sym c.fixed.ensures ∙ c.in-Some.is) in
+    let m : c.module_for.result ≡ Ok c.in_ok-module.module = search rules in
     first-module (λ i. (c.type_inv.s i).fits) w c.literal_at-literal.result.value.0 (head-value w _ c.literal_at-literal.ensures.0)
-    c.is_external.ensures c.if-is_external.false c.module_for.ensures c.in-Is.n c.in-Is.is c.import_resolved.ensures
-
-pub returns-in-Unresolved : goal.returns-in-Unresolved
-returns-in-Unresolved c =
-    let w = headed c.requires.0 c.requires.1 c.requires.2 (sym c.fixed.ensures ∙ c.in-Upto.is) in
-    first-nowhere (λ i. (c.type_inv.s i).fits) w c.literal_at-literal.result.value.0 (head-value w _ c.literal_at-literal.ensures.0)
-    c.is_external.ensures c.if-is_external.false c.module_for.ensures c.in-Unresolved.is c.import_unresolved.ensures
-
-pub returns-in-TooMany : goal.returns-in-TooMany
-returns-in-TooMany c =
-    let w = headed c.requires.0 c.requires.1 c.requires.2 (sym c.fixed.ensures ∙ c.in-Upto.is) in
-    first-many (λ i. (c.type_inv.s i).fits) w c.literal_at-literal.result.value.0 (head-value w _ c.literal_at-literal.ensures.0)
-    c.is_external.ensures c.if-is_external.false c.module_for.ensures c.in-TooMany.is
+    c.is_external.ensures c.if-is_external.false c.module_for.ensures c.in_ok-module.module m
+    (put-collected (λ i. (c.type_inv.s i).fits) w _ (steps-is c.put_import.ensures c.in_ok-p.was) c.gathered.ensures)

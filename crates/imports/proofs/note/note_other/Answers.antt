@@ -1,6 +1,10 @@
 -- `note_other`: by whether `note_id` had room. `noted-as` says that the noted id is the one in the tree, `other-copied` that the copied
 -- bytes are the encoding of a field that was read.
+use Rattle.std.proofs.Common.{◌≡◌, Ok, Err, rules}
 use native.Mathlib.Omega.{arith}
+use Rattle.state.specs.declared.TableFull.{TableFull}
+use Rattle.steps.specs.Refusal.{refusal}
+use Rattle.steps.specs.declared.Why.TheVariants.{TableFull as no-room}
 use Rattle.tree.specs.Layout.{four}
 use Rattle.tree.specs.Standing.{tree_at}
 use Rattle.imports.proofs.MadeLaws.{acts-made, acts-full}
@@ -11,11 +15,14 @@ pub id_at-requires : goal.id_at-requires
 id_at-requires c =
     let a = c.requires.0 in let b = c.requires.1 in omega arith
 
-pub returns-in-Made : goal.returns-in-Made
-returns-in-Made c =
-    acts-made c.args.at (tree_at c.args.s.now c.args.at c.args.stop) (noted-as (four c.args.c.0) c.id_at.ensures c.note_id.ensures) c.in-Made.is
+pub returns : goal.returns
+returns c =
+    let h : c.note_id.result ≡ Ok tt = search rules in
+    acts-made c.args.at (tree_at c.args.s.now c.args.at c.args.stop) (noted-as (four c.args.c.0) c.id_at.ensures c.note_id.ensures) h
     c.copy.ensures.size (other-copied (λ i. (c.type_inv.s i).fits) c.copy.ensures)
 
-pub returns-in-Full : goal.returns-in-Full
-returns-in-Full c =
-    acts-full c.args.at (tree_at c.args.s.now c.args.at c.args.stop) (noted-as (four c.args.c.0) c.id_at.ensures c.note_id.ensures) c.in-Full.is
+pub returns-in_err-map_err : goal.returns-in_err-map_err
+returns-in_err-map_err c =
+    let h : c.from_residual.result ≡ Err (refusal no-room c.args.at) = search rules in
+    let k : (e : TableFull) × (c.note_id.result ≡ Err e) = search rules in
+    rw h (acts-full c.args.at (tree_at c.args.s.now c.args.at c.args.stop) (noted-as (four c.args.c.0) c.id_at.ensures c.note_id.ensures) k.1)

@@ -14,21 +14,9 @@ pub returns-then-tag-lt32 : goal.returns-then-tag-lt32
 returns-then-tag-lt32 c =
     specified-else c.requires.2 (λ a b. omega arith)
 
-pub returns-then-tag-gt34 : goal.returns-then-tag-gt34
-returns-then-tag-gt34 c =
-    specified-else c.requires.2 (λ a b. omega arith)
-
-pub specifier_at-requires : goal.specifier_at-requires
-specifier_at-requires c =
-    ((_, _, framing c.requires.0 c.requires.1 (sym c.fixed.ensures ∙ c.in-Upto.is)), omega arith, omega arith)
-
-pub note_named-requires : goal.note_named-requires
-note_named-requires c =
-    c.requires.2
-
 pub note_other-requires : goal.note_other-requires
 note_other-requires c =
-    let w = framing c.requires.0 c.requires.1 (sym c.fixed.ensures ∙ c.in-Upto.is) in
+    let w = framing c.requires.0 c.requires.1 (sym c.fixed.ensures ∙ c.in-Some.is) in
     let a = c.if-tag-lt32.false in
     let b = c.if-tag-gt34.false in
     let j = specifier-id w (omega arith) (omega arith) in
@@ -37,7 +25,7 @@ note_other-requires c =
 
 pub note_other-requires-in-Namespace : goal.note_other-requires-in-Namespace
 note_other-requires-in-Namespace c =
-    let w = framing c.requires.0 c.requires.1 (sym c.fixed.ensures ∙ c.in-Upto.is) in
+    let w = framing c.requires.0 c.requires.1 (sym c.fixed.ensures ∙ c.in-Some.is) in
     let a = c.if-tag-lt32.false in
     let b = c.if-tag-gt34.false in
     let j = specifier-id w (omega arith) (omega arith) in
@@ -46,16 +34,16 @@ note_other-requires-in-Namespace c =
 
 pub returns-in-Named : goal.returns-in-Named
 returns-in-Named c =
-    let w = framing c.requires.0 c.requires.1 (sym c.fixed.ensures ∙ c.in-Upto.is) in
+    let w = framing c.requires.0 c.requires.1 (sym c.fixed.ensures ∙ c.in-Some.is) in
     given-named w c.args.n.0 c.specifier_at.result (c.specifier_at.ensures _ _ w) c.in-Named.is c.note_named.ensures
 
 pub returns-in-Default : goal.returns-in-Default
 returns-in-Default c =
-    let w = framing c.requires.0 c.requires.1 (sym c.fixed.ensures ∙ c.in-Upto.is) in
+    let w = framing c.requires.0 c.requires.1 (sym c.fixed.ensures ∙ c.in-Some.is) in
     given-default w c.args.n.0 c.specifier_at.result (c.specifier_at.ensures _ _ w) c.in-Default.is c.note_other.ensures
 
 pub returns-in-Namespace : goal.returns-in-Namespace
 returns-in-Namespace c =
-    let w = framing c.requires.0 c.requires.1 (sym c.fixed.ensures ∙ c.in-Upto.is) in
+    let w = framing c.requires.0 c.requires.1 (sym c.fixed.ensures ∙ c.in-Some.is) in
     given-namespace w c.args.n.0 c.specifier_at.result (c.specifier_at.ensures _ _ w) c.in-Namespace.is
     (ap (λ k. k.0) c.export_ctxt.ensures) c.note_other-in-Namespace.ensures

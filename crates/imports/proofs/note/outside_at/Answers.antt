@@ -1,4 +1,5 @@
 -- `outside_at`: by the kind byte: 0, 1 or another. The precondition has room for a name unless it is 0; for a 1 `two_at-is` gives the name.
+use Rattle.std.proofs.Common.{rules}
 use native.Mathlib.Omega.{arith}
 use mathlib.Core.Path.{◌∙◌, ap}
 use Rattle.tree.specs.Layout.{two}
@@ -9,21 +10,9 @@ pub bounds-s-at : goal.bounds-s-at
 bounds-s-at c =
     c.requires.0
 
-pub overflow_add-at : goal.overflow_add-at
-overflow_add-at c =
-    let h = c.requires.0 in omega arith
-
 pub atom_at-requires : goal.atom_at-requires
 atom_at-requires c =
     let h = c.requires.1 (λ z. let k = c.in-1.is in omega arith) in omega arith
-
-pub overflow_add-at-in_default : goal.overflow_add-at-in_default
-overflow_add-at-in_default c =
-    let h = c.requires.0 in omega arith
-
-pub atom_at-requires-in_default : goal.atom_at-requires-in_default
-atom_at-requires-in_default c =
-    let h = c.requires.1 c.in_default.in_default-own.rest.0.1 in omega arith
 
 pub returns-in-0 : goal.returns-in-0
 returns-in-0 c =
@@ -39,4 +28,4 @@ returns-in-1 c =
 
 pub returns-in_default : goal.returns-in_default
 returns-in_default c =
-    (c.in_default.in_default-own.rest.0.1, c.in_default.in_default-own.rest.1)
+    (search rules, search rules)

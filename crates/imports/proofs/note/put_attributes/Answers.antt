@@ -7,12 +7,12 @@ use Rattle.imports.proofs.note.put_attributes.Goals as goal
 
 pub copy-requires : goal.copy-requires
 copy-requires c =
-    let i = extent-upto c.args.s.now c.args.at c.args.end c.requires.0 (sym c.extent.ensures ∙ c.in-Upto.is) in let f = c.requires.1 in omega arith
+    let i = extent-upto c.args.s.now c.args.at c.args.end c.requires.0 (sym c.extent.ensures ∙ c.in-Some.is) in let f = c.requires.1 in omega arith
 
-pub returns-in-Upto : goal.returns-in-Upto
-returns-in-Upto c =
-    attributes-copied (λ i. (c.type_inv.s i).fits) c.requires.0 c.requires.1 (sym c.extent.ensures ∙ c.in-Upto.is) c.copy.ensures
+pub returns-in-Some : goal.returns-in-Some
+returns-in-Some c =
+    attributes-copied (λ i. (c.type_inv.s i).fits) c.requires.0 c.requires.1 (sym c.extent.ensures ∙ c.in-Some.is) c.copy.ensures
 
-pub returns-in-Short : goal.returns-in-Short
-returns-in-Short c =
-    attributes-none (λ i. (c.type_inv.s i).fits) c.requires.0 c.requires.1 (sym c.extent.ensures ∙ c.in-Short.is)
+pub returns-in-None : goal.returns-in-None
+returns-in-None c =
+    attributes-none (λ i. (c.type_inv.s i).fits) c.requires.0 c.requires.1 (sym c.extent.ensures ∙ c.in-None.is)

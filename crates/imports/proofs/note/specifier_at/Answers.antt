@@ -1,5 +1,6 @@
 -- `specifier_at`: by the tag: 20, 21 or 22; each has its law of NoteLaws.
 -- `specifier-id` and `outside-room` say that the id and the outside name lie within the fixed bytes.
+use Rattle.std.proofs.Common.{◌≡◌, get_or, rules}
 use native.Mathlib.Omega.{arith}
 use Rattle.imports.proofs.WidthLaws.{framed-in}
 use Rattle.imports.proofs.NoteLaws.{specifier-id, outside-room, specifier-named, specifier-default, specifier-namespace}
@@ -28,4 +29,9 @@ returns-in-33 c =
 pub returns-in_default : goal.returns-in_default
 returns-in_default c =
     λ stop from w. specifier-namespace w c.id_at-id.result
-    (let a = c.in_default.in_default-own.rest.0 in let b = c.in_default.in_default-own.rest.1 in let l = c.requires.1 in let m = c.requires.2 in omega arith) c.id_at-id.ensures
+    (let a : get_or c.args.s.now c.args.at 0 ≡ 0x20 → ⊥ = search rules in
+    let b : get_or c.args.s.now c.args.at 0 ≡ 0x21 → ⊥ = search rules in
+    let l = c.requires.1 in
+    let m = c.requires.2 in
+    omega arith)
+    c.id_at-id.ensures

@@ -7,24 +7,24 @@ use Rattle.imports.proofs.NoteLaws.{specifier-id, specifier-namespace}
 use Rattle.imports.proofs.SoleLaws.{namespace-is, namespace-other, namespace-short}
 use Rattle.imports.proofs.parts.namespace_at.Goals as goal
 
-pub returns-in_default : goal.returns-in_default
-returns-in_default c =
-    namespace-short c.args.s.now c.args.at c.args.stop (sym c.fixed.ensures ∙ c.in_default.is)
+pub returns-in_err-fixed : goal.returns-in_err-fixed
+returns-in_err-fixed c =
+    rw c.from_residual.ensures (namespace-short c.args.s.now c.args.at c.args.stop (sym c.fixed.ensures ∙ c.in_err-fixed.was))
 
 pub id_at-requires : goal.id_at-requires
 id_at-requires c =
-    let w = framing c.requires.0 c.requires.1 (sym c.fixed.ensures ∙ c.in-Upto.is) in
+    let w = framing c.requires.0 c.requires.1 (sym c.fixed.ensures ∙ c.in_ok-fixed.was) in
     let h = specifier-id w (omega arith) (omega arith) in
     let i = framed-in w in
     omega arith
 
 pub returns-then-tag-eq34 : goal.returns-then-tag-eq34
 returns-then-tag-eq34 c =
-    let w = framing c.requires.0 c.requires.1 (sym c.fixed.ensures ∙ c.in-Upto.is) in
+    let w = framing c.requires.0 c.requires.1 (sym c.fixed.ensures ∙ c.in_ok-fixed.was) in
     namespace-is c.args.s.now c.args.at c.args.stop c.id_at.result
     (specifier-namespace w c.id_at.result c.if-tag-eq34.true c.id_at.ensures)
 
 pub returns-else-tag-eq34 : goal.returns-else-tag-eq34
 returns-else-tag-eq34 c =
     namespace-other c.args.s.now c.args.at c.args.stop
-    (framing c.requires.0 c.requires.1 (sym c.fixed.ensures ∙ c.in-Upto.is)) c.if-tag-eq34.false
+    (framing c.requires.0 c.requires.1 (sym c.fixed.ensures ∙ c.in_ok-fixed.was)) c.if-tag-eq34.false

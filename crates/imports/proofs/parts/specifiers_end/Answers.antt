@@ -10,26 +10,22 @@ pub loop-stop-init : goal.loop-stop-init
 loop-stop-init c =
     seeking-start c.args.s.now c.args.from c.args.end c.requires.0
 
-pub extent-requires : goal.extent-requires
-extent-requires c =
-    (c.loop-stop.invariant.before, c.requires.1)
-
-pub returns-in_default : goal.returns-in_default
-returns-in_default c =
+pub returns : goal.returns
+returns c =
     c.loop-stop.invariant.rest _ (ends-short (λ i. (c.type_inv.s i).fits) c.loop-stop.invariant.before c.requires.1 (sym c.extent.ensures ∙ c.in_default.is))
 
 pub bounds-s-at : goal.bounds-s-at
 bounds-s-at c =
-    let i = extent-upto c.args.s.now c.loop-stop.at c.args.end c.loop-stop.invariant.before (sym c.extent.ensures ∙ c.in-Upto.is) in let f = c.requires.1 in omega arith
+    let i = extent-upto c.args.s.now c.loop-stop.at c.args.end c.loop-stop.invariant.before (sym c.extent.ensures ∙ c.in-Some.is) in let f = c.requires.1 in omega arith
 
 pub returns-then-s-at-eq47 : goal.returns-then-s-at-eq47
 returns-then-s-at-eq47 c =
-    c.loop-stop.invariant.rest _ (ends-attributes (λ i. (c.type_inv.s i).fits) c.loop-stop.invariant.before c.requires.1 (sym c.extent.ensures ∙ c.in-Upto.is) c.if-s-at-eq47.true)
+    c.loop-stop.invariant.rest _ (ends-attributes (λ i. (c.type_inv.s i).fits) c.loop-stop.invariant.before c.requires.1 (sym c.extent.ensures ∙ c.in-Some.is) c.if-s-at-eq47.true)
 
 pub loop-stop-smaller : goal.loop-stop-smaller
 loop-stop-smaller c =
-    let i = extent-upto c.args.s.now c.loop-stop.at c.args.end c.loop-stop.invariant.before (sym c.extent.ensures ∙ c.in-Upto.is) in let f = c.requires.1 in omega arith
+    let i = extent-upto c.args.s.now c.loop-stop.at c.args.end c.loop-stop.invariant.before (sym c.extent.ensures ∙ c.in-Some.is) in let f = c.requires.1 in omega arith
 
 pub loop-stop-preserved : goal.loop-stop-preserved
 loop-stop-preserved c =
-    seeking-more c.loop-stop.invariant (λ i. (c.type_inv.s i).fits) c.requires.1 (sym c.extent.ensures ∙ c.in-Upto.is) c.if-s-at-eq47.false
+    seeking-more c.loop-stop.invariant (λ i. (c.type_inv.s i).fits) c.requires.1 (sym c.extent.ensures ∙ c.in-Some.is) c.if-s-at-eq47.false

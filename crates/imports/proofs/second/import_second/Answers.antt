@@ -1,12 +1,10 @@
 -- `import_second`: an import that was read has its literal (`head-short`). Each other return has its law of AgainLaws: external, forced,
 -- without a sole namespace (these stay), or taken apart. `head-source` says that the atom at at + 3 is the tree's source.
--- `import_second`: an import that was read has its literal (`head-short`). Each other return has its law of AgainLaws: external, forced,
--- without a sole namespace (these stay), or taken apart. `head-source` says that the atom at at + 3 is the tree's source.
 use Rattle.imports.proofs.HeadLaws.{headed, head-in, head-source, head-short}
 use native.Mathlib.Omega.{arith}
 use mathlib.Core.Path.{sym, ◌∙◌}
-use Rattle.imports.proofs.HeadLaws.{head-in, head-source, head-short}
 use Rattle.imports.proofs.AgainLaws.{again-external, again-forced, again-other, again-apart}
+use Rattle.imports.proofs.second.import_second.Goals.{then-is_external-via-then-is_external, then-is_external-via-else-is_external+then-is_forced}
 use Rattle.imports.proofs.second.import_second.Goals as goal
 
 pub returns-in_default : goal.returns-in_default
@@ -15,40 +13,40 @@ returns-in_default c =
 
 pub atom_at-requires : goal.atom_at-requires
 atom_at-requires c =
-    let i = head-in (headed c.requires.0 c.requires.1 c.requires.2 (sym c.fixed.ensures ∙ c.in-Upto.is)) in omega arith
+    let i = head-in (headed c.requires.0 c.requires.1 c.requires.2 (sym c.fixed.ensures ∙ c.in-Some.is)) in omega arith
 
 pub returns-then-is_external : goal.returns-then-is_external
 returns-then-is_external c =
-    let w = headed c.requires.0 c.requires.1 c.requires.2 (sym c.fixed.ensures ∙ c.in-Upto.is) in
-    again-external (λ i. (c.type_inv.s i).fits) w c.atom_at.result (head-source w (λ i. (c.type_inv.s i).fits) c.atom_at.ensures)
-    c.is_external.ensures c.requires.3 c.if-is_external.true c.copy.ensures
-
-pub returns-then-is_forced : goal.returns-then-is_forced
-returns-then-is_forced c =
-    let w = headed c.requires.0 c.requires.1 c.requires.2 (sym c.fixed.ensures ∙ c.in-Upto.is) in
-    again-forced (λ i. (c.type_inv.s i).fits) w c.atom_at.result (head-source w (λ i. (c.type_inv.s i).fits) c.atom_at.ensures)
-    c.is_external.ensures c.requires.3 c.if-is_external.false c.is_forced.ensures c.if-is_forced.true c.copy-then-is_forced.ensures
+    let w = headed c.requires.0 c.requires.1 c.requires.2 (sym c.fixed.ensures ∙ c.in-Some.is) in
+    let h = head-source w (λ i. (c.type_inv.s i).fits) c.atom_at.ensures in
+    elim c.then-is_external.branch [
+      | then-is_external-via-then-is_external v ↦
+          again-external (λ i. (c.type_inv.s i).fits) w c.atom_at.result h c.is_external.ensures c.requires.3 v.if-is_external.true c.copy.ensures
+      | then-is_external-via-else-is_external+then-is_forced v ↦
+          again-forced (λ i. (c.type_inv.s i).fits) w c.atom_at.result h c.is_external.ensures c.requires.3 v.if-is_external.false v.is_forced.ensures
+          v.if-is_forced.true c.copy.ensures
+    ]
 
 pub sole_namespace-requires : goal.sole_namespace-requires
 sole_namespace-requires c =
-    let i = head-in (headed c.requires.0 c.requires.1 c.requires.2 (sym c.fixed.ensures ∙ c.in-Upto.is)) in
+    let i = head-in (headed c.requires.0 c.requires.1 c.requires.2 (sym c.fixed.ensures ∙ c.in-Some.is)) in
     (i.1, c.requires.1)
 
 pub take_apart-requires : goal.take_apart-requires
 take_apart-requires c =
-    let i = head-in (headed c.requires.0 c.requires.1 c.requires.2 (sym c.fixed.ensures ∙ c.in-Upto.is)) in
+    let i = head-in (headed c.requires.0 c.requires.1 c.requires.2 (sym c.fixed.ensures ∙ c.in-Some.is)) in
     (omega arith, c.requires.1, c.requires.2, c.requires.3)
 
-pub returns-in-Is : goal.returns-in-Is
-returns-in-Is c =
-    let w = headed c.requires.0 c.requires.1 c.requires.2 (sym c.fixed.ensures ∙ c.in-Upto.is) in
+pub returns-in-Some-sole_namespace : goal.returns-in-Some-sole_namespace
+returns-in-Some-sole_namespace c =
+    let w = headed c.requires.0 c.requires.1 c.requires.2 (sym c.fixed.ensures ∙ c.in-Some.is) in
     again-apart (λ i. (c.type_inv.s i).fits) w c.atom_at.result (head-source w (λ i. (c.type_inv.s i).fits) c.atom_at.ensures)
     c.is_external.ensures c.requires.3 c.if-is_external.false c.is_forced.ensures c.if-is_forced.false c.sole_namespace.result c.sole_namespace.ensures
-    c.in-Is.id c.in-Is.is c.take_apart.ensures
+    c.in-Some-sole_namespace.id c.in-Some-sole_namespace.is c.take_apart.ensures
 
-pub returns-in-Other : goal.returns-in-Other
-returns-in-Other c =
-    let w = headed c.requires.0 c.requires.1 c.requires.2 (sym c.fixed.ensures ∙ c.in-Upto.is) in
+pub returns-in-None : goal.returns-in-None
+returns-in-None c =
+    let w = headed c.requires.0 c.requires.1 c.requires.2 (sym c.fixed.ensures ∙ c.in-Some.is) in
     again-other (λ i. (c.type_inv.s i).fits) w c.atom_at.result (head-source w (λ i. (c.type_inv.s i).fits) c.atom_at.ensures)
     c.is_external.ensures c.requires.3 c.if-is_external.false c.is_forced.ensures c.if-is_forced.false c.sole_namespace.result c.sole_namespace.ensures
-    c.in-Other.is c.copy-in-Other.ensures
+    c.in-None.is c.copy-in-None.ensures

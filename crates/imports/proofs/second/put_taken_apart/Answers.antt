@@ -1,11 +1,8 @@
 -- `put_taken_apart`: an import that was read has its literal (`head-never`). `taken-written` joins the head, the usages and the bytes from
 -- the 2F on into the import's encoding.
--- `put_taken_apart`: an import that was read has its literal (`head-never`). `taken-written` joins the head, the usages and the bytes from
--- the 2F on into the import's encoding.
 use Rattle.imports.proofs.HeadLaws.{headed, head-in, head-never}
 use native.Mathlib.Omega.{arith}
 use mathlib.Core.Path.{sym, ◌∙◌}
-use Rattle.imports.proofs.HeadLaws.{head-in, head-never}
 use Rattle.imports.proofs.TakenLaws.{taken-written}
 use Rattle.imports.proofs.second.put_taken_apart.Goals as goal
 
@@ -15,22 +12,14 @@ returns-in_default c =
 
 pub begin_field-content-requires : goal.begin_field-content-requires
 begin_field-content-requires c =
-    let i = head-in (headed c.requires.0 c.requires.1 c.requires.2 (sym c.fixed.ensures ∙ c.in-Upto.is)) in omega arith
-
-pub put_usages-q-requires : goal.put_usages-q-requires
-put_usages-q-requires c =
-    c.requires.3
+    let i = head-in (headed c.requires.0 c.requires.1 c.requires.2 (sym c.fixed.ensures ∙ c.in-Some.is)) in omega arith
 
 pub specifiers_end-requires : goal.specifiers_end-requires
 specifiers_end-requires c =
-    let i = head-in (headed c.requires.0 c.requires.1 c.requires.2 (sym c.fixed.ensures ∙ c.in-Upto.is)) in
+    let i = head-in (headed c.requires.0 c.requires.1 c.requires.2 (sym c.fixed.ensures ∙ c.in-Some.is)) in
     (i.1, c.requires.1)
-
-pub copy-p-requires : goal.copy-p-requires
-copy-p-requires c =
-    c.requires.1
 
 pub returns : goal.returns
 returns c =
-    taken-written (λ i. (c.type_inv.s i).fits) (headed c.requires.0 c.requires.1 c.requires.2 (sym c.fixed.ensures ∙ c.in-Upto.is))
+    taken-written (λ i. (c.type_inv.s i).fits) (headed c.requires.0 c.requires.1 c.requires.2 (sym c.fixed.ensures ∙ c.in-Some.is))
     c.args.id c.begin_field-content.ensures c.put_usages-q.ensures c.specifiers_end.ensures c.copy-p.ensures c.close_field.ensures

@@ -4,10 +4,10 @@ use Rattle.state.specs.Cells.{id_by}
 use Rattle.imports.proofs.TakenLaws.{usage-is, usage-other}
 use Rattle.imports.proofs.second.put_usage.Goals as goal
 
-pub returns-in-Is : goal.returns-in-Is
-returns-in-Is c =
-    usage-is (id_by c.args.id) c.args.i c.usage_at.ensures c.in-Is.property c.in-Is.is c.put_named.ensures
+pub returns-in-Some : goal.returns-in-Some
+returns-in-Some c =
+    usage-is (id_by c.args.id) c.args.i c.usage_at.ensures c.in-Some.property c.in-Some.is c.put_named.ensures
 
-pub returns-in-Other : goal.returns-in-Other
-returns-in-Other c =
-    usage-other (id_by c.args.id) c.args.i c.usage_at.ensures c.in-Other.is
+pub returns-in-None : goal.returns-in-None
+returns-in-None c =
+    usage-other (id_by c.args.id) c.args.i c.usage_at.ensures c.in-None.is

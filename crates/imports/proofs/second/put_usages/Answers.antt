@@ -1,21 +1,13 @@
--- `put_usages`: the invariant `Listing` says that writing the usages from i on completes writing all of them. The measure is n - i.
+-- `put_usages`: the invariant `Listing` says that writing the usages from i on completes writing all of them.
 -- `usages-end` says that from n on there is none.
 use native.Mathlib.Omega.{arith}
 use Rattle.state.specs.Cells.{id_by}
 use Rattle.imports.proofs.TakenLaws.{listing-start, listing-more, usages-end}
 use Rattle.imports.proofs.second.put_usages.Goals as goal
 
-pub count_usages-n-requires : goal.count_usages-n-requires
-count_usages-n-requires c =
-    c.requires
-
 pub loop-i-init : goal.loop-i-init
 loop-i-init c =
     listing-start (id_by c.args.id)
-
-pub put_usage-to-requires : goal.put_usage-to-requires
-put_usage-to-requires c =
-    let k = c.count_usages-n.ensures.1 in (c.requires, omega arith)
 
 pub loop-i-preserved : goal.loop-i-preserved
 loop-i-preserved c =

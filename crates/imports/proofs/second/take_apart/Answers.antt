@@ -3,11 +3,6 @@ use native.Mathlib.Omega.{arith}
 use Rattle.imports.proofs.TakenLaws.{apart-some, apart-none}
 use Rattle.imports.proofs.second.take_apart.Goals as goal
 
-pub put_taken_apart-requires : goal.put_taken_apart-requires
-put_taken_apart-requires c =
-    let a = c.requires.0 in
-    (omega arith, c.requires.1, c.requires.2, c.requires.3)
-
 pub returns-then-has_usages : goal.returns-then-has_usages
 returns-then-has_usages c =
     let a = c.requires.0 in

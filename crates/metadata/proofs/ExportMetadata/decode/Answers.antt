@@ -1,13 +1,15 @@
 -- `decode`: by the verdict on what was lent.
 use mathlib.Core.Path.{sym, ap, ◌∙◌}
+use Rattle.std.proofs.lemmas.Result.{err_from_is_err_and}
 use Rattle.tree.specs.Read.{fine}
 use Rattle.metadata.proofs.CallsLaws.{decode-good, decode-refused}
 use Rattle.metadata.proofs.ExportMetadata.decode.Goals as goal
 
-pub returns-in-Good : goal.returns-in-Good
-returns-in-Good c =
-    ap fine c.decode_parts.ensures ∙ decode-good c.args.attributes.now (sym c.read_lent.ensures ∙ c.in-Good.is)
+pub returns-in_err-read_lent : goal.returns-in_err-read_lent
+returns-in_err-read_lent c =
+    let passed = err_from_is_err_and c.from_residual.result c.from_residual.ensures.1 in
+    rw (passed.1, passed.2) (decode-refused c.args.attributes.now c.in_err-read_lent.field-0.0 (sym c.read_lent.ensures ∙ c.in_err-read_lent.was))
 
-pub returns-in-Refused : goal.returns-in-Refused
-returns-in-Refused c =
-    decode-refused c.args.attributes.now _ _ (sym c.read_lent.ensures ∙ c.in-Refused.is)
+pub returns : goal.returns
+returns c =
+    ap fine c.decode_parts.ensures ∙ decode-good c.args.attributes.now (sym c.read_lent.ensures ∙ c.in_ok-read_lent.was)

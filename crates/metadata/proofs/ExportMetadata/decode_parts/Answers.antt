@@ -12,35 +12,35 @@ returns-in_default c =
 pub bounds-s-0 : goal.bounds-s-0
 bounds-s-0 c =
     let s = c.args.s.now in
-    let e = sym c.extent.ensures ∙ c.in-Upto.is in
+    let e = sym c.extent.ensures ∙ c.in-Some.is in
     let i = extent-upto s 0 _ (omega arith) e in
     omega arith
 
 pub fixed-requires : goal.fixed-requires
 fixed-requires c =
     let s = c.args.s.now in
-    let e = sym c.extent.ensures ∙ c.in-Upto.is in
+    let e = sym c.extent.ensures ∙ c.in-Some.is in
     let i = extent-upto s 0 _ (omega arith) e in
     (i.0, i.1)
 
 pub decode_row-requires : goal.decode_row-requires
 decode_row-requires c =
     let s = c.args.s.now in
-    let e = sym c.extent.ensures ∙ c.in-Upto.is in
-    let f = sym c.fixed.ensures ∙ c.in-Upto-fixed.is in
+    let e = sym c.extent.ensures ∙ c.in-Some.is in
+    let f = sym c.fixed.ensures ∙ c.in-Some-fixed.is in
     let i = extent-upto s 0 _ (omega arith) e in
     let j = upto-in s _ 3 _ i.0 f in
     (j.1, i.1)
 
-pub returns-in-Upto-fixed : goal.returns-in-Upto-fixed
-returns-in-Upto-fixed c =
+pub returns-in-Some-fixed : goal.returns-in-Some-fixed
+returns-in-Some-fixed c =
     let s = c.args.s.now in
-    let e = sym c.extent.ensures ∙ c.in-Upto.is in
-    let f = sym c.fixed.ensures ∙ c.in-Upto-fixed.is in
+    let e = sym c.extent.ensures ∙ c.in-Some.is in
+    let f = sym c.fixed.ensures ∙ c.in-Some-fixed.is in
     c.decode_row.ensures ∙ parts-upto s _ _ e f
 
-pub returns-in-Short : goal.returns-in-Short
-returns-in-Short c =
+pub returns-in-None : goal.returns-in-None
+returns-in-None c =
     let s = c.args.s.now in
-    let e = sym c.extent.ensures ∙ c.in-Upto.is in
-    c.unset-in-Short.ensures ∙ parts-short s _ e (sym c.fixed.ensures ∙ c.in-Short.is)
+    let e = sym c.extent.ensures ∙ c.in-Some.is in
+    c.unset-in-None.ensures ∙ parts-short s _ e (sym c.fixed.ensures ∙ c.in-None.is)

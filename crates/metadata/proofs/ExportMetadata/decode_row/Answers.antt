@@ -18,7 +18,7 @@ pub told_at-requires : goal.told_at-requires
 told_at-requires c =
     let a = c.args in
     let here = c.loop-stop in
-    let e = sym c.extent.ensures ∙ c.in-Upto.is in
+    let e = sym c.extent.ensures ∙ c.in-Some.is in
     let i = extent-upto a.s.now here.at a.end here.invariant.1 e in
     (i.0, omega arith)
 
@@ -26,7 +26,7 @@ pub loop-stop-smaller : goal.loop-stop-smaller
 loop-stop-smaller c =
     let a = c.args in
     let here = c.loop-stop in
-    let e = sym c.extent.ensures ∙ c.in-Upto.is in
+    let e = sym c.extent.ensures ∙ c.in-Some.is in
     let i = extent-upto a.s.now here.at a.end here.invariant.1 e in
     omega arith
 
@@ -34,17 +34,17 @@ pub loop-stop-preserved : goal.loop-stop-preserved
 loop-stop-preserved c =
     let a = c.args in
     let here = c.loop-stop in
-    let e = sym c.extent.ensures ∙ c.in-Upto.is in
+    let e = sym c.extent.ensures ∙ c.in-Some.is in
     let i = extent-upto a.s.now here.at a.end here.invariant.1 e in
     let m = metadata_of here.m in
     let new = c.merge-m.ensures ∙ ap (merged m) c.told_at.ensures in (
-      ap (λ (x : Metadata). decode_from x (row_at a.s.now c.in-Upto.stop a.end)) new
+      ap (λ (x : Metadata). decode_from x (row_at a.s.now c.in-Some.stop a.end)) new
           ∙ sym (decode-more a.s.now m here.at a.end here.invariant.1 _ e) ∙ here.invariant.0,
       i.1,
     )
 
-pub returns-in-Short : goal.returns-in-Short
-returns-in-Short c =
+pub returns : goal.returns
+returns c =
     let a = c.args in
     let here = c.loop-stop in
-    sym (decode-none a.s.now (metadata_of here.m) here.at a.end here.invariant.1 (sym c.extent.ensures ∙ c.in-Short.is)) ∙ here.invariant.0
+    sym (decode-none a.s.now (metadata_of here.m) here.at a.end here.invariant.1 (sym c.extent.ensures ∙ c.in_default.is)) ∙ here.invariant.0

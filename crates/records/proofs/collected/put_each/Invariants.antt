@@ -1,7 +1,5 @@
 -- `put_each`: the invariant says that with the records from i on all of them are written; `collected-more` splits off the record at i.
--- The measure is n - i.
 use mathlib.Core.List.{map}
-use Prim.Native.Nat.{◌-◌, ◌≤◌}
 use lib.ListN.{drop}
 use Rattle.tree.specs.Tree.{encodes}
 use Rattle.extraction_rules.specs.Records.{record_fields}
@@ -12,7 +10,3 @@ use Rattle.records.proofs.collected.put_each.Given as goal
 abbrev pub invariant-loop-i : goal.invariant-loop-i
 invariant-loop-i l = Onward (λ x. Placing l.tree l.work x × BothRead l.work l.out) (λ s. encodes (record_fields 0x80 (retold l.work l.out s)))
     (λ s. encodes (record_fields 0x80 (map (rebuilt (items_in l.work) (items_in l.out) s.forced) (drop l.i s.collected)))) l.t l.initial.records l.o l.records l.to
-    × (l.i ≤ l.n)
-
-abbrev pub decreases-loop-i : goal.decreases-loop-i
-decreases-loop-i l = l.n - l.i

@@ -1,5 +1,4 @@
 -- `put_forced`: the invariant says that with the sources from i on all of them are written; `forced-more` splits off the one at i.
--- The measure is n - i.
 use lib.ListN.{drop}
 use native.Mathlib.Omega.{arith}
 use Rattle.writer.proofs.Wrote.{wrote-as, wrote-field}
@@ -7,28 +6,14 @@ use Rattle.records.proofs.OnwardLaws.{onward-start, onward-step, onward-end, dro
 use Rattle.records.proofs.LazyLaws.{forced-more, forced-none, forced-field}
 use Rattle.records.proofs.lazy.put_forced.Goals as goal
 
-pub count_forced-n-requires : goal.count_forced-n-requires
-count_forced-n-requires c =
-    c.requires
-
-pub loop-i-init : goal.loop-i-init
-loop-i-init c =
-    (onward-start, omega arith)
-
-pub forced_at-requires : goal.forced_at-requires
-forced_at-requires c =
-    (c.requires, let e = c.count_forced-n.ensures.1 in omega arith)
-
 pub loop-i-preserved : goal.loop-i-preserved
-loop-i-preserved c = (
-  onward-step c.loop-i.invariant.0 (λ x s w k. forced-more c.forced_at.result.0 c.forced_at.ensures x s w)
-      (wrote-as (wrote-field c.open_field-source.ensures c.put_u16-p.ensures c.close_field.ensures)
-      (forced-field c.forced_at.result.0 (omega arith))),
-  omega arith,
-)
+loop-i-preserved c =
+    onward-step c.loop-i.invariant (λ x s w k. forced-more c.forced_at.result.0 c.forced_at.ensures x s w)
+    (wrote-as (wrote-field c.open_field-source.ensures c.put_u16-p.ensures c.close_field.ensures)
+    (forced-field c.forced_at.result.0 (omega arith)))
 
 pub returns : goal.returns
 returns c =
-    onward-end c.loop-i.invariant.0
+    onward-end c.loop-i.invariant
     (λ x s w k. forced-none (drop c.loop-i.i s.forced)
-    (drop-end (λ s. s.forced) c.loop-i.i c.count_forced-n.ensures.0 (omega arith) x s w))
+    (drop-end (λ s. s.forced) c.loop-i.i c.count_forced-i-end.ensures.0 (omega arith) x s w))

@@ -1,15 +1,19 @@
--- `put_placed`: by the place: 0, in the lent tree, or in the tree after the first pass; each has its law of LazyLaws.
-use Rattle.records.proofs.LazyLaws.{placed-none, placed-tree, placed-work}
+-- `put_placed`: nothing for 0 (`placed-none`), and elsewhere by whether a field stands there.
+use mathlib.Core.Path.{sym, ap, ◌∙◌}
+use native.Mathlib.Omega.{arith}
+use Rattle.tree.specs.Tree.{encodes}
+use Rattle.writer.proofs.Wrote.{wrote-as}
+use Rattle.records.proofs.LazyLaws.{placed-none, pattern-none, pattern-here}
 use Rattle.records.proofs.lazy.put_placed.Goals as goal
 
 pub returns-then-place-eq0 : goal.returns-then-place-eq0
-returns-then-place-eq0 c =
-    placed-none c.args.tree.now c.args.work.now c.args.place c.if-place-eq0.true
+returns-then-place-eq0 c = placed-none c.args.tree.now c.args.work.now c.args.place c.if-place-eq0.true
 
-pub returns-then-place-lt-IN_WORK : goal.returns-then-place-lt-IN_WORK
-returns-then-place-lt-IN_WORK c =
-    placed-tree c.args.tree.now c.args.work.now c.args.place c.if-place-eq0.false c.if-place-lt-IN_WORK.true c.put_pattern.ensures
+pub returns-in-Some : goal.returns-in-Some
+returns-in-Some c =
+    wrote-as (pattern-here _ _ (let i = c.in-Some.ensures.inside in omega arith) (sym c.field_end.ensures.end ∙ c.in-Some.is) c.put_bindings.ensures)
+    (sym (ap encodes (c.tree_with-at.ensures.pattern c.if-place-eq0.false)))
 
-pub returns-else-place-lt-IN_WORK : goal.returns-else-place-lt-IN_WORK
-returns-else-place-lt-IN_WORK c =
-    placed-work c.args.tree.now c.args.work.now c.args.place c.if-place-eq0.false c.if-place-lt-IN_WORK.false c.put_pattern-else-place-lt-IN_WORK.ensures
+pub returns-in-None : goal.returns-in-None
+returns-in-None c =
+    wrote-as (pattern-none _ _ (sym c.field_end.ensures.end ∙ c.in-None.is)) (sym (ap encodes (c.tree_with-at.ensures.pattern c.if-place-eq0.false)))

@@ -1,15 +1,14 @@
--- `same_literal`, by which tree the place is in.
-use mathlib.Core.Path.{sym, ap, ◌∙◌}
-use Rattle.tree.specs.Layout.{same, literal_at}
-use Rattle.records.proofs.LiteralLaws.{literal-tree, literal-work}
+-- `same_literal`: the test of two slices, item by item, is that of the definition.
+use Prim.Native.Nat.{◌+◌, ◌-◌}
+use mathlib.Core.Path.{◌≡◌, sym, ap₂, ◌∙◌}
+use native.Mathlib.Omega.{arith}
+use Rattle.std.proofs.lemmas.List.{drop-take}
+use Rattle.tree.specs.Layout.{same}
+use Rattle.tree.proofs.LayoutLaws.{same-pointwise}
 use Rattle.records.proofs.literals.same_literal.Goals as goal
 
-pub returns-then-place-lt-IN_WORK : goal.returns-then-place-lt-IN_WORK
-returns-then-place-lt-IN_WORK c =
+pub returns : goal.returns
+returns c =
     let a = c.args in
-    c.same_standing.ensures ∙ sym (ap (same (literal_at a.work.now a.at)) (literal-tree a.tree.now a.work.now a.place c.if-place-lt-IN_WORK.true))
-
-pub returns-else-place-lt-IN_WORK : goal.returns-else-place-lt-IN_WORK
-returns-else-place-lt-IN_WORK c =
-    let a = c.args in
-    c.same_standing-else-place-lt-IN_WORK.ensures ∙ sym (ap (same (literal_at a.work.now a.at)) (literal-work a.tree.now a.work.now a.place c.if-place-lt-IN_WORK.false))
+    let e : a.at + 6 - a.at ≡ 6 = omega arith in
+    (rw e at c.eq.ensures) ∙ same-pointwise _ _ ∙ ap₂ same (sym (drop-take a.at 6 a.work.now)) c.literal.ensures

@@ -1,6 +1,7 @@
 -- `put_pairs`: the invariant says that with what is taken of the items from here on in both trees, what is taken of all is written.
 -- `taken-more` splits off one item of each; the loop ends where either row ends. The measure is the length of `work` less at.
 use mathlib.Core.Path.{sym, ◌∙◌}
+use mathlib.Core.Logic.{inl, inr}
 use lib.ListN.{length}
 use native.Mathlib.Omega.{arith}
 use Rattle.tree.proofs.AccessLaws.{extent-upto}
@@ -12,21 +13,19 @@ use Rattle.records.proofs.namespaces.put_pairs.Goals as goal
 pub returns-then-work-from : goal.returns-then-work-from
 returns-then-work-from c =
     let a = c.args in
-    if-none (taken-past a.wanted.namespaces (literal_in a.tree.now a.work.now a.wanted.place) a.work.now a.from.at (length a.work.now) a.out.now a.from.made
-    (length a.out.now) c.if-work-from.true)
-
-pub returns-then-out-from : goal.returns-then-out-from
-returns-then-out-from c =
-    let a = c.args in
-    if-none (taken-past-out a.wanted.namespaces (literal_in a.tree.now a.work.now a.wanted.place) a.work.now a.from.at (length a.work.now) a.out.now a.from.made
-    (length a.out.now) c.if-out-from.true)
+    let l = literal_in a.tree.now a.work.now a.wanted.place in
+    if-none
+    (elim c.then-work-from.either [
+      | inl w ↦ taken-past a.wanted.namespaces l a.work.now a.from.at (length a.work.now) a.out.now a.from.made (length a.out.now) w
+      | inr w ↦ taken-past-out a.wanted.namespaces l a.work.now a.from.at (length a.work.now) a.out.now a.from.made (length a.out.now) w.1
+    ])
 
 pub loop-stop-init : goal.loop-stop-init
 loop-stop-init c =
     (row-start, omega arith, omega arith)
 
-pub returns-in_default : goal.returns-in_default
-returns-in_default c =
+pub returns : goal.returns
+returns c =
     let a = c.args in
     row-stop c.loop-stop.invariant.0
     (taken-none a.wanted.namespaces (literal_in a.tree.now a.work.now a.wanted.place) a.work.now c.loop-stop.at (length a.work.now) a.out.now
@@ -39,20 +38,20 @@ returns-in_default-extent c =
     row-stop c.loop-stop.invariant.0
     (taken-none-out a.wanted.namespaces (literal_in a.tree.now a.work.now a.wanted.place) a.work.now c.loop-stop.at (length a.work.now) a.out.now
     c.loop-stop.made (length a.out.now) c.loop-stop.invariant.2
-    (sym c.extent-in-loop-stop.ensures ∙ c.in_default-extent.is))
+    (sym c.extent-in-Some.ensures ∙ c.in_default-extent.is))
 
 pub loop-stop-smaller : goal.loop-stop-smaller
 loop-stop-smaller c =
-    let i = extent-upto c.args.work.now c.loop-stop.at (length c.args.work.now) c.loop-stop.invariant.1 (sym c.extent.ensures ∙ c.in-Upto.is) in omega arith
+    let i = extent-upto c.args.work.now c.loop-stop.at (length c.args.work.now) c.loop-stop.invariant.1 (sym c.extent.ensures ∙ c.in-Some.is) in omega arith
 
 pub loop-stop-preserved : goal.loop-stop-preserved
 loop-stop-preserved c =
-    let a = c.args in let i = extent-upto c.args.work.now c.loop-stop.at (length c.args.work.now) c.loop-stop.invariant.1 (sym c.extent.ensures ∙ c.in-Upto.is) in
-    let j = extent-upto c.args.out.now c.loop-stop.made (length c.args.out.now) c.loop-stop.invariant.2 (sym c.extent-in-loop-stop.ensures ∙ c.in-Upto-extent.is) in (
-      row-step c.loop-stop.invariant.2 (omega arith) (sym c.extent-in-loop-stop.ensures ∙ c.in-Upto-extent.is) c.loop-stop.invariant.0
+    let a = c.args in let i = extent-upto c.args.work.now c.loop-stop.at (length c.args.work.now) c.loop-stop.invariant.1 (sym c.extent.ensures ∙ c.in-Some.is) in
+    let j = extent-upto c.args.out.now c.loop-stop.made (length c.args.out.now) c.loop-stop.invariant.2 (sym c.extent-in-Some.ensures ∙ c.in-Some-extent.is) in (
+      row-step c.loop-stop.invariant.2 (omega arith) (sym c.extent-in-Some.ensures ∙ c.in-Some-extent.is) c.loop-stop.invariant.0
           (taken-more a.wanted.namespaces (literal_in a.tree.now a.work.now a.wanted.place) a.work.now c.loop-stop.at a.out.now c.loop-stop.made _ _
-          c.loop-stop.invariant.1 (sym c.extent.ensures ∙ c.in-Upto.is) c.loop-stop.invariant.2 (sym c.extent-in-loop-stop.ensures ∙ c.in-Upto-extent.is))
-          (if-from (item-read (sym c.extent-in-loop-stop.ensures ∙ c.in-Upto-extent.is)) c.put_pair-to.ensures),
+          c.loop-stop.invariant.1 (sym c.extent.ensures ∙ c.in-Some.is) c.loop-stop.invariant.2 (sym c.extent-in-Some.ensures ∙ c.in-Some-extent.is))
+          (if-from (item-read (sym c.extent-in-Some.ensures ∙ c.in-Some-extent.is)) c.put_pair-to.ensures),
       i.1,
       j.1,
     )

@@ -1,15 +1,43 @@
--- `put_taken`: the listed imports, then those behind them (`pairs-joined`).
-use mathlib.Core.Path.{sym, subst}
-use Prim.Native.Nat.{ℕ}
+-- `put_taken`: the invariant says that with the places of the chain from here on all that are listed are written, since nothing is written of
+-- those off the chain (`pair-off`). `pairs-next` goes on along the chain, which leads on (`leads-on`).
+-- Behind the listed imports come the others (`pairs-joined`).
+use mathlib.Core.Path.{◌≡◌, sym, ap, subst, ◌∙◌}
+use Rattle.records.specs.declared.places.Chain.{Chain}
 use Rattle.records.specs.Writes.{literal_in}
-use Rattle.records.specs.Listing.{Paired, imports_in}
+use Rattle.records.specs.Listing.{listed_in, LeadsOn}
 use Rattle.records.proofs.ListingLaws.{pairs-joined}
+use Rattle.records.proofs.ChainLaws.{leads-on, gave-next, gave-none, pairs-start, pairs-next, pairs-last}
 use Rattle.records.proofs.namespaces.put_taken.Goals as goal
+
+pub loop-pair-init : goal.loop-pair-init
+loop-pair-init c =
+    let a = c.args in
+    let g = c.into_iter-pair-iterator.ensures.into_iter_gives in
+    let e : c.into_iter-pair-iterator.result.listed.now ≡ listed_in a.imports = ap (λ (x : Chain). x.listed.now) g ∙ c.chain-pair-items.ensures.0 in (
+      subst LeadsOn (sym e) (leads-on c.requires.charted.linked),
+      tt,
+      e,
+      pairs-start a.wanted.namespaces a.wanted.value.0 (literal_in a.tree.now a.work.now a.wanted.place) a.work.now a.out.now a.imports.first.now (listed_in a.imports) c.requires.charted.linked
+          (ap (λ (x : Chain). x.next) g ∙ c.chain-pair-items.ensures.1),
+    )
+
+pub loop-pair-preserved : goal.loop-pair-preserved
+loop-pair-preserved c =
+    let a = c.args in
+    let l = literal_in a.tree.now a.work.now a.wanted.place in
+    let n = gave-next c.loop-pair.pair-iterator c.next.new.self c.in-Some.pair (listed_in a.imports) c.in-Some.ensures.steps c.loop-pair.invariant.2 in (
+      subst LeadsOn (sym n.4) (leads-on c.requires.charted.linked),
+      tt,
+      n.4,
+      pairs-next a.wanted.namespaces a.wanted.value.0 l a.work.now a.out.now a.imports.first.now (listed_in a.imports) c.requires.charted.linked n.0 n.1 n.2 n.3
+          c.loop-pair.invariant.3 c.put_pair-to.ensures,
+    )
 
 pub returns : goal.returns
 returns c =
     let a = c.args in
-    pairs-joined a.wanted.namespaces (literal_in a.tree.now a.work.now a.wanted.place)
-    (subst (λ (x : ℕ). Paired a.work.now a.out.now (imports_in a.imports.now) x c.behind.result.made) (sym c.behind.ensures.0)
-    (subst (Paired a.work.now a.out.now (imports_in a.imports.now) _) (sym c.behind.ensures.1) c.requires.paired))
-    c.put_listed_pairs-q.ensures c.put_pairs.ensures
+    let l = literal_in a.tree.now a.work.now a.wanted.place in
+    pairs-joined a.wanted.namespaces l c.requires.paired
+    (pairs-last a.wanted.namespaces a.wanted.value.0 l a.work.now a.out.now a.imports.first.now (listed_in a.imports) c.requires.charted.linked
+    c.loop-pair.pair-iterator.next (gave-none c.loop-pair.pair-iterator c.next.new.self (listed_in a.imports) c.in-None.ensures.steps c.loop-pair.invariant.2)
+    c.loop-pair.invariant.3) c.put_pairs.ensures

@@ -10,26 +10,26 @@ pub loop-stop-init : goal.loop-stop-init
 loop-stop-init c =
     (row-start, omega arith, omega arith)
 
-pub returns-in_default : goal.returns-in_default
-returns-in_default c =
+pub returns : goal.returns
+returns c =
     row-stop c.loop-stop.invariant.0
     (bytes-none c.args.s.now c.loop-stop.at c.args.end c.loop-stop.invariant.2 c.args.namespaces
     (sym c.extent.ensures ∙ c.in_default.is))
 
 pub put_specifier-to-requires : goal.put_specifier-to-requires
 put_specifier-to-requires c =
-    let i = extent-upto c.args.s.now c.loop-stop.at c.args.end c.loop-stop.invariant.2 (sym c.extent.ensures ∙ c.in-Upto.is) in omega arith
+    let i = extent-upto c.args.s.now c.loop-stop.at c.args.end c.loop-stop.invariant.2 (sym c.extent.ensures ∙ c.in-Some.is) in omega arith
 
 pub loop-stop-smaller : goal.loop-stop-smaller
 loop-stop-smaller c =
-    let i = extent-upto c.args.s.now c.loop-stop.at c.args.end c.loop-stop.invariant.2 (sym c.extent.ensures ∙ c.in-Upto.is) in omega arith
+    let i = extent-upto c.args.s.now c.loop-stop.at c.args.end c.loop-stop.invariant.2 (sym c.extent.ensures ∙ c.in-Some.is) in omega arith
 
 pub loop-stop-preserved : goal.loop-stop-preserved
 loop-stop-preserved c =
-    let i = extent-upto c.args.s.now c.loop-stop.at c.args.end c.loop-stop.invariant.2 (sym c.extent.ensures ∙ c.in-Upto.is) in (
-      row-step c.loop-stop.invariant.2 c.requires.1 (sym c.extent.ensures ∙ c.in-Upto.is) c.loop-stop.invariant.0
+    let i = extent-upto c.args.s.now c.loop-stop.at c.args.end c.loop-stop.invariant.2 (sym c.extent.ensures ∙ c.in-Some.is) in (
+      row-step c.loop-stop.invariant.2 c.requires.1 (sym c.extent.ensures ∙ c.in-Some.is) c.loop-stop.invariant.0
           (bytes-more c.args.s.now c.loop-stop.at c.args.end c.loop-stop.invariant.2 c.args.namespaces _
-          (sym c.extent.ensures ∙ c.in-Upto.is)) c.put_specifier-to.ensures,
+          (sym c.extent.ensures ∙ c.in-Some.is)) c.put_specifier-to.ensures,
       omega arith,
       omega arith,
     )

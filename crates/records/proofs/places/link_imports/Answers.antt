@@ -1,24 +1,22 @@
--- `link_imports`: the invariant says that the places from i on are chained, and that no place has changed; `linked-step` puts the one in front of
--- them at the start of its chain. The measure is i.
+-- `link_imports`: the invariant says that the imports from i on are chained, and that no place has changed; `linked-more` puts the one in front
+-- of them at the start of its chain.
+use Prim.Native.Nat.{◌+◌, ◌-◌}
 use mathlib.Core.Path.{◌≡◌, refl, subst, ◌∙◌}
 use native.Mathlib.Omega.{arith}
 use Rattle.records.specs.Listing.{Linked}
-use Rattle.records.proofs.ChainLaws.{linked-start, linked-step}
+use Rattle.records.proofs.ChainLaws.{linked-start, linked-more, places-kept}
 use Rattle.records.proofs.places.link_imports.Goals as goal
 
 pub loop-i-init : goal.loop-i-init
-loop-i-init c =
-    (linked-start c.args.work.now c.args.imports.now c.args.n c.requires.0 c.requires.1, refl, omega arith)
+loop-i-init c = (linked-start c.args.work.now c.args.first.now c.args.listed.now c.requires.1 c.requires.0, refl)
 
 pub loop-i-preserved : goal.loop-i-preserved
 loop-i-preserved c =
-    let a = c.args in
-    let k = linked-step a.work.now c.loop-i.imports a.n c.loop-i.i c.chain_of-chain.result c.requires.0 c.loop-i-test.true c.loop-i.invariant.2 c.chain_of-chain.ensures.1
-    c.chain_of-chain.ensures.0 c.loop-i.invariant.0 in
-    (k.0, k.1 ∙ c.loop-i.invariant.1, omega arith)
-
-pub returns : goal.returns
-returns c =
-    let a = c.args in
-    let z : c.loop-i.i ≡ 0 = omega arith in
-    (subst (Linked a.work.now c.loop-i.imports a.n) z c.loop-i.invariant.0, c.loop-i.invariant.1)
+    let w = c.args.work.now in
+    let i = c.loop-i.i - 1 in
+    let e : c.loop-i.i ≡ i + 1 = omega arith in (
+      linked-more w c.loop-i.first c.loop-i.listed i c.chain_of-chain.result _ (omega arith) c.chain_of-chain.ensures.1 c.chain_of-chain.ensures.0 refl refl
+          (subst (Linked w c.loop-i.first c.loop-i.listed) e c.loop-i.invariant.0),
+      places-kept w c.loop-i.first c.loop-i.listed i c.chain_of-chain.result _ (omega arith) c.chain_of-chain.ensures.1 c.chain_of-chain.ensures.0 refl refl
+          ∙ c.loop-i.invariant.1,
+    )

@@ -17,8 +17,8 @@ pub loop-stop-init : goal.loop-stop-init
 loop-stop-init c =
     (row-start, omega arith)
 
-pub returns-in_default : goal.returns-in_default
-returns-in_default c =
+pub returns : goal.returns
+returns c =
     let a = c.args in
     row-stop c.loop-stop.invariant.0
     (imports-none a.wanted.namespaces (two a.wanted.value.0) a.work.now c.loop-stop.at (length a.work.now) c.loop-stop.invariant.1
@@ -26,13 +26,13 @@ returns-in_default c =
 
 pub loop-stop-smaller : goal.loop-stop-smaller
 loop-stop-smaller c =
-    let i = extent-upto c.args.work.now c.loop-stop.at (length c.args.work.now) c.loop-stop.invariant.1 (sym c.extent.ensures ∙ c.in-Upto.is) in omega arith
+    let i = extent-upto c.args.work.now c.loop-stop.at (length c.args.work.now) c.loop-stop.invariant.1 (sym c.extent.ensures ∙ c.in-Some.is) in omega arith
 
 pub loop-stop-preserved : goal.loop-stop-preserved
 loop-stop-preserved c =
-    let a = c.args in let i = extent-upto c.args.work.now c.loop-stop.at (length c.args.work.now) c.loop-stop.invariant.1 (sym c.extent.ensures ∙ c.in-Upto.is) in (
-      row-step c.loop-stop.invariant.1 (omega arith) (sym c.extent.ensures ∙ c.in-Upto.is) c.loop-stop.invariant.0
-          (imports-more a.wanted.namespaces (two a.wanted.value.0) a.work.now c.loop-stop.at _ c.loop-stop.invariant.1 (sym c.extent.ensures ∙ c.in-Upto.is))
-          (if-from (item-read (sym c.extent.ensures ∙ c.in-Upto.is)) c.put_import-to.ensures),
+    let a = c.args in let i = extent-upto c.args.work.now c.loop-stop.at (length c.args.work.now) c.loop-stop.invariant.1 (sym c.extent.ensures ∙ c.in-Some.is) in (
+      row-step c.loop-stop.invariant.1 (omega arith) (sym c.extent.ensures ∙ c.in-Some.is) c.loop-stop.invariant.0
+          (imports-more a.wanted.namespaces (two a.wanted.value.0) a.work.now c.loop-stop.at _ c.loop-stop.invariant.1 (sym c.extent.ensures ∙ c.in-Some.is))
+          (if-from (item-read (sym c.extent.ensures ∙ c.in-Some.is)) c.put_import-to.ensures),
       i.1,
     )

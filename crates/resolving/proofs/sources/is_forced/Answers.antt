@@ -19,33 +19,33 @@ pub extent-requires : goal.extent-requires
 extent-requires c =
     let i = c.loop-stop.invariant.1.inside in omega arith
 
-pub returns-in_default : goal.returns-in_default
-returns-in_default c =
+pub returns : goal.returns
+returns c =
     sym (c.loop-stop.invariant.0 ∙ forced-end c.args.source.0 (omega arith) c.loop-stop.invariant.1 (sym c.extent.ensures ∙ c.in_default.is))
 
 pub forces_at-requires : goal.forces_at-requires
 forces_at-requires c =
-    forced-inside c.args.source.0 (omega arith) c.loop-stop.invariant.1 (sym c.extent.ensures ∙ c.in-Upto.is)
+    forced-inside c.args.source.0 (omega arith) c.loop-stop.invariant.1 (sym c.extent.ensures ∙ c.in-Some.is)
 
 pub returns-then-forces_at : goal.returns-then-forces_at
 returns-then-forces_at c =
     sym (c.loop-stop.invariant.0
-    ∙ forced-step c.args.source.0 (omega arith) c.loop-stop.invariant.1 (sym c.extent.ensures ∙ c.in-Upto.is)
+    ∙ forced-step c.args.source.0 (omega arith) c.loop-stop.invariant.1 (sym c.extent.ensures ∙ c.in-Some.is)
     ∙
     ap (λ (b : Bool). b || among (two c.args.source.0)
-    (forced_in (row_at c.args.records.now c.in-Upto.stop (length c.args.records.now))))
+    (forced_in (row_at c.args.records.now c.in-Some.stop (length c.args.records.now))))
     (sym c.forces_at.ensures ∙ c.if-forces_at.true))
 
 pub loop-stop-smaller : goal.loop-stop-smaller
 loop-stop-smaller c =
-    let i = extent-upto c.args.records.now c.loop-stop.at _ c.loop-stop.invariant.1.inside (sym c.extent.ensures ∙ c.in-Upto.is) in omega arith
+    let i = extent-upto c.args.records.now c.loop-stop.at _ c.loop-stop.invariant.1.inside (sym c.extent.ensures ∙ c.in-Some.is) in omega arith
 
 pub loop-stop-preserved : goal.loop-stop-preserved
 loop-stop-preserved c = (
-  c.loop-stop.invariant.0 ∙ forced-step c.args.source.0 (omega arith) c.loop-stop.invariant.1 (sym c.extent.ensures ∙ c.in-Upto.is)
+  c.loop-stop.invariant.0 ∙ forced-step c.args.source.0 (omega arith) c.loop-stop.invariant.1 (sym c.extent.ensures ∙ c.in-Some.is)
       ∙
       ap (λ (b : Bool). b || among (two c.args.source.0)
-      (forced_in (row_at c.args.records.now c.in-Upto.stop (length c.args.records.now))))
+      (forced_in (row_at c.args.records.now c.in-Some.stop (length c.args.records.now))))
       (sym c.forces_at.ensures ∙ c.if-forces_at.false),
-  records-next c.loop-stop.invariant.1 (sym c.extent.ensures ∙ c.in-Upto.is),
+  records-next c.loop-stop.invariant.1 (sym c.extent.ensures ∙ c.in-Some.is),
 )

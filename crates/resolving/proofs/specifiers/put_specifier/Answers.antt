@@ -1,57 +1,57 @@
--- `put_specifier`: fixed bytes that are not whole contradict the precondition (`read-short`).
--- Otherwise by the specifier: `specifier-by` says what the rule makes of each kind. `named-inside` says that a 20 has its kind byte.
+-- `put_specifier`: the fixed bytes of a field that was read are whole (`read-fixed`). Then by the specifier: `specifier-by` says what the rule
+-- makes of each kind. `named-inside` says that a 20 has its kind byte.
 use mathlib.Core.Path.{sym, ◌∙◌}
 use native.Mathlib.Omega.{arith}
 use Prim.Native.Nat.{◌+◌}
+use Rattle.std.proofs.lemmas.Slice.{between_is}
 use Rattle.tree.proofs.AccessLaws.{upto-in}
+use Rattle.writer.proofs.Wrote.{wrote-as}
 use Rattle.resolving.proofs.WritesLaws.{puts-done, puts-as}
-use Rattle.resolving.proofs.SpecifiersLaws.{read-short, named-inside, specifier-by}
+use Rattle.resolving.proofs.SpecifiersLaws.{read-fixed, named-inside, specifier-by, default-bytes, namespace-bytes}
 use Rattle.resolving.proofs.specifiers.put_specifier.Goals as goal
 
-pub returns-in_default : goal.returns-in_default
-returns-in_default c =
-    read-short c.requires (sym c.fixed.ensures ∙ c.in_default.is)
+pub unwrap-end-requires : goal.unwrap-end-requires
+unwrap-end-requires c =
+    read-fixed c.requires c.fixed.ensures
+
+pub slice_bounds-bytes-count : goal.slice_bounds-bytes-count
+slice_bounds-bytes-count c =
+    let i = upto-in c.args.s.now _ (c.args.at + 3) c.args.stop c.requires.inside (sym c.fixed.ensures ∙ c.unwrap-end.ensures) in omega arith
+
+pub slice_bounds-bytes-start : goal.slice_bounds-bytes-start
+slice_bounds-bytes-start c =
+    let i = upto-in c.args.s.now _ (c.args.at + 3) c.args.stop c.requires.inside (sym c.fixed.ensures ∙ c.unwrap-end.ensures) in
+    let f = c.requires.fits in omega arith
+
+pub slice_bounds-bytes-end : goal.slice_bounds-bytes-end
+slice_bounds-bytes-end c =
+    let i = upto-in c.args.s.now _ (c.args.at + 3) c.args.stop c.requires.inside (sym c.fixed.ensures ∙ c.unwrap-end.ensures) in
+    let f = c.requires.fits in omega arith
 
 pub specifier_at-requires : goal.specifier_at-requires
 specifier_at-requires c =
-    let i =
-    upto-in c.args.s.now _ (c.args.at + 3) c.args.stop c.requires.inside (sym c.fixed.ensures ∙ c.in-Upto.is) in
-    let f = c.requires.fits in (
-      omega arith,
-      named-inside c.args.all c.args.s.now c.args.at c.args.stop c.in-Upto.end
-          (sym c.fixed.ensures ∙ c.in-Upto.is),
-      omega arith,
-    )
-
-pub put_named-requires : goal.put_named-requires
-put_named-requires c =
-    let i = upto-in c.args.s.now _ (c.args.at + 3) c.args.stop c.requires.inside (sym c.fixed.ensures ∙ c.in-Upto.is) in let f = c.requires.fits in omega arith
-
-pub put_default-requires : goal.put_default-requires
-put_default-requires c =
-    let i = upto-in c.args.s.now _ (c.args.at + 3) c.args.stop c.requires.inside (sym c.fixed.ensures ∙ c.in-Upto.is) in let f = c.requires.fits in omega arith
-
-pub put_namespace-requires : goal.put_namespace-requires
-put_namespace-requires c =
-    let i = upto-in c.args.s.now _ (c.args.at + 3) c.args.stop c.requires.inside (sym c.fixed.ensures ∙ c.in-Upto.is) in let f = c.requires.fits in omega arith
+    let e = sym c.fixed.ensures ∙ c.unwrap-end.ensures in
+    let i = upto-in c.args.s.now _ (c.args.at + 3) c.args.stop c.requires.inside e in
+    let f = c.requires.fits in
+    (omega arith, named-inside c.args.all c.args.s.now c.args.at c.args.stop c.unwrap-end.result e, omega arith)
 
 pub returns-in-Named : goal.returns-in-Named
 returns-in-Named c =
-    puts-as
-    (specifier-by c.args.all c.args.s.now c.args.at c.args.stop c.in-Upto.end
-    (sym c.fixed.ensures ∙ c.in-Upto.is) (sym c.specifier_at.ensures ∙ c.in-Named.is))
-    c.put_named.ensures
+    let a = c.args in
+    let e = sym c.fixed.ensures ∙ c.unwrap-end.ensures in
+    puts-as (specifier-by a.all a.s.now a.at a.stop c.unwrap-end.result e (sym c.specifier_at.ensures ∙ c.in-Named.is))
+    (rw (between_is a.s.now (a.at + 3) c.unwrap-end.result) at c.put_named.ensures)
 
 pub returns-in-Default : goal.returns-in-Default
 returns-in-Default c =
-    puts-done
-    (specifier-by c.args.all c.args.s.now c.args.at c.args.stop c.in-Upto.end
-    (sym c.fixed.ensures ∙ c.in-Upto.is) (sym c.specifier_at.ensures ∙ c.in-Default.is))
-    c.put_default.ensures
+    let a = c.args in
+    let e = sym c.fixed.ensures ∙ c.unwrap-end.ensures in
+    puts-done (specifier-by a.all a.s.now a.at a.stop c.unwrap-end.result e (sym c.specifier_at.ensures ∙ c.in-Default.is))
+    (wrote-as (rw (between_is a.s.now (a.at + 3) c.unwrap-end.result) at c.put_leaf.ensures) (default-bytes _))
 
 pub returns-in-Namespace : goal.returns-in-Namespace
 returns-in-Namespace c =
-    puts-done
-    (specifier-by c.args.all c.args.s.now c.args.at c.args.stop c.in-Upto.end
-    (sym c.fixed.ensures ∙ c.in-Upto.is) (sym c.specifier_at.ensures ∙ c.in-Namespace.is))
-    c.put_namespace.ensures
+    let a = c.args in
+    let e = sym c.fixed.ensures ∙ c.unwrap-end.ensures in
+    puts-done (specifier-by a.all a.s.now a.at a.stop c.unwrap-end.result e (sym c.specifier_at.ensures ∙ c.in-Namespace.is))
+    (wrote-as (rw (between_is a.s.now (a.at + 3) c.unwrap-end.result, c.from.ensures) at c.put_leaf-in-Namespace.ensures) (namespace-bytes a.all _))

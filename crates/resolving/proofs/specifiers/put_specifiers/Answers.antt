@@ -2,6 +2,7 @@
 -- written.
 use mathlib.Core.Path.{sym, ◌∙◌}
 use native.Mathlib.Omega.{arith}
+use Rattle.std.proofs.lemmas.Result.{err_from_is_err_and}
 use Rattle.tree.proofs.AccessLaws.{extent-upto}
 use Rattle.resolving.proofs.RecordsLaws.{fields-next}
 use Rattle.resolving.proofs.WritesLaws.{onward-all, onward-end, onward-more, onward-stop}
@@ -16,32 +17,33 @@ pub extent-requires : goal.extent-requires
 extent-requires c =
     (c.loop-stop.invariant.1.inside, c.loop-stop.invariant.1.fits)
 
-pub returns-in_default : goal.returns-in_default
-returns-in_default c =
+pub returns : goal.returns
+returns c =
     onward-end c.loop-stop.invariant.0
     (specifiers-end c.args.all c.args.s.now c.loop-stop.at c.args.end c.loop-stop.invariant.1.inside
     (sym c.extent.ensures ∙ c.in_default.is))
 
 pub put_specifier-requires : goal.put_specifier-requires
 put_specifier-requires c =
-    (fields-next c.loop-stop.invariant.1 (sym c.extent.ensures ∙ c.in-Upto.is)).0
+    (fields-next c.loop-stop.invariant.1 (sym c.extent.ensures ∙ c.in-Some.is)).0
 
 pub loop-stop-smaller : goal.loop-stop-smaller
 loop-stop-smaller c =
-    let i = extent-upto c.args.s.now c.loop-stop.at c.args.end c.loop-stop.invariant.1.inside (sym c.extent.ensures ∙ c.in-Upto.is) in omega arith
+    let i = extent-upto c.args.s.now c.loop-stop.at c.args.end c.loop-stop.invariant.1.inside (sym c.extent.ensures ∙ c.in-Some.is) in omega arith
 
 pub loop-stop-preserved : goal.loop-stop-preserved
 loop-stop-preserved c = (
   onward-more c.loop-stop.invariant.0
       (specifiers-more c.args.all c.args.s.now c.loop-stop.at c.args.end c.loop-stop.invariant.1.inside
-      (sym c.extent.ensures ∙ c.in-Upto.is) (fields-next c.loop-stop.invariant.1 (sym c.extent.ensures ∙ c.in-Upto.is)).0)
-      c.put_specifier.ensures c.in-Done.is,
-  (fields-next c.loop-stop.invariant.1 (sym c.extent.ensures ∙ c.in-Upto.is)).1,
+      (sym c.extent.ensures ∙ c.in-Some.is) (fields-next c.loop-stop.invariant.1 (sym c.extent.ensures ∙ c.in-Some.is)).0)
+      c.put_specifier.ensures c.in_ok-to.was,
+  (fields-next c.loop-stop.invariant.1 (sym c.extent.ensures ∙ c.in-Some.is)).1,
 )
 
-pub returns-in-Refused : goal.returns-in-Refused
-returns-in-Refused c =
-    onward-stop c.loop-stop.invariant.0
-    (specifiers-more c.args.all c.args.s.now c.loop-stop.at c.args.end c.loop-stop.invariant.1.inside
-    (sym c.extent.ensures ∙ c.in-Upto.is) (fields-next c.loop-stop.invariant.1 (sym c.extent.ensures ∙ c.in-Upto.is)).0)
-    c.put_specifier.ensures c.in-Refused.is
+pub returns-in_err-to : goal.returns-in_err-to
+returns-in_err-to c =
+    let here = c.loop-stop in
+    let e = sym c.extent.ensures ∙ c.in-Some.is in
+    let passed = err_from_is_err_and c.from_residual.result c.from_residual.ensures.1 in
+    let more = specifiers-more c.args.all c.args.s.now here.at c.args.end here.invariant.1.inside e (fields-next here.invariant.1 e).0 in
+    rw (passed.1, passed.2) (onward-stop here.invariant.0 more c.put_specifier.ensures c.in_err-to.was)

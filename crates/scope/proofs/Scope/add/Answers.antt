@@ -15,4 +15,4 @@ returns c =
     rw (c.put_mark-self-4.ensures, c.put_mark-self-3.ensures, c.put_mark-self-2.ensures, c.put_mark-self.ensures)
     (from-added c.args.self.marks c.args.n g
     c.requires c.args.self.files
-    c.args.file.0 (omega arith))
+    c.args.file (omega arith))

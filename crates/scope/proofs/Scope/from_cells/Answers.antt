@@ -15,9 +15,9 @@ loop-k-init c =
 
 pub loop-k-preserved : goal.loop-k-preserved
 loop-k-preserved c = (
-  cells-taken c.args.cells.now c.loop-k.files c.loop-k.marks c.args.base c.loop-k.k c.low_file.result
+  cells-taken c.args.cells.now c.loop-k.files c.loop-k.marks c.args.base c.loop-k.k _
       c.slot-loaded.result c.slot-stored.result c.slot-cjs.result c.slot-wrapping.result c.last_bit.result c.last_bit-in-loop-k.result
-      c.last_bit-in-loop-k-2.result c.last_bit-in-loop-k-3.result c.loop-k.invariant.2 c.loop-k.invariant.3 (omega arith) c.low_file.ensures
+      c.last_bit-in-loop-k-2.result c.last_bit-in-loop-k-3.result c.loop-k.invariant.2 c.loop-k.invariant.3 (omega arith) refl
       c.last_bit.ensures c.last_bit-in-loop-k.ensures c.last_bit-in-loop-k-2.ensures c.last_bit-in-loop-k-3.ensures c.slot-loaded.ensures.0
       c.slot-stored.ensures.0 c.slot-cjs.ensures.0 c.slot-wrapping.ensures.0 c.loop-k.invariant.0,
   omega arith,

@@ -3,6 +3,7 @@
 -- read back; `rewrites-set` allows the two stores.
 use mathlib.Core.Path.{◌≡◌, refl, ◌∙◌}
 use native.Mathlib.Omega.{arith}
+use borrow.Author.Rules.{rules}
 use Rattle.scope.specs.ScopeValue.{modules_from, modules_in}
 use Rattle.scope.proofs.Laws.{rewrites-none, rewrites-set, small-put}
 use Rattle.scope.proofs.ScopeValueLaws.{cells-put, modules-length, modules-first}
@@ -15,16 +16,16 @@ loop-k-init c =
 
 pub loop-k-preserved : goal.loop-k-preserved
 loop-k-preserved c = (
-  cells-put c.loop-k.cells c.args.self.files c.args.self.marks c.args.base c.loop-k.k c.wide_file.result
+  cells-put c.loop-k.cells c.args.self.files c.args.self.marks c.args.base c.loop-k.k _
       c.four_bits.result c.slot-loaded.result c.slot-stored.result c.slot-cjs.result c.slot-wrapping.result (omega arith)
-      c.wide_file.ensures.0 c.wide_file.ensures.1 c.four_bits.ensures.0 c.four_bits.ensures.1 c.four_bits.ensures.2
+      refl (search rules) c.four_bits.ensures.0 c.four_bits.ensures.1 c.four_bits.ensures.2
       c.four_bits.ensures.3 c.slot-loaded.ensures.0 c.slot-stored.ensures.0 c.slot-cjs.ensures.0 c.slot-wrapping.ensures.0
       c.loop-k.invariant.0,
   omega arith,
   rewrites-set _ _ (omega arith) (omega arith)
       (rewrites-set _ _ (omega arith) (omega arith) c.loop-k.invariant.2),
-  small-put c.loop-k.cells c.args.base c.loop-k.k c.wide_file.result c.four_bits.result (omega arith)
-      c.wide_file.ensures.1 c.four_bits.ensures.4 c.loop-k.invariant.3,
+  small-put c.loop-k.cells c.args.base c.loop-k.k _ c.four_bits.result (omega arith)
+      (search rules) c.four_bits.ensures.4 c.loop-k.invariant.3,
 )
 
 pub returns : goal.returns

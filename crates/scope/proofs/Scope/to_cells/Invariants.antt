@@ -2,7 +2,7 @@
 -- base + 512 were written, files of two bytes and marks of four bits (`small-put`). `cells-put` adds module k, whose marks `four_bits` lets be
 -- read back; `rewrites-set` allows the two stores.
 use mathlib.Core.Path.{◌≡◌}
-use Prim.Native.Nat.{ℕ, ◌≤◌, ◌<◌, ◌-◌, ◌+◌, ◌*◌}
+use Prim.Native.Nat.{ℕ, ◌≤◌, ◌<◌, ◌+◌, ◌*◌}
 use lib.ListN.{get_or}
 use Rattle.scope.specs.ScopeValue.{modules_from, modules_in, Rewrites}
 use Rattle.scope.proofs.Scope.to_cells.Given as goal
@@ -10,6 +10,3 @@ use Rattle.scope.proofs.Scope.to_cells.Given as goal
 abbrev pub invariant-loop-k : goal.invariant-loop-k
 invariant-loop-k l = (modules_in l.k l.base l.cells ≡ modules_from l.k 0 l.self.files l.self.marks) × (l.k ≤ l.n) × Rewrites l.base (l.base + 512) l.initial.cells l.cells
     × ((i : ℕ) → i < l.k → (get_or l.cells (l.base + 2 * i) 0 < 65536) × (get_or l.cells (l.base + 2 * i + 1) 0 < 16))
-
-abbrev pub decreases-loop-k : goal.decreases-loop-k
-decreases-loop-k l = l.n - l.k

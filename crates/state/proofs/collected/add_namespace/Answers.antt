@@ -3,17 +3,13 @@
 use native.Mathlib.Omega.{arith}
 use mathlib.Core.Path.{sym, ap, ◌∙◌}
 use lib.ListN.{length}
-use Rattle.state.specs.Cells.{records, namespaces, id_by}
+use Rattle.state.specs.Cells.{records, id_by}
 use Rattle.state.proofs.FrameLaws.{room-for}
 use Rattle.state.proofs.ExtendLaws.{met-records, extended-again, extended-first, extended-full}
 use Rattle.state.proofs.collected.add_namespace.Goals as goal
 
-pub count_of-requires : goal.count_of-requires
-count_of-requires c =
-    c.requires.0.lies namespaces
-
-pub returns-then-count_of-ge3641 : goal.returns-then-count_of-ge3641
-returns-then-count_of-ge3641 c =
+pub returns-then-count_of : goal.returns-then-count_of
+returns-then-count_of c =
     extended-full c.args.i (id_by c.args.id) c.requires.0 (omega arith)
 
 pub add_held-requires : goal.add_held-requires

@@ -1,11 +1,6 @@
 -- `record_literal`: the row at the place has the literal's number, and what stands there is the state's record (`record-at`).
-use Rattle.state.specs.Cells.{records}
 use Rattle.state.proofs.PlaceLaws.{record-small, record-at}
 use Rattle.state.proofs.collected.record_literal.Goals as goal
-
-pub key_of-requires : goal.key_of-requires
-key_of-requires c =
-    (c.requires.0.lies records, c.requires.1)
 
 pub numbered_literal-requires : goal.numbered_literal-requires
 numbered_literal-requires c =

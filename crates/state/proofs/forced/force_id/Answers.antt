@@ -19,8 +19,8 @@ returns-in_default c =
     (subst (Tells (λ s. source_of (find (holds_namespace (id_by c.args.id)) s.collected)) c.forget.new.t)
     (ap source_by c.in_default.is) c.holder.ensures)
 
-pub returns : goal.returns
-returns c =
+pub returns-in-Some : goal.returns-in-Some
+returns-in-Some c =
     forced-some (id_by c.args.id) c.forget.ensures
     (subst (Tells (λ s. source_of (find (holds_namespace (id_by c.args.id)) s.collected)) c.forget.new.t)
-    (ap source_by c.in-From.is) c.holder.ensures) c.force_source.ensures
+    (ap source_by c.in-Some.is) c.holder.ensures) c.force_source.ensures

@@ -1,12 +1,7 @@
 -- `forced_at`: the row's key is the forced source at this place (`forced-source`). It fits two bytes (`forced-small`), as the cast needs.
-use Rattle.state.specs.Cells.{forces}
 use Rattle.state.proofs.PlaceLaws.{forced-small, forced-source}
 use native.Mathlib.Omega.{arith}
 use Rattle.state.proofs.forced.forced_at.Goals as goal
-
-pub key_of-requires : goal.key_of-requires
-key_of-requires c =
-    (c.requires.0.lies forces, c.requires.1)
 
 pub overflow_cast-result : goal.overflow_cast-result
 overflow_cast-result c =

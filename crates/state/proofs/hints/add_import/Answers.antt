@@ -6,10 +6,6 @@ use Rattle.state.specs.Cells.{imports}
 use Rattle.state.proofs.ChangeLaws.{import-added}
 use Rattle.state.proofs.hints.add_import.Goals as goal
 
-pub count_of-requires : goal.count_of-requires
-count_of-requires c =
-    c.requires.0.lies imports
-
 pub push-requires : goal.push-requires
 push-requires c =
     (c.set_hint.ensures.0.good.lies imports, let e = ap length (c.set_hint.ensures.0.same_rows imports) in omega arith)

@@ -6,15 +6,11 @@ use Rattle.state.specs.Cells.{records}
 use Rattle.state.proofs.ChangeLaws.{record-added}
 use Rattle.state.proofs.hints.add_record.Goals as goal
 
-pub count_of-requires : goal.count_of-requires
-count_of-requires c =
-    c.requires.0.lies records
-
 pub push-requires : goal.push-requires
 push-requires c =
-    (c.hint_source.ensures.0.good.lies records, let e = ap length (c.hint_source.ensures.0.same_rows records) in omega arith)
+    (c.hint_record.ensures.0.good.lies records, let e = ap length (c.hint_record.ensures.0.same_rows records) in omega arith)
 
 pub returns : goal.returns
 returns c =
-    record-added c.requires.0 c.hint_source.ensures.0 c.requires.1 c.requires.2 (let e = c.count_of.ensures.0 in let f = c.hint_source.ensures.1 in omega arith)
+    record-added c.requires.0 c.hint_record.ensures.0 c.requires.1 c.requires.2 (let e = c.count_of.ensures.0 in let f = c.hint_record.ensures.1 in omega arith)
     c.push.ensures.0 c.push.ensures.1

@@ -6,10 +6,6 @@ use Rattle.state.specs.Cells.{uses}
 use Rattle.state.proofs.ChangeLaws.{use-added}
 use Rattle.state.proofs.hints.add_use.Goals as goal
 
-pub count_of-requires : goal.count_of-requires
-count_of-requires c =
-    c.requires.0.lies uses
-
 pub push-requires : goal.push-requires
 push-requires c =
     (c.set_hint.ensures.0.good.lies uses, let e = ap length (c.set_hint.ensures.0.same_rows uses) in omega arith)

@@ -5,10 +5,6 @@ use Rattle.state.specs.Cells.{uses}
 use Rattle.state.proofs.ChangeLaws.{uses-dropped, absent, some-none}
 use Rattle.state.proofs.hints.drop_uses.Goals as goal
 
-pub drop_key-requires : goal.drop_key-requires
-drop_key-requires c =
-    c.requires.lies uses
-
 pub returns-then-is_used : goal.returns-then-is_used
 returns-then-is_used c =
     uses-dropped c.args.id c.requires c.drop_key.ensures.0 c.drop_key.ensures.1

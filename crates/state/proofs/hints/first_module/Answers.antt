@@ -5,10 +5,6 @@ use Rattle.state.specs.Cells.{modules, module_hint}
 use Rattle.state.proofs.HintLaws.{reached-none}
 use Rattle.state.proofs.hints.first_module.Goals as goal
 
-pub returns-then-hint-ge256 : goal.returns-then-hint-ge256
-returns-then-hint-ge256 c =
-    reached-none 256 (λ (a : ℕ). module_hint c.args.t.now (a % 256)) c.args.file _ (c.requires.hinted modules) (omega arith)
-
 pub returns : goal.returns
 returns c =
     reached-none 256 (λ (a : ℕ). module_hint c.args.t.now (a % 256)) c.args.file _ (c.requires.hinted modules) (omega arith)

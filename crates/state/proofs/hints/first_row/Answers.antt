@@ -1,13 +1,9 @@
 -- `first_row`: a row before the hint has no source with this remainder (`reached-none`).
 use Prim.Native.Nat.{ℕ, ◌%◌}
+use native.Mathlib.Omega.{arith}
 use Rattle.state.specs.Cells.{table, row_hint}
 use Rattle.state.proofs.HintLaws.{reached-none}
-use native.Mathlib.Omega.{arith}
 use Rattle.state.proofs.hints.first_row.Goals as goal
-
-pub returns-then-hint-ge1024 : goal.returns-then-hint-ge1024
-returns-then-hint-ge1024 c =
-    reached-none 1024 (λ (a : ℕ). row_hint c.args.t.now (a % 1024)) c.args.source _ (c.requires.hinted table) (omega arith)
 
 pub returns : goal.returns
 returns c =

@@ -1,6 +1,6 @@
 -- `least_holder`: without a hint no row has the key (`not_held`), so there is no least value; else all rows are searched.
 use mathlib.Core.Path.{sym, ap, ◌∙◌}
-use Rattle.state.specs.Cells.{namespaces, namespace_hint}
+use Rattle.state.specs.Cells.{namespace_hint}
 use Rattle.state.proofs.HintLaws.{none-least}
 use Rattle.state.proofs.ChangeLaws.{not_held}
 use Rattle.state.proofs.hints.least_holder.Goals as goal
@@ -8,7 +8,3 @@ use Rattle.state.proofs.hints.least_holder.Goals as goal
 pub returns-then-hint_of-eq0 : goal.returns-then-hint_of-eq0
 returns-then-hint_of-eq0 c =
     sym (none-least _ _ (not_held c.args.id c.requires (ap namespace_hint (sym c.hint_of.ensures) ∙ c.if-hint_of-eq0.true)))
-
-pub least_value-requires : goal.least_value-requires
-least_value-requires c =
-    c.requires.lies namespaces

@@ -1,12 +1,8 @@
 -- `raise`: the cell grows, and stands beside the tables (`raise-set`), or it is as great already.
 use native.Mathlib.Omega.{arith}
-use Rattle.state.proofs.ChangeLaws.{cell-stays, behind-stays, raise-set}
+use Rattle.state.proofs.ChangeLaws.{raise-set}
 use Rattle.state.proofs.hints.raise.Goals as goal
 
 pub returns-then-t-h : goal.returns-then-t-h
 returns-then-t-h c =
     raise-set c.args.h c.args.hint c.requires.0 c.requires.1 (omega arith)
-
-pub returns-else-t-h : goal.returns-else-t-h
-returns-else-t-h c =
-    (cell-stays c.requires.0, behind-stays _, omega arith)

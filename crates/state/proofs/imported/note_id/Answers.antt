@@ -1,8 +1,8 @@
 -- `note_id`: the id has an entry, which gets the context (`noted-again`); it has none and there is room (`noted-new`); or there is no room,
 -- and the rule refuses with 8 (`noted-full`).
 use native.Mathlib.Omega.{arith}
-use mathlib.Core.Path.{◌∙◌, sym, ap}
-use Rattle.tables.specs.Rows.{place_by}
+use mathlib.Core.Path.{sym}
+use Rattle.std.proofs.lemmas.Result.{err_from_is_err_and}
 use Rattle.state.specs.Cells.{imports}
 use Rattle.state.proofs.ListLaws.{first-below}
 use Rattle.state.proofs.ImportedLaws.{noted-again, noted-new, noted-full}
@@ -10,26 +10,20 @@ use Rattle.state.proofs.imported.note_id.Goals as goal
 
 pub set_value-requires : goal.set_value-requires
 set_value-requires c =
-    (c.requires.lies imports, first-below _ _ _ _ (sym (ap place_by (sym c.in-At.is) ∙ c.import_row-entry.ensures)))
+    (c.requires.lies imports, first-below _ _ _ _ (sym c.in-Some.ensures))
 
-pub count_of-requires : goal.count_of-requires
-count_of-requires c =
-    c.requires.lies imports
-
-pub add_import-requires : goal.add_import-requires
-add_import-requires c =
-    (c.requires, c.id_number-n.ensures.1, omega arith, omega arith, sym (ap place_by (sym c.in-Nowhere.is) ∙ c.import_row-entry.ensures))
-
-pub returns-in-At : goal.returns-in-At
-returns-in-At c =
-    noted-again c.requires c.id_number-n.ensures.0 c.id_number-n.ensures.1 (omega arith) (ap place_by (sym c.in-At.is) ∙ c.import_row-entry.ensures)
+pub returns-in-Some : goal.returns-in-Some
+returns-in-Some c =
+    noted-again c.requires c.id_number-n.ensures.0 c.id_number-n.ensures.1 (omega arith) c.in-Some.ensures
     c.set_value.ensures.0 c.set_value.ensures.1
 
-pub returns-then-count_of-lt512 : goal.returns-then-count_of-lt512
-returns-then-count_of-lt512 c =
-    noted-new c.requires c.id_number-n.ensures.0 c.id_number-n.ensures.1 (let f = c.struct_known-1.given in omega arith)
-    (ap place_by (sym c.in-Nowhere.is) ∙ c.import_row-entry.ensures) (let n = c.count_of.ensures.0 in let k = c.if-count_of-lt512.true in omega arith) c.add_import.ensures
+pub returns-in_err-room_in : goal.returns-in_err-room_in
+returns-in_err-room_in c =
+    let p = err_from_is_err_and c.from_residual.result c.from_residual.ensures.1 in
+    rw p.1 (noted-full c.requires c.id_number-n.ensures.0 c.id_number-n.ensures.1 (omega arith) c.in_default.ensures
+    (c.room_in.ensures.full _ c.in_err-room_in.was))
 
-pub returns-else-count_of-lt512 : goal.returns-else-count_of-lt512
-returns-else-count_of-lt512 c =
-    noted-full c.requires c.id_number-n.ensures.0 c.id_number-n.ensures.1 (omega arith) (ap place_by (sym c.in-Nowhere.is) ∙ c.import_row-entry.ensures) (omega arith)
+pub returns : goal.returns
+returns c =
+    noted-new c.requires c.id_number-n.ensures.0 c.id_number-n.ensures.1 (omega arith) c.in_default.ensures
+    (c.room_in.ensures.more _ c.in_ok-room_in.was).1 c.add_import.ensures

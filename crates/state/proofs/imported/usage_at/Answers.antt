@@ -1,17 +1,9 @@
 -- `usage_at`: by whether the row's key is the id: its value is then the next usage in the list (`listed-is`), else the list goes on without
 -- it (`listed-other`).
 use mathlib.Core.Path.{sym, ap, ◌∙◌}
-use Rattle.state.specs.Cells.{uses, id_of}
+use Rattle.state.specs.Cells.{id_of}
 use Rattle.state.proofs.UsageLaws.{listed-is, listed-other, property-small}
 use Rattle.state.proofs.imported.usage_at.Goals as goal
-
-pub key_of-requires : goal.key_of-requires
-key_of-requires c =
-    (c.requires.0.lies uses, c.requires.1)
-
-pub value_of-requires : goal.value_of-requires
-value_of-requires c =
-    (c.requires.0.lies uses, c.requires.1)
 
 pub numbered_id-requires : goal.numbered_id-requires
 numbered_id-requires c =

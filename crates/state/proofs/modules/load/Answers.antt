@@ -1,13 +1,7 @@
 -- `load`: with the count 0 there is no module, so that `to_cells` and the hints leave the array good (`loading-good`). `to_cells` writes only
 -- cells of the modules' table, so with the count stored the array shows these modules and all else as before (`modules-loaded`).
-use native.Mathlib.Omega.{arith}
-use lib.ListN.{length-set}
 use Rattle.state.proofs.ModulesLaws.{loading-good, modules-loaded}
 use Rattle.state.proofs.modules.load.Goals as goal
-
-pub to_cells-n-requires : goal.to_cells-n-requires
-to_cells-n-requires c =
-    let e = c.requires.size in let l = length-set c.args.t.now 6 0 in omega arith
 
 pub hint_modules-requires : goal.hint_modules-requires
 hint_modules-requires c =

@@ -7,11 +7,11 @@ use Rattle.state.specs.Does.{Says}
 use Rattle.state.proofs.ModulesLaws.{source-resolved, source-unresolved}
 use Rattle.state.proofs.modules.module_for.Goals as goal
 
-pub returns-in-File : goal.returns-in-File
-returns-in-File c =
-    source-resolved _ (subst (Says (λ e. file_of (two c.args.source.0) e.table) c.args.t.now) (ap file_by c.in-File.is) c.file_for-resolved.ensures)
+pub returns-in-Some : goal.returns-in-Some
+returns-in-Some c =
+    source-resolved _ (subst (Says (λ e. file_of (two c.args.source.0) e.table) c.args.t.now) (ap file_by c.in-Some.is) c.file_for.ensures)
     c.request.ensures
 
-pub returns-in-Nowhere : goal.returns-in-Nowhere
-returns-in-Nowhere c =
-    source-unresolved _ c.requires (subst (Says (λ e. file_of (two c.args.source.0) e.table) c.args.t.now) (ap file_by c.in-Nowhere.is) c.file_for-resolved.ensures)
+pub returns-in-None : goal.returns-in-None
+returns-in-None c =
+    source-unresolved _ c.requires (subst (Says (λ e. file_of (two c.args.source.0) e.table) c.args.t.now) (ap file_by c.in-None.is) c.file_for.ensures)

@@ -1,12 +1,7 @@
 -- `lazy_literal`: the row at the place has the literal's number, and what stands there is the state's entry (`lazy-literal-at`).
 use native.Mathlib.Omega.{arith}
-use Rattle.state.specs.Cells.{lazies}
 use Rattle.state.proofs.PlaceLaws.{lazy-small, lazy-literal-at}
 use Rattle.state.proofs.rest.lazy_literal.Goals as goal
-
-pub key_of-requires : goal.key_of-requires
-key_of-requires c =
-    (c.requires.0.lies lazies, c.requires.1)
 
 pub numbered_literal-requires : goal.numbered_literal-requires
 numbered_literal-requires c =

@@ -1,12 +1,7 @@
 -- `lazy_place`: the specifiers of the lazy record are those at the place in the row's value, which is below its limit (`lazy-place-at`).
 use native.Mathlib.Omega.{arith}
-use Rattle.state.specs.Cells.{lazies}
 use Rattle.state.proofs.PlaceLaws.{lazy-small, lazy-place-at}
 use Rattle.state.proofs.rest.lazy_place.Goals as goal
-
-pub value_of-requires : goal.value_of-requires
-value_of-requires c =
-    (c.requires.0.lies lazies, c.requires.1)
 
 pub overflow_cast-result : goal.overflow_cast-result
 overflow_cast-result c =

@@ -9,6 +9,6 @@ pub returns-then-is_second : goal.returns-then-is_second
 returns-then-is_second c =
     (place-second c.args.at (subst (Says (λ e. is_second e.pass) c.args.t.now) c.if-is_second.true c.is_second.ensures), omega arith)
 
-pub returns : goal.returns
-returns c =
+pub returns-else-is_second : goal.returns-else-is_second
+returns-else-is_second c =
     (place-first c.args.at (subst (Says (λ e. is_second e.pass) c.args.t.now) c.if-is_second.false c.is_second.ensures), omega arith)

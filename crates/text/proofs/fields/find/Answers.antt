@@ -1,39 +1,17 @@
--- `find`: the invariant says that i and the distance from it to the first b (or to the end) add up to the place that is looked for.
-use mathlib.Core.Path.{refl}
-use native.Mathlib.Omega.{arith}
-use Rattle.text.proofs.FieldsLaws.{first-none, first-here, first-later}
+-- `find`: the library's place is the definition's.
+use Rattle.std.proofs.Common.{rules, tests, ◌≡◌, eqb}
+use Rattle.std.specs.List.{position}
+use Rattle.std.proofs.lemmas.Iterator.{YieldsList-from_slice}
+use Rattle.std.proofs.lemmas.Iterator.Search.{position_from_yields_List}
+use Rattle.text.proofs.FieldsLaws.{found-first, none-first}
+use Rattle.text.proofs.fields.find.Goals.{After-position}
 use Rattle.text.proofs.fields.find.Goals as goal
 
-pub loop-i-init : goal.loop-i-init
-loop-i-init c =
-    (refl, omega arith, omega arith)
+place : (c : After-position) → c.position.result ≡ position (λ x. eqb x c.args.b) c.args.s.now
+place c = position_from_yields_List (λ x. eqb x c.args.b) _ _ c.position.result c.position.ensures.ran (YieldsList-from_slice _ c.iter.ensures.rest) (λ x b q k. search (rules, tests))
 
-pub bounds-s-i : goal.bounds-s-i
-bounds-s-i c =
-    omega arith
+pub returns-clause-found : goal.returns-clause-found
+returns-clause-found c = found-first c.args.b c.args.s.now c.position.result (place c)
 
-pub returns-then-s-i : goal.returns-then-s-i
-returns-then-s-i c =
-    let a = c.args in let l = c.loop-i in
-    let h = first-here a.b l.i a.to a.s.now c.loop-i-test.true c.requires.1 c.if-s-i.true in
-    omega arith
-
-pub overflow_add-i : goal.overflow_add-i
-overflow_add-i c =
-    omega arith
-
-pub loop-i-smaller : goal.loop-i-smaller
-loop-i-smaller c =
-    omega arith
-
-pub loop-i-preserved : goal.loop-i-preserved
-loop-i-preserved c =
-    let a = c.args in let l = c.loop-i in
-    let h = first-later a.b l.i a.to a.s.now c.loop-i-test.true c.requires.1 c.if-s-i.false in
-    omega arith
-
-pub returns : goal.returns
-returns c =
-    let a = c.args in let l = c.loop-i in
-    let h = first-none a.b l.i a.to a.s.now c.loop-i-test.false l.invariant.2 in
-    omega arith
+pub returns-clause-none : goal.returns-clause-none
+returns-clause-none c = none-first c.args.b c.args.s.now c.position.result (place c)

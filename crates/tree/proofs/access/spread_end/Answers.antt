@@ -2,15 +2,15 @@
 use mathlib.Core.Path.{sym}
 use Rattle.tree.proofs.TagWidthLaws.{spread-upto, spread-bad, spread-cut}
 use Rattle.tree.proofs.access.spread_end.Goals as goal
+use Rattle.tree.proofs.access.spread_end.Goals.{else-at-stop-via-then-at-stop+else-s-at-lt2, else-at-stop-via-else-at-stop}
 
 pub returns-then-s-at-lt2 : goal.returns-then-s-at-lt2
 returns-then-s-at-lt2 c =
     sym (spread-upto c.args.s.now c.args.at c.args.stop c.if-at-stop.true c.if-s-at-lt2.true)
 
-pub returns-else-s-at-lt2 : goal.returns-else-s-at-lt2
-returns-else-s-at-lt2 c =
-    sym (spread-bad c.args.s.now c.args.at c.args.stop c.if-at-stop.true c.if-s-at-lt2.false)
-
 pub returns-else-at-stop : goal.returns-else-at-stop
 returns-else-at-stop c =
-    sym (spread-cut c.args.s.now c.args.at c.args.stop c.if-at-stop.false)
+    elim c.else-at-stop.branch [
+      | else-at-stop-via-then-at-stop+else-s-at-lt2 w ↦ sym (spread-bad c.args.s.now c.args.at c.args.stop w.if-at-stop.true w.if-s-at-lt2.false)
+      | else-at-stop-via-else-at-stop w ↦ sym (spread-cut c.args.s.now c.args.at c.args.stop w.if-at-stop.false)
+    ]

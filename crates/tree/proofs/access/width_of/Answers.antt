@@ -9,4 +9,4 @@ use Rattle.tree.proofs.access.width_of.Goals as goal
 pub returns : goal.returns
 returns c =
     let t = c.args.tag in
-    c.wide.ensures ∙ nibble-is width_rows t c.widths.result c.nibble_of.result refl c.widths.ensures c.nibble_of.ensures ∙ width-is t (search rules)
+    c.from.ensures ∙ nibble-is width_rows t c.widths.result c.nibble_of.result refl c.widths.ensures c.nibble_of.ensures ∙ width-is t (search rules)

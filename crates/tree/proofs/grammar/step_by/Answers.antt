@@ -8,23 +8,17 @@ use Rattle.tree.specs.Grammar.{step_at}
 use Rattle.tree.specs.Packed.{unpack_rule}
 use Rattle.tree.proofs.PackedLaws.{step-nothing, step-used, step-stay, step-off, step-over, step-end}
 use Rattle.tree.proofs.grammar.step_by.Goals as goal
-
-pub loop-rule-preserved-then-slot-eq0 : goal.loop-rule-preserved-then-slot-eq0
-loop-rule-preserved-then-slot-eq0 c =
-    let l = c.loop-rule in
-    let q = c.sets_of-sets in
-    let tag = c.args.tag in
-    (l.invariant.0 ∙ step-nothing tag l.rule q.result (search rules) l.invariant.1 q.ensures c.if-slot-eq0.true, omega arith)
+use Rattle.tree.proofs.grammar.step_by.Goals.{then-slot-ne0+else-sets-slot-eq1+else-slot-lt64, else-slot-ne0}
 
 pub returns-then-slot-lt96 : goal.returns-then-slot-lt96
 returns-then-slot-lt96 c =
     let l = c.loop-rule in
     let q = c.sets_of-sets in
     let tag = c.args.tag in
-    sym (l.invariant.0 ∙ step-used tag l.rule q.result (search rules) l.invariant.1 q.ensures c.if-slot-eq0.false c.if-sets-slot-eq1.true c.if-slot-lt96.true)
+    sym (l.invariant.0 ∙ step-used tag l.rule q.result (search rules) l.invariant.1 q.ensures c.if-slot-ne0.true c.if-sets-slot-eq1.true c.if-slot-lt96.true)
 
-pub returns-then-sets-slot-eq1 : goal.returns-then-sets-slot-eq1
-returns-then-sets-slot-eq1 c =
+pub returns-else-slot-lt96 : goal.returns-else-slot-lt96
+returns-else-slot-lt96 c =
     let l = c.loop-rule in
     let q = c.sets_of-sets in
     let tag = c.args.tag in
@@ -35,14 +29,18 @@ returns-then-slot-lt64 c =
     let l = c.loop-rule in
     let q = c.sets_of-sets in
     let tag = c.args.tag in
-    sym (l.invariant.0 ∙ step-off tag l.rule q.result (search rules) l.invariant.1 q.ensures c.if-slot-eq0.false c.if-sets-slot-eq1.false c.if-slot-lt64.true)
+    sym (l.invariant.0 ∙ step-off tag l.rule q.result (search rules) l.invariant.1 q.ensures c.if-slot-ne0.true c.if-sets-slot-eq1.false c.if-slot-lt64.true)
 
 pub loop-rule-preserved : goal.loop-rule-preserved
 loop-rule-preserved c =
     let l = c.loop-rule in
     let q = c.sets_of-sets in
     let tag = c.args.tag in
-    (l.invariant.0 ∙ step-over tag l.rule q.result (search rules) l.invariant.1 q.ensures c.if-sets-slot-eq1.false c.if-slot-lt64.false, omega arith)
+    elim c.if-slot-ne0.branch [
+      | then-slot-ne0+else-sets-slot-eq1+else-slot-lt64 w ↦
+          (l.invariant.0 ∙ step-over tag l.rule q.result (search rules) l.invariant.1 q.ensures w.if-sets-slot-eq1.false w.if-slot-lt64.false, omega arith)
+      | else-slot-ne0 w ↦ (l.invariant.0 ∙ step-nothing tag l.rule q.result (search rules) l.invariant.1 q.ensures w.if-slot-ne0.false, omega arith)
+    ]
 
 pub returns : goal.returns
 returns c =

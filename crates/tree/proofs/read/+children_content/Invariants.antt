@@ -14,10 +14,10 @@ decreases-children l = l.end - l.from + 1
 abbrev pub decreases-content : goal.decreases-content
 decreases-content l = l.stop - l.at
 
-abbrev pub invariant-children-loop-why : goal.invariant-children-loop-why
-invariant-children-loop-why l = (verdict (children_at l.s l.from l.end l.depth (unpack_rule l.initial.rule) l.place) ≡ verdict (children_at l.s l.at l.end l.depth (unpack_rule l.rule) l.place))
+abbrev pub invariant-children-loop-at : goal.invariant-children-loop-at
+invariant-children-loop-at l = (verdict (children_at l.s l.from l.end l.depth (unpack_rule l.initial.rule) l.place) ≡ verdict (children_at l.s l.at l.end l.depth (unpack_rule l.rule) l.place))
     × (l.from ≤ l.at)
     × (l.at ≤ l.end)
 
-abbrev pub decreases-children-loop-why : goal.decreases-children-loop-why
-decreases-children-loop-why l = l.end - l.at
+abbrev pub decreases-children-loop-at : goal.decreases-children-loop-at
+decreases-children-loop-at l = l.end - l.at

@@ -1,0 +1,9 @@
+-- `extract`: the text is of what the call has left.
+use Rattle.std.proofs.Common.{◌≡◌, string_bytes}
+use Rattle.std.proofs.lemmas.Result.{IfOk-weaker}
+use Rattle.scoped_requests.specs.Texts.{extract_text}
+use Rattle.scoped_requests.specs.declared.extracting.Extracted.{Extracted}
+use Rattle.scoped_requests.proofs.extracting.extract.Goals as goal
+
+pub returns : goal.returns
+returns c = IfOk-weaker _ _ (λ s. (l : Extracted) × (string_bytes s ≡ extract_text l)) (λ s text. (c.in_ok-call.field-0, text)) c.answer.ensures

@@ -1,0 +1,2 @@
+-- The text of answers to requests with a scope.
+pub mod Texts

@@ -1,0 +1,8 @@
+-- `put_hex`: the digits of the bytes so far are written.
+use Rattle.std.proofs.Common.{take}
+use Rattle.text.specs.Hex.{hexed}
+use Rattle.text.specs.Write.{Written}
+use Rattle.text.proofs.write.Text.put_hex.Given as goal
+
+abbrev pub invariant-loop-b : goal.invariant-loop-b
+invariant-loop-b g l = Written g.row.N l.initial.self (hexed (take l.b-index l.bytes)) l.self
