@@ -13,7 +13,7 @@ ghost use Rattle.resolving.specs.Answer.{lent_as as records_as, left as left_lis
 ghost use Rattle.theorems.specs.Lists.{requests, requests_all, sets, reads, reads_esm, extracts, resolves};
 ghost use Rattle.corollaries.specs.Functions.{HandsBack, Exact, Pairs};
 
-use extraction::extract_import_info;
+use extraction::{Lent, extract_import_info};
 use modes::Modes;
 use resolving::{Resolution, resolve_imports};
 use scope::id::{FileName, ModuleId};
@@ -39,25 +39,21 @@ pub fn extract_and_resolve(
     scope: Scope,
     file: FileName,
     modes: Modes,
-    externals: &[u8],
-    table: &[u8],
-    tree: &[u8],
+    lent: &Lent,
     work: &mut [u8],
     out: &mut [u8],
     records: &mut [u8],
     list: &mut [u8],
 ) -> Pair
-    ensures { Pairs (lent_as file.0 modes externals.now table.now tree.now)
+    ensures { Pairs (lent_as file.0 modes lent.now.externals.now lent.now.table.now lent.now.tree.now)
         (room_in work.old out.old records.old) (length list.old) scope out.new
         records.new list.new result }
 {
-    let r = extract_import_info(
-        scope, file, modes, externals, table, tree, work, out, records,
-    );
+    let r = extract_import_info(scope, file, modes, lent, work, out, records);
     let extracted = r.scope;
     match r.answer {
         Ok(()) => {
-            let q = resolve_front(extracted, modes, table, records, list);
+            let q = resolve_front(extracted, modes, lent.table, records, list);
             let resolved = q.scope;
             match q.answer {
                 Ok(()) => Pair {
@@ -185,20 +181,16 @@ pub fn extract(
     scope: Scope,
     file: FileName,
     modes: Modes,
-    externals: &[u8],
-    table: &[u8],
-    tree: &[u8],
+    lent: &Lent,
     work: &mut [u8],
     out: &mut [u8],
     records: &mut [u8],
 ) -> Scope
     ensures { HandsBack
-        (extracts (lent_as file.0 modes externals.now table.now tree.now)
+        (extracts (lent_as file.0 modes lent.now.externals.now lent.now.table.now lent.now.tree.now)
         (room_in work.old out.old records.old)) scope result }
 {
-    let e = extract_import_info(
-        scope, file, modes, externals, table, tree, work, out, records,
-    );
+    let e = extract_import_info(scope, file, modes, lent, work, out, records);
     e.scope
 }
 

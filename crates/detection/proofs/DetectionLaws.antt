@@ -2,7 +2,7 @@
 use Rattle.std.specs.Prelude.{Option, None, Some, Ok, Err}
 use Rattle.std.specs.Option.{MatchOption}
 use Prim.Native.Nat.{ℕ, ◌+◌, ◌*◌, ◌≤◌, ◌<◌}
-use mathlib.Core.Path.{◌≡◌, refl, sym, ap, ap₂, subst, ◌∙◌}
+use mathlib.Core.Path.{◌≡◌, refl, sym, ap, ap₂, subst, subst₂, ◌∙◌}
 use mathlib.Core.Bool.{Bool, false, ◌||◌, cond}
 use mathlib.Core.List.{List}
 use native.Mathlib.Omega.{arith}
@@ -15,40 +15,43 @@ use Rattle.scope.specs.Id.{atom}
 use Rattle.scope.specs.declared.id.Atom.{Atom}
 use Rattle.tree.specs.declared.grammar.Set.TheVariants.{Module}
 use Rattle.tree.specs.declared.grammar.Value.TheVariants.{Id}
-use Rattle.tree.specs.declared.read.Unread.{Unread}
+use Rattle.tree.specs.Read.{Unread}
 use Rattle.tree.specs.Layout.{two_at}
-use Rattle.tree.specs.Tree.{Field, Fields, more}
+use Rattle.tree.specs.Tree.{Field, Fields, more, tag_of}
 use Rattle.tree.specs.Grammar.{within, rule_of}
-use Rattle.tree.specs.Access.{fixed_at, extent_at}
+use Rattle.tree.specs.Access.{extent_at}
+use Rattle.tree.specs.Rows.{GivesPart, tree_of, fields_of}
+use Rattle.tree.specs.declared.row.Part.{Part}
+use Rattle.tree.specs.declared.row.Row.{Row}
 use Rattle.tree.specs.Read.{Reading, fine, verdict, refusal_of, read}
 use Rattle.tree.specs.Standing.{row_at, tree_at, Whole}
 use Rattle.tree.proofs.SliceLaws.{get_d-slice}
 use Rattle.tree.proofs.AccessLaws.{extent-upto}
 use Rattle.tree.proofs.FixedLaws.{upto-inj}
 use Rattle.tree.proofs.ReadLaws.{good-fine, verdict-refused}
-use Rattle.tree.proofs.StandingLaws.{row-more, row-none, tree-upto, tree-short, row-next, whole-tag}
+use Rattle.tree.proofs.PartLaws.{fields-none, fields-more, part_tag, part_fixed, part-short, part-tree}
+use Rattle.tree.proofs.StandingLaws.{tree-upto, row-next, whole-tag}
 use Rattle.tree.proofs.WidthLaws.{plain-ends, read-module}
-use Rattle.detection.specs.Detection.{first_ident, any_name, module_or_exports, other_here, found_other, found_other_in, forced_es6, es6, items_of, answers, refuses, on_reading, detect, Accepted}
+use Rattle.detection.specs.Detection.{first_ident, any_name, module_or_exports, other_here, found_other, found_other_in, forced_es6, es6, items_of, answers, refuses, on_reading, detect, Accepted, AcceptedIn}
 
 -- ---- the walk
 
-pub found-none : (s : List ℕ) (at end : ℕ) → at ≤ end → extent_at s at end ≡ None → found_other_in (row_at s at end) ≡ false
+pub found-none : (r r' : Row) → GivesPart r None r' → found_other_in (fields_of r) ≡ false
 unfolding found_other
-found-none s at end le e = ap found_other_in (row-none s at end le e)
+found-none r r' g = ap found_other_in (fields-none r r' g)
 
-pub found-more : (s : List ℕ) (at end stop : ℕ) → at ≤ end → extent_at s at end ≡ Some stop →
-    found_other_in (row_at s at end) ≡ found_other (tree_at s at stop) || found_other_in (row_at s stop end)
+pub found-more : (r : Row) (p : Part) (r' : Row) → GivesPart r (Some p) r' → found_other_in (fields_of r) ≡ found_other (tree_of p) || found_other_in (fields_of r')
 unfolding found_other
-found-more s at end stop le e = ap found_other_in (row-more s at end stop le e)
+found-more r p r' g = ap found_other_in (fields-more r p r' g)
 
-pub found-short : (s : List ℕ) (at stop : ℕ) → fixed_at s (get_or s at 0) (at + 3) stop ≡ None → found_other (tree_at s at stop) ≡ false
+pub found-short : (p : Part) → part_fixed p ≡ None → found_other (tree_of p) ≡ false
 unfolding found_other other_here
-found-short s at stop e = ap found_other (tree-short s at stop e)
+found-short p e = ap found_other (part-short p e)
 
-pub found-upto : (s : List ℕ) (at stop b : ℕ) → fixed_at s (get_or s at 0) (at + 3) stop ≡ Some b →
-    found_other (tree_at s at stop) ≡ other_here (get_or s at 0) (row_at s b stop) || found_other_in (row_at s b stop)
+pub found-upto : (p : Part) {b : ℕ} (r : Row) → part_fixed p ≡ Some b → (r.bytes.now ≡ p.bytes.now) × (r.at ≡ b) × (r.end ≡ p.stop) →
+    found_other (tree_of p) ≡ other_here (part_tag p) (fields_of r) || found_other_in (fields_of r)
 unfolding found_other
-found-upto s at stop b e = ap found_other (tree-upto s at stop b e)
+found-upto p r e m = ap found_other (part-tree p r e m)
 
 -- ---- a field by itself
 
@@ -72,43 +75,38 @@ none-here t cs h k = rw (ne_eqb t 0x63 h, ne_eqb t 0x65 k)
 
 -- ---- the first part
 
-pub first-none : (s : List ℕ) (at end : ℕ) → at ≤ end → extent_at s at end ≡ None → first_ident (row_at s at end) ≡ None
+pub first-none : (r r' : Row) → GivesPart r None r' → first_ident (fields_of r) ≡ None
 unfolding first_ident
-first-none s at end le e = ap first_ident (row-none s at end le e)
+first-none r r' g = ap first_ident (fields-none r r' g)
 
-pub first-short : (s : List ℕ) (at end stop : ℕ) → at ≤ end → extent_at s at end ≡ Some stop →
-    fixed_at s (get_or s at 0) (at + 3) stop ≡ None → first_ident (row_at s at end) ≡ None
-unfolding first_ident
-first-short s at end stop le e x =
-    ap first_ident (row-more s at end stop le e ∙ ap (λ (f : Field). more f (row_at s stop end)) (tree-short s at stop x))
+module _ (r : Row) (p : Part) (r' : Row) (g : GivesPart r (Some p) r') where
+  pub first-short : part_fixed p ≡ None → first_ident (fields_of r) ≡ None
+  unfolding first_ident
+  first-short e = ap first_ident (fields-more r p r' g ∙ ap (λ (f : Field). more f (fields_of r')) (part-short p e))
 
-pub first-upto : (s : List ℕ) (at end stop b : ℕ) → at ≤ end → extent_at s at end ≡ Some stop →
-    fixed_at s (get_or s at 0) (at + 3) stop ≡ Some b →
-    first_ident (row_at s at end) ≡ cond (eqb (get_or s at 0) 0x60) (Some (atom (two_at (slice (at + 3) b s) 0))) None
-unfolding first_ident
-first-upto s at end stop b le e x =
-    ap first_ident (row-more s at end stop le e ∙ ap (λ (f : Field). more f (row_at s stop end)) (tree-upto s at stop b x))
+  first-upto : {b : ℕ} → part_fixed p ≡ Some b → first_ident (fields_of r) ≡ cond (eqb (part_tag p) 0x60) (Some (atom (two_at (slice (p.at + 3) b p.bytes.now) 0))) None
+  unfolding first_ident
+  first-upto {b} e =
+      ap first_ident (fields-more r p r' g ∙ ap (λ (f : Field). more f (fields_of r')) (tree-upto p.bytes.now p.at p.stop b e))
 
-name-slice : (s : List ℕ) (at b : ℕ) → b ≡ at + 6 → two_at (slice at b s) 0 ≡ two_at s at
-name-slice s at b h =
-    let z : at + 0 ≡ at = omega arith in
-    ap₂ (λ (x y : ℕ). x * 256 + y) (get_d-slice at b s 0 (omega arith) ∙ ap (λ (i : ℕ). get_or s i 0) z)
-    (get_d-slice at b s 1 (omega arith))
+  name-slice : (s : List ℕ) (at b : ℕ) → b ≡ at + 6 → two_at (slice at b s) 0 ≡ two_at s at
+  name-slice s at b h =
+      let z : at + 0 ≡ at = omega arith in
+      ap₂ (λ (x y : ℕ). x * 256 + y) (get_d-slice at b s 0 (omega arith) ∙ ap (λ (i : ℕ). get_or s i 0) z)
+      (get_d-slice at b s 1 (omega arith))
 
-pub first-named : (s : List ℕ) (at end stop b : ℕ) → at ≤ end → extent_at s at end ≡ Some stop →
-    fixed_at s (get_or s at 0) (at + 3) stop ≡ Some b → get_or s at 0 ≡ 0x60 → first_ident (row_at s at end) ≡ Some (atom (two_at s (at + 3)))
-first-named s at end stop b le e x h =
-    let six = plain-ends 0x60 Id refl s (get_or s at 0) (at + 3) stop b h x in
-    first-upto s at end stop b le e x ∙ rw (eq-eqb _ _ h) (ap (λ (n : ℕ). Some (atom n)) (name-slice s (at + 3) b six))
+  pub first-named : {b : ℕ} → part_fixed p ≡ Some b → part_tag p ≡ 0x60 → first_ident (fields_of r) ≡ Some (atom (two_at p.bytes.now (p.at + 3)))
+  first-named {b} x h =
+      let six = plain-ends 0x60 Id refl p.bytes.now (part_tag p) (p.at + 3) p.stop b h x in
+      first-upto x ∙ rw (eq-eqb _ _ h) (ap (λ (n : ℕ). Some (atom n)) (name-slice p.bytes.now (p.at + 3) b six))
 
-pub first-other : (s : List ℕ) (at end stop b : ℕ) → at ≤ end → extent_at s at end ≡ Some stop →
-    fixed_at s (get_or s at 0) (at + 3) stop ≡ Some b → (get_or s at 0 ≡ 0x60 → ⊥) → first_ident (row_at s at end) ≡ None
-first-other s at end stop b le e x h = first-upto s at end stop b le e x ∙ rw (ne_eqb _ _ h)
+  pub first-other : {b : ℕ} → part_fixed p ≡ Some b → (part_tag p ≡ 0x60 → ⊥) → first_ident (fields_of r) ≡ None
+  first-other x h = first-upto x ∙ rw (ne_eqb _ _ h)
 
 -- ---- rows that reading accepts
 
 -- the field that stands first in an accepted row is accepted, and so is the row behind it
-pub accepted-next : (s : List ℕ) (at end stop : ℕ) → at ≤ end → Accepted s at end → extent_at s at end ≡ Some stop →
+accepted-next : (s : List ℕ) (at end stop : ℕ) → at ≤ end → Accepted s at end → extent_at s at end ≡ Some stop →
     Whole s at stop × Accepted s stop end
 accepted-next s at end stop le (q, w) x =
     let i = extent-upto s at end le x in
@@ -116,19 +114,26 @@ accepted-next s at end stop le (q, w) x =
     let same : f.1 ≡ stop = upto-inj (sym f.3 ∙ x) in
     subst (λ (k : ℕ). Whole s at k × Accepted s k end) same (f.4, (f.0, f.5))
 
--- ---- the items
+module _ (r : Row) (p : Part) (r' : Row) (g : GivesPart r (Some p) r') (a : AcceptedIn r) where
+  pub accepted-on : AcceptedIn r'
+  accepted-on =
+      subst₂ (λ (s : List ℕ) (e : ℕ). Accepted s r'.at e) (sym g.2) (sym g.4)
+      (subst (λ (n : ℕ). Accepted r.bytes.now n r.end) (sym g.3) (accepted-next r.bytes.now r.at r.end p.stop r.inside.0 a g.0).1)
 
-pub forced-none : (s : List ℕ) (at end : ℕ) → at ≤ end → extent_at s at end ≡ None → forced_es6 (row_at s at end) ≡ false
-unfolding forced_es6
-forced-none s at end le e = ap forced_es6 (row-none s at end le e)
+  -- ---- the items
 
-pub forced-more : (s : List ℕ) (at end stop : ℕ) → at ≤ end → Accepted s at end → extent_at s at end ≡ Some stop →
-    forced_es6 (row_at s at end) ≡ within 0x10 0x14 (get_or s at 0) || forced_es6 (row_at s stop end)
+  pub forced-more : forced_es6 (fields_of r) ≡ within 0x10 0x14 (part_tag p) || forced_es6 (fields_of r')
+  unfolding forced_es6
+  forced-more =
+      ap forced_es6 (fields-more r p r' g)
+      ∙ ap (λ (t : ℕ). within 0x10 0x14 t || forced_es6 (fields_of r'))
+      (ap₂ (λ (s : List ℕ) (n : ℕ). tag_of (tree_at s n p.stop)) g.5 g.1
+      ∙ whole-tag r.bytes.now r.at p.stop (accepted-next r.bytes.now r.at r.end p.stop r.inside.0 a g.0).0
+      ∙ ap₂ (λ (s : List ℕ) (n : ℕ). get_or s n 0) (sym g.5) (sym g.1))
+
+pub forced-none : (r r' : Row) → GivesPart r None r' → forced_es6 (fields_of r) ≡ false
 unfolding forced_es6
-forced-more s at end stop le a e =
-    ap forced_es6 (row-more s at end stop le e)
-    ∙ ap (λ (t : ℕ). within 0x10 0x14 t || forced_es6 (row_at s stop end))
-    (whole-tag s at stop (accepted-next s at end stop le a e).0)
+forced-none r r' g = ap forced_es6 (fields-none r r' g)
 
 -- ---- the whole call
 

@@ -10,6 +10,7 @@ use Rattle.tree.specs.Tree.{Field, field, Fields, none, more, tag_of, fixed_of, 
 use Rattle.tree.specs.Grammar.{find, within}
 use Rattle.tree.specs.Read.{Reading, fine, refused, refusal_of, read}
 use Rattle.tree.specs.Standing.{Row}
+use Rattle.tree.specs.declared.row.Row.{Row as Fielded}
 use Rattle.detection.specs.declared.DetectError.{DetectError}
 use Rattle.detection.specs.declared.DetectError.TheVariants.{TooLong, Unread}
 
@@ -91,3 +92,6 @@ detect modes s = cond (ltb 65538 (length s)) (refuses 1 0) (on_reading (read Mod
 -- parts that reading accepts by some rule
 abbrev pub Accepted : List ℕ → ℕ → ℕ → Type 0
 Accepted s at end = (q : Rule) × Row s at end q
+
+abbrev pub AcceptedIn : Fielded → Type 0
+AcceptedIn r = Accepted r.bytes.now r.at r.end

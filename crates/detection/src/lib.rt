@@ -1,19 +1,19 @@
 // Whether a module is an ES module. Port of `Es6ModuleDetector` and the `is_es6` expression in swc_bundler's `load.rs`.
 #![tactic(auto)]
 
-ghost use Rattle.std.specs.Prelude.{◌≡◌, ◌+◌, ◌≤◌, length};
+ghost use Rattle.std.specs.Prelude.{◌≡◌};
 ghost use Rattle.tree.specs.declared.grammar.Set.TheVariants.{Module as module-set};
 ghost use Rattle.tree.specs.Read.{read};
-ghost use Rattle.tree.specs.Standing.{tree_at, row_at};
+ghost use Rattle.tree.specs.Rows.{tree_of, fields_of};
 ghost use Rattle.detection.specs.declared.DetectError.TheVariants.{Unread as unread};
-ghost use Rattle.detection.specs.Detection.{first_ident, module_or_exports, other_here, found_other, found_other_in, forced_es6, es6, outcome_of, UnreadAs, detect, Accepted};
+ghost use Rattle.detection.specs.Detection.{first_ident, module_or_exports, other_here, found_other, found_other_in, forced_es6, es6, outcome_of, UnreadAs, detect, AcceptedIn};
 
 use modes::Modes;
 use scope::id::Atom;
-use tree::access::{extent, fixed};
 use tree::grammar::Set;
 use tree::layout::atom_at;
 use tree::read::{Unread, read_tree};
+use tree::row::{Part, Row};
 
 // The most bytes of a tree.
 const MOST: usize = 65538;
@@ -38,16 +38,14 @@ impl From<Unread> for DetectError {
     }
 }
 
-// The name of the first of the fields from `from` up to end, if it is an identifier: a call's callee, a member's object.
-fn first_ident(s: &[u8], from: usize, end: usize) -> Option<Atom>
-    requires { (from ≤ end) × (end ≤ length s.now) }
-    ensures { result ≡ first_ident (row_at s.now from end) }
+// The name of the first of the fields, if it is an identifier: a call's callee, a member's object.
+fn first_ident(mut row: Row) -> Option<Atom>
+    ensures { result ≡ first_ident (fields_of row.entry) }
 {
-    let stop = extent(s, from, end)?;
-    let tag = s[from];
-    fixed(s, tag, from + 3, stop)?;
-    if tag == 0x60 {
-        Some(Atom(atom_at(s, from + 3)))
+    let part = row.next()?;
+    part.fixed()?;
+    if part.tag() == 0x60 {
+        Some(Atom(atom_at(part.bytes, part.at + 3)))
     } else {
         None
     }
@@ -59,71 +57,62 @@ fn is_module_or_exports(name: Atom) -> bool
     name == Atom::MODULE || name == Atom::EXPORTS
 }
 
-// Whether a field with this tag and the parts from `from` up to end belongs to another module system, as `visit_member_expr` and
-// `visit_call_expr` have it.
-fn other_here(s: &[u8], tag: u8, from: usize, end: usize) -> bool
-    requires { (from ≤ end) × (end ≤ length s.now) }
-    ensures { result ≡ other_here tag (row_at s.now from end) }
+// Whether a field with this tag and these parts belongs to another module system, as `visit_member_expr` and `visit_call_expr` have it.
+fn other_here(tag: u8, parts: Row) -> bool
+    ensures { result ≡ other_here tag (fields_of parts.entry) }
 {
     match tag {
         // a member, in any context
-        0x63 => first_ident(s, from, end).is_some_and(is_module_or_exports),
+        0x63 => first_ident(parts).is_some_and(is_module_or_exports),
         // a call, whatever the name
-        0x65 => first_ident(s, from, end).is_some(),
+        0x65 => first_ident(parts).is_some(),
         _ => false,
     }
 }
 
-// Whether the field at `at` up to stop, or one below it, belongs to another module system.
+// Whether a field, or one below it, belongs to another module system.
 #[cycle(found_other_found_other_in)]
-fn found_other(s: &[u8], at: usize, stop: usize) -> bool
-    requires { (at + 3 ≤ stop) × (stop ≤ length s.now) }
-    ensures { result ≡ found_other (tree_at s.now at stop) }
+fn found_other(part: Part) -> bool
+    ensures { result ≡ found_other (tree_of part.entry) }
 {
-    let tag = s[at];
-    let Some(from) = fixed(s, tag, at + 3, stop) else {
+    let Some(from) = part.fixed() else {
         return false;
     };
-    other_here(s, tag, from, stop) || found_other_in(s, from, stop)
+    other_here(part.tag(), part.row(from)) || found_other_in(part.row(from))
 }
 
-// The same for the fields from `from` up to end.
+// The same for the fields of a row.
 #[cycle(found_other_found_other_in)]
-fn found_other_in(s: &[u8], from: usize, end: usize) -> bool
-    requires { (from ≤ end) × (end ≤ length s.now) }
-    ensures { result ≡ found_other_in (row_at s.now from end) }
+fn found_other_in(row: Row) -> bool
+    ensures { result ≡ found_other_in (fields_of row.entry) }
 {
-    let mut at = from;
-    while let Some(stop) = extent(s, at, end) {
-        if found_other(s, at, stop) {
+    for part in row {
+        if found_other(part) {
             return true;
         }
-        at = stop;
     }
     false
 }
 
-// Whether an import or an export is among the items from `from` up to end, as `visit_module_decl` has it.
-fn forced_es6(s: &[u8], from: usize, end: usize) -> bool
-    requires { (from ≤ end) × (end ≤ length s.now) × Accepted s.now from end }
-    ensures { result ≡ forced_es6 (row_at s.now from end) }
+// Whether an import or an export is among the items, as `visit_module_decl` has it.
+fn forced_es6(items: Row) -> bool
+    requires { AcceptedIn items }
+    ensures { result ≡ forced_es6 (fields_of items.entry) }
 {
-    let mut at = from;
-    while let Some(stop) = extent(s, at, end) {
-        match s[at] {
-            0x10..=0x14 => return true,
-            _ => at = stop,
+    for part in items {
+        if let 0x10..=0x14 = part.tag() {
+            return true;
         }
     }
     false
 }
 
-// The `is_es6` expression, for a module's items from `from` up to end.
-fn items_es6(modes: Modes, s: &[u8], from: usize, end: usize) -> bool
-    requires { (from ≤ end) × (end ≤ length s.now) × Accepted s.now from end }
-    ensures { result ≡ es6 modes (row_at s.now from end) }
+// The `is_es6` expression, for a module's items.
+fn items_es6(modes: Modes, items: Row) -> bool
+    requires { AcceptedIn items }
+    ensures { result ≡ es6 modes (fields_of items.entry) }
 {
-    !modes.require || forced_es6(s, from, end) || !found_other_in(s, from, end)
+    !modes.require || forced_es6(items) || !found_other_in(items)
 }
 
 // Whether a tree is an ES module. It is read first, also with require off.
@@ -134,5 +123,5 @@ pub fn is_es6(modes: Modes, tree: &[u8]) -> Result<bool, DetectError>
         return Err(DetectError::TooLong);
     }
     read_tree(tree, Set::Module)?;
-    Ok(items_es6(modes, tree, ITEMS, tree.len()))
+    Ok(items_es6(modes, Row::new(tree, ITEMS, tree.len())))
 }

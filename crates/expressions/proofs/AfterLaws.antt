@@ -6,15 +6,18 @@ use mathlib.Core.Bool.{Bool, true, false, cond}
 use mathlib.Core.List.{List, [], ◌∷◌, ◌++◌}
 use native.Mathlib.Omega.{arith}
 use lib.Dec.{eqb}
-use lib.ListN.{length, get_or}
+use lib.ListN.{length}
 use lib.Seq.{slice}
 use borrow.Author.Tests.{eq-eqb, ne_eqb}
-use Rattle.tree.specs.Layout.{Bytes, two, four, two_at, id_at}
+use Rattle.tree.specs.Layout.{two, four, two_at, id_at}
 use Rattle.tree.specs.Tree.{Field, Fields, none, more, fixed_of}
-use Rattle.tree.specs.Access.{fixed_at, extent_at}
-use Rattle.tree.specs.Standing.{tree_at, row_at}
+use Rattle.tree.specs.Standing.{row_at}
+use Rattle.tree.specs.Rows.{GivesPart, tree_of, fields_of}
+use Rattle.tree.specs.declared.row.Part.{Part}
+use Rattle.tree.specs.declared.row.Row.{Row}
 use Rattle.tree.proofs.LayoutLaws.{two_at-is}
-use Rattle.tree.proofs.StandingLaws.{row-more, row-none, tree-upto, tree-short}
+use Rattle.tree.proofs.PartLaws.{left-start, row-is, fields-none, fields-more, part_tag, part_fixed, part-short}
+use Rattle.tree.proofs.StandingLaws.{tree-upto}
 use Rattle.tree.proofs.WidthLaws.{plain-ends}
 use Rattle.tree.specs.declared.grammar.Value.TheVariants.{Atom, Id as SixBytes}
 use Rattle.inputs.specs.Fields.{has}
@@ -36,38 +39,51 @@ first-none none u = refl
 first-none (more o none) u = refl
 first-none (more o (more q qs)) u = refl
 
-module _ (s : List ℕ) (at stop : ℕ) where
-  pub after-short : (k : Pass) {t : List ℕ} → fixed_at s (get_or s at 0) (at + 3) stop ≡ None → Tells (ident_after (tree_at s at stop) k) t None
+module _ (p : Part) where
+  pub after-short : (k : Pass) {t : List ℕ} → part_fixed p ≡ None → Tells (ident_after (tree_of p) k) t None
   unfolding ident_after
-  after-short k e = record { is = λ u _. sym (ap (λ (f : Field). ident_after f k u) (tree-short s at stop e)) }
+  after-short k e = record { is = λ u _. sym (ap (λ (f : Field). ident_after f k u) (part-short p e)) }
 
-  is-tree : (k : Pass) (u : State) (b : ℕ) → fixed_at s (get_or s at 0) (at + 3) stop ≡ Some b →
-      ident_after (tree_at s at stop) k u ≡ cond (eqb (get_or s at 0) 0x63) (member_after (row_at s b stop) k u) (cond (eqb (get_or s at 0) 0x60) (Some (slice (at + 3) b s)) None)
+  is-tree : (k : Pass) (u : State) (b : ℕ) → part_fixed p ≡ Some b →
+      ident_after (tree_of p) k u
+      ≡ cond (eqb (part_tag p) 0x63) (member_after (row_at p.bytes.now b p.stop) k u)
+      (cond (eqb (part_tag p) 0x60) (Some (slice (p.at + 3) b p.bytes.now)) None)
   unfolding ident_after
-  is-tree k u b e = ap (λ (f : Field). ident_after f k u) (tree-upto s at stop b e)
+  is-tree k u b e = ap (λ (f : Field). ident_after f k u) (tree-upto p.bytes.now p.at p.stop b e)
 
-  pub after-60 : (k : Pass) (n : Id) {b : ℕ} {t : List ℕ} → fixed_at s (get_or s at 0) (at + 3) stop ≡ Some b → get_or s at 0 ≡ 0x60 → id_by n ≡ id_at s (at + 3) →
-      Tells (ident_after (tree_at s at stop) k) t (Some (id_by n))
+  pub after-60 : (k : Pass) (n : Id) {b : ℕ} {t : List ℕ} → part_fixed p ≡ Some b → part_tag p ≡ 0x60 → id_by n ≡ id_at p.bytes.now (p.at + 3) →
+      Tells (ident_after (tree_of p) k) t (Some (id_by n))
   after-60 k n {b} e h i =
-      let w = plain-ends 0x60 SixBytes refl s (get_or s at 0) (at + 3) stop b h e in
-      let x : id_by n ≡ slice (at + 3) b s = i ∙ ap (λ (c : ℕ). slice (at + 3) c s) (sym w) in
-      record { is = λ u _. sym (is-tree k u b e ∙ rw (ne_eqb (get_or s at 0) 0x63 (λ z. omega arith), eq-eqb (get_or s at 0) 0x60 h) (ap Some (sym x))) }
+      let w = plain-ends 0x60 SixBytes refl p.bytes.now (part_tag p) (p.at + 3) p.stop b h e in
+      let x : id_by n ≡ slice (p.at + 3) b p.bytes.now = i ∙ ap (λ (c : ℕ). slice (p.at + 3) c p.bytes.now) (sym w) in
+      record { is = λ u _. sym (is-tree k u b e ∙ rw (ne_eqb (part_tag p) 0x63 (λ z. omega arith), eq-eqb (part_tag p) 0x60 h) (ap Some (sym x))) }
 
-  pub after-rest : (k : Pass) {b : ℕ} {t : List ℕ} → fixed_at s (get_or s at 0) (at + 3) stop ≡ Some b → (get_or s at 0 ≡ 0x60 → ⊥) → (get_or s at 0 ≡ 0x63 → ⊥) →
-      Tells (ident_after (tree_at s at stop) k) t None
-  after-rest k {b} e h m = record { is = λ u _. sym (is-tree k u b e ∙ rw (ne_eqb (get_or s at 0) 0x63 m, ne_eqb (get_or s at 0) 0x60 h)) }
+  pub after-rest : (k : Pass) {b : ℕ} {t : List ℕ} → part_fixed p ≡ Some b → (part_tag p ≡ 0x60 → ⊥) → (part_tag p ≡ 0x63 → ⊥) →
+      Tells (ident_after (tree_of p) k) t None
+  after-rest k {b} e h m = record { is = λ u _. sym (is-tree k u b e ∙ rw (ne_eqb (part_tag p) 0x63 m, ne_eqb (part_tag p) 0x60 h)) }
 
   -- in the second pass a 63 is what its parts become
-  pub after-63 : {b : ℕ} {c : Bool} (r : Option Id) {t : List ℕ} → fixed_at s (get_or s at 0) (at + 3) stop ≡ Some b → get_or s at 0 ≡ 0x63 → c ≡ true →
-      Tells (member_after (row_at s b stop) second) t (ident_by r) → Tells (ident_after (tree_at s at stop) (pass_of c)) t (ident_by r)
-  after-63 {b} {c} r e h z w =
-      record { is = λ u v. w.is u v ∙ sym (ap (λ (p : Bool). ident_after (tree_at s at stop) (pass_of p) u) z ∙ is-tree second u b e ∙ rw (eq-eqb (get_or s at 0) 0x63 h)) }
+  pub after-63 : {b : ℕ} {c : Bool} (r : Option Id) (row : Row) {t : List ℕ} → part_fixed p ≡ Some b → part_tag p ≡ 0x63 → c ≡ true →
+      (row.bytes.now ≡ p.bytes.now) × (row.at ≡ b) × (row.end ≡ p.stop) →
+      Tells (member_after (fields_of row) second) t (ident_by r) → Tells (ident_after (tree_of p) (pass_of c)) t (ident_by r)
+  after-63 {b} {c} r row e h z m w =
+      record {
+        is = λ u v.
+            w.is u v
+            ∙ ap (λ (f : Fields). member_after f second u) (row-is (left-start row m))
+            ∙ sym (ap (λ (k : Bool). ident_after (tree_of p) (pass_of k) u) z ∙ is-tree second u b e ∙ rw (eq-eqb (part_tag p) 0x63 h));
+      }
 
   -- in the first it is no id
-  pub after-first : {b : ℕ} {c : Bool} {t : List ℕ} → fixed_at s (get_or s at 0) (at + 3) stop ≡ Some b → get_or s at 0 ≡ 0x63 → c ≡ false →
-      Tells (ident_after (tree_at s at stop) (pass_of c)) t None
+  pub after-first : {b : ℕ} {c : Bool} {t : List ℕ} → part_fixed p ≡ Some b → part_tag p ≡ 0x63 → c ≡ false →
+      Tells (ident_after (tree_of p) (pass_of c)) t None
   after-first {b} {c} e h z =
-      record { is = λ u v. sym (ap (λ (p : Bool). ident_after (tree_at s at stop) (pass_of p) u) z ∙ is-tree first u b e ∙ rw (eq-eqb (get_or s at 0) 0x63 h) (first-none (row_at s b stop) u)) }
+      record {
+        is = λ u v.
+            sym (ap (λ (k : Bool). ident_after (tree_of p) (pass_of k) u) z
+            ∙ is-tree first u b e
+            ∙ rw (eq-eqb (part_tag p) 0x63 h) (first-none (row_at p.bytes.now b p.stop) u));
+      }
 
 -- ---- The parts of a 63, in the second pass
 
@@ -116,68 +132,70 @@ object-named o none u i c h k m = refl
 object-named o (more q qs) u i c h k m =
     on-object o q qs u i h ∙ ap (λ (d : Option (List ℕ)). as_ident (usages_of i u.usages) d q) (sym m) ∙ with-both (usages_of i u.usages) c q (sym k)
 
-module _ (s : List ℕ) (at end : ℕ) (le : at ≤ end) where
-  pub member-none : {t : List ℕ} → extent_at s at end ≡ None → Tells (member_after (row_at s at end) second) t None
-  unfolding ident_after
-  member-none e = record { is = λ u _. sym (ap (λ (f : Fields). member_after f second u) (row-none s at end le e)) }
+pub member-none : (row row' : Row) {t : List ℕ} → GivesPart row None row' → Tells (member_after (fields_of row) second) t None
+unfolding ident_after
+member-none row row' g = record { is = λ u _. sym (ap (λ (f : Fields). member_after f second u) (fields-none row row' g)) }
 
-  module _ {stop : ℕ} (e : extent_at s at end ≡ Some stop) where
-    row-is : (u : State) → member_after (row_at s at end) second u ≡ member_after (more (tree_at s at stop) (row_at s stop end)) second u
-    row-is u = ap (λ (f : Fields). member_after f second u) (row-more s at end stop le e)
+module _ (row : Row) (o : Part) (row' : Row) (g : GivesPart row (Some o) row') where
+  members-are : (u : State) → member_after (fields_of row) second u ≡ member_after (more (tree_of o) (fields_of row')) second u
+  members-are u = ap (λ (f : Fields). member_after f second u) (fields-more row o row' g)
 
-    pub member-other : {r : Option Id} {t : List ℕ} → r ≡ None → Tells (ident_after (tree_at s at stop) second) t (ident_by r) →
-        Tells (member_after (row_at s at end) second) t None
-    member-other h w =
-        record { is = λ u v. sym (row-is u ∙ no-object (tree_at s at stop) (row_at s stop end) u (sym (w.is u v) ∙ ap ident_by h)) }
+  pub member-other : {r : Option Id} {t : List ℕ} → r ≡ None → Tells (ident_after (tree_of o) second) t (ident_by r) → Tells (member_after (fields_of row) second) t None
+  member-other h w =
+      record { is = λ u v. sym (members-are u ∙ no-object (tree_of o) (fields_of row') u (sym (w.is u v) ∙ ap ident_by h)) }
 
-    module _ {n : Id} {r : Option Id} {t : List ℕ} (h : r ≡ Some n) (w : Tells (ident_after (tree_at s at stop) second) t (ident_by r)) where
-      object_is : {x : Env} (u : State) → Shows x t u → Some (id_by n) ≡ ident_after (tree_at s at stop) second u
-      object_is u v = ap ident_by (sym h) ∙ w.is u v
+  module _ {n : Id} {r : Option Id} {t : List ℕ} (h : r ≡ Some n) (w : Tells (ident_after (tree_of o) second) t (ident_by r)) where
+    object_is : {x : Env} (u : State) → Shows x t u → Some (id_by n) ≡ ident_after (tree_of o) second u
+    object_is u v = ap ident_by (sym h) ∙ w.is u v
 
-      pub member-unused : {b : Bool} → b ≡ false → Tells (λ u. any (usages_of (id_by n) u.usages)) t b → Tells (member_after (row_at s at end) second) t None
-      member-unused k p =
-          record { is = λ u v. sym (row-is u ∙ object-unused (tree_at s at stop) (row_at s stop end) u (id_by n) (object_is u v) (sym k ∙ p.is u v)) }
+    pub member-unused : {b : Bool} → b ≡ false → Tells (λ u. any (usages_of (id_by n) u.usages)) t b → Tells (member_after (fields_of row) second) t None
+    member-unused k p =
+        record { is = λ u v. sym (members-are u ∙ object-unused (tree_of o) (fields_of row') u (id_by n) (object_is u v) (sym k ∙ p.is u v)) }
 
-      pub member-nowhere : {c : Option SyntaxContext} → c ≡ None → Tells (λ u. imported_as (id_by n) u.imported) t (context_by c) →
-          Tells (member_after (row_at s at end) second) t None
-      member-nowhere k p = record { is = λ u v. sym (row-is u ∙ object-nowhere (tree_at s at stop) (row_at s stop end) u (id_by n) (object_is u v) (ap context_by (sym k) ∙ p.is u v)) }
+    pub member-nowhere : {c : Option SyntaxContext} → c ≡ None → Tells (λ u. imported_as (id_by n) u.imported) t (context_by c) →
+        Tells (member_after (fields_of row) second) t None
+    member-nowhere k p =
+        record { is = λ u v. sym (members-are u ∙ object-nowhere (tree_of o) (fields_of row') u (id_by n) (object_is u v) (ap context_by (sym k) ∙ p.is u v)) }
 
-      pub member-named : {b : Bool} {c : Option SyntaxContext} {d : SyntaxContext} (q : Option Id) → b ≡ true → Tells (λ u. any (usages_of (id_by n) u.usages)) t b → c ≡ Some d →
-          Tells (λ u. imported_as (id_by n) u.imported) t (context_by c) → ident_by q ≡ named_first (row_at s stop end) (four d.0) →
-          Tells (member_after (row_at s at end) second) t (ident_by q)
-      member-named {d = d} q k p m o f =
-          record {
-            is = λ u v.
-                f
-                ∙
-                sym (row-is u
-                ∙ object-named (tree_at s at stop) (row_at s stop end) u (id_by n) (four d.0) (object_is u v) (sym k ∙ p.is u v)
-                (ap context_by (sym m) ∙ o.is u v));
-          }
+    pub member-named : {b : Bool} {c : Option SyntaxContext} {d : SyntaxContext} (q : Option Id) → b ≡ true → Tells (λ u. any (usages_of (id_by n) u.usages)) t b → c ≡ Some d →
+        Tells (λ u. imported_as (id_by n) u.imported) t (context_by c) → ident_by q ≡ named_first (fields_of row') (four d.0) →
+        Tells (member_after (fields_of row) second) t (ident_by q)
+    member-named {d = d} q k p m i f =
+        record {
+          is = λ u v.
+              f
+              ∙
+              sym (members-are u
+              ∙ object-named (tree_of o) (fields_of row') u (id_by n) (four d.0) (object_is u v) (sym k ∙ p.is u v)
+              (ap context_by (sym m) ∙ i.is u v));
+        }
 
 -- ---- The member
 
-module _ (s : List ℕ) (at end : ℕ) (c : List ℕ) (le : at ≤ end) where
-  pub named-none : extent_at s at end ≡ None → None ≡ named_first (row_at s at end) c
+pub named-none : (row row' : Row) (c : List ℕ) → GivesPart row None row' → None ≡ named_first (fields_of row) c
+unfolding named_first
+named-none row row' c g = sym (ap (λ (f : Fields). named_first f c) (fields-none row row' g))
+
+module _ (row : Row) (p : Part) (row' : Row) (c : List ℕ) (g : GivesPart row (Some p) row') where
+  pub named-short : part_fixed p ≡ None → None ≡ named_first (fields_of row) c
   unfolding named_first
-  named-none e = sym (ap (λ (f : Fields). named_first f c) (row-none s at end le e))
+  named-short x =
+      sym (ap (λ (f : Fields). named_first f c) (fields-more row p row' g ∙ ap (λ (f : Field). more f (fields_of row')) (part-short p x)))
 
-  module _ {stop : ℕ} (e : extent_at s at end ≡ Some stop) where
-    pub named-short : fixed_at s (get_or s at 0) (at + 3) stop ≡ None → None ≡ named_first (row_at s at end) c
-    unfolding named_first
-    named-short x = sym (ap (λ (f : Fields). named_first f c) (row-more s at end stop le e ∙ ap (λ (f : Field). more f (row_at s stop end)) (tree-short s at stop x)))
+  named-is : (b : ℕ) → part_fixed p ≡ Some b → named_first (fields_of row) c ≡ cond (eqb (part_tag p) 0x70) (Some (slice (p.at + 3) b p.bytes.now ++ c)) None
+  unfolding named_first
+  named-is b x =
+      ap (λ (f : Fields). named_first f c)
+      (fields-more row p row' g ∙ ap (λ (f : Field). more f (fields_of row')) (tree-upto p.bytes.now p.at p.stop b x))
 
-    named-is : (b : ℕ) → fixed_at s (get_or s at 0) (at + 3) stop ≡ Some b →
-        named_first (row_at s at end) c ≡ cond (eqb (get_or s at 0) 0x70) (Some (slice (at + 3) b s ++ c)) None
-    unfolding named_first
-    named-is b x = ap (λ (f : Fields). named_first f c) (row-more s at end stop le e ∙ ap (λ (f : Field). more f (row_at s stop end)) (tree-upto s at stop b x))
+  pub named-70 : {b a : ℕ} → p.at + 5 ≤ length p.bytes.now → part_fixed p ≡ Some b → part_tag p ≡ 0x70 → a ≡ two_at p.bytes.now (p.at + 3) →
+      Some (two a ++ c) ≡ named_first (fields_of row) c
+  named-70 {b} {a} fits x h z =
+      let s = p.bytes.now in
+      let w = plain-ends 0x70 Atom refl s (part_tag p) (p.at + 3) p.stop b h x in
+      let y : two a ≡ slice (p.at + 3) b s =
+      ap two z ∙ two_at-is s (p.at + 3) p.of_bytes (omega arith) ∙ ap (λ (k : ℕ). slice (p.at + 3) k s) (sym w) in
+      sym (named-is b x ∙ rw (eq-eqb (part_tag p) 0x70 h) (ap Some (sym (ap (λ (l : List ℕ). l ++ c) y))))
 
-    pub named-70 : {b a : ℕ} → Bytes s → at + 5 ≤ length s → fixed_at s (get_or s at 0) (at + 3) stop ≡ Some b → get_or s at 0 ≡ 0x70 → a ≡ two_at s (at + 3) →
-        Some (two a ++ c) ≡ named_first (row_at s at end) c
-    named-70 {b} {a} bs fits x h z =
-        let w = plain-ends 0x70 Atom refl s (get_or s at 0) (at + 3) stop b h x in
-        let y : two a ≡ slice (at + 3) b s = ap two z ∙ two_at-is s (at + 3) bs (omega arith) ∙ ap (λ (k : ℕ). slice (at + 3) k s) (sym w) in
-        sym (named-is b x ∙ rw (eq-eqb (get_or s at 0) 0x70 h) (ap Some (sym (ap (λ (l : List ℕ). l ++ c) y))))
-
-    pub named-rest : {b : ℕ} → fixed_at s (get_or s at 0) (at + 3) stop ≡ Some b → (get_or s at 0 ≡ 0x70 → ⊥) → None ≡ named_first (row_at s at end) c
-    named-rest {b} x h = sym (named-is b x ∙ rw (ne_eqb (get_or s at 0) 0x70 h))
+  pub named-rest : {b : ℕ} → part_fixed p ≡ Some b → (part_tag p ≡ 0x70 → ⊥) → None ≡ named_first (fields_of row) c
+  named-rest {b} x h = sym (named-is b x ∙ rw (ne_eqb (part_tag p) 0x70 h))

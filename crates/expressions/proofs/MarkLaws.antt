@@ -36,7 +36,6 @@ module _ (l : Literal) {t t1 : List ℕ} {r : Result (Option ModuleId) TooManyFi
   unfolding mark_cjs
   mark-marked {n} {t2} h m =
       record {
-        good = m.good;
         marked = λ k o {x} f p s v y.
             subst (λ (j : Option ModuleId). Gave x (mark_required x.setting (literal_by x l) f p s) (called j f) t2) (same o)
             (let g = w.resolved (Some n) h s p v in
@@ -48,7 +47,6 @@ module _ (l : Literal) {t t1 : List ℕ} {r : Result (Option ModuleId) TooManyFi
   unfolding mark_cjs
   mark-unresolved h =
       record {
-        good = w.good;
         marked = λ k o {x} f p s v y.
             subst (λ (j : Option ModuleId). Gave x (mark_required x.setting (literal_by x l) f p s) (called j f) t1) (same o)
             (let g = w.resolved None h s p v in
@@ -59,7 +57,6 @@ module _ (l : Literal) {t t1 : List ℕ} {r : Result (Option ModuleId) TooManyFi
   pub mark-full : {e : TooManyFiles} → r ≡ Err e → Requires l t t1 (Err e)
   mark-full {e} h =
       record {
-        good = w.good;
         marked = λ k o {x} f p s v y. absurd (cc);
         full = λ d o {x} f p s v y. mark-is x f p s y _ (w.full e h s p v);
       }

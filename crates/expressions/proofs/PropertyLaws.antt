@@ -5,25 +5,26 @@ use mathlib.Core.Path.{◌≡◌, refl, sym, ap, ap₂, subst, ◌∙◌}
 use mathlib.Core.Logic.{⊎_elim}
 use mathlib.Core.List.{List, ◌++◌}
 use native.Mathlib.Omega.{arith}
-use lib.ListN.{length, get_or}
+use lib.ListN.{length}
 use lib.Seq.{slice}
 use borrow.Author.Tests.{eq-eqb, ne_eqb}
 use Rattle.scope.specs.declared.id.SyntaxContext.{SyntaxContext}
 use Rattle.scope.specs.declared.id.Id.{Id}
 use Rattle.scope.specs.declared.id.ModuleId.{ModuleId}
 use Rattle.scope.specs.Id.{export, export_ctxt}
-use Rattle.tree.specs.Layout.{Bytes, two, four, two_at, value_of}
+use Rattle.tree.specs.Layout.{two, four, two_at, value_of}
 use Rattle.tree.specs.Tree.{Field, tag_of, fixed_of}
-use Rattle.tree.specs.Access.{fixed_at}
-use Rattle.tree.specs.Standing.{tree_at}
+use Rattle.tree.specs.Rows.{tree_of}
+use Rattle.tree.specs.declared.row.Part.{Part}
 use Rattle.tree.proofs.LayoutLaws.{two_at-is}
-use Rattle.tree.proofs.StandingLaws.{tree-upto, tree-short}
+use Rattle.tree.proofs.PartLaws.{part_tag, part_fixed, part-short}
+use Rattle.tree.proofs.StandingLaws.{tree-upto}
 use Rattle.tree.proofs.WidthLaws.{plain-ends}
 use Rattle.tree.specs.declared.grammar.Value.TheVariants.{Atom as TwoBytes}
 use Rattle.inputs.specs.Outcome.{Outcome, done, refused, onto}
 use Rattle.extraction_rules.specs.State.{Record, State, Setting}
 use Rattle.extraction_rules.specs.First.{module_for, used_record, add_usage, use_from, use_property}
-use Rattle.state.specs.Cells.{Env, Good, id_by, Shows}
+use Rattle.state.specs.Cells.{Env, id_by, Shows}
 use Rattle.state.specs.Does.{Tells, Says, Acts, Anyhow, Resolves, source_of, source_by}
 use Rattle.scope.specs.declared.id.Atom.{Atom}
 use Rattle.scope.specs.declared.TooManyFiles.{TooManyFiles}
@@ -47,47 +48,48 @@ unfolding use_property
 property-is n i q at p u j h e =
     rw (ne_eqb (tag_of q) 0x72 (λ z. omega arith)) (ap (λ (k : List ℕ). add_usage (record { id = i; property = k }) p u) (sym e))
 
-module _ (s : List ℕ) (at member end : ℕ) (id : Id) (n : ModuleId) where
+module _ (q : Part) (at : ℕ) (id : Id) (n : ModuleId) where
   abbrev Uses : List ℕ → List ℕ → Effect → Type 0
-  Uses t t' k = Effects (λ x u. Named (tree_at s member end)) (λ _. use_property (Some n.0) (id_by id) (tree_at s member end) member at) t t' k
+  Uses t t' k = Effects (λ x u. Named (tree_of q)) (λ _. use_property (Some n.0) (id_by id) (tree_of q) q.at at) t t' k
 
-  pub property-short : {t : List ℕ} → Good t → fixed_at s (get_or s member 0) (member + 3) end ≡ None → Uses t t (Ok tt)
-  property-short g e =
-      let z : tag_of (tree_at s member end) ≡ 0 = ap tag_of (tree-short s member end e) in
-      effects-skip g (λ x u v w. absurd (⊎_elim (λ a. omega arith) (λ a. omega arith) w))
+  pub property-short : {t : List ℕ} → part_fixed q ≡ None → Uses t t (Ok tt)
+  property-short e =
+      let z : tag_of (tree_of q) ≡ 0 = ap tag_of (part-short q e) in
+      effects-skip (λ x u v w. absurd (⊎_elim (λ a. omega arith) (λ a. omega arith) w))
 
-  module _ {b : ℕ} (e : fixed_at s (get_or s member 0) (member + 3) end ≡ Some b) where
-    tag-is : tag_of (tree_at s member end) ≡ get_or s member 0
-    tag-is = ap tag_of (tree-upto s member end b e)
+  module _ {b : ℕ} (e : part_fixed q ≡ Some b) where
+    tag-is : tag_of (tree_of q) ≡ part_tag q
+    tag-is = ap tag_of (tree-upto q.bytes.now q.at q.stop b e)
 
-    pub property-private : {t : List ℕ} → Good t → get_or s member 0 ≡ 0x72 → Uses t t (Err (refusal PrivateName member))
-    property-private g h =
-        effects-refuse PrivateName member g (λ x u v w. private-is n.0 (id_by id) (tree_at s member end) member at u (tag-is ∙ h))
+    pub property-private : {t : List ℕ} → part_tag q ≡ 0x72 → Uses t t (Err (refusal PrivateName q.at))
+    property-private h =
+        effects-refuse PrivateName q.at (λ x u v w. private-is n.0 (id_by id) (tree_of q) q.at at u (tag-is ∙ h))
 
-    pub property-other : {t : List ℕ} → Good t → (get_or s member 0 ≡ 0x72 → ⊥) → (get_or s member 0 ≡ 0x70 → ⊥) → Uses t t (Ok tt)
-    property-other g h k =
-        effects-skip g (λ x u v w. absurd (⊎_elim (λ a. k (sym tag-is ∙ a)) (λ a. h (sym tag-is ∙ a)) w))
+    pub property-other : {t : List ℕ} → (part_tag q ≡ 0x72 → ⊥) → (part_tag q ≡ 0x70 → ⊥) → Uses t t (Ok tt)
+    property-other h k =
+        effects-skip (λ x u v w. absurd (⊎_elim (λ a. k (sym tag-is ∙ a)) (λ a. h (sym tag-is ∙ a)) w))
 
-    module _ {j : Id} {t t' : List ℕ} {r : Result Unit TableFull} (bs : Bytes s) (fits : member + 5 ≤ length s) (tag : get_or s member 0 ≡ 0x70) (z : j.0.0 ≡ two_at s (member + 3))
-        (m : j.1 ≡ export_ctxt n) (k : Acts Anyhow (λ _. add_usage (record { id = id_by id; property = id_by j })) t t' r) where
-      named : id_by j ≡ fixed_of (tree_at s member end) ++ four (export n.0)
+    module _ {j : Id} {t t' : List ℕ} {r : Result Unit TableFull} (fits : q.at + 5 ≤ length q.bytes.now) (tag : part_tag q ≡ 0x70)
+        (z : j.0.0 ≡ two_at q.bytes.now (q.at + 3)) (m : j.1 ≡ export_ctxt n) (k : Acts Anyhow (λ _. add_usage (record { id = id_by id; property = id_by j })) t t' r) where
+      named : id_by j ≡ fixed_of (tree_of q) ++ four (export n.0)
       named =
-          let w = plain-ends 0x70 TwoBytes refl s (get_or s member 0) (member + 3) end b tag e in
-          let y : two j.0.0 ≡ slice (member + 3) b s = ap two z ∙ two_at-is s (member + 3) bs (omega arith) ∙ ap (λ (k : ℕ). slice (member + 3) k s) (sym w) in
-          ap₂ ◌++◌ (y ∙ sym (ap fixed_of (tree-upto s member end b e))) (ap (λ (x : SyntaxContext). four x.0) m)
+          let w = plain-ends 0x70 TwoBytes refl q.bytes.now (part_tag q) (q.at + 3) q.stop b tag e in
+          let y : two j.0.0 ≡ slice (q.at + 3) b q.bytes.now =
+          ap two z ∙ two_at-is q.bytes.now (q.at + 3) q.of_bytes (omega arith) ∙ ap (λ (k : ℕ). slice (q.at + 3) k q.bytes.now) (sym w) in
+          ap₂ ◌++◌ (y ∙ sym (ap fixed_of (tree-upto q.bytes.now q.at q.stop b e))) (ap (λ (x : SyntaxContext). four x.0) m)
 
       pub property-made : r ≡ Ok tt → Uses t t' (Ok tt)
-      property-made q = effects-made at k q (λ x u v w. (tt, property-is n.0 (id_by id) (tree_at s member end) member at u (id_by j) (tag-is ∙ tag) named))
+      property-made h = effects-made at k h (λ x u v w. (tt, property-is n.0 (id_by id) (tree_of q) q.at at u (id_by j) (tag-is ∙ tag) named))
 
       pub property-full : {e : TableFull} → r ≡ Err e → Uses t t' (Err (refusal no-room at))
-      property-full q = effects-full at k q (λ x u v w. (tt, property-is n.0 (id_by id) (tree_at s member end) member at u (id_by j) (tag-is ∙ tag) named))
+      property-full h = effects-full at k h (λ x u v w. (tt, property-is n.0 (id_by id) (tree_of q) q.at at u (id_by j) (tag-is ∙ tag) named))
 
       pub property-asked : {f : Effect} → (r ≡ Ok tt → f ≡ Ok tt) → ((e : TableFull) → r ≡ Err e → f ≡ Err (refusal no-room at)) → Uses t t' f
       property-asked {f} m n = go r refl
         where
           go : (a : Result Unit TableFull) → r ≡ a → Uses t t' f
-          go (Ok a) q = subst (Uses t t') (sym (m q)) (property-made q)
-          go (Err e) q = subst (Uses t t') (sym (n e q)) (property-full q)
+          go (Ok a) h = subst (Uses t t') (sym (m h)) (property-made h)
+          go (Err e) h = subst (Uses t t') (sym (n e h)) (property-full h)
 
 -- ---- The record
 
@@ -120,9 +122,9 @@ record-is id own r o w x u v = w.is u v ∙ ap (λ (n : ℕ). source_of (used_re
 
 module _ (q : Field) (at member : ℕ) (id : Id) {t : List ℕ} {own : ModuleId} {r : Option Atom} (o : Says (λ e. e.own) t own.0)
     (w : Tells (λ u. source_of (used_record own.0 (id_by id) u.collected)) t (source_by r)) where
-  pub from-none : Good t → r ≡ None → UsesFrom q at member id t t (Ok tt)
-  from-none g h =
-      effects-skip g (λ x u v n. no_record (used_record x.setting.own (id_by id) u.collected) x.setting (id_by id) q member at u (ap source_by (sym h) ∙ record-is id own r o w x u v))
+  pub from-none : r ≡ None → UsesFrom q at member id t t (Ok tt)
+  from-none h =
+      effects-skip (λ x u v n. no_record (used_record x.setting.own (id_by id) u.collected) x.setting (id_by id) q member at u (ap source_by (sym h) ∙ record-is id own r o w x u v))
 
   module _ {a : Atom} {t1 : List ℕ} {m : Result (Option ModuleId) TooManyFiles} (h : r ≡ Some a) (k : Resolves (λ e. module_for e (two a.0)) t t1 m) where
     on-module : {x : Env} (u : State) → Shows x t u → (b : Outcome (Option ℕ × State)) → module_for x.setting (two a.0) at u ≡ b →
@@ -135,7 +137,6 @@ module _ (q : Field) (at member : ℕ) (id : Id) {t : List ℕ} {own : ModuleId}
         UsesFrom q at member id t t2 f
     from-number {n} z y =
         record {
-          good = y.good;
           fine = λ o {x} u v c.
               let g = k.resolved (Some n) z u at v in
               let d = y.fine o g.state g.shows c in
@@ -148,7 +149,6 @@ module _ (q : Field) (at member : ℕ) (id : Id) {t : List ℕ} {own : ModuleId}
     pub from-unresolved : m ≡ Ok None → UsesFrom q at member id t t1 (Ok tt)
     from-unresolved z =
         record {
-          good = k.good;
           fine = λ o {x} u v c.
               let g = k.resolved None z u at v in
               record { state = g.state; is = on-module u v (done (None, g.state)) g.is ∙ no-property (id_by id) q member at g.state; shows = g.shows };
@@ -156,4 +156,4 @@ module _ (q : Field) (at member : ℕ) (id : Id) {t : List ℕ} {own : ModuleId}
         }
 
     pub from-full : {e : TooManyFiles} → m ≡ Err e → UsesFrom q at member id t t1 (Err (refusal too-many at))
-    from-full {e} z = effects-refuse too-many at k.good (λ x u v c. on-module u v (refused 5 at) (k.full e z u at v))
+    from-full {e} z = effects-refuse too-many at (λ x u v c. on-module u v (refused 5 at) (k.full e z u at v))

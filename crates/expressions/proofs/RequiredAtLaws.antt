@@ -1,21 +1,23 @@
--- The literal of a call that is a require call once it is walked, read off the bytes: one law for each way through source_at and required_at.
+-- The literal of a call that is a require call once it is walked, read off the bytes: one law for each way through source_in and required_at.
 use Rattle.std.specs.Prelude.{Option, None, Some}
 use Prim.Native.Nat.{ℕ, ◌+◌, ◌≤◌, ◌<◌}
-use mathlib.Core.Path.{◌≡◌, refl, sym, ap, ◌∙◌}
+use mathlib.Core.Path.{◌≡◌, refl, sym, ap, subst, ◌∙◌}
 use mathlib.Core.Bool.{Bool, true, false, cond, ◌&&◌, and-false}
 use mathlib.Core.List.{List, []}
 use native.Mathlib.Omega.{arith}
 use lib.Dec.{eqb}
-use lib.ListN.{length, get_or}
+use lib.ListN.{length}
 use lib.Seq.{slice}
 use borrow.Author.Tests.{eq-eqb, ne_eqb}
 use Rattle.tree.specs.Layout.{two, id_at, value_of}
 use Rattle.tree.specs.Tree.{Field, field, Fields, none, more}
-use Rattle.tree.specs.Access.{fixed_at, extent_at}
-use Rattle.tree.specs.Standing.{tree_at, row_at}
+use Rattle.tree.specs.Standing.{row_at}
+use Rattle.tree.specs.Rows.{GivesPart, tree_of, fields_of}
+use Rattle.tree.specs.declared.row.Part.{Part}
+use Rattle.tree.specs.declared.row.Row.{Row}
+use Rattle.tree.proofs.PartLaws.{fields-none, fields-more, part_tag, part_fixed, part-short}
 use Rattle.tree.proofs.LayoutLaws.{same-two}
-use Rattle.tree.proofs.StandingLaws.{row-more, row-none, tree-upto, tree-short}
-use Rattle.tree.proofs.WidthLaws.{tree-bare}
+use Rattle.tree.proofs.StandingLaws.{tree-upto}
 use Rattle.inputs.specs.Lists.{among}
 use Rattle.inputs.specs.Fields.{sole}
 use Rattle.extraction_rules.specs.State.{State, Pass, first, second, Setting}
@@ -27,6 +29,7 @@ use Rattle.state.specs.declared.Literal.{Literal}
 use Rattle.steps.specs.Step.{ident_by, Reads}
 use Rattle.expressions.specs.After.{pass_of, ident_after, if_require, required_after}
 use Rattle.expressions.specs.Require.{FoundIs, Found, RequiredIs}
+use Rattle.expressions.proofs.BareLaws.{bare-part}
 
 -- ---- Fields
 
@@ -106,54 +109,59 @@ pass-is : (k : Pass) → pass_of (is_second k) ≡ k
 pass-is first = refl
 pass-is second = refl
 
-module _ (s : List ℕ) (at stop : ℕ) where
-  abbrev Answers : List ℕ → (Option Literal) → Type 0
-  Answers t r = RequiredIs (λ e. required_after e (tree_at s at stop)) s t r
+module _ (p : Part) where
+  abbrev Answers : List ℕ → Option Literal → Type 0
+  Answers t r = RequiredIs (λ e. required_after e (tree_of p)) p.bytes.now t r
 
-  pub call-other : {t : List ℕ} → (get_or s at 0 ≡ 0x65 → ⊥) → Answers t None
-  call-other h = record { is = λ {x} u v n. go x.setting u (fixed_at s (get_or s at 0) (at + 3) stop) refl }
+  pub call-other : {t : List ℕ} → (part_tag p ≡ 0x65 → ⊥) → Answers t None
+  call-other h = record { is = λ {x} u v n. go x.setting u (part_fixed p) refl }
     where
-      go : (e : Setting) (u : State) (r : Option ℕ) → fixed_at s (get_or s at 0) (at + 3) stop ≡ r → required_after e (tree_at s at stop) u ≡ None
-      go e u None x = ap (λ (f : Field). required_after e f u) (tree-short s at stop x) ∙ not-call e 0 [] none u (λ z. omega arith)
-      go e u (Some b) x = ap (λ (f : Field). required_after e f u) (tree-upto s at stop b x) ∙ not-call e (get_or s at 0) (slice (at + 3) b s) (row_at s b stop) u h
+      go : (e : Setting) (u : State) (r : Option ℕ) → part_fixed p ≡ r → required_after e (tree_of p) u ≡ None
+      go e u None x = ap (λ (f : Field). required_after e f u) (part-short p x) ∙ not-call e 0 [] none u (λ z. omega arith)
+      go e u (Some b) x =
+          ap (λ (f : Field). required_after e f u) (tree-upto p.bytes.now p.at p.stop b x)
+          ∙ not-call e (part_tag p) (slice (p.at + 3) b p.bytes.now) (row_at p.bytes.now b p.stop) u h
 
   module _ {t : List ℕ} {on : Bool} (o : Says (λ e. e.config.require) t on) where
     pub call-off : on ≡ false → Answers t None
-    call-off h = record { is = λ {x} u v n. not-on x.setting (tree_at s at stop) u (sym (o.is u v) ∙ h) }
+    call-off h = record { is = λ {x} u v n. not-on x.setting (tree_of p) u (sym (o.is u v) ∙ h) }
 
-    module _ (h : on ≡ true) (le : at + 3 ≤ stop) (tag : get_or s at 0 ≡ 0x65) where
-      pub call-bare : extent_at s (at + 3) stop ≡ None → Answers t None
+    module _ (h : on ≡ true) (tag : part_tag p ≡ 0x65) (row : Row) (m : (row.bytes.now ≡ p.bytes.now) × (row.at ≡ p.at + 3) × (row.end ≡ p.stop)) where
+      pub call-bare : (row' : Row) → GivesPart row None row' → Answers t None
       unfolding required_after
-      call-bare x =
+      call-bare row' g =
           record {
             is = λ {x = y} u v n.
-                ap (λ (f : Field). required_after y.setting f u) (tree-bare 0x65 refl s at stop le tag ∙ ap (field 0x65 []) (row-none s (at + 3) stop le x));
+                ap (λ (f : Field). required_after y.setting f u) (bare-part 0x65 refl p row tag m ∙ ap (field 0x65 []) (fields-none row row' g));
           }
 
-      module _ {callee : ℕ} {pass : Bool} (r : Option Id) (x : extent_at s (at + 3) stop ≡ Some callee) (p : Says (λ e. is_second e.pass) t pass)
-          (w : Tells (ident_after (tree_at s (at + 3) callee) (pass_of pass)) t (ident_by r)) where
+      module _ (callee : Part) (gs : Row) (g : GivesPart row (Some callee) gs) {pass : Bool} (r : Option Id) (k : Says (λ e. is_second e.pass) t pass)
+          (w : Tells (ident_after (tree_of callee) (pass_of pass)) t (ident_by r)) where
         -- by the id of its callee
         call-is : {y : Env} (u : State) → Shows y t u →
-            required_after y.setting (tree_at s at stop) u ≡ if_require (ident_by r) (not_external y.setting (argument (sole (row_at s callee stop))))
+            required_after y.setting (tree_of p) u ≡ if_require (ident_by r) (not_external y.setting (argument (sole (fields_of gs))))
         call-is {y} u v =
-            ap (λ (f : Field). required_after y.setting f u) (tree-bare 0x65 refl s at stop le tag ∙ ap (field 0x65 []) (row-more s (at + 3) stop callee le x))
-            ∙ is-call y.setting (tree_at s (at + 3) callee) (row_at s callee stop) u (sym (o.is u v) ∙ h)
-            ∙ ap (λ (i : Option (List ℕ)). if_require i (not_external y.setting (argument (sole (row_at s callee stop)))))
-            (sym (w.is u v ∙ ap (λ (k : Pass). ident_after (tree_at s (at + 3) callee) k u) (ap pass_of (p.is u v) ∙ pass-is y.setting.pass)))
+            ap (λ (f : Field). required_after y.setting f u) (bare-part 0x65 refl p row tag m ∙ ap (field 0x65 []) (fields-more row callee gs g))
+            ∙ is-call y.setting (tree_of callee) (fields_of gs) u (sym (o.is u v) ∙ h)
+            ∙ ap (λ (i : Option (List ℕ)). if_require i (not_external y.setting (argument (sole (fields_of gs)))))
+            (sym (w.is u v ∙ ap (λ (q : Pass). ident_after (tree_of callee) q u) (ap pass_of (k.is u v) ∙ pass-is y.setting.pass)))
 
         pub call-nameless : r ≡ None → Answers t None
-        call-nameless i = record { is = λ {x = y} u v n. call-is u v ∙ ap (λ (r : Option Id). if_require (ident_by r) (not_external y.setting (argument (sole (row_at s callee stop))))) i }
+        call-nameless i =
+            record { is = λ {x = y} u v n. call-is u v ∙ ap (λ (r : Option Id). if_require (ident_by r) (not_external y.setting (argument (sole (fields_of gs))))) i }
 
         module _ {id : Id} (i : r ≡ Some id) (small : id.0.0 < 65536) where
           callee-is : {y : Env} (u : State) → Shows y t u →
-              required_after y.setting (tree_at s at stop) u ≡ cond (eqb id.0.0 0) (not_external y.setting (argument (sole (row_at s callee stop)))) None
+              required_after y.setting (tree_of p) u ≡ cond (eqb id.0.0 0) (not_external y.setting (argument (sole (fields_of gs)))) None
           callee-is {y} u v =
               call-is u v
-              ∙ ap (λ (r : Option Id). if_require (ident_by r) (not_external y.setting (argument (sole (row_at s callee stop))))) i
-              ∙ ap (λ (b : Bool). cond b (not_external y.setting (argument (sole (row_at s callee stop)))) None) (same-two id.0.0 0 small (omega arith))
+              ∙ ap (λ (r : Option Id). if_require (ident_by r) (not_external y.setting (argument (sole (fields_of gs))))) i
+              ∙ ap (λ (b : Bool). cond b (not_external y.setting (argument (sole (fields_of gs)))) None) (same-two id.0.0 0 small (omega arith))
 
           pub call-misnamed : (id.0.0 ≡ 0 → ⊥) → Answers t None
           call-misnamed m = record { is = λ {x = y} u v n. callee-is u v ∙ rw (ne_eqb id.0.0 0 m) }
 
-          pub call-named : (q : Option Literal) → id.0.0 ≡ 0 → RequiredIs (λ e _. not_external e (argument (sole (row_at s callee stop)))) s t q → Answers t q
-          call-named q m f = required-as q f (λ y u v. callee-is u v ∙ rw (eq-eqb id.0.0 0 m))
+          pub call-named : (q : Option Literal) → id.0.0 ≡ 0 → RequiredIs (λ e _. not_external e (argument (sole (fields_of gs)))) gs.bytes.now t q → Answers t q
+          call-named q z f =
+              required-as q (subst (λ (s : List ℕ). RequiredIs (λ e _. not_external e (argument (sole (fields_of gs)))) s t q) (g.2 ∙ m.0) f)
+              (λ y u v. callee-is u v ∙ rw (eq-eqb id.0.0 0 z))

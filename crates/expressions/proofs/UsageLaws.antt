@@ -1,33 +1,33 @@
 -- The usage of a 63 that was read: one law for each way through usage.
 use Rattle.std.specs.Prelude.{Option, None, Some, Ok}
-use Prim.Native.Nat.{ℕ, ◌+◌, ◌≤◌}
-use mathlib.Core.Path.{◌≡◌, refl, sym, ap, subst, ◌∙◌}
+use Prim.Native.Nat.{ℕ, ◌+◌}
+use mathlib.Core.Path.{◌≡◌, refl, sym, ap, subst, subst₂, ◌∙◌}
 use mathlib.Core.Logic.{◌⊎◌, inl, inr, ⊎_elim}
 use mathlib.Core.Bool.{Bool, true, false, cond}
 use mathlib.Core.List.{List, []}
 use native.Mathlib.Omega.{arith}
 use lib.Dec.{eqb}
-use lib.ListN.{get_or}
 use borrow.Author.Tests.{eq-eqb, ne_eqb, eqb-true}
 use Rattle.scope.specs.declared.id.SyntaxContext.{SyntaxContext}
 use Rattle.scope.specs.declared.id.Id.{Id}
-use Rattle.tree.specs.Layout.{Bytes}
 use Rattle.tree.specs.Tree.{Field, field, Fields, none, more, tag_of, fixed_of, size}
-use Rattle.tree.specs.Access.{extent_at}
-use Rattle.tree.specs.Standing.{tree_at, row_at}
-use Rattle.tree.proofs.AccessLaws.{extent-upto}
-use Rattle.tree.proofs.StandingLaws.{row-more, row-none, tree-upto, whole-step}
-use Rattle.tree.proofs.WidthLaws.{tree-bare, bare-upto}
+use Rattle.tree.specs.Rows.{GivesPart, tree_of, fields_of}
+use Rattle.tree.specs.declared.row.Part.{Part}
+use Rattle.tree.specs.declared.row.Row.{Row}
+use Rattle.tree.proofs.PartLaws.{fields-none, fields-more, part_tag}
+use Rattle.tree.proofs.StandingLaws.{whole-tag}
+use Rattle.tree.proofs.WidthLaws.{bare-upto}
 use Rattle.inputs.specs.Outcome.{done}
 use Rattle.extraction_rules.specs.State.{State, first, Setting}
 use Rattle.extraction_rules.specs.First.{force_id, on_ident, imported_as, used_record, use_from, use_imported, usage}
 use Rattle.extraction_rules.proofs.AlikeLaws.{Two, Regular}
-use Rattle.state.specs.Cells.{Env, Good, id_by, Shows}
+use Rattle.state.specs.Cells.{Env, id_by, Shows}
 use Rattle.state.specs.Does.{Tells, Turns, context_by}
 use Rattle.steps.specs.Step.{ident_by, Sound, SoundAll, Effect, Effects}
 use Rattle.steps.proofs.SoundLaws.{read-size, sound-parts, sound_all-first, sound_all-rest}
 use Rattle.expressions.specs.After.{ident_after, member_after}
 use Rattle.expressions.specs.Usage.{Named}
+use Rattle.expressions.proofs.BareLaws.{bare-part}
 use Rattle.expressions.proofs.AfterLaws.{first-none}
 use Rattle.expressions.proofs.EffectLaws.{effects-skip, effects-turn, effects-as}
 
@@ -90,99 +90,107 @@ used e i q at p u c d h k =
 
 -- ---- A 63 that was read
 
-module _ (s : List ℕ) (at stop : ℕ) (le : at + 3 ≤ stop) (tag : get_or s at 0 ≡ 0x63) where
+module _ (p : Part) (tag : part_tag p ≡ 0x63) (row : Row) (m : (row.bytes.now ≡ p.bytes.now) × (row.at ≡ p.at + 3) × (row.end ≡ p.stop)) where
+  abbrev Uses : List ℕ → List ℕ → Effect → Type 0
+  Uses t t' a = Effects (λ x u. Sound p.bytes.now p.at p.stop) (λ x. usage (on_ident (tree_of p)) x.setting p.at) t t' a
+
   -- its parts
-  whole-parts : Sound s at stop → SoundAll s (at + 3) stop
-  whole-parts w = sound-parts w (bare-upto 0x63 refl s (get_or s at 0) (at + 3) stop tag le)
+  whole-parts : Sound p.bytes.now p.at p.stop → SoundAll row.bytes.now row.at row.end
+  whole-parts w =
+      subst₂ (λ (s : List ℕ) (n : ℕ). SoundAll s row.at n) (sym m.0) (sym m.2)
+      (subst (λ (n : ℕ). SoundAll p.bytes.now n p.stop) (sym m.1)
+      (sound-parts w (bare-upto 0x63 refl p.bytes.now (part_tag p) (p.at + 3) p.stop tag p.whole.0)))
 
-  pub usage-bare : {t : List ℕ} → Good t → extent_at s (at + 3) stop ≡ None →
-      Effects (λ x u. Sound s at stop) (λ x. usage (on_ident (tree_at s at stop)) x.setting at) t t (Ok tt)
+  pub usage-bare : (row' : Row) {t : List ℕ} → GivesPart row None row' → Uses t t (Ok tt)
   unfolding on_ident
-  usage-bare g x =
-      effects-skip g (λ y u v w. pass-over y.setting at u (on_ident (tree_at s at stop))
-      (ap on_ident (tree-bare 0x63 refl s at stop le tag ∙ ap (field 0x63 []) (row-none s (at + 3) stop le x))))
+  usage-bare row' g =
+      effects-skip (λ y u v w. pass-over y.setting p.at u (on_ident (tree_of p))
+      (ap on_ident (bare-part 0x63 refl p row tag m ∙ ap (field 0x63 []) (fields-none row row' g))))
 
-  module _ {member : ℕ} (x : extent_at s (at + 3) stop ≡ Some member) where
-    with-object : tree_at s at stop ≡ field 0x63 [] (more (tree_at s (at + 3) member) (row_at s member stop))
-    with-object = tree-bare 0x63 refl s at stop le tag ∙ ap (field 0x63 []) (row-more s (at + 3) stop member le x)
+  module _ (o : Part) (qs : Row) (g : GivesPart row (Some o) qs) where
+    with-object : tree_of p ≡ field 0x63 [] (more (tree_of o) (fields_of qs))
+    with-object = bare-part 0x63 refl p row tag m ∙ ap (field 0x63 []) (fields-more row o qs g)
 
-    behind : member ≤ stop
-    behind = (extent-upto s (at + 3) stop le x).1
+    pub usage-other : {t : List ℕ} {r : Option Id} → r ≡ None → Tells (ident_after (tree_of o) first) t (ident_by r) → Uses t t (Ok tt)
+    usage-other h k =
+        effects-skip (λ y u v w. pass-over y.setting p.at u (on_ident (tree_of p))
+        (ap on_ident with-object ∙ no-ident (tree_of o) (fields_of qs) u (ap ident_by (sym h) ∙ k.is u v)))
 
-    pub usage-other : {t : List ℕ} {r : Option Id} → Good t → r ≡ None → Tells (ident_after (tree_at s (at + 3) member) first) t (ident_by r) →
-        Effects (λ x u. Sound s at stop) (λ x. usage (on_ident (tree_at s at stop)) x.setting at) t t (Ok tt)
-    usage-other g h k =
-        effects-skip g (λ y u v w. pass-over y.setting at u (on_ident (tree_at s at stop))
-        (ap on_ident with-object ∙ no-ident (tree_at s (at + 3) member) (row_at s member stop) u (ap ident_by (sym h) ∙ k.is u v)))
-
-    pub usage-alone : {t : List ℕ} → Good t → extent_at s member stop ≡ None →
-        Effects (λ x u. Sound s at stop) (λ x. usage (on_ident (tree_at s at stop)) x.setting at) t t (Ok tt)
+    pub usage-alone : (qs' : Row) {t : List ℕ} → GivesPart qs None qs' → Uses t t (Ok tt)
     unfolding on_ident
-    usage-alone g z =
-        effects-skip g (λ y u v w. pass-over y.setting at u (on_ident (tree_at s at stop))
-        (ap on_ident (with-object ∙ ap (λ (r : Fields). field 0x63 [] (more (tree_at s (at + 3) member) r)) (row-none s member stop behind z))))
+    usage-alone qs' z =
+        effects-skip (λ y u v w. pass-over y.setting p.at u (on_ident (tree_of p))
+        (ap on_ident (with-object ∙ ap (λ (r : Fields). field 0x63 [] (more (tree_of o) r)) (fields-none qs qs' z))))
 
-    module _ {end : ℕ} (z : extent_at s member stop ≡ Some end) where
-      with-member : tree_at s at stop ≡ field 0x63 [] (more (tree_at s (at + 3) member) (more (tree_at s member end) (row_at s end stop)))
-      with-member = with-object ∙ ap (λ (r : Fields). field 0x63 [] (more (tree_at s (at + 3) member) r)) (row-more s member stop end behind z)
+    module _ (q : Part) (rest : Row) (z : GivesPart qs (Some q) rest) where
+      with-member : tree_of p ≡ field 0x63 [] (more (tree_of o) (more (tree_of q) (fields_of rest)))
+      with-member = with-object ∙ ap (λ (r : Fields). field 0x63 [] (more (tree_of o) r)) (fields-more qs q rest z)
+
+      -- the object was read, and the member
+      object-sound : Sound p.bytes.now p.at p.stop → Sound o.bytes.now o.at o.stop
+      object-sound w =
+          subst₂ (λ (s : List ℕ) (n : ℕ). Sound s n o.stop) (sym g.5) (sym g.1) (sound_all-first row.inside.0 (whole-parts w) g.0)
+
+      member-sound : Sound p.bytes.now p.at p.stop → Sound q.bytes.now q.at q.stop
+      member-sound w =
+          let r : SoundAll qs.bytes.now qs.at qs.end =
+          subst₂ (λ (s : List ℕ) (n : ℕ). SoundAll s qs.at n) (sym g.2) (sym g.4)
+          (subst (λ (n : ℕ). SoundAll row.bytes.now n row.end) (sym g.3) (sound_all-rest row.inside.0 (whole-parts w) g.0)) in
+          subst₂ (λ (s : List ℕ) (n : ℕ). Sound s n q.stop) (sym z.5) (sym z.1) (sound_all-first qs.inside.0 r z.0)
 
       -- the object ends where the member starts
-      place-is : Bytes s → Sound s at stop → at + 3 + size (tree_at s (at + 3) member) ≡ member
-      place-is bs w =
-          let f = sound_all-first le (whole-parts w) x in
-          let e = read-size f.read bs in
-          let i = extent-upto s (at + 3) stop le x in
+      place-is : Sound p.bytes.now p.at p.stop → p.at + 3 + size (tree_of o) ≡ q.at
+      place-is w =
+          let e = read-size (object-sound w).read o.of_bytes in
+          let i = o.whole.0 in
+          let a = g.1 ∙ m.1 in
+          let b = z.1 ∙ g.3 in
           omega arith
 
       -- the member has the tag that stands at its place, and is a 70, a 71 or a 72
-      member-tag : Sound s at stop → tag_of (tree_at s member end) ≡ get_or s member 0
-      member-tag w =
-          let f = sound_all-first behind (sound_all-rest le (whole-parts w) x) z in
-          let b = whole-step s member end f.read.whole in
-          ap tag_of (tree-upto s member end b.0 b.1)
+      member-tag : Sound p.bytes.now p.at p.stop → tag_of (tree_of q) ≡ part_tag q
+      member-tag w = whole-tag q.bytes.now q.at q.stop (member-sound w).read.whole
 
-      member-kind : Sound s at stop → (tag_of (tree_at s member end) ≡ 0x70) ⊎ ((tag_of (tree_at s member end) ≡ 0x71) ⊎ (tag_of (tree_at s member end) ≡ 0x72))
+      member-kind : Sound p.bytes.now p.at p.stop → (tag_of (tree_of q) ≡ 0x70) ⊎ ((tag_of (tree_of q) ≡ 0x71) ⊎ (tag_of (tree_of q) ≡ 0x72))
       member-kind w =
           go ((subst Regular with-member w.regular).0.member_two refl)
         where
           second-of : {o q o' q' : Field} {r r' : Fields} → more o (more q r) ≡ more o' (more q' r') → q' ≡ q
           second-of e = cc
 
-          go : Two (more (tree_at s (at + 3) member) (more (tree_at s member end) (row_at s end stop))) →
-              (tag_of (tree_at s member end) ≡ 0x70) ⊎ ((tag_of (tree_at s member end) ≡ 0x71) ⊎ (tag_of (tree_at s member end) ≡ 0x72))
-          go m =
-              subst (λ (q : Field). (tag_of q ≡ 0x70) ⊎ ((tag_of q ≡ 0x71) ⊎ (tag_of q ≡ 0x72))) (second-of m.2) m.3
+          go : Two (more (tree_of o) (more (tree_of q) (fields_of rest))) →
+              (tag_of (tree_of q) ≡ 0x70) ⊎ ((tag_of (tree_of q) ≡ 0x71) ⊎ (tag_of (tree_of q) ≡ 0x72))
+          go n =
+              subst (λ (q : Field). (tag_of q ≡ 0x70) ⊎ ((tag_of q ≡ 0x71) ⊎ (tag_of q ≡ 0x72))) (second-of n.2) n.3
 
-      module _ {t : List ℕ} {r : Option Id} {n : Id} (h : r ≡ Some n) (k : Tells (ident_after (tree_at s (at + 3) member) first) t (ident_by r)) where
+      module _ {t : List ℕ} {r : Option Id} {n : Id} (h : r ≡ Some n) (k : Tells (ident_after (tree_of o) first) t (ident_by r)) where
         rule-is : {y : Env} (u : State) → Shows y t u →
-            usage (on_ident (tree_at s at stop)) y.setting at u
-            ≡ use_imported (imported_as (id_by n) u.imported) y.setting (id_by n) (tree_at s member end) (at + 3 + size (tree_at s (at + 3) member)) at u
+            usage (on_ident (tree_of p)) y.setting p.at u
+            ≡ use_imported (imported_as (id_by n) u.imported) y.setting (id_by n) (tree_of q) (p.at + 3 + size (tree_of o)) p.at u
         rule-is {y} u v =
-            let i = an-ident (tree_at s (at + 3) member) (tree_at s member end) (row_at s end stop) u (id_by n) (ap ident_by (sym h) ∙ k.is u v) in
-            usage-is y.setting at u (on_ident (tree_at s at stop)) (tree_at s (at + 3) member) (tree_at s member end) (id_by n) (ap on_ident with-member ∙ i.0) i.1
+            let i = an-ident (tree_of o) (tree_of q) (fields_of rest) u (id_by n) (ap ident_by (sym h) ∙ k.is u v) in
+            usage-is y.setting p.at u (on_ident (tree_of p)) (tree_of o) (tree_of q) (id_by n) (ap on_ident with-member ∙ i.0) i.1
 
-        pub usage-unknown : {c : Option SyntaxContext} → Good t → c ≡ None → Tells (λ u. imported_as (id_by n) u.imported) t (context_by c) →
-            Effects (λ x u. Sound s at stop) (λ x. usage (on_ident (tree_at s at stop)) x.setting at) t t (Ok tt)
-        usage-unknown g o p =
-            effects-skip g (λ y u v w. rule-is u v
-            ∙ not-imported y.setting (id_by n) (tree_at s member end) (at + 3 + size (tree_at s (at + 3) member)) at u (imported_as (id_by n) u.imported) (ap context_by (sym o) ∙ p.is u v))
+        pub usage-unknown : {c : Option SyntaxContext} → c ≡ None → Tells (λ u. imported_as (id_by n) u.imported) t (context_by c) → Uses t t (Ok tt)
+        usage-unknown i f =
+            effects-skip (λ y u v w. rule-is u v
+            ∙ not-imported y.setting (id_by n) (tree_of q) (p.at + 3 + size (tree_of o)) p.at u (imported_as (id_by n) u.imported) (ap context_by (sym i) ∙ f.is u v))
 
-        module _ {c : Option SyntaxContext} {d : SyntaxContext} (o : c ≡ Some d) (p : Tells (λ u. imported_as (id_by n) u.imported) t (context_by c)) where
-          pub usage-computed : {t' : List ℕ} → get_or s member 0 ≡ 0x71 → Turns (force_id (id_by n)) t t' →
-              Effects (λ x u. Sound s at stop) (λ x. usage (on_ident (tree_at s at stop)) x.setting at) t t' (Ok tt)
-          usage-computed q f =
-              effects-turn (force_id (id_by n)) f (λ y u v w. rule-is u v
-              ∙ computed y.setting (id_by n) (tree_at s member end) (at + 3 + size (tree_at s (at + 3) member)) at u (imported_as (id_by n) u.imported) _
-              (ap context_by (sym o) ∙ p.is u v) (member-tag w ∙ q))
+        module _ {c : Option SyntaxContext} {d : SyntaxContext} (i : c ≡ Some d) (f : Tells (λ u. imported_as (id_by n) u.imported) t (context_by c)) where
+          pub usage-computed : {t' : List ℕ} → part_tag q ≡ 0x71 → Turns (force_id (id_by n)) t t' → Uses t t' (Ok tt)
+          usage-computed a b =
+              effects-turn (force_id (id_by n)) b (λ y u v w. rule-is u v
+              ∙ computed y.setting (id_by n) (tree_of q) (p.at + 3 + size (tree_of o)) p.at u (imported_as (id_by n) u.imported) _
+              (ap context_by (sym i) ∙ f.is u v) (member-tag w ∙ a))
 
-          pub usage-from : {t' : List ℕ} {a : Effect} → Bytes s → (get_or s member 0 ≡ 0x71 → ⊥) →
-              Effects (λ x u. Named (tree_at s member end)) (λ x u. use_from (used_record x.setting.own (id_by n) u.collected) x.setting (id_by n) (tree_at s member end) member at u) t t' a →
-              Effects (λ x u. Sound s at stop) (λ x. usage (on_ident (tree_at s at stop)) x.setting at) t t' a
-          usage-from bs q f =
-              effects-as f (λ y u v w. (
-                ⊎_elim (λ i. inl i) (λ i. ⊎_elim (λ j. absurd (q (sym (member-tag w) ∙ j))) (λ j. inr j) i) (member-kind w),
+          pub usage-from : {t' : List ℕ} {a : Effect} → (part_tag q ≡ 0x71 → ⊥) →
+              Effects (λ x u. Named (tree_of q)) (λ x u. use_from (used_record x.setting.own (id_by n) u.collected) x.setting (id_by n) (tree_of q) q.at p.at u) t t' a →
+              Uses t t' a
+          usage-from a b =
+              effects-as b (λ y u v w. (
+                ⊎_elim (λ i. inl i) (λ i. ⊎_elim (λ j. absurd (a (sym (member-tag w) ∙ j))) (λ j. inr j) i) (member-kind w),
                 rule-is u v
-                    ∙ used y.setting (id_by n) (tree_at s member end) (at + 3 + size (tree_at s (at + 3) member)) at u (imported_as (id_by n) u.imported) _
-                    (ap context_by (sym o) ∙ p.is u v) (λ j. q (sym (member-tag w) ∙ j))
-                    ∙ ap (λ (l : ℕ). use_from (used_record y.setting.own (id_by n) u.collected) y.setting (id_by n) (tree_at s member end) l at u) (place-is bs w),
+                    ∙ used y.setting (id_by n) (tree_of q) (p.at + 3 + size (tree_of o)) p.at u (imported_as (id_by n) u.imported) _
+                    (ap context_by (sym i) ∙ f.is u v) (λ j. a (sym (member-tag w) ∙ j))
+                    ∙ ap (λ (l : ℕ). use_from (used_record y.setting.own (id_by n) u.collected) y.setting (id_by n) (tree_of q) l p.at u) (place-is w),
               ))

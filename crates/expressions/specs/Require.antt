@@ -10,7 +10,7 @@ use Rattle.inputs.specs.Outcome.{refused}
 use Rattle.extraction_rules.specs.State.{State, Setting}
 use Rattle.extraction_rules.specs.First.{with_callee, mark_required}
 use Rattle.tree.specs.Layout.{id_at}
-use Rattle.state.specs.Cells.{Env, Good, literal_by, Valued, Shows}
+use Rattle.state.specs.Cells.{Env, literal_by, Valued, Shows}
 use Rattle.state.specs.Does.{Gave}
 use Rattle.state.specs.declared.Literal.{Literal}
 use Rattle.steps.specs.Step.{Reads}
@@ -43,7 +43,6 @@ called None f = f
 
 -- the module of a required source, if it has one, is marked and the callee set; or a 257th file is refused
 pub record Requires (l : Literal) (t t' : List ℕ) (r : Result (Option ModuleId) TooManyFiles) : Type 0 where
-  pub good : Good t'
   pub marked : (m : Option ModuleId) → r ≡ Ok m → {x : Env} (f : Field) (p : ℕ) (s : State) → Shows x t s → Valued x l →
       Gave x (mark_required x.setting (literal_by x l) f p s) (called m f) t'
   pub full : (e : TooManyFiles) → r ≡ Err e → {x : Env} (f : Field) (p : ℕ) (s : State) → Shows x t s → Valued x l → mark_required x.setting (literal_by x l) f p s ≡ refused 5 p

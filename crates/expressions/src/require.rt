@@ -1,99 +1,92 @@
 // Calls of require: 'callee 60 named require in any context, just one argument, no spread, a 61, not external'.
-ghost use Rattle.std.specs.Prelude.{◌+◌, ◌≤◌, length};
-ghost use Rattle.tree.specs.Standing.{tree_at, row_at};
+ghost use Rattle.tree.specs.Rows.{tree_of, fields_of};
 ghost use Rattle.inputs.specs.Fields.{sole};
 ghost use Rattle.extraction_rules.specs.First.{argument, not_external};
-ghost use Rattle.state.specs.Cells.{Good};
 ghost use Rattle.expressions.specs.After.{required_after};
 ghost use Rattle.expressions.specs.Require.{literal_first, Found, RequiredIs, Requires, CalleeSet};
 
 use crate::ident::ident_after;
 use scope::id::{Atom, ModuleId};
 use scope::{Mark, TooManyFiles};
-use state::Literal;
 use state::ident::literal_at;
-use state::modules::{module_for, set_mark};
-use state::setting::{counts_require, is_external, is_second, place_of};
-use tree::access::{extent, fixed};
+use state::{Literal, Tables};
+use tree::row::{Part, Row};
 
-// The literal of the call at `at` up to stop, if it meets the require conditions once it is walked. Asked before it is walked.
-pub fn required_at(s: &[u8], at: usize, stop: usize, t: &[u64]) -> Option<Literal>
-    requires { (at + 3 ≤ stop) × (stop ≤ length s.now) × Good t.now }
-    ensures { RequiredIs (λ e. required_after e (tree_at s.now at stop)) s.now t.now result }
+// The literal of a call, if it meets the require conditions once it is walked. Asked before it is walked.
+pub fn required_at(part: &Part, t: &Tables) -> Option<Literal>
+    ensures { RequiredIs (λ e. required_after e (tree_of part.now)) part.now.bytes.now t.now.cells result }
 {
-    if !counts_require(t) || s[at] != 0x65 {
+    if !t.counts_require() || part.tag() != 0x65 {
         return None;
     }
-    let callee = extent(s, at + 3, stop)?;
-    let id = ident_after(s, at + 3, callee, is_second(t), t)?;
+    let mut parts = part.row(part.at + 3);
+    let callee = parts.next()?;
+    let id = ident_after(&callee, t.is_second(), t)?;
     let name = id.0;
     if name != Atom::REQUIRE {
         return None;
     }
-    source_at(s, callee, stop, t)
+    source_in(parts, t)
 }
 
-// The literal of the one argument that stands from `from` up to end, if it is not external.
-fn source_at(s: &[u8], from: usize, end: usize, t: &[u64]) -> Option<Literal>
-    requires { (from ≤ end) × (end ≤ length s.now) × Good t.now }
-    ensures { RequiredIs (λ e _. not_external e (argument (sole (row_at s.now from end)))) s.now t.now result }
+// The literal of the one argument, if it is not external.
+fn source_in(arguments: Row, t: &Tables) -> Option<Literal>
+    ensures { RequiredIs (λ e _. not_external e (argument (sole (fields_of arguments.entry)))) arguments.entry.bytes.now t.now.cells result }
 {
-    let at = sole_literal(s, from, end)?;
-    let literal = literal_at(s, at, place_of(t, at));
-    if is_external(t, literal.value) {
+    let at = sole_literal(arguments)?;
+    let literal = literal_at(arguments.bytes, at, t.place_of(at));
+    if t.is_external(literal.value) {
         None
     } else {
         Some(literal)
     }
 }
 
-// Where the literal of the one argument stands, from `from` up to end.
-fn sole_literal(s: &[u8], from: usize, end: usize) -> Option<usize>
-    requires { (from ≤ end) × (end ≤ length s.now) }
-    ensures { Found s.now (argument (sole (row_at s.now from end))) result }
+// Where the literal of the one argument stands.
+fn sole_literal(mut arguments: Row) -> Option<usize>
+    ensures { Found arguments.entry.bytes.now (argument (sole (fields_of arguments.entry))) result }
 {
-    let stop = extent(s, from, end)?;
-    if extent(s, stop, end).is_some() {
+    let part = arguments.next()?;
+    if arguments.next().is_some() {
         return None;
     }
-    argument_at(s, from, stop)
+    argument_in(&part)
 }
 
 // Where the literal of a 75 without spread stands, that holds a 61.
-fn argument_at(s: &[u8], at: usize, stop: usize) -> Option<usize>
-    requires { (at + 3 ≤ stop) × (stop ≤ length s.now) }
-    ensures { Found s.now (argument (Some (tree_at s.now at stop))) result }
+fn argument_in(part: &Part) -> Option<usize>
+    ensures { Found part.now.bytes.now (argument (Some (tree_of part.now))) result }
 {
-    let tag = s[at];
-    if tag != 0x75 {
+    if part.tag() != 0x75 {
         return None;
     }
-    let from = fixed(s, tag, at + 3, stop)?;
-    if from != at + 4 || s[at + 3] != 0 {
+    let from = part.fixed()?;
+    if from != part.at + 4 || part.bytes[part.at + 3] != 0 {
         return None;
     }
-    first_literal(s, from, stop)
+    first_literal(part.row(from))
 }
 
-// Where the literal of the first of the fields from `at` up to end stands, if it is a 61.
-fn first_literal(s: &[u8], at: usize, end: usize) -> Option<usize>
-    requires { (at ≤ end) × (end ≤ length s.now) }
-    ensures { Found s.now (literal_first (row_at s.now at end)) result }
+// Where the literal of the first of the fields stands, if it is a 61.
+fn first_literal(mut row: Row) -> Option<usize>
+    ensures { Found row.entry.bytes.now (literal_first (fields_of row.entry)) result }
 {
-    let stop = extent(s, at, end)?;
-    let tag = s[at];
-    fixed(s, tag, at + 3, stop)?;
-    if tag == 0x61 { Some(at + 3) } else { None }
+    let part = row.next()?;
+    part.fixed()?;
+    if part.tag() == 0x61 {
+        Some(part.at + 3)
+    } else {
+        None
+    }
 }
 
 // The module of a required source is marked as cjs.
-pub fn mark_required(literal: Literal, t: &mut [u64]) -> Result<Option<ModuleId>, TooManyFiles>
-    requires { Good t.old }
-    ensures { Requires literal t.old t.new result }
+pub fn mark_required(literal: Literal, t: &mut Tables) -> Result<Option<ModuleId>, TooManyFiles>
+    ensures { Requires literal t.old.cells t.new.cells result }
 {
-    let module = module_for(t, literal.value)?;
+    let module = t.module_for(literal.value)?;
     if let Some(n) = module {
-        set_mark(t, n, Mark::Cjs);
+        t.set_mark(n, Mark::Cjs);
     }
     Ok(module)
 }

@@ -25,7 +25,7 @@ use Rattle.extraction_rules.proofs.WalkLaws.{ImportsAll}
 use Rattle.extraction_rules.proofs.SanityLaws.{Known}
 use Rattle.state.specs.Cells.{Env, Shows, sources_in}
 use Rattle.state.specs.Does.{Resets, with_second}
-use Rattle.steps.specs.declared.Refusal.{Refusal}
+use Rattle.steps.specs.Refusal.{Refusal}
 use Rattle.steps.specs.Step.{Step, Steps, Effect, Effects}
 use Rattle.steps.specs.Refusal.{refusal, refusal_of}
 use Rattle.extraction.specs.declared.ExtractError.TheVariants.{Refused, NoRoom}
@@ -98,7 +98,6 @@ module _ {t t0 t1 work out out1 : List ℕ} {k : Step} (z : Resets with_second t
   pub again-refused : {v : Refusal} → k ≡ Err v → Seconds t work out t1 out1 (Err (Refused (refusal v.why 0)))
   again-refused {v} h =
       record {
-        good = m.good;
         inside = tt;
         is = λ {x = x} s w tree p works r n b.
             let e = again x in
@@ -119,7 +118,6 @@ module _ {t t0 t1 work out out1 : List ℕ} {k : Step} (z : Resets with_second t
       pub again-unmarked : {v : Refusal} → j ≡ Err v → Seconds t work out t2 out1 (Err (Refused v))
       again-unmarked {v} e =
           record {
-            good = u.good;
             inside = tt;
             is = λ {x = x} s w tree p works r l b.
                 let d = went s w tree p works r l b in
@@ -148,13 +146,11 @@ module _ {t t0 t1 work out out1 : List ℕ} {k : Step} (z : Resets with_second t
         pub again-held : (b : Bool) → Finished n out1 b out2 → Seconds t work out t2 out2 (ok_or (then_some b n) NoRoom)
         again-held true f =
             record {
-              good = u.good;
               inside = pass-inside f out m.size refl;
               is = λ {x = x} s w tree p works r l b. pass-held f (marked e x s works (went s w tree p works r l b)) refl;
             }
         again-held false f =
             record {
-              good = u.good;
               inside = tt;
               is = λ {x = x} s w tree p works r l b. pass-long f (marked e x s works (went s w tree p works r l b)) refl;
             }

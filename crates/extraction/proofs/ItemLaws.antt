@@ -33,7 +33,7 @@ use Rattle.extraction_rules.proofs.ReadableLaws.{item-step}
 use Rattle.extraction_rules.proofs.WalkLaws.{Imports}
 use Rattle.extraction_rules.proofs.SanityLaws.{Known}
 use Rattle.extraction_rules.proofs.StayLaws.{item-no-member, stays-plain, import-stays, walk-stays}
-use Rattle.state.specs.Cells.{Env, Good, flag, namespaces_in, sources_in}
+use Rattle.state.specs.Cells.{Env, flag, namespaces_in, sources_in}
 use Rattle.state.specs.Does.{Says, is_second}
 use Rattle.steps.specs.Step.{ReadAt, Reads, Step, Steps}
 use Rattle.steps.proofs.SoundLaws.{read-formed, read-tag}
@@ -149,10 +149,10 @@ module _ (s : List ℕ) (bytes : Bytes s) (at stop : ℕ) where
   bare-walk e t x p u (inl q) = rw q refl
   bare-walk e t x p u (inr q) = rw q refl
 
-  pub item-40 : {t out : List ℕ} {o : ℕ} → get_or s at 0 ≡ 0x40 → Good t → Steps encodes (ItemRead s at stop) (λ x. item_act x.setting s at stop) t out o t out (Ok o)
+  pub item-40 : {t out : List ℕ} {o : ℕ} → get_or s at 0 ≡ 0x40 → Steps encodes (ItemRead s at stop) (λ x. item_act x.setting s at stop) t out o t out (Ok o)
   unfolding encode
-  item-40 q g =
-      steps-give encodes (ItemRead s at stop) (λ x. item_act x.setting s at stop) none g refl
+  item-40 q =
+      steps-give encodes (ItemRead s at stop) (λ x. item_act x.setting s at stop) none refl
       (λ x u w.
       let b = whole-step s at stop w.read.whole in
       let z = tree-upto s at stop b.0 b.1 in
@@ -160,11 +160,11 @@ module _ (s : List ℕ) (bytes : Bytes s) (at stop : ℕ) where
       ap (λ (f : Field). onto (walk f x.setting false at u) (λ r. done (one-item r.0, r.1))) (z ∙ ap (field (get_or s at 0) (slice (at + 3) b.0 s)) (r.0.empty_bare q))
       ∙ bare-walk x.setting (get_or s at 0) (slice (at + 3) b.0 s) at u (inl q))
 
-  pub item-bare : {t out : List ℕ} {o : ℕ} → get_or s at 0 ≡ 0x41 → at + 3 ≤ stop → extent_at s (at + 3) stop ≡ None → Good t →
+  pub item-bare : {t out : List ℕ} {o : ℕ} → get_or s at 0 ≡ 0x41 → at + 3 ≤ stop → extent_at s (at + 3) stop ≡ None →
       Steps encodes (ItemRead s at stop) (λ x. item_act x.setting s at stop) t out o t out (Ok o)
   unfolding encode
-  item-bare q le x g =
-      steps-give encodes (ItemRead s at stop) (λ x. item_act x.setting s at stop) none g refl
+  item-bare q le x =
+      steps-give encodes (ItemRead s at stop) (λ x. item_act x.setting s at stop) none refl
       (λ y u w. ap (λ (f : Field). onto (walk f y.setting false at u) (λ r. done (one-item r.0, r.1)))
       (tree-bare 0x41 refl s at stop le q ∙ ap (field 0x41 []) (row-none s (at + 3) stop le x)) ∙ bare-walk y.setting 0x41 [] at u (inr refl))
 

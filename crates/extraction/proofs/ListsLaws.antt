@@ -12,7 +12,7 @@ use Rattle.modes.specs.declared.Modes.{Modes}
 use Rattle.modes.specs.Bits.{modes_of}
 use Rattle.scope.specs.Modules.{Modules, request}
 use Rattle.tree.specs.declared.grammar.Set.TheVariants.{Module}
-use Rattle.tree.specs.declared.read.Unread.{Unread}
+use Rattle.tree.specs.Read.{Unread}
 use Rattle.tree.specs.Tree.{Fields}
 use Rattle.tree.specs.Read.{Reading, fine, refused as unread, read, verdict, refusal_of as read_refusal}
 use Rattle.inputs.specs.Outcome.{Outcome, done, refused, onto, refuse_if}

@@ -18,11 +18,11 @@ use Rattle.scope.proofs.Laws.{none-some}
 use Rattle.tree.specs.Tree.{encode}
 use Rattle.writer.specs.Finished.{Finished}
 use Rattle.extraction_rules.specs.State.{State, Pass, first, start, set_top, set_modules}
-use Rattle.state.specs.Cells.{Env, Good, namespaces_in}
+use Rattle.state.specs.Cells.{Env, namespaces_in}
 use Rattle.state.specs.Does.{Turns, Resets, with_own}
 use Rattle.scope.specs.declared.Numbers.{Numbers}
 use Rattle.scope.specs.declared.TooManyFiles.{TooManyFiles}
-use Rattle.steps.specs.declared.Refusal.{Refusal}
+use Rattle.steps.specs.Refusal.{Refusal}
 use Rattle.steps.specs.declared.Why.TheVariants.{TooManyFiles as NoNumber}
 use Rattle.steps.specs.Step.{Step, Steps}
 use Rattle.steps.specs.Refusal.{refusal, refusal_of}
@@ -41,7 +41,7 @@ module _ (f : FileName) (ms : Modules) (g : Gen) (q : generated g ≡ gen f ms) 
   gen-by o e = q ∙ ap (λ (o : Option (ℕ × Modules)). generated_by o ms) e
 
   pub own-given : {t t1 t' : List ℕ} {n : Numbers} → g.answer ≡ Ok n → Turns (set_modules (modules_of g.scope)) t t1 → Resets (with_own n.id.0) t1 t' → Owns f.0 ms t t' (Ok tt)
-  own-given {t} {t1} {t'} {n} a u v = record { good = v.good; is = go (request f.0 ms) refl }
+  own-given {t} {t1} {t'} {n} a u v = record { is = go (request f.0 ms) refl }
     where
       go : (o : Option (ℕ × Modules)) → request f.0 ms ≡ o → Owned f.0 ms t t'
       go None e = none-some (sym (ap file_refusal a) ∙ ap (λ (x : Generated). x.refusal) (gen-by None e))
@@ -55,8 +55,8 @@ module _ (f : FileName) (ms : Modules) (g : Gen) (q : generated g ≡ gen f ms) 
             shows = λ s w. v.shows (set_modules (modules_of g.scope) s) (u.shows s w);
           }
 
-  pub own-full : {t : List ℕ} {n : TooManyFiles} → Good t → g.answer ≡ Err n → Owns f.0 ms t t (Err (Refused (refusal NoNumber 0)))
-  own-full k a = record { good = k; is = (refl, go (request f.0 ms) refl) }
+  pub own-full : {t : List ℕ} {n : TooManyFiles} → g.answer ≡ Err n → Owns f.0 ms t t (Err (Refused (refusal NoNumber 0)))
+  own-full a = record { is = (refl, go (request f.0 ms) refl) }
     where
       go : (o : Option (ℕ × Modules)) → request f.0 ms ≡ o → request f.0 ms ≡ None
       go None e = e
@@ -83,7 +83,6 @@ module _ {tree t t1 work work1 : List ℕ} {k : Step} (m : Steps encode (ItemsRe
   pub once-refused : {v : Refusal} → k ≡ Err v → Firsts tree t work t1 work1 (Err (Refused v))
   once-refused {v} h =
       record {
-        good = m.good;
         inside = tt;
         is = λ {x = x} ms e w r ws p.
             let s = set_top false (start ms) in
@@ -95,13 +94,11 @@ module _ {tree t t1 work work1 : List ℕ} {k : Step} (m : Steps encode (ItemsRe
     pub once-held : (b : Bool) → Finished n work1 b work2 → Firsts tree t work t1 work2 (ok_or (then_some b n) NoRoom)
     once-held true f =
         record {
-          good = m.good;
           inside = pass-inside f work m.size refl;
           is = λ {x = x} ms e w r ws p. let s = set_top false (start ms) in pass-held f (walked x.setting tree s (m.made n h s w (ready tree ws ms e p r))) refl;
         }
     once-held false f =
         record {
-          good = m.good;
           inside = tt;
           is = λ {x = x} ms e w r ws p. let s = set_top false (start ms) in pass-long f (walked x.setting tree s (m.made n h s w (ready tree ws ms e p r))) refl;
         }

@@ -2,7 +2,7 @@
 use Rattle.std.specs.Prelude.{None, Some, Ok, Err}
 use Prim.Native.Nat.{ℕ, ◌+◌, ◌*◌, ◌≤◌, ◌<◌}
 use native.Mathlib.Omega.{arith}
-use mathlib.Core.Path.{◌≡◌, refl, sym, ap, subst, ◌∙◌}
+use mathlib.Core.Path.{◌≡◌, refl, sym, ap, subst, subst₂, ◌∙◌}
 use mathlib.Core.Bool.{Bool, true, false, cond}
 use mathlib.Core.List.{List}
 use lib.Dec.{eqb}
@@ -13,6 +13,9 @@ use Rattle.tree.specs.Grammar.{rule_of}
 use Rattle.tree.specs.Tree.{Field, field, Fields, none, more, tag_of, fixed_of, parts_of, encode, encodes, size, sizes}
 use Rattle.tree.specs.Access.{extent_at}
 use Rattle.tree.specs.Standing.{tree_at, row_at, Row}
+use Rattle.tree.specs.Rows.{GivesPart}
+use Rattle.tree.specs.declared.row.Part.{Part}
+use Rattle.tree.specs.declared.row.Row.{Row as PartRow}
 use Rattle.tree.proofs.AccessLaws.{extent-upto}
 use Rattle.tree.proofs.StandingLaws.{row-more, row-none}
 use Rattle.tree.proofs.TreeLaws.{content-size}
@@ -31,10 +34,10 @@ use Rattle.extraction_rules.proofs.ShapeLaws.{Shaped, ShapedAll}
 use Rattle.extraction_rules.proofs.ReadableLaws.{item-step}
 use Rattle.extraction_rules.proofs.WalkLaws.{ImportsAll}
 use Rattle.extraction_rules.proofs.SanityLaws.{Known}
-use Rattle.state.specs.Cells.{Env, Good, namespaces_in, sources_in}
+use Rattle.state.specs.Cells.{Env, namespaces_in, sources_in}
 use Rattle.state.specs.Does.{Turns}
 use Rattle.imports.proofs.CountLaws.{import-brings}
-use Rattle.steps.specs.declared.Refusal.{Refusal}
+use Rattle.steps.specs.Refusal.{Refusal}
 use Rattle.steps.specs.Step.{Step, Steps, Ended}
 use Rattle.steps.proofs.SoundLaws.{read-size, row-read, read-tag}
 use Rattle.steps.proofs.StepsLaws.{steps-is, steps-give, steps-as, steps-never, steps-changed, steps-field, begun, pair_of, steps-pair, steps-turned}
@@ -67,10 +70,10 @@ keep-more g gs = go (stays g)
     go false = refl
 
 module _ (s : List ℕ) (bytes : Bytes s) (at end : ℕ) (le : at ≤ end) where
-  pub items-over : {t out : List ℕ} {o : ℕ} → extent_at s at end ≡ None → Good t → Steps encodes (ItemsRead s at end) (λ x. items_act x.setting s at end) t out o t out (Ok o)
+  pub items-over : {t out : List ℕ} {o : ℕ} → extent_at s at end ≡ None → Steps encodes (ItemsRead s at end) (λ x. items_act x.setting s at end) t out o t out (Ok o)
   unfolding encode keep
-  items-over x g =
-      steps-give encodes (ItemsRead s at end) (λ x. items_act x.setting s at end) none g refl
+  items-over x =
+      steps-give encodes (ItemsRead s at end) (λ x. items_act x.setting s at end) none refl
       (λ y u w. ap (λ (fs : Fields). onto (walk_all fs y.setting false at u) (λ r. done (keep stays r.0, r.1))) (row-none s at end le x)
       ∙ ap (λ (m : Outcome (Fields × State)). onto m (λ r. done (keep stays r.0, r.1))) (all-none false y.setting at u))
 
@@ -185,44 +188,46 @@ module _ (s : List ℕ) (bytes : Bytes s) (at end : ℕ) (le : at ≤ end) where
 
 -- ---- In a loop, and the whole pass
 
--- the items before `at` are walked, and what is left makes the whole
-pub record Passing (s : List ℕ) (from end : ℕ) (t₀ out₀ : List ℕ) (o : ℕ) (t out : List ℕ) (at to : ℕ) : Type 0 where
-  pub good : Good t
-  pub kept : length t ≡ length t₀
+abbrev pub Passes : PartRow → List ℕ → List ℕ → ℕ → List ℕ → List ℕ → Step → Type 0
+Passes r = Steps encodes (ItemsRead r.bytes.now r.at r.end) (λ x. items_act x.setting r.bytes.now r.at r.end)
+
+-- the items before those of r are walked, and what is left makes the whole
+pub record Passing (row : PartRow) (t₀ out₀ : List ℕ) (o : ℕ) (t out : List ℕ) (r : PartRow) (to : ℕ) : Type 0 where
   pub size : length out ≡ length out₀
-  pub after : from ≤ at
-  pub inside : at ≤ end
-  pub rest : (t' out' : List ℕ) (k : Step) → Steps encodes (ItemsRead s at end) (λ x. items_act x.setting s at end) t out to t' out' k →
-      Steps encodes (ItemsRead s from end) (λ x. items_act x.setting s from end) t₀ out₀ o t' out' k
+  pub rest : (t' out' : List ℕ) (k : Step) → Passes r t out to t' out' k → Passes row t₀ out₀ o t' out' k
 
-pub passing-start : {s : List ℕ} {from end : ℕ} {t out : List ℕ} {o : ℕ} → Good t → from ≤ end → Passing s from end t out o t out from o
-passing-start g le = record { good = g; kept = refl; size = refl; after = omega arith; inside = le; rest = λ t' out' k m. m }
+pub passing-start : (row : PartRow) {t out : List ℕ} {o : ℕ} → Passing row t out o t out row o
+passing-start row = record { size = refl; rest = λ t' out' k m. m }
 
-module _ {s : List ℕ} {from end : ℕ} {t₀ out₀ t out : List ℕ} {o at to : ℕ} (bytes : Bytes s) (g : Passing s from end t₀ out₀ o t out at to) where
-  pub passing-over : extent_at s at end ≡ None → Steps encodes (ItemsRead s from end) (λ x. items_act x.setting s from end) t₀ out₀ o t out (Ok to)
-  passing-over x = g.rest t out (Ok to) (items-over s bytes at end g.inside x g.good)
+module _ {row : PartRow} {t₀ out₀ t out : List ℕ} {o to : ℕ} (r r' : PartRow) (l : Passing row t₀ out₀ o t out r to) where
+  pub passing-over : GivesPart r None r' → Passes row t₀ out₀ o t out (Ok to)
+  passing-over g = l.rest t out (Ok to) (items-over r.bytes.now r.of_bytes r.at r.end r.inside.0 g.0)
 
-  module _ {stop : ℕ} (x : extent_at s at end ≡ Some stop) {t1 out1 : List ℕ} {k : Step} (m : Steps encodes (ItemRead s at stop) (λ x. item_act x.setting s at stop) t out to t1 out1 k) where
-    pub passing-more : {p : ℕ} → k ≡ Ok p → length t1 ≡ length t → Passing s from end t₀ out₀ o t1 out1 stop p
-    passing-more z n =
-        let i = extent-upto s at end g.inside x in
-        let a = g.after in
+  module _ (p : Part) (g : GivesPart r (Some p) r') {t1 out1 : List ℕ} {k : Step}
+      (m : Steps encodes (ItemRead p.bytes.now p.at p.stop) (λ x. item_act x.setting p.bytes.now p.at p.stop) t out to t1 out1 k) where
+    given : Steps encodes (ItemRead r.bytes.now r.at p.stop) (λ x. item_act x.setting r.bytes.now r.at p.stop) t out to t1 out1 k
+    given = subst₂ (λ (s : List ℕ) (n : ℕ). Steps encodes (ItemRead s n p.stop) (λ x. item_act x.setting s n p.stop) t out to t1 out1 k) g.5 g.1 m
+
+    others : {t' out' : List ℕ} {n : ℕ} {j : Step} → Passes r' t1 out1 n t' out' j →
+        Steps encodes (ItemsRead r.bytes.now p.stop r.end) (λ x. items_act x.setting r.bytes.now p.stop r.end) t1 out1 n t' out' j
+    others {t' = t'} {out' = out'} {n = n} {j = j} h =
+        subst (λ (e : ℕ). Steps encodes (ItemsRead r.bytes.now p.stop e) (λ x. items_act x.setting r.bytes.now p.stop e) t1 out1 n t' out' j) g.4
+        (subst₂ (λ (s : List ℕ) (a : ℕ). Steps encodes (ItemsRead s a r'.end) (λ x. items_act x.setting s a r'.end) t1 out1 n t' out' j) g.2 g.3 h)
+
+    pub passing-more : {n : ℕ} → k ≡ Ok n → Passing row t₀ out₀ o t1 out1 r' n
+    passing-more z =
         record {
-          good = m.good;
-          kept = n ∙ g.kept;
-          size = m.size ∙ g.size;
-          after = omega arith;
-          inside = i.1;
-          rest = λ t' out' j r. g.rest t' out' j (items-then s bytes at end g.inside stop x (steps-is m z) r);
+          size = m.size ∙ l.size;
+          rest = λ t' out' j h. l.rest t' out' j (items-then r.bytes.now r.of_bytes r.at r.end r.inside.0 p.stop g.0 (steps-is given z) (others h));
         }
 
-    pub passing-turned : {v : Refusal} → k ≡ Err v → Steps encodes (ItemsRead s from end) (λ x. items_act x.setting s from end) t₀ out₀ o t1 out1 (Err v)
-    passing-turned z = g.rest t1 out1 _ (items-turned s bytes at end g.inside stop x (steps-is m z))
+    pub passing-turned : {v : Refusal} → k ≡ Err v → Passes row t₀ out₀ o t1 out1 (Err v)
+    passing-turned z = l.rest t1 out1 _ (items-turned r.bytes.now r.of_bytes r.at r.end r.inside.0 p.stop g.0 (steps-is given z))
 
 -- bytes that are no module cannot have been read
-pub pass-short : (act : Env → Act Field) {s : List ℕ} {t out : List ℕ} {o : ℕ} (k : Step) → Good t → length s < 3 →
+pub pass-short : (act : Env → Act Field) {s : List ℕ} {t out : List ℕ} {o : ℕ} (k : Step) → length s < 3 →
     Steps encode (ItemsRead s 3 (length s)) act t out o t out k
-pass-short act {s} k g h = steps-never encode (ItemsRead s 3 (length s)) act k g (λ x u w. let i = w.inside in omega arith)
+pass-short act {s} k h = steps-never encode (ItemsRead s 3 (length s)) act k (λ x u w. let i = w.inside in omega arith)
 
 ready-top : (p : Pass) (at end : ℕ) (u : State) (K : Type 0) → Ready p at end u K → Ready p at end (set_top true u) K
 ready-top first at end u K r = r

@@ -2,12 +2,12 @@
 use Rattle.std.specs.Prelude.{Option, None, Result, Ok, Err}
 use Rattle.std.specs.Bool.{then_some}
 use Rattle.std.specs.Option.{ok_or}
-use Prim.Native.Nat.{ℕ, zero, suc, ◌-◌, ◌≤◌}
+use Prim.Native.Nat.{ℕ, suc, ◌≤◌}
 use native.Mathlib.Omega.{arith}
 use mathlib.Core.Path.{◌≡◌, refl, sym, ap, subst, ◌∙◌}
 use mathlib.Core.Bool.{Bool, true, false}
 use mathlib.Core.List.{List, [], ◌∷◌, map}
-use lib.ListN.{length, get_or, take, drop, replicate, length-replicate}
+use lib.ListN.{length, take, replicate}
 use Rattle.modes.specs.declared.Modes.{Modes}
 use Rattle.modes.specs.Bits.{modes_of}
 use Rattle.report.specs.declared.Report.{Report}
@@ -36,9 +36,9 @@ use Rattle.extraction_rules.proofs.SanityLaws.{Known}
 use Rattle.extraction_rules.proofs.ImportsLaws.{walk_module-known}
 use Rattle.extraction_rules.proofs.ReadableLaws.{Items, items-readable, run-within, room-size as room_most}
 use Rattle.tables.specs.Rows.{rows}
-use Rattle.state.specs.Cells.{Env, externals as externals-kind, table as table-kind, table_of, atom_of, lent_of, cells, Good, Shows, sources_in}
+use Rattle.state.specs.Cells.{Env, externals as externals-kind, table as table-kind, table_of, atom_of, lent_of, cells, Shows, sources_in}
 use Rattle.state.specs.Does.{Tells, Resets, with_own, with_modes, with_externals, with_table}
-use Rattle.state.proofs.RestLaws.{unset, zero-good, zero-shows}
+use Rattle.state.proofs.RestLaws.{zeros-show}
 use Rattle.steps.specs.Refusal.{refusal_of}
 use Rattle.records.specs.Model.{rebuilt}
 use Rattle.records.specs.Writes.{placed, literal_in, Placing, BothRead, items_in, records_in}
@@ -54,26 +54,11 @@ use Rattle.extraction.proofs.ReadLaws.{module-read}
 use Rattle.extraction.proofs.AgainLaws.{lost, losing, again-by, told}
 use Rattle.extraction.proofs.ListsLaws.{says}
 
--- ---- The array at the start
-
-zero-at : (n i : ℕ) → ◌≡◌ {A = ℕ} (get_or (replicate n 0) i 0) 0
-zero-at zero i = refl
-zero-at (suc n) zero = refl
-zero-at (suc n) (suc i) = zero-at n i
-
-pub zeros-good : {t : List ℕ} → t ≡ replicate cells 0 → Good t
-zeros-good e = subst Good (sym e) (zero-good (replicate cells 0) (length-replicate {A = ℕ} cells 0) (zero-at cells))
-
 -- ---- What a call is set to and lent
 
 -- what the environment is, by its setting
 as-set : (x : Env) (e : Setting) → x.setting ≡ e → record { setting = e; literal = x.literal; bound = x.bound } ≡ x
 as-set x e q = ap (λ (e : Setting). record { setting = e; literal = x.literal; bound = x.bound }) (sym q)
-
-zeros-show : {t : List ℕ} → t ≡ replicate cells 0 → (literal : ℕ → List ℕ) (bound : ℕ → Fields) → Shows (unset literal bound) t (set_top false (start []))
-zeros-show z literal bound =
-    subst (λ (t : List ℕ). Shows (unset literal bound) t (set_top false (start []))) (sym z)
-    (zero-shows (replicate cells 0) (length-replicate {A = ℕ} cells 0) (zero-at cells) literal bound)
 
 map-none : {A B : Type 0} (f : A → B) (l : List A) → map f l ≡ [] → l ≡ []
 map-none f [] e = refl
@@ -92,7 +77,6 @@ pub lent-to : (modes : Modes) (externals table : List ℕ) {t t1 t2 t3 : List �
     Resets (with_externals (atoms_in externals)) t1 t2 → Resets (with_table (rows_in table)) t2 t3 → LentTo modes externals table t3
 lent-to modes externals table {t} {t3 = t3} z a b c =
     record {
-      good = c.good;
       shows = λ x q.
           let s = set_top false (start []) in
           let w = zeros-show z x.literal x.bound in
@@ -210,7 +194,6 @@ module _ (file : ℕ) (modes : Modes) (externals table tree : List ℕ) (ms : Mo
   pub prepared-refused : {t : List ℕ} {v : ExtractError} → t ≡ replicate cells 0 → r ≡ Err v → Prepares lent ms t (Err v)
   prepared-refused {v = v} z e =
       record {
-        good = zeros-good z;
         is =
             record {
               is = λ room. (says file modes externals table tree room ms (Err v) d e).0;
@@ -230,7 +213,7 @@ module _ (file : ℕ) (modes : Modes) (externals table tree : List ℕ) (ms : Mo
         ∙ ap (λ (z : Outcome (ℕ × Modules)). onto z (passes lent room (rows_in table) (items_in tree))) q
 
     pub prepared-own : Bytes tree → {t1 t2 : List ℕ} → LentTo modes externals table t1 → {a : Result Unit ExtractError} → Owns file ms t1 t2 a → Prepares lent ms t2 a
-    prepared-own bs {t1} {t2} k {a} g = record { good = g.good; is = go a g.is }
+    prepared-own bs {t1} {t2} k {a} g = record { is = go a g.is }
       where
         go : (a : Result Unit ExtractError) → OwnIs file ms t1 t2 a → PreparedIs lent ms t2 a
         go (Ok u) w =
@@ -332,7 +315,6 @@ pub record Settled (m : Outcome Extracted) (tree t part last work out records wo
   pub outs : Fields
   pub state : State
   pub rest : m ≡ onto (fits (records_of (lost state)) (length records)) (λ _. done (extracted_from works outs (lost state)))
-  pub good : Good t
   pub around : Env
   pub placing : Placing tree part around
   pub shows : Shows around t state
@@ -383,7 +365,6 @@ module _ (records : List ℕ) {l : Lent} {m : Outcome Extracted} {work out : Lis
         rest =
             h.rest
             ∙ secondly-fit again (length out) (length records) works h.state outs z.state (done tt) z.is (fits-so (module_with outs) (length out) z.room);
-        good = g.good;
         around = standing again l.tree part;
         placing = stands again l.tree part;
         shows = z.shows;
@@ -413,7 +394,6 @@ module _ {m : Outcome Extracted} {tree t part last work out records work1 out1 r
             record {
               result = extracted_from h.works h.outs (lost h.state);
               is = ending (done tt) (fits-so (records_of (lost h.state)) (length records) (fits-told true e));
-              good = h.good;
               modules = record { at = h.around; state = h.state; shows = h.shows; modules = refl };
               buffers =
                   record {
@@ -500,9 +480,6 @@ module _ (l : Lent) (scope : Scope) {t work out records work2 out2 records2 : Li
     (c : Ends (Whole work out records work2 out2 records2) (extracted l (room_in work out records) (modules_of scope)) l.tree t a) where
   ended : (b : Result Unit ExtractError) → a ≡ b → EndIs (Whole work out records work2 out2 records2) (extracted l (room_in work out records) (modules_of scope)) l.tree t b
   ended b e = subst (EndIs (Whole work out records work2 out2 records2) (extracted l (room_in work out records) (modules_of scope)) l.tree t) e c.is
-
-  pub accepted-good : a ≡ Ok tt → Good t
-  accepted-good e = (ended (Ok tt) e).good
 
   pub left-accepted : (r : Scope) {n : Report} → a ≡ Ok tt → Tells (λ s. s.modules) t (modules_of r) → n ≡ no_counts →
       (left (record { scope = r; report = n; answer = Ok tt }) work2 out2 records2 ≡ extraction l (room_in work out records) (modules_of scope)) × UnreadAs (Ok tt) (read Module l.tree)

@@ -20,7 +20,7 @@ use Rattle.state.specs.Cells.{Env, Good, forces, table_of, held}
 use Rattle.tables.proofs.RowLaws.{rows-length}
 use Rattle.state.specs.Does.{Tells, Holds, Turns, Resolves}
 use Rattle.scope.specs.declared.TooManyFiles.{TooManyFiles}
-use Rattle.steps.specs.declared.Refusal.{Refusal}
+use Rattle.steps.specs.Refusal.{Refusal}
 use Rattle.steps.specs.declared.Why.TheVariants.{TooManyFiles as NoNumber}
 use Rattle.steps.specs.Step.{Effect, Effects}
 use Rattle.steps.specs.Refusal.{refusal, refusal_of}
@@ -45,7 +45,6 @@ module _ (a : ℕ) where
   unfolding wrap_module
   source-marked n g q u =
       record {
-        good = u.good;
         fine = λ f {x = x} s w c.
             let d = g.resolved (Some n) q s 0 w in
             record {
@@ -60,7 +59,6 @@ module _ (a : ℕ) where
   unfolding wrap_module
   source-unresolved g q =
       record {
-        good = g.good;
         fine = λ f {x = x} s w c.
             let d = g.resolved None q s 0 w in
             record { state = d.state; is = wrapped x.setting s (done (None, d.state)) d.is; shows = d.shows };
@@ -71,7 +69,6 @@ module _ (a : ℕ) where
       Effects Anywhere (wraps a) t t1 (Err (refusal NoNumber 0))
   source-full {e = e} g q =
       record {
-        good = g.good;
         fine = λ f s w c. fine-turned (sym f);
         turned = λ v f {x = x} s w c. turned-as (wrapped x.setting s (refused 5 0) (g.full e q s 0 w)) f;
       }
@@ -119,7 +116,6 @@ module _ {t : List ℕ} {i : ℕ} where
       Effects Anywhere (wraps_from (i + 1)) t1 t' k → Effects Anywhere (wraps_from i) t t' k
   wrap-more a h f r =
       record {
-        good = r.good;
         fine = λ p {x = x} s w c.
             let b = h.is s w in
             let d = f.fine refl s w tt in
@@ -135,17 +131,15 @@ module _ {t : List ℕ} {i : ℕ} where
       Effects Anywhere (wraps_from i) t t1 (Err v)
   wrap-turned {v = v} a h f =
       record {
-        good = f.good;
         fine = λ g s w c. fine-turned (sym g);
         turned = λ u g {x = x} s w c.
             let b = h.is s w in
             turned-as (wrap-step x.setting i s b.0 (two a) b.1 b.2 (refused (refusal_of v.why) v.place) (f.turned v refl s w tt)) g;
       }
 
-  pub wrap-over : {n : ℕ} → Good t → Tells (λ s. length s.forced) t n → n ≤ i → Effects Anywhere (wraps_from i) t t (Ok tt)
-  wrap-over g h le =
+  pub wrap-over : {n : ℕ} → Tells (λ s. length s.forced) t n → n ≤ i → Effects Anywhere (wraps_from i) t t (Ok tt)
+  wrap-over h le =
       record {
-        good = g;
         fine = λ p {x = x} s w c. record { state = s; is = nothing-wrapped i x.setting s (let z = h.is s w in omega arith); shows = w };
         turned = λ v f s w c. fine-turned f;
       }
@@ -185,20 +179,20 @@ wrap-placeless e (a ∷ l) s =
 
 -- ---- The loop
 
-pub wrapping-start : {t : List ℕ} → Good t → Wrapping t 0 t
-wrapping-start g = record { good = g; rest = λ t' k w. w }
+pub wrapping-start : {t : List ℕ} → Wrapping t 0 t
+wrapping-start = record { rest = λ t' k w. w }
 
 pub wrapping-next : {t₀ t t1 : List ℕ} {i : ℕ} {k : Effect} (a : ℕ) → Wrapping t₀ i t → Holds (λ s. s.forced) (λ a. a) i t (λ _. two a) →
     Effects Anywhere (wraps a) t t1 k → k ≡ Ok tt → Wrapping t₀ (i + 1) t1
 wrapping-next {t = t} {t1} a w h f q =
-    record { good = f.good; rest = λ t' k r. w.rest t' k (wrap-more a h (subst (Effects Anywhere (wraps a) t t1) q f) r) }
+    record { rest = λ t' k r. w.rest t' k (wrap-more a h (subst (Effects Anywhere (wraps a) t t1) q f) r) }
 
 pub wrapping-turned : {t₀ t t1 : List ℕ} {i : ℕ} {k : Effect} {v : Refusal} (a : ℕ) → Wrapping t₀ i t → Holds (λ s. s.forced) (λ a. a) i t (λ _. two a) →
     Effects Anywhere (wraps a) t t1 k → k ≡ Err v → Effects Anywhere (wraps_from 0) t₀ t1 (Err v)
 wrapping-turned {t = t} {t1} {v = v} a w h f q = w.rest t1 (Err v) (wrap-turned a h (subst (Effects Anywhere (wraps a) t t1) q f))
 
 pub wrapping-over : {t₀ t : List ℕ} {i n : ℕ} → Wrapping t₀ i t → Tells (λ s. length s.forced) t n → n ≤ i → Effects Anywhere (wraps_from 0) t₀ t (Ok tt)
-wrapping-over {t = t} w h le = w.rest t (Ok tt) (wrap-over w.good h le)
+wrapping-over {t = t} w h le = w.rest t (Ok tt) (wrap-over h le)
 
 -- at most 256 sources are forced
 pub forces-most : {t : List ℕ} → Good t → held forces t ≤ 256

@@ -1,9 +1,9 @@
 -- What the steps of the call do, as the code has them: what each answers and what it leaves. Only inner contracts cite this.
-use Rattle.std.specs.Prelude.{ℕ, ◌-◌, ◌≤◌, ◌≡◌, Bool, true, false, cond, None, Some, Result, Ok, Err, IfOk, List, [], length, take, drop}
+use Rattle.std.specs.Prelude.{ℕ, ◌≤◌, ◌≡◌, Bool, true, false, cond, None, Some, Result, Ok, Err, IfOk, List, [], length, take, drop}
 use Rattle.modes.specs.declared.Modes.{Modes}
 use Rattle.scope.specs.Modules.{Modules, request}
 use Rattle.tree.specs.declared.grammar.Set.TheVariants.{Module}
-use Rattle.tree.specs.declared.read.Unread.{Unread}
+use Rattle.tree.specs.Read.{Unread}
 use Rattle.tree.specs.Grammar.{rule_of}
 use Rattle.tree.specs.Tree.{Fields, none, more, encode, size}
 use Rattle.tree.specs.Read.{fine, read, verdict}
@@ -19,7 +19,7 @@ use Rattle.extraction_rules.specs.Call.{Lent, Lengths, Extracted, bad_lists, set
 use Rattle.extraction_rules.proofs.WalkLaws.{ImportsAll}
 use Rattle.extraction_rules.proofs.SanityLaws.{Known}
 use Rattle.extraction_rules.proofs.ReadableLaws.{Items}
-use Rattle.state.specs.Cells.{Env, Good, Shows, sources_in}
+use Rattle.state.specs.Cells.{Env, Shows, sources_in}
 use Rattle.state.specs.Does.{with_own, with_second}
 use Rattle.steps.specs.declared.Why.TheVariants.{TooManyFiles}
 use Rattle.steps.specs.Step.{Effect, Effects}
@@ -54,7 +54,6 @@ setting_in p own modes externals table = setting p own (lent_as 0 modes external
 
 -- the array shows it, and an empty state
 pub record LentTo (modes : Modes) (externals table t : List ℕ) : Type 0 where
-  pub good : Good t
   pub shows : (x : Env) → x.setting ≡ setting_in first 0 modes externals table → Shows x t (set_top false (start []))
 
 -- ---- 'Own file's number first'
@@ -71,7 +70,6 @@ OwnIs file ms t t' (Ok u) = Owned file ms t t'
 OwnIs file ms t t' (Err e) = (e ≡ Refused (refusal TooManyFiles 0)) × (request file ms ≡ None)
 
 pub record Owns (file : ℕ) (ms : Modules) (t t' : List ℕ) (r : Result Unit ExtractError) : Type 0 where
-  pub good : Good t'
   pub is : OwnIs file ms t t' r
 
 -- ---- Before the passes
@@ -94,7 +92,6 @@ PreparedIs l ms t (Ok u) = Begun l ms t
 PreparedIs l ms t (Err e) = Refuses l ms e
 
 pub record Prepares (l : Lent) (ms : Modules) (t : List ℕ) (r : Result Unit ExtractError) : Type 0 where
-  pub good : Good t
   pub is : PreparedIs l ms t r
 
 -- ---- A pass, held to its buffer
@@ -130,7 +127,6 @@ Inside r room = IfOk r (λ n. n ≤ room)
 
 -- the first pass, from the modules that the array shows
 pub record Firsts (tree t work t' work' : List ℕ) (r : Result ℕ ExtractError) : Type 0 where
-  pub good : Good t'
   pub inside : Inside r (length work)
   pub is : {x : Env} (ms : Modules) → x.setting.pass ≡ first → Shows x t (set_top false (start ms)) → ModuleRead tree → (w : List ℕ) → Placing tree w x →
       PassIs x (walk_module x.setting (items_in tree) (set_top false (start ms))) work t' work' r
@@ -150,7 +146,6 @@ wrap_from i e = λ s. wrap_all e (drop i s.forced) s
 
 -- what is left from i on makes the whole
 pub record Wrapping (t₀ : List ℕ) (i : ℕ) (t : List ℕ) : Type 0 where
-  pub good : Good t
   pub rest : (t' : List ℕ) (k : Effect) → Effects Anywhere (λ x. wrap_from i x.setting) t t' k → Effects Anywhere (λ x. wrap_from 0 x.setting) t₀ t' k
 
 -- ---- The second pass
@@ -161,7 +156,6 @@ marking e works = λ s. onto (walk_module e works s) (λ r. onto (wrap_from 0 e 
 
 -- *work* holds what the first pass left: items, whose sources are collected unless they are external. 'All of pass two: 0'
 pub record Seconds (t work out t' out' : List ℕ) (r : Result ℕ ExtractError) : Type 0 where
-  pub good : Good t'
   pub inside : Inside r (length out)
   pub is : {x : Env} (s : State) → Shows x t s → (tree : List ℕ) → Placing tree work x → (works : Fields) →
       read Module work ≡ fine (more (module_with works) none) → length work ≤ 65538 →
@@ -192,7 +186,6 @@ pub record Whole (k l m k' l' m' : List ℕ) (r : Extracted) : Type 0 where
 pub record AcceptedAs (B : Extracted → Type 0) (m : Outcome Extracted) (t : List ℕ) : Type 0 where
   pub result : Extracted
   pub is : m ≡ done result
-  pub good : Good t
   pub modules : ShowsModules t result.modules
   pub buffers : B result
 

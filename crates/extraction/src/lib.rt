@@ -4,7 +4,7 @@
 ghost use Rattle.std.specs.Prelude.{◌≡◌, false, true, ◌≤◌, length, replicate};
 ghost use Rattle.modes.specs.Bits.{modes_of};
 ghost use Rattle.tree.specs.declared.grammar.Set.TheVariants.{Module as module-set};
-ghost use Rattle.tree.specs.Layout.{two as two_of};
+ghost use Rattle.tree.specs.Layout.{Bytes, two as two_of};
 ghost use Rattle.tree.specs.Read.{read};
 ghost use Rattle.scope.specs.ScopeValue.{modules_of};
 ghost use Rattle.extraction_rules.specs.Call.{bad_lists, extracted, extraction};
@@ -22,10 +22,7 @@ use records::put_records;
 use report::{Report, no_counts};
 use scope::id::{Atom, FileName};
 use scope::{Mark, Scope};
-use state::CELLS;
-use state::forced::{count_forced, forced_at};
-use state::modules::{load, module_for, scope_of, set_mark};
-use state::setting::{lend_externals, lend_table, set_modes, set_own, set_second};
+use state::Tables;
 use steps::{Effect, Refusal, Why};
 use tree::grammar::Set;
 use tree::read::{Unread, read_tree};
@@ -38,6 +35,15 @@ const NO_NUMBER: Refusal = Refusal {
     why: Why::TooManyFiles,
     place: 0,
 };
+
+// What a call is lent: the externals, the table of sources and files, and the tree.
+#[derive(Clone, Copy)]
+pub struct Lent<'a> {
+    pub externals: &'a [u8],
+    pub table: &'a [u8],
+    pub tree: &'a [u8],
+    ghost of_bytes: { Bytes tree.now },
+}
 
 // Why a call refuses.
 #[derive(Clone, Copy, PartialEq, Eq)]
@@ -87,23 +93,19 @@ pub fn extract_import_info(
     scope: Scope,
     file: FileName,
     modes: Modes,
-    externals: &[u8],
-    table: &[u8],
-    tree: &[u8],
+    lent: &Lent,
     work: &mut [u8],
     out: &mut [u8],
     records: &mut [u8],
 ) -> Extraction
     ensures { (left result work.new out.new records.new ≡ extraction
-        (lent_as file.0 modes externals.now table.now tree.now)
-        (room_in work.old out.old records.old) (modules_of scope)) × UnreadAs result.answer (read module-set tree.now) }
+        (lent_as file.0 modes lent.now.externals.now lent.now.table.now lent.now.tree.now)
+        (room_in work.old out.old records.old) (modules_of scope)) × UnreadAs result.answer (read module-set lent.now.tree.now) }
 {
-    let mut t = [0u64; CELLS];
-    match run(
-        scope, file, modes, externals, table, tree, &mut t, work, out, records,
-    ) {
+    let mut t = Tables::new();
+    match run(scope, file, modes, lent, &mut t, work, out, records) {
         Ok(()) => Extraction {
-            scope: scope_of(&t),
+            scope: t.scope(),
             report: no_counts(),
             answer: Ok(()),
         },
@@ -125,23 +127,21 @@ fn run(
     scope: Scope,
     file: FileName,
     modes: Modes,
-    externals: &[u8],
-    table: &[u8],
-    tree: &[u8],
-    t: &mut [u64],
+    lent: &Lent,
+    t: &mut Tables,
     work: &mut [u8],
     out: &mut [u8],
     records: &mut [u8],
 ) -> Result<(), ExtractError>
-    requires { t.old ≡ replicate cells 0 }
+    requires { t.old.cells ≡ replicate cells 0 }
     ensures { Ends (Whole work.old out.old records.old work.new out.new records.new)
-        (extracted (lent_as file.0 modes externals.now table.now tree.now)
-        (room_in work.old out.old records.old) (modules_of scope)) tree.now t.new result }
+        (extracted (lent_as file.0 modes lent.now.externals.now lent.now.table.now lent.now.tree.now)
+        (room_in work.old out.old records.old) (modules_of scope)) lent.now.tree.now t.new.cells result }
 {
-    prepare(scope, file, modes, externals, table, tree, t)?;
-    let n = first_pass(tree, t, work)?;
+    prepare(scope, file, modes, lent, t)?;
+    let n = first_pass(lent.tree, t, work)?;
     let m = second_pass(&work[..n], t, out)?;
-    deliver_records(tree, &work[..n], &out[..m], t, records)
+    deliver_records(lent.tree, &work[..n], &out[..m], t, records)
         .then_some(())
         .ok_or(ExtractError::NoRoom)
 }
@@ -151,67 +151,63 @@ fn prepare(
     scope: Scope,
     file: FileName,
     modes: Modes,
-    externals: &[u8],
-    table: &[u8],
-    tree: &[u8],
-    t: &mut [u64],
+    lent: &Lent,
+    t: &mut Tables,
 ) -> Result<(), ExtractError>
-    requires { t.old ≡ replicate cells 0 }
-    ensures { Prepares (lent_as file.0 modes externals.now table.now tree.now) (modules_of scope) t.new result }
+    requires { t.old.cells ≡ replicate cells 0 }
+    ensures { Prepares (lent_as file.0 modes lent.now.externals.now lent.now.table.now lent.now.tree.now) (modules_of scope) t.new.cells result }
 {
-    lists(externals, table, tree)?;
-    lend(modes, externals, table, t);
+    lists(lent)?;
+    lend(modes, lent, t);
     own_file(scope, file, t)
 }
 
 // Whether a lent list is too long, or none.
 #[tactic(auto, unfolding(extraction_rules::specs::Call::bad_lists))]
-fn bad_lists(externals: &[u8], table: &[u8], tree: &[u8]) -> bool
-    ensures { result ≡ bad_lists (lent_as 0 (modes_of 0) externals.now table.now tree.now) }
+fn bad_lists(lent: &Lent) -> bool
+    ensures { result ≡ bad_lists (lent_as 0 (modes_of 0) lent.now.externals.now lent.now.table.now lent.now.tree.now) }
 {
-    MOST < tree.len() || bad_externals(externals) || bad_table(table)
+    MOST < lent.tree.len() || bad_externals(lent.externals) || bad_table(lent.table)
 }
 
 // The lent lists are tested, and the tree is read.
-fn lists(externals: &[u8], table: &[u8], tree: &[u8]) -> Result<(), ExtractError>
-    ensures { result ≡ lists_of (lent_as 0 (modes_of 0) externals.now table.now tree.now) }
+fn lists(lent: &Lent) -> Result<(), ExtractError>
+    ensures { result ≡ lists_of (lent_as 0 (modes_of 0) lent.now.externals.now lent.now.table.now lent.now.tree.now) }
 {
-    if bad_lists(externals, table, tree) {
+    if bad_lists(lent) {
         return Err(ExtractError::BadLists);
     }
-    if names_twice(table) {
+    if names_twice(lent.table) {
         return Err(ExtractError::NamedTwice);
     }
-    read_tree(tree, Set::Module)?;
+    read_tree(lent.tree, Set::Module)?;
     Ok(())
 }
 
 // What a call is set to and lent goes into the array.
-fn lend(modes: Modes, externals: &[u8], table: &[u8], t: &mut [u64])
-    requires { (t.old ≡ replicate cells 0) × (length externals.now ≤ 1024) × (length table.now ≤ 4096) }
-    ensures { LentTo modes externals.now table.now t.new }
+fn lend(modes: Modes, lent: &Lent, t: &mut Tables)
+    requires { (t.old.cells ≡ replicate cells 0) × (length lent.now.externals.now ≤ 1024) × (length lent.now.table.now ≤ 4096) }
+    ensures { LentTo modes lent.now.externals.now lent.now.table.now t.new.cells }
 {
-    set_modes(t, modes);
-    lend_externals(t, externals);
-    lend_table(t, table);
+    t.set_modes(modes);
+    t.lend_externals(lent.externals);
+    t.lend_table(lent.table);
 }
 
 // 'Own file's number first': the array then shows the scope with it.
-fn own_file(scope: Scope, file: FileName, t: &mut [u64]) -> Result<(), ExtractError>
-    requires { Good t.old }
-    ensures { Owns file.0 (modules_of scope) t.old t.new result }
+fn own_file(scope: Scope, file: FileName, t: &mut Tables) -> Result<(), ExtractError>
+    ensures { Owns file.0 (modules_of scope) t.old.cells t.new.cells result }
 {
     let g = scope.gen_id(file);
     let own = g.answer.map_err(|_| NO_NUMBER)?;
-    load(t, g.scope);
-    set_own(t, own.id);
+    t.load(g.scope);
+    t.set_own(own.id);
     Ok(())
 }
 
 // The first pass, held to its buffer.
-fn first_pass(tree: &[u8], t: &mut [u64], work: &mut [u8]) -> Result<usize, ExtractError>
-    requires { Good t.old }
-    ensures { Firsts tree.now t.old work.old t.new work.new result }
+fn first_pass(tree: &[u8], t: &mut Tables, work: &mut [u8]) -> Result<usize, ExtractError>
+    ensures { Firsts tree.now t.old.cells work.old t.new.cells work.new result }
 {
     let n = pass(tree, t, work)?;
     writer::finish(work, n)
@@ -220,11 +216,10 @@ fn first_pass(tree: &[u8], t: &mut [u64], work: &mut [u8]) -> Result<usize, Extr
 }
 
 // The second pass, over the tree that the first one left, and the wrapping marks, held to its buffer. 'All of pass two: 0'
-fn second_pass(work: &[u8], t: &mut [u64], out: &mut [u8]) -> Result<usize, ExtractError>
-    requires { Good t.old }
-    ensures { Seconds t.old work.now out.old t.new out.new result }
+fn second_pass(work: &[u8], t: &mut Tables, out: &mut [u8]) -> Result<usize, ExtractError>
+    ensures { Seconds t.old.cells work.now out.old t.new.cells out.new result }
 {
-    set_second(t);
+    t.set_second();
     let n = pass(work, t, out).map_err(|turned| Refusal { place: 0, ..turned })?;
     wrap(t)?;
     writer::finish(out, n)
@@ -233,33 +228,30 @@ fn second_pass(work: &[u8], t: &mut [u64], out: &mut [u8]) -> Result<usize, Extr
 }
 
 // 'At the end forced sources get the wrapping mark if they resolve.'
-fn wrap(t: &mut [u64]) -> Effect
-    requires { Good t.old }
-    ensures { Effects Anywhere (λ x. wrap_from 0 x.setting) t.old t.new result }
+fn wrap(t: &mut Tables) -> Effect
+    ensures { Effects Anywhere (λ x. wrap_from 0 x.setting) t.old.cells t.new.cells result }
 {
     let mut i = 0;
-    while i < count_forced(t) {
-        wrap_source(forced_at(t, i), t)?;
+    while i < t.count_forced() {
+        wrap_source(t.forced_at(i), t)?;
         i += 1;
     }
     Ok(())
 }
 
 // The module of a forced source gets the wrapping mark.
-fn wrap_source(source: Atom, t: &mut [u64]) -> Effect
-    requires { Good t.old }
-    ensures { Effects Anywhere (λ x. wrap_one x.setting (two_of source.0)) t.old t.new result }
+fn wrap_source(source: Atom, t: &mut Tables) -> Effect
+    ensures { Effects Anywhere (λ x. wrap_one x.setting (two_of source.0)) t.old.cells t.new.cells result }
 {
-    if let Some(id) = module_for(t, source).map_err(|_| NO_NUMBER)? {
-        set_mark(t, id, Mark::Wrapping);
+    if let Some(id) = t.module_for(source).map_err(|_| NO_NUMBER)? {
+        t.set_mark(id, Mark::Wrapping);
     }
     Ok(())
 }
 
 // The records, held to their buffer: whether they fit.
-fn deliver_records(tree: &[u8], work: &[u8], out: &[u8], t: &[u64], records: &mut [u8]) -> bool
-    requires { Good t.now }
-    ensures { DeliversFor tree.now work.now out.now t.now records.old records.new result }
+fn deliver_records(tree: &[u8], work: &[u8], out: &[u8], t: &Tables, records: &mut [u8]) -> bool
+    ensures { DeliversFor tree.now work.now out.now t.now.cells records.old records.new result }
 {
     let n = put_records(tree, work, out, t, records);
     writer::finish(records, n)

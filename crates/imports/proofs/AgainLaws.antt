@@ -7,10 +7,12 @@ use mathlib.Core.Bool.{Bool, true, false, cond, ◌||◌}
 use mathlib.Core.List.{List}
 use lib.Seq.{slice}
 use Rattle.writer.specs.Wrote.{Wrote}
-use Rattle.tree.specs.Layout.{Bytes, two, value_of}
+use Rattle.tree.specs.Layout.{two, value_of}
 use Rattle.tree.specs.Tree.{Field, field, Fields, fixed_of, parts_of, encode}
 use Rattle.tree.specs.Grammar.{rule_of}
-use Rattle.tree.specs.Standing.{tree_at, row_at, Row}
+use Rattle.tree.specs.Rows.{tree_of}
+use Rattle.tree.specs.declared.row.Part.{Part}
+use Rattle.tree.specs.Standing.{row_at, Row}
 use Rattle.scope.specs.declared.id.Id.{Id}
 use Rattle.inputs.specs.Lists.{among}
 use Rattle.inputs.specs.Fields.{has, sole}
@@ -18,22 +20,22 @@ use Rattle.inputs.specs.Outcome.{done}
 use Rattle.extraction_rules.specs.State.{State, Setting, give}
 use Rattle.extraction_rules.specs.First.{external, specifiers_in}
 use Rattle.extraction_rules.specs.Second.{usages_of, take_apart, on_sole, import_second}
-use Rattle.state.specs.Cells.{Env, Good, Shows, id_by, sources_in}
+use Rattle.state.specs.Cells.{Env, Shows, id_by, sources_in}
 use Rattle.state.specs.Does.{Tells, Says}
 use Rattle.steps.specs.Step.{ReadAt, Step, Steps, ident_by}
 use Rattle.steps.proofs.StepsLaws.{steps-by}
 use Rattle.imports.specs.Parts.{namespace_by}
 use Rattle.imports.proofs.HeadLaws.{Headed, head-external, head-parts, head-row, head-stays}
 
-module _ {s : List ℕ} {at stop from : ℕ} (bytes : Bytes s) (hd : Headed s at stop from) where
+module _ {part : Part} {from : ℕ} (hd : Headed part from) where
   abbrev X : List ℕ
-  X = fixed_of (tree_at s at stop)
+  X = fixed_of (tree_of part)
 
   abbrev CS : Fields
-  CS = parts_of (tree_at s at stop)
+  CS = parts_of (tree_of part)
 
   abbrev Ready : Env → State → Type 0
-  Ready x u = ReadAt s at stop × (external x.setting X ≡ false → among (value_of X) (sources_in u.collected) ≡ true)
+  Ready x u = ReadAt part.bytes.now part.at part.stop × (external x.setting X ≡ false → among (value_of X) (sources_in u.collected) ≡ true)
 
   abbrev Again : List ℕ → List ℕ → ℕ → List ℕ → List ℕ → Step → Type 0
   Again t out o t' out' r = Steps encode Ready (λ x. import_second x.setting X CS) t out o t' out' r
@@ -56,34 +58,36 @@ module _ {s : List ℕ} {at stop from : ℕ} (bytes : Bytes s) (hd : Headed s at
       go true k p = (λ q. absurd (let z : ◌≡◌ {A = ℕ} 0 1 = cc in omega arith), λ y q. let z : fixed_of f ≡ y = cc in ap (λ (y : List ℕ). take_apart (usages_of y u.usages) X CS u) z)
       go false k p = (λ q. refl, λ y q. absurd (let z : ◌≡◌ {A = ℕ} 0 1 = cc in omega arith))
 
-  module _ (n : ℕ) (source : two n ≡ value_of X) {a : Bool} {t : List ℕ} (ext : Says (λ y. among (two n) y.externals) t a) (g : Good t) where
+  module _ (n : ℕ) (source : two n ≡ value_of X) {a : Bool} {t : List ℕ} (ext : Says (λ y. among (two n) y.externals) t a) where
     outside : (b : Bool) {x : Env} (u : State) → Shows x t u → a ≡ b → external x.setting X ≡ b
     outside b {x} u k q = head-external hd x.setting n source (ext.is u k) q
 
-    pub again-external : {out out' : List ℕ} {o p : ℕ} → a ≡ true → Wrote out o (slice at stop s) out' p → Again t out o t out' (Ok p)
-    again-external q w = head-stays hd bytes g w (λ x u h. h.0) (λ x u k h. by-tests x.setting true (among (value_of X) u.forced) u (outside true u k q) refl)
+    pub again-external : {out out' : List ℕ} {o p : ℕ} → a ≡ true → Wrote out o (slice part.at part.stop part.bytes.now) out' p → Again t out o t out' (Ok p)
+    again-external q w = head-stays hd w (λ x u h. h.0) (λ x u k h. by-tests x.setting true (among (value_of X) u.forced) u (outside true u k q) refl)
 
     module _ (own : a ≡ false) {b : Bool} (fo : Tells (λ u. among (two n) u.forced) t b) where
       forced-is : (c : Bool) {x : Env} (u : State) → Shows x t u → b ≡ c → among (value_of X) u.forced ≡ c
       forced-is c u k q = ap (λ (l : List ℕ). among l u.forced) (sym source) ∙ sym (fo.is u k) ∙ q
 
-      pub again-forced : {out out' : List ℕ} {o p : ℕ} → b ≡ true → Wrote out o (slice at stop s) out' p → Again t out o t out' (Ok p)
+      pub again-forced : {out out' : List ℕ} {o p : ℕ} → b ≡ true → Wrote out o (slice part.at part.stop part.bytes.now) out' p → Again t out o t out' (Ok p)
       again-forced q w =
-          head-stays hd bytes g w (λ x u h. h.0) (λ x u k h. by-tests x.setting false true u (outside false u k own) (forced-is true u k q))
+          head-stays hd w (λ x u h. h.0) (λ x u k h. by-tests x.setting false true u (outside false u k own) (forced-is true u k q))
 
-      module _ (un : b ≡ false) (r : Option Id) (so : Row s from stop (rule_of 0x10) → ident_by r ≡ namespace_by (sole (specifiers_in (row_at s from stop)))) where
-        sole-of : ReadAt s at stop → ident_by r ≡ namespace_by (sole (specifiers_in CS))
+      module _ (un : b ≡ false) (r : Option Id)
+          (so : Row part.bytes.now from part.stop (rule_of 0x10) → ident_by r ≡ namespace_by (sole (specifiers_in (row_at part.bytes.now from part.stop)))) where
+        sole-of : ReadAt part.bytes.now part.at part.stop → ident_by r ≡ namespace_by (sole (specifiers_in CS))
         sole-of rd =
             so (head-row hd rd) ∙ ap (λ (fs : Fields). namespace_by (sole (specifiers_in fs))) (sym (head-parts hd))
 
-        pub again-other : {out out' : List ℕ} {o p : ℕ} → r ≡ None → Wrote out o (slice at stop s) out' p → Again t out o t out' (Ok p)
+        pub again-other : {out out' : List ℕ} {o p : ℕ} → r ≡ None → Wrote out o (slice part.at part.stop part.bytes.now) out' p → Again t out o t out' (Ok p)
         again-other q w =
-            head-stays hd bytes g w (λ x u h. h.0) (λ x u k h.
+            head-stays hd w (λ x u h. h.0) (λ x u k h.
             by-tests x.setting false false u (outside false u k own) (forced-is false u k un)
             ∙ (sole-by (sole (specifiers_in CS)) (ident_by r) u (sole-of h.0)).0 (ap ident_by q))
 
         pub again-apart : (id : Id) {t' out out' : List ℕ} {o p : ℕ} → r ≡ Some id →
-            Steps encode (λ x u. ReadAt s at stop × (among (value_of X) (sources_in u.collected) ≡ true)) (λ _ u. take_apart (usages_of (id_by id) u.usages) X CS u) t out o t' out' (Ok p) →
+            Steps encode (λ x u. ReadAt part.bytes.now part.at part.stop × (among (value_of X) (sources_in u.collected) ≡ true))
+            (λ _ u. take_apart (usages_of (id_by id) u.usages) X CS u) t out o t' out' (Ok p) →
             Again t out o t' out' (Ok p)
         again-apart id q w =
             steps-by _ w (λ x u k h. (

@@ -1,24 +1,25 @@
 -- The attributes of an import, written as they are and with an export context.
 use Rattle.std.specs.Prelude.{None, Some}
-use Prim.Native.Nat.{ℕ, ◌+◌, ◌≤◌}
+use Prim.Native.Nat.{ℕ, ◌+◌}
 use native.Mathlib.Omega.{arith}
 use mathlib.Core.Path.{◌≡◌, refl, sym, ap, ◌∙◌}
 use mathlib.Core.Logic.{⊎_elim}
 use mathlib.Core.Bool.{Bool, true, false, cond}
 use mathlib.Core.List.{List, [], ◌++◌}
-use lib.ListN.{length, get_or}
 use lib.Seq.{slice}
 use borrow.Author.Tests.{eq-eqb, ne_eqb}
 use Rattle.writer.specs.Bytes.{framed}
 use Rattle.writer.specs.Wrote.{Wrote, Opened, closed}
 use Rattle.writer.proofs.Wrote.{wrote-none, wrote-then, wrote-as, wrote-field}
 use Rattle.scope.specs.Id.{export}
-use Rattle.tree.specs.Layout.{Bytes}
 use Rattle.tree.specs.Tree.{Field, Fields, none, more, tag_of, parts_of, encode, encodes}
-use Rattle.tree.specs.Access.{extent_at}
 use Rattle.tree.specs.Grammar.{rule_of}
-use Rattle.tree.specs.Standing.{tree_at, row_at}
-use Rattle.tree.proofs.StandingLaws.{row-none, whole-step}
+use Rattle.tree.specs.Rows.{GivesPart, tree_of, fields_of}
+use Rattle.tree.specs.Standing.{row_at}
+use Rattle.tree.specs.declared.row.Part.{Part}
+use Rattle.tree.specs.declared.row.Row.{Row}
+use Rattle.tree.proofs.PartLaws.{fields-none, part_tag}
+use Rattle.tree.proofs.StandingLaws.{whole-step}
 use Rattle.tree.proofs.SoundLaws.{row-sound}
 use Rattle.tree.proofs.WidthLaws.{plain-width}
 use Rattle.tree.proofs.TreeLaws.{encodes-none, encodes-one}
@@ -29,8 +30,8 @@ use Rattle.inputs.specs.Fields.{has, keep, find_field}
 use Rattle.extraction_rules.specs.First.{attributes_of}
 use Rattle.extraction_rules.proofs.ShapeLaws.{specifier-is}
 use Rattle.steps.specs.Step.{ReadAt}
-use Rattle.steps.proofs.SoundLaws.{read-inside, read-tag}
-use Rattle.imports.specs.Parts.{Behind, Attributes, Framed}
+use Rattle.steps.proofs.SoundLaws.{read-tag}
+use Rattle.imports.specs.Parts.{Behind, Attributes}
 use Rattle.imports.proofs.WidthLaws.{framing, framed-in, framed-exact, framed-tree, framed-length}
 use Rattle.imports.proofs.PartsLaws.{LastPart, part-cases}
 
@@ -44,30 +45,28 @@ kept-meets p (more g fs) gs f e = by (p g) (kept-meets p fs gs f) refl e
     by true h q e = let z : g ≡ f = cc in ap p (sym z) ∙ q
     by false h q e = h e
 
-module _ {s : List ℕ} {at end : ℕ} (bytes : Bytes s) (le : at ≤ end) (fits : end ≤ length s) where
-  behind-last : {stop : ℕ} → extent_at s at end ≡ Some stop → Behind s at end → LastPart s at end stop
-  behind-last {stop} e b =
-      ⊎_elim (λ f.
-      absurd (
-      let k : has 0x2F (tree_at s at stop) ≡ true = kept-meets (has 0x2F) (row_at s at end) (row_at s stop end) (tree_at s at stop) (b.only ∙ f.row) in
-      let i = specifier-is (get_or s at 0) f.specified.specifier in
-      let z : has 0x2F (tree_at s at stop) ≡ false = ne_eqb (tag_of (tree_at s at stop)) 0x2F (λ q. let j = f.tag in omega arith) in
-      let y : ◌≡◌ {A = ℕ} 0 1 = cc in
-      omega arith)) (λ l. l) (part-cases bytes le fits e b.row)
+behind-last : (r : Row) (p : Part) (r' : Row) → GivesPart r (Some p) r' → Behind r.bytes.now r.at r.end → LastPart r p
+behind-last r p r' g b =
+    ⊎_elim (λ f.
+    absurd (
+    let k : has 0x2F (tree_of p) ≡ true = kept-meets (has 0x2F) (fields_of r) (fields_of r') (tree_of p) (b.only ∙ f.row) in
+    let i = specifier-is (part_tag p) f.specified.specifier in
+    let z : has 0x2F (tree_of p) ≡ false = ne_eqb (tag_of (tree_of p)) 0x2F (λ q. let j = f.tag in omega arith) in
+    let y : ◌≡◌ {A = ℕ} 0 1 = cc in
+    omega arith)) (λ l. l) (part-cases r p r' g b.row)
 
 -- the parts of a 2F are all its content
-content-is : {s : List ℕ} {at stop : ℕ} → Bytes s → ReadAt s at stop → get_or s at 0 ≡ 0x2F → encodes (parts_of (tree_at s at stop)) ≡ slice (at + 3) stop s
-content-is {s} {at} {stop} bytes r e =
-    let v = whole-step s at stop r.whole in
-    let i = read-inside r in
-    let w : Framed s at stop v.0 = framing i.0 i.1 v.1 in
-    let x = slice (at + 3) v.0 s in
+content-is : (p : Part) → ReadAt p.bytes.now p.at p.stop → part_tag p ≡ 0x2F → encodes (parts_of (tree_of p)) ≡ slice (p.at + 3) p.stop p.bytes.now
+content-is p r e =
+    let s = p.bytes.now in
+    let v = whole-step s p.at p.stop r.whole in
+    let w = framing p v.1 in
     let j = framed-in w in
-    let n = plain-width 0x2F Empty refl x e (framed-exact w) in
+    let n = plain-width 0x2F Empty refl (slice (p.at + 3) v.0 s) e (framed-exact w) in
     let l = framed-length w in
-    let z : v.0 ≡ at + 3 = omega arith in
-    ap (λ (f : Field). encodes (parts_of f)) (framed-tree w) ∙ (row-sound s v.0 stop (rule_of (get_or s at 0)) bytes j.1 i.1 v.2).0
-    ∙ ap (λ (k : ℕ). slice k stop s) z
+    let z : v.0 ≡ p.at + 3 = omega arith in
+    ap (λ (f : Field). encodes (parts_of f)) (framed-tree w) ∙ (row-sound s v.0 p.stop (rule_of (part_tag p)) p.of_bytes j.1 p.whole.1 v.2).0
+    ∙ ap (λ (k : ℕ). slice k p.stop s) z
 
 old-is : (f : Field) (fs : Fields) → has 0x2F f ≡ true → attributes_of (find_field (has 0x2F) (more f fs)) ≡ parts_of f
 unfolding find_field
@@ -77,22 +76,22 @@ old-none : attributes_of (find_field (has 0x2F) none) ≡ none
 unfolding find_field
 old-none = refl
 
-module _ {s : List ℕ} {at end : ℕ} (bytes : Bytes s) (le : at ≤ end) (fits : end ≤ length s) {out : List ℕ} {o : ℕ} where
-  pub attributes-copied : {stop : ℕ} {out' : List ℕ} {p : ℕ} → extent_at s at end ≡ Some stop → Wrote out o (slice (at + 3) stop s) out' p → Attributes s at end encodes out o out' p
-  attributes-copied {stop} e w =
+module _ (r r' : Row) {out : List ℕ} {o : ℕ} where
+  pub attributes-copied : (p : Part) {out' : List ℕ} {q : ℕ} → GivesPart r (Some p) r' → Wrote out o (slice (p.at + 3) p.stop p.bytes.now) out' q →
+      Attributes r.bytes.now r.at r.end encodes out o out' q
+  attributes-copied p g w =
       record {
         is = λ b.
-            let l = behind-last bytes le fits e b in
+            let l = behind-last r p r' g b in
             wrote-as w (sym (ap (λ (fs : Fields). encodes (attributes_of (find_field (has 0x2F) fs))) l.row
-            ∙ ap encodes (old-is (tree_at s at stop) none (eq-eqb (tag_of (tree_at s at stop)) 0x2F l.tag))
-            ∙ content-is bytes l.read (sym (read-tag l.read) ∙ l.tag)));
+            ∙ ap encodes (old-is (tree_of p) none (eq-eqb (tag_of (tree_of p)) 0x2F l.tag))
+            ∙ content-is p l.read (sym (read-tag l.read) ∙ l.tag)));
       }
 
-  pub attributes-none : extent_at s at end ≡ None → Attributes s at end encodes out o out o
-  attributes-none e =
+  pub attributes-none : GivesPart r None r' → Attributes r.bytes.now r.at r.end encodes out o out o
+  attributes-none g =
       record {
-        is = λ b.
-            wrote-as wrote-none (sym (ap (λ (fs : Fields). encodes (attributes_of (find_field (has 0x2F) fs))) (row-none s at end le e) ∙ ap encodes old-none ∙ encodes-none));
+        is = λ b. wrote-as wrote-none (sym (ap (λ (fs : Fields). encodes (attributes_of (find_field (has 0x2F) fs))) (fields-none r r' g) ∙ ap encodes old-none ∙ encodes-none));
       }
 
 -- ---- With a context

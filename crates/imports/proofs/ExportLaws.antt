@@ -21,7 +21,7 @@ use Rattle.scope.specs.Id.{local}
 use Rattle.scope.specs.declared.id.Id.{Id}
 use Rattle.extraction_rules.specs.First.{id_from, exported_name, export_specifier, force_id}
 use Rattle.extraction_rules.proofs.ExactLaws.{width-23}
-use Rattle.state.specs.Cells.{Good, id_by, Shows}
+use Rattle.state.specs.Cells.{id_by, Shows}
 use Rattle.state.specs.Does.{Turns, Says}
 use Rattle.steps.specs.Step.{Steps}
 use Rattle.steps.specs.Refusal.{refusal}
@@ -70,10 +70,10 @@ module _ {s : List ℕ} {at stop from : ℕ} (e : get_or s at 0 ≡ 0x23) (w : F
   first-byte : get_or X 0 0 ≡ get_or s (at + 3) 0
   first-byte = let h = export-first in byte-of (at + 3) from s 0 (at + 3) (omega arith) (omega arith)
 
-  pub export-string : {t out : List ℕ} {o : ℕ} → Good t → get_or s (at + 3) 0 ≡ 2 →
+  pub export-string : {t out : List ℕ} {o : ℕ} → get_or s (at + 3) 0 ≡ 2 →
       Steps encode (λ x u. Unit {0}) (λ x. export_specifier x.setting (fixed_of (tree_at s at stop)) at) t out o t out (Err (refusal StringName at))
   unfolding export_specifier
-  export-string g q = steps-refused g refl (λ x s k u. rw (fixed-of, eq-eqb (get_or X 0 0) 2 (first-byte ∙ q)) refl)
+  export-string q = steps-refused refl (λ x s k u. rw (fixed-of, eq-eqb (get_or X 0 0) 2 (first-byte ∙ q)) refl)
 
   module _ (n : get_or s (at + 3) 0 ≡ 2 → ⊥) where
     no-string : eqb (get_or X 0 0) 2 ≡ false
@@ -96,10 +96,10 @@ module _ {s : List ℕ} {at stop from : ℕ} (e : get_or s at 0 ≡ 0x23) (w : F
     pub export-room : (at + 11 ≤ length s) × (get_or s (at + 10) 0 ≡ 1 → at + 13 ≤ length s)
     export-room = let i = (framed-in w).2 in let h = export-second in (omega arith, λ q. let k = export-third q in omega arith)
 
-    pub export-outside : {t out : List ℕ} {o : ℕ} → Good t → get_or s (at + 10) 0 ≡ 2 →
+    pub export-outside : {t out : List ℕ} {o : ℕ} → get_or s (at + 10) 0 ≡ 2 →
         Steps encode (λ x u. Unit {0}) (λ x. export_specifier x.setting (fixed_of (tree_at s at stop)) at) t out o t out (Err (refusal StringName at))
     unfolding export_specifier
-    export-outside g q = steps-refused g refl (λ x s k u. rw (fixed-of, no-string, eq-eqb (get_or X 7 0) 2 (second-byte ∙ q)) refl)
+    export-outside q = steps-refused refl (λ x s k u. rw (fixed-of, no-string, eq-eqb (get_or X 7 0) 2 (second-byte ∙ q)) refl)
 
     name_is : exported_name X ≡ exported_at s at
     unfolding exported_name exported_at
@@ -125,7 +125,7 @@ module _ {s : List ℕ} {at stop from : ℕ} (e : get_or s at 0 ≡ 0x23) (w : F
         Steps encode (λ x u. Unit {0}) (λ x. export_specifier x.setting (fixed_of (tree_at s at stop)) at) t out o t' out' (Ok p)
     unfolding export_specifier
     export-made {t' = t'} {c = c} id m i f q l v =
-        steps-done f.good v.size (λ x u k b.
+        steps-done v.size (λ x u k b.
         let own = q.is (force_id (id_by id) u) (f.shows u k) in
         record {
           value = field 0x23 (take 7 X ++ 1 ∷ id_from (exported_name X) (local x.setting.own)) none;

@@ -8,10 +8,10 @@ use mathlib.Core.List.{List, [], ◌∷◌}
 use lib.ListN.{length}
 use lib.Dec.{leb}
 use Rattle.tree.specs.Tree.{Field, Fields, none, more, fixed_of}
-use Rattle.tree.specs.Access.{extent_at}
-use Rattle.tree.specs.Standing.{tree_at, row_at}
-use Rattle.tree.proofs.AccessLaws.{extent-upto}
-use Rattle.tree.proofs.StandingLaws.{row-more, row-none}
+use Rattle.tree.specs.Rows.{GivesPart, tree_of, fields_of}
+use Rattle.tree.specs.declared.row.Part.{Part}
+use Rattle.tree.specs.declared.row.Row.{Row}
+use Rattle.tree.proofs.PartLaws.{fields-none, fields-more}
 use Rattle.scope.specs.declared.id.Id.{Id}
 use Rattle.metadata.specs.Metadata.{append}
 use Rattle.inputs.specs.Fields.{has, keep}
@@ -21,7 +21,7 @@ use Rattle.tree.specs.Layout.{two, id_at, same, value_of}
 use Rattle.extraction_rules.specs.State.{Record, State, set_collected, change, refuse}
 use Rattle.extraction_rules.specs.First.{collect_in, collect}
 use Rattle.extraction_rules.proofs.KeepLaws.{keep-none, keep-yes, keep-no}
-use Rattle.state.specs.Cells.{Env, records, held, Good, Shows, id_by, literal_by, Valued, flag, count_namespaces, namespaces_in}
+use Rattle.state.specs.Cells.{Env, records, held, Shows, id_by, literal_by, Valued, flag, count_namespaces, namespaces_in}
 use Rattle.state.specs.Does.{Says, Did, place_in, extend_at, Extends, Collects}
 use Rattle.state.specs.declared.Literal.{Literal}
 use Rattle.state.proofs.CollectLaws.{length-extend}
@@ -64,13 +64,12 @@ others-shown {y} {t} i (more f fs) s e b w = by (has 0x22 f) refl (λ u. others-
         extend-then i f fs s
         (h (set_collected (extend_at i (more f none) s.collected) s) (sym (keep-no (has 0x22) f fs q) ∙ e) (omega arith) (extended-other i f q w b))
 
-pub gathers-none : (i : ℕ) {t : List ℕ} → Good t → Gathers i none t t
-gathers-none i g = record { good = g; kept = refl; shows = λ s fs e b m w. others-shown i fs s (e ∙ keep-none (has 0x22)) b w }
+pub gathers-none : (i : ℕ) {t : List ℕ} → Gathers i none t t
+gathers-none i = record { kept = refl; shows = λ s fs e b m w. others-shown i fs s (e ∙ keep-none (has 0x22)) b w }
 
 gathers-other : (i : ℕ) (f : Field) (cs : Fields) {t t' : List ℕ} → has 0x22 f ≡ false → Gathers i cs t t' → Gathers i (more f cs) t t'
 gathers-other i f cs q g =
     record {
-      good = g.good;
       kept = g.kept;
       shows = λ s fs e b m w.
           let c = count-more f cs in
@@ -111,7 +110,6 @@ module _ (i : ℕ) (f : Field) (cs : Fields) {t m t' : List ℕ} (q : has 0x22 f
   gathers-more : Gathers i (more f cs) t t'
   gathers-more =
       record {
-        good = g.good;
         kept = g.kept ∙ x.kept;
         shows = λ s fs e b n w.
             let c = count-more f cs in
@@ -140,41 +138,35 @@ module _ (i : ℕ) (f : Field) (r : Option Id) (e : ident_by r ≡ namespace_in 
   extending-is id {t'} q x =
       let w = named-is f (id_by id) (sym (ap ident_by q) ∙ e) in
       record {
-        good = x.good;
         kept = x.kept;
         next = λ {t''} {cs} g. gathers-more i f cs w.0 (subst (λ (y : List ℕ). Extends i y t t') w.1 x) g;
       }
 
-  pub extending-other : Good t → r ≡ None → Extending i f t t
-  extending-other g q = record { good = g; kept = refl; next = λ {t''} {cs} h. gathers-other i f cs (named-other f (sym (ap ident_by q) ∙ e)) h }
+  pub extending-other : r ≡ None → Extending i f t t
+  extending-other q = record { kept = refl; next = λ {t''} {cs} h. gathers-other i f cs (named-other f (sym (ap ident_by q) ∙ e)) h }
 
 -- ---- All fields
 
-pub record Filling (i : ℕ) (s : List ℕ) (from end : ℕ) (t₀ t : List ℕ) (at : ℕ) : Type 0 where
-  pub good : Good t
-  pub before : at ≤ end
+-- what is left of a row makes the whole
+pub record Filling (i : ℕ) (cs : Fields) (t₀ t : List ℕ) (ds : Fields) : Type 0 where
   pub below : i < held records t
-  pub cells : length t ≡ length t₀
-  pub rest : (t' : List ℕ) → Gathers i (row_at s at end) t t' → Gathers i (row_at s from end) t₀ t'
+  pub rest : (t' : List ℕ) → Gathers i ds t t' → Gathers i cs t₀ t'
 
-pub filling-start : (i : ℕ) (s : List ℕ) (from end : ℕ) {t : List ℕ} → Good t → from ≤ end → i < held records t → Filling i s from end t t from
-filling-start i s from end g h b = record { good = g; before = h; below = b; cells = refl; rest = λ t' w. w }
+pub filling-start : (i : ℕ) (cs : Fields) {t : List ℕ} → i < held records t → Filling i cs t t cs
+filling-start i cs b = record { below = b; rest = λ t' w. w }
 
-module _ (i : ℕ) (s : List ℕ) (from end : ℕ) {t₀ t : List ℕ} {at : ℕ} (g : Filling i s from end t₀ t at) where
-  pub filling-more : {t' : List ℕ} {stop : ℕ} → extent_at s at end ≡ Some stop → Extending i (tree_at s at stop) t t' → length t' ≡ length t → Filling i s from end t₀ t' stop
-  filling-more {t'} {stop} e x l =
+module _ (i : ℕ) {cs : Fields} {t₀ t : List ℕ} (r r' : Row) (g : Filling i cs t₀ t (fields_of r)) where
+  pub filling-more : (p : Part) {t' : List ℕ} → GivesPart r (Some p) r' → Extending i (tree_of p) t t' → Filling i cs t₀ t' (fields_of r')
+  filling-more p {t'} v x =
       let k = x.kept in
       let b = g.below in
       record {
-        good = x.good;
-        before = (extent-upto s at end g.before e).1;
         below = subst (λ (n : ℕ). i < n) (sym k) b;
-        cells = l ∙ g.cells;
-        rest = λ t'' w. g.rest t'' (subst (λ (fs : Fields). Gathers i fs t t'') (sym (row-more s at end stop g.before e)) (x.next w));
+        rest = λ t'' w. g.rest t'' (subst (λ (fs : Fields). Gathers i fs t t'') (sym (fields-more r p r' v)) (x.next w));
       }
 
-  pub filling-end : extent_at s at end ≡ None → Gathers i (row_at s from end) t₀ t
-  filling-end e = g.rest t (subst (λ (fs : Fields). Gathers i fs t t) (sym (row-none s at end g.before e)) (gathers-none i g.good))
+  pub filling-end : GivesPart r None r' → Gathers i cs t₀ t
+  filling-end v = g.rest t (subst (λ (fs : Fields). Gathers i fs t t) (sym (fields-none r r' v)) (gathers-none i))
 
 -- ---- A record is collected
 
@@ -219,7 +211,6 @@ module _ (l : Literal) (cs : Fields) {t m : List ℕ} {r : Result ℕ TableFull}
   pub gathering-made : (i : ℕ) {t' : List ℕ} → r ≡ Ok i → Gathers i cs m t' → Gathering l cs t t' (Ok tt)
   gathering-made i e g =
       record {
-        good = g.good;
         made = λ _ {y} s fs p k n w v.
             let d = c.made i e s w v in
             let z = gathered-count (literal_by y l) d.list s (d.is none 0 ∙ ap (λ (q : List Record). done (tt, set_collected q s)) (extend-none i d.list)) in
@@ -236,7 +227,6 @@ module _ (l : Literal) (cs : Fields) {t m : List ℕ} {r : Result ℕ TableFull}
   pub gathering-full : {e : TableFull} → r ≡ Err e → Gathering l cs t m (Err e)
   gathering-full {e} h =
       record {
-        good = c.good;
         made = λ q s fs p k n w v. done-refused q refl;
         full = λ _ q s fs p w v. c.full e h s w v fs p;
       }
@@ -258,7 +248,6 @@ module _ {s x : List ℕ} {cs ds : Fields} (at p : ℕ) {l : Literal} {n : ℕ} 
   pub collected-made : r ≡ Ok tt → Collected s x ds at t t' p (Ok p)
   collected-made e =
       record {
-        good = g.good;
         place = λ q d. sym (done-same d);
         made = λ q d {y} u fs k m w h.
             let f : keep (has 0x22) fs ≡ keep (has 0x22) cs = k ∙ ap (keep (has 0x22)) b in
@@ -270,7 +259,6 @@ module _ {s x : List ℕ} {cs ds : Fields} (at p : ℕ) {l : Literal} {n : ℕ} 
   pub collected-full : {e : TableFull} → r ≡ Err e → Collected s x ds at t t' p (Err (refusal no-room at))
   collected-full {e} f =
       record {
-        good = g.good;
         place = λ q d. done-refused d refl;
         made = λ q d u fs k m w h. done-refused d refl;
         turned = λ _ d u fs k h. refused-as (sym (ap (collecting fs at u) (literal-is k h ∙ a)) ∙ g.full e f u fs at k (valued k h)) d;

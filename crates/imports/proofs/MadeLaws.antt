@@ -20,9 +20,9 @@ module _ {A : Type 0} {bytes : A → List ℕ} {P : Env → State → Type 0} {a
   pub acts-made : {out' : List ℕ} {p : ℕ} → r ≡ Ok tt → length out' ≡ length out → ((x : Env) (s : State) → P x s → Wrote out o (bytes a) out' p) →
       Steps bytes P (λ _. act at >> give a) t out o t' out' (Ok p)
   acts-made e z h =
-      steps-done w.good z (λ x s k b.
+      steps-done z (λ x s k b.
       let d = w.made e s at k tt in
       record { value = a; state = d.state; is = ap (λ (m : Outcome (Unit {0} × State)). onto m (λ q. done (a, q.1))) d.is; wrote = h x s b; shows = d.shows })
 
   pub acts-full : {y : TableFull} → r ≡ Err y → Steps bytes P (λ _. act at >> give a) t out o t' out (Err (refusal no-room at))
-  acts-full {y} e = steps-refused w.good refl (λ x s k b. ap (λ (m : Outcome (Unit {0} × State)). onto m (λ q. done (a, q.1))) (w.full y e s at k tt))
+  acts-full {y} e = steps-refused refl (λ x s k b. ap (λ (m : Outcome (Unit {0} × State)). onto m (λ q. done (a, q.1))) (w.full y e s at k tt))

@@ -25,7 +25,7 @@ use Rattle.extraction_rules.specs.State.{State, Act}
 use Rattle.extraction_rules.specs.First.{id_from, outside_name, note_id, note_named, noted_context, note_specifier}
 use Rattle.extraction_rules.proofs.ExactLaws.{width-20}
 use Rattle.extraction_rules.proofs.ShapeLaws.{one-of, specifier-is}
-use Rattle.state.specs.Cells.{Env, Good, id_by}
+use Rattle.state.specs.Cells.{Env, id_by}
 use Rattle.state.specs.Does.{Acts, Anyhow}
 use Rattle.steps.specs.Step.{Step, Steps, ReadAt}
 use Rattle.state.specs.declared.TableFull.{TableFull}
@@ -168,10 +168,10 @@ module _ (id : Id) (n at : ℕ) (x : List ℕ) (i : id_by id ≡ id_at x 0) {t t
       let k = subst (OutsideIs x) e h in
       named-as id.0.0 k.0 (k.1 ∙ sym (ap (take 2) i ∙ take-take 2 6 x (omega arith))) w
 
-pub named-text : (x : List ℕ) {y : Outside} {a : Atom} (n at : ℕ) {t out : List ℕ} {o : ℕ} → Good t → y ≡ Text a → OutsideIs x y →
+pub named-text : (x : List ℕ) {y : Outside} {a : Atom} (n at : ℕ) {t out : List ℕ} {o : ℕ} → y ≡ Text a → OutsideIs x y →
     Steps encode (λ x u. Unit {0}) (λ _. note_named n x at) t out o t out (Err (refusal StringName at))
 unfolding note_named
-named-text x n at g e h = let k = subst (OutsideIs x) e h in steps-refused g refl (λ y s u v. rw k refl)
+named-text x n at e h = let k = subst (OutsideIs x) e h in steps-refused refl (λ y s u v. rw k refl)
 
 -- ---- The specifier that was told
 
@@ -230,9 +230,9 @@ other-copied b w x u r = wrote-as w (sym (read-bytes r b))
 
 -- ---- Fields that are no specifiers
 
-module _ {s : List ℕ} {at stop : ℕ} {act : Env → Act Field} {t out : List ℕ} {o p : ℕ} (g : Good t) where
+module _ {s : List ℕ} {at stop : ℕ} {act : Env → Act Field} {t out : List ℕ} {o p : ℕ} where
   pub specified-short : fixed_at s (get_or s at 0) (at + 3) stop ≡ None → Steps encode (λ x u. Specified s at stop) act t out o t out (Ok p)
-  specified-short e = steps-never _ _ _ _ g (λ x u k. read-short k.read e)
+  specified-short e = steps-never _ _ _ _ (λ x u k. read-short k.read e)
 
   pub specified-else : (0x20 ≤ get_or s at 0 → get_or s at 0 ≤ 0x22 → ⊥) → Steps encode (λ x u. Specified s at stop) act t out o t out (Ok p)
-  specified-else e = steps-never _ _ _ _ g (λ x u k. let i = specifier-is (get_or s at 0) k.specifier in e i.0 i.1)
+  specified-else e = steps-never _ _ _ _ (λ x u k. let i = specifier-is (get_or s at 0) k.specifier in e i.0 i.1)

@@ -1,21 +1,22 @@
 -- An import's parts as they stand in the tree: a specifier and those behind it, or the attributes, behind which there is nothing.
 use Rattle.std.specs.Prelude.{None, Some}
-use Prim.Native.Nat.{ℕ, ◌≤◌}
+use Prim.Native.Nat.{ℕ}
 use native.Mathlib.Omega.{arith}
-use mathlib.Core.Path.{◌≡◌, sym, ap, subst, ◌∙◌}
+use mathlib.Core.Path.{◌≡◌, sym, ap, ap₂, subst, subst₂, ◌∙◌}
 use mathlib.Core.Logic.{◌⊎◌, inl, inr, ⊎_elim}
 use mathlib.Core.Bool.{false, not}
 use mathlib.Core.List.{List}
-use lib.ListN.{length, get_or}
+use lib.ListN.{get_or}
 use borrow.Author.Tests.{eq-eqb, ne_eqb}
 use Rattle.tree.specs.declared.grammar.Rule.{Rule}
-use Rattle.tree.specs.Layout.{Bytes}
 use Rattle.tree.specs.Tree.{none, more, tag_of}
-use Rattle.tree.specs.Access.{extent_at}
 use Rattle.tree.specs.Grammar.{rule_of, step_at, parts0}
-use Rattle.tree.specs.Standing.{tree_at, row_at, Row}
-use Rattle.tree.proofs.AccessLaws.{extent-upto}
-use Rattle.tree.proofs.StandingLaws.{row-more, row-none}
+use Rattle.tree.specs.Rows.{GivesPart, tree_of, fields_of}
+use Rattle.tree.specs.Standing.{row_at, Row as Standing}
+use Rattle.tree.specs.declared.row.Part.{Part}
+use Rattle.tree.specs.declared.row.Row.{Row}
+use Rattle.tree.proofs.PartLaws.{fields-none, fields-more, part_tag}
+use Rattle.tree.proofs.StandingLaws.{row-end}
 use Rattle.tree.proofs.SoundLaws.{row-sound}
 use Rattle.inputs.specs.Fields.{has}
 use Rattle.extraction_rules.specs.First.{specifiers_in, attributes_in}
@@ -25,123 +26,144 @@ use Rattle.steps.specs.Step.{ReadAt}
 use Rattle.steps.proofs.SoundLaws.{row-read, read-tag}
 use Rattle.imports.specs.Parts.{Specified, Ends}
 
--- the first of the parts is a specifier
-pub record FirstPart (s : List ℕ) (at end stop : ℕ) : Type 0 where
-  pub specified : Specified s at stop
-  pub rest : Row s stop end (rule_of 0x10)
-  pub tag : tag_of (tree_at s at stop) ≡ get_or s at 0
-  pub row : row_at s at end ≡ more (tree_at s at stop) (row_at s stop end)
+-- a row of an import's parts
+abbrev pub PartsRow : Row → Type 0
+PartsRow r = Standing r.bytes.now r.at r.end (rule_of 0x10)
+
+-- of the row r the first part p is a specifier, behind which r' is left
+pub record FirstPart (r : Row) (p : Part) (r' : Row) : Type 0 where
+  pub specified : Specified p.bytes.now p.at p.stop
+  pub rest : PartsRow r'
+  pub tag : tag_of (tree_of p) ≡ part_tag p
+  pub row : fields_of r ≡ more (tree_of p) (fields_of r')
 
 -- or it is the attributes, the last
-pub record LastPart (s : List ℕ) (at end stop : ℕ) : Type 0 where
-  pub read : ReadAt s at stop
-  pub tag : tag_of (tree_at s at stop) ≡ 0x2F
-  pub row : row_at s at end ≡ more (tree_at s at stop) none
+pub record LastPart (r : Row) (p : Part) : Type 0 where
+  pub read : ReadAt p.bytes.now p.at p.stop
+  pub tag : tag_of (tree_of p) ≡ 0x2F
+  pub row : fields_of r ≡ more (tree_of p) none
 
-module _ {s : List ℕ} {at end stop : ℕ} (bytes : Bytes s) (le : at ≤ end) (fits : end ≤ length s) (e : extent_at s at end ≡ Some stop) (w : Row s at end (rule_of 0x10)) where
-  pub part-cases : FirstPart s at end stop ⊎ LastPart s at end stop
-  part-cases = by (import-step (get_or s at 0) rest.0 rest.1)
+module _ (r : Row) (p : Part) (r' : Row) (g : GivesPart r (Some p) r') (w : PartsRow r) where
+  pub part-cases : FirstPart r p r' ⊎ LastPart r p
+  part-cases = by (import-step (part_tag p) rest.0 rest.1)
     where
-      read : ReadAt s at stop
-      read = (row-read (rule_of 0x10) le fits w e).0
+      both : ReadAt r.bytes.now r.at p.stop × ((q : Rule) × (step_at (rule_of 0x10) (get_or r.bytes.now r.at 0) ≡ Some q) × Standing r.bytes.now p.stop r.end q)
+      both = row-read (rule_of 0x10) r.inside.0 r.inside.1 w g.0
 
-      rest : (q : Rule) × (step_at (rule_of 0x10) (get_or s at 0) ≡ Some q) × Row s stop end q
-      rest = (row-read (rule_of 0x10) le fits w e).1
+      read : ReadAt p.bytes.now p.at p.stop
+      read = rw (g.5, g.1) both.0
 
-      by : ImportStep (get_or s at 0) rest.0 → FirstPart s at end stop ⊎ LastPart s at end stop
+      rest : (q : Rule) × (step_at (rule_of 0x10) (part_tag p) ≡ Some q) × Standing r'.bytes.now r'.at r'.end q
+      rest = (both.1.0, rw (g.5, g.1) both.1.1, rw (g.2, g.3, g.4) both.1.2)
+
+      by : ImportStep (part_tag p) rest.0 → FirstPart r p r' ⊎ LastPart r p
       by (inl k) =
           inl (record {
             specified = record { read = read; specifier = k.0 };
-            rest = subst (Row s stop end) k.1 rest.2;
+            rest = subst (Standing r'.bytes.now r'.at r'.end) k.1 rest.2;
             tag = read-tag read;
-            row = row-more s at end stop le e;
+            row = fields-more r p r' g;
           })
       by (inr k) =
-          let i = extent-upto s at end le e in
-          let none-left : row_at s stop end ≡ none =
-          shaped-none (row_at s stop end) (formed-shaped-all (row_at s stop end) parts0 (row-sound s stop end parts0 bytes i.1 fits (subst (Row s stop end) k.1 rest.2)).1) in
-          inr (record { read = read; tag = read-tag read ∙ k.0; row = row-more s at end stop le e ∙ ap (more (tree_at s at stop)) none-left })
+          let t = subst (Standing r'.bytes.now r'.at r'.end) k.1 rest.2 in
+          let none-left = shaped-none (fields_of r') (formed-shaped-all (fields_of r') parts0 (row-sound r'.bytes.now r'.at r'.end parts0 r'.of_bytes r'.inside.0 r'.inside.1 t).1) in
+          inr (record { read = read; tag = read-tag read ∙ k.0; row = fields-more r p r' g ∙ ap (more (tree_of p)) none-left })
 
-  pub part-first : (get_or s at 0 ≡ 0x2F → ⊥) → FirstPart s at end stop
+  pub part-first : (part_tag p ≡ 0x2F → ⊥) → FirstPart r p r'
   part-first n = ⊎_elim (λ f. f) (λ l. absurd (n (sym (read-tag l.read) ∙ l.tag))) part-cases
 
-  pub part-last : get_or s at 0 ≡ 0x2F → LastPart s at end stop
-  part-last k = ⊎_elim (λ f. absurd (let i = specifier-is (get_or s at 0) f.specified.specifier in omega arith)) (λ l. l) part-cases
+  pub part-last : part_tag p ≡ 0x2F → LastPart r p
+  part-last k = ⊎_elim (λ f. absurd (let i = specifier-is (part_tag p) f.specified.specifier in omega arith)) (λ l. l) part-cases
 
 -- ---- Specifiers and attributes
 
-module _ {s : List ℕ} {at end stop : ℕ} (w : FirstPart s at end stop) where
-  no-attributes : has 0x2F (tree_at s at stop) ≡ false
+module _ {r r' : Row} {p : Part} (w : FirstPart r p r') where
+  no-attributes : has 0x2F (tree_of p) ≡ false
   no-attributes =
-      let i = specifier-is (get_or s at 0) w.specified.specifier in
-      ne_eqb (tag_of (tree_at s at stop)) 0x2F (λ z. let k = w.tag in omega arith)
+      let i = specifier-is (part_tag p) w.specified.specifier in
+      ne_eqb (tag_of (tree_of p)) 0x2F (λ z. let k = w.tag in omega arith)
 
-  pub first-specifiers : specifiers_in (row_at s at end) ≡ more (tree_at s at stop) (specifiers_in (row_at s stop end))
-  first-specifiers = ap specifiers_in w.row ∙ keep-yes (λ f. not (has 0x2F f)) (tree_at s at stop) (row_at s stop end) (ap not no-attributes)
+  pub first-specifiers : specifiers_in (fields_of r) ≡ more (tree_of p) (specifiers_in (fields_of r'))
+  first-specifiers = ap specifiers_in w.row ∙ keep-yes (λ f. not (has 0x2F f)) (tree_of p) (fields_of r') (ap not no-attributes)
 
-  pub first-attributes : attributes_in (row_at s at end) ≡ attributes_in (row_at s stop end)
-  first-attributes = ap attributes_in w.row ∙ keep-no (has 0x2F) (tree_at s at stop) (row_at s stop end) no-attributes
+  pub first-attributes : attributes_in (fields_of r) ≡ attributes_in (fields_of r')
+  first-attributes = ap attributes_in w.row ∙ keep-no (has 0x2F) (tree_of p) (fields_of r') no-attributes
 
-module _ {s : List ℕ} {at end stop : ℕ} (w : LastPart s at end stop) where
-  pub last-specifiers : specifiers_in (row_at s at end) ≡ none
+module _ {r : Row} {p : Part} (w : LastPart r p) where
+  pub last-specifiers : specifiers_in (fields_of r) ≡ none
   last-specifiers =
-      ap specifiers_in w.row ∙ keep-no (λ f. not (has 0x2F f)) (tree_at s at stop) none (ap not (eq-eqb (tag_of (tree_at s at stop)) 0x2F w.tag))
+      ap specifiers_in w.row ∙ keep-no (λ f. not (has 0x2F f)) (tree_of p) none (ap not (eq-eqb (tag_of (tree_of p)) 0x2F w.tag))
       ∙ keep-none (λ f. not (has 0x2F f))
 
-  pub last-attributes : attributes_in (row_at s at end) ≡ row_at s at end
+  pub last-attributes : attributes_in (fields_of r) ≡ fields_of r
   last-attributes =
-      ap attributes_in w.row ∙ keep-yes (has 0x2F) (tree_at s at stop) none (eq-eqb (tag_of (tree_at s at stop)) 0x2F w.tag)
-      ∙ ap (more (tree_at s at stop)) (keep-none (has 0x2F)) ∙ sym w.row
+      ap attributes_in w.row ∙ keep-yes (has 0x2F) (tree_of p) none (eq-eqb (tag_of (tree_of p)) 0x2F w.tag)
+      ∙ ap (more (tree_of p)) (keep-none (has 0x2F)) ∙ sym w.row
 
 -- ---- Where the specifiers end
 
-module _ {s : List ℕ} {at end : ℕ} (bytes : Bytes s) (le : at ≤ end) (fits : end ≤ length s) where
-  pub ends-short : extent_at s at end ≡ None → Ends s at end at
-  ends-short e =
-      let z = row-none s at end le e in
+abbrev EndsRow : Row → ℕ → Type 0
+EndsRow r k = Ends r.bytes.now r.at r.end k
+
+ends-short : (r r' : Row) → GivesPart r None r' → EndsRow r r.end
+ends-short r r' g =
+    let z = fields-none r r' g in
+    let there : PartsRow r → r.at ≡ r.end = λ w. (row-end r.bytes.now r.at r.end (rule_of 0x10) r.inside.0 w g.0).0 in
+    let le = r.inside.0 in
+    record {
+      after = omega arith;
+      before = omega arith;
+      row = λ w. subst (λ (k : ℕ). Standing r.bytes.now k r.end (rule_of 0x10)) (there w) w;
+      attributes = λ w. ap attributes_in z ∙ keep-none (has 0x2F) ∙ sym z ∙ ap (λ (k : ℕ). row_at r.bytes.now k r.end) (there w);
+      stays = λ w k. ap specifiers_in z ∙ keep-none (λ f. not (has 0x2F f));
+      goes = λ w k. let i = there w in absurd (omega arith);
+    }
+
+module _ (r : Row) (p : Part) (r' : Row) (g : GivesPart r (Some p) r') where
+  ends-attributes : part_tag p ≡ 0x2F → EndsRow r r.at
+  ends-attributes k =
+      let le = r.inside.0 in
       record {
         after = omega arith;
-        before = le;
+        before = omega arith;
         row = λ w. w;
-        attributes = λ w. ap attributes_in z ∙ keep-none (has 0x2F) ∙ sym z;
-        stays = λ w k. ap specifiers_in z ∙ keep-none (λ f. not (has 0x2F f));
-        goes = λ w k. absurd (omega arith);
+        attributes = λ w. last-attributes (part-last r p r' g w k);
+        stays = λ w _. last-specifiers (part-last r p r' g w k);
+        goes = λ w l. absurd (omega arith);
       }
 
-  module _ {stop : ℕ} (e : extent_at s at end ≡ Some stop) where
-    pub ends-attributes : get_or s at 0 ≡ 0x2F → Ends s at end at
-    ends-attributes k =
-        record {
-          after = omega arith;
-          before = le;
-          row = λ w. w;
-          attributes = λ w. last-attributes (part-last bytes le fits e w k);
-          stays = λ w _. last-specifiers (part-last bytes le fits e w k);
-          goes = λ w l. absurd (omega arith);
-        }
+  ends-more : {k : ℕ} → (part_tag p ≡ 0x2F → ⊥) → EndsRow r' k → EndsRow r k
+  ends-more {k} n v =
+      let i = p.whole.0 in
+      let at = g.1 in
+      let next = g.3 in
+      let end = g.4 in
+      let a = v.after in
+      let b = v.before in
+      record {
+        after = omega arith;
+        before = omega arith;
+        row = λ w. subst₂ (λ (s : List ℕ) (e : ℕ). Standing s k e (rule_of 0x10)) g.2 g.4 (v.row (part-first r p r' g w n).rest);
+        attributes = λ w. let f = part-first r p r' g w n in first-attributes f ∙ v.attributes f.rest ∙ ap₂ (λ (s : List ℕ) (e : ℕ). row_at s k e) g.2 g.4;
+        stays = λ w k. absurd (omega arith);
+        goes = λ w k. (_, _, first-specifiers (part-first r p r' g w n));
+      }
 
-    pub ends-more : {r : ℕ} → (get_or s at 0 ≡ 0x2F → ⊥) → Ends s stop end r → Ends s at end r
-    ends-more n v =
-        let i = extent-upto s at end le e in
-        let a = v.after in
-        record {
-          after = omega arith;
-          before = v.before;
-          row = λ w. v.row (part-first bytes le fits e w n).rest;
-          attributes = λ w. let p = part-first bytes le fits e w n in first-attributes p ∙ v.attributes p.rest;
-          stays = λ w k. absurd (omega arith);
-          goes = λ w k. (_, _, first-specifiers (part-first bytes le fits e w n));
-        }
+-- what is found from the row r on is what is found from the start
+pub record Seeking (s : List ℕ) (from end : ℕ) (r : Row) : Type 0 where
+  pub last : r.end ≡ end
+  pub rest : (k : ℕ) → EndsRow r k → Ends s from end k
 
--- what is found from `at` on is what is found from the start
-pub record Seeking (s : List ℕ) (from end at : ℕ) : Type 0 where
-  pub before : at ≤ end
-  pub rest : (r : ℕ) → Ends s at end r → Ends s from end r
+pub seeking-start : {s : List ℕ} {from end : ℕ} (r : Row) → (r.bytes.now ≡ s) × (r.at ≡ from) × (r.end ≡ end) → Seeking s from end r
+seeking-start r m = record { last = m.2; rest = λ k w. rw (m.0, m.1, m.2) at w }
 
-pub seeking-start : (s : List ℕ) (from end : ℕ) → from ≤ end → Seeking s from end from
-seeking-start s from end h = record { before = h; rest = λ r w. w }
+module _ {s : List ℕ} {from end : ℕ} {r : Row} (k : Seeking s from end r) (r' : Row) where
+  pub seeking-short : GivesPart r None r' → Ends s from end end
+  seeking-short g = subst (Ends s from end) k.last (k.rest r.end (ends-short r r' g))
 
-pub seeking-more : {s : List ℕ} {from end at stop : ℕ} → Seeking s from end at → Bytes s → end ≤ length s → extent_at s at end ≡ Some stop → (get_or s at 0 ≡ 0x2F → ⊥) →
-    Seeking s from end stop
-seeking-more {s} {from} {end} {at} g bytes fits e n =
-    record { before = (extent-upto s at end g.before e).1; rest = λ r w. g.rest r (ends-more bytes g.before fits e n w) }
+  module _ (p : Part) (g : GivesPart r (Some p) r') where
+    pub seeking-attributes : part_tag p ≡ 0x2F → Ends s from end p.at
+    seeking-attributes t = subst (Ends s from end) (sym g.1) (k.rest r.at (ends-attributes r p r' g t))
+
+    pub seeking-more : (part_tag p ≡ 0x2F → ⊥) → Seeking s from end r'
+    seeking-more n = record { last = g.4 ∙ k.last; rest = λ e v. k.rest e (ends-more r p r' g n v) }

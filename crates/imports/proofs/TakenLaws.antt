@@ -5,15 +5,17 @@ use native.Mathlib.Omega.{arith}
 use mathlib.Core.Path.{◌≡◌, refl, sym, ap, subst, ◌∙◌}
 use mathlib.Core.Bool.{Bool, true, false}
 use mathlib.Core.List.{List, [], ◌∷◌, ◌++◌, map}
-use lib.ListN.{length, get_or, drop, drop_of_length-le}
+use lib.ListN.{length, drop, drop_of_length-le}
 use lib.Seq.{slice}
 use Rattle.writer.specs.Bytes.{framed}
 use Rattle.writer.specs.Wrote.{Wrote, closed}
 use Rattle.writer.proofs.Wrote.{wrote-none, wrote-then, wrote-as, wrote-field}
-use Rattle.tree.specs.Layout.{Bytes, two, two_at, value_of}
+use Rattle.tree.specs.Layout.{two, two_at, value_of}
 use Rattle.tree.specs.Tree.{field, Fields, none, fixed_of, parts_of, encode, encodes}
 use Rattle.tree.specs.Grammar.{rule_of}
-use Rattle.tree.specs.Standing.{tree_at}
+use Rattle.tree.specs.Rows.{tree_of}
+use Rattle.tree.specs.declared.row.Part.{Part}
+use Rattle.tree.proofs.PartLaws.{part_tag}
 use Rattle.tree.proofs.SoundLaws.{row-sound}
 use Rattle.scope.specs.declared.id.Id.{Id}
 use Rattle.metadata.specs.Metadata.{append}
@@ -23,7 +25,7 @@ use Rattle.inputs.specs.Outcome.{done}
 use Rattle.extraction_rules.specs.State.{Usage, State, set_collected}
 use Rattle.extraction_rules.specs.First.{attributes_in, force_source}
 use Rattle.extraction_rules.specs.Second.{usages_of, specifiers_from, extend, take_apart}
-use Rattle.state.specs.Cells.{Good, Shows, id_by, sources_in}
+use Rattle.state.specs.Cells.{Shows, id_by, sources_in}
 use Rattle.state.specs.Does.{Tells, Lists, listed, any, Forces}
 use Rattle.state.proofs.SecondLaws.{specifiers-plain, shows-extended}
 use Rattle.steps.specs.Step.{ReadAt, Steps, Begun}
@@ -90,25 +92,26 @@ listing-more g w e = record { size = e ∙ g.size; rest = λ out'' q v. g.rest o
 
 -- ---- The import that gets them
 
-module _ {s : List ℕ} {at stop from : ℕ} (bytes : Bytes s) (hd : Headed s at stop from) where
+module _ {part : Part} {from : ℕ} (hd : Headed part from) where
   abbrev X : List ℕ
-  X = fixed_of (tree_at s at stop)
+  X = fixed_of (tree_of part)
 
   abbrev CS : Fields
-  CS = parts_of (tree_at s at stop)
+  CS = parts_of (tree_of part)
 
   -- what is copied from the attributes on
-  pub attributes-are : {r : ℕ} → Ends s from stop r → ReadAt s at stop → slice r stop s ≡ encodes (attributes_in CS)
+  pub attributes-are : {r : ℕ} → Ends part.bytes.now from part.stop r → ReadAt part.bytes.now part.at part.stop → slice r part.stop part.bytes.now ≡ encodes (attributes_in CS)
   attributes-are {r} v k =
       let w = head-row hd k in
       sym (ap (λ (fs : Fields). encodes (attributes_in fs)) (head-parts hd) ∙ ap encodes (v.attributes w)
-      ∙ (row-sound s r stop (rule_of 0x10) bytes v.before hd.framed.fits (v.row w)).0)
+      ∙ (row-sound part.bytes.now r part.stop (rule_of 0x10) part.of_bytes v.before hd.framed.fits (v.row w)).0)
 
   taken-bytes : (fs : Fields) → framed 0x10 (X ++ (encodes fs ++ encodes (attributes_in CS))) ≡ encode (field 0x10 X (append fs (attributes_in CS)))
   taken-bytes fs = ap (λ (b : List ℕ). framed 0x10 (X ++ b)) (sym (encodes-append fs (attributes_in CS))) ∙ framed-field 0x10 X (append fs (attributes_in CS))
 
-  pub taken-written : (id : Id) {t l k j h out' : List ℕ} {o d q p r : ℕ} → Begun l o (get_or s at 0) (slice (at + 3) from s) k d → Writes (usages_from (id_by id) 0) t k d j q →
-      Ends s from stop r → Wrote j q (slice r stop s) h p → out' ≡ closed h o p → ReadAt s at stop →
+  pub taken-written : (id : Id) {t l k j h out' : List ℕ} {o d q p r : ℕ} → Begun l o (part_tag part) (slice (part.at + 3) from part.bytes.now) k d →
+      Writes (usages_from (id_by id) 0) t k d j q →
+      Ends part.bytes.now from part.stop r → Wrote j q (slice r part.stop part.bytes.now) h p → out' ≡ closed h o p → ReadAt part.bytes.now part.at part.stop →
       Writes (λ u. encode (field 0x10 X (append (specifiers_from (usages_of (id_by id) u.usages)) (attributes_in CS)))) t l o out' p
   taken-written id b w v y z rd =
       let c = head-begun hd b in
@@ -120,12 +123,12 @@ module _ {s : List ℕ} {at stop from : ℕ} (bytes : Bytes s) (hd : Headed s at
 
 -- ---- Taken apart, or its source forced
 
-module _ (s : List ℕ) (at stop : ℕ) (bytes : Bytes s) (room : at + 3 ≤ stop) (fits : stop ≤ length s) (tag : get_or s at 0 ≡ 0x10) where
+module _ (part : Part) (tag : part_tag part ≡ 0x10) where
   abbrev Literal : List ℕ
-  Literal = fixed_of (tree_at s at stop)
+  Literal = fixed_of (tree_of part)
 
   abbrev Parts : Fields
-  Parts = parts_of (tree_at s at stop)
+  Parts = parts_of (tree_of part)
 
   taken-some : (l : List Usage) (u : State) → any l ≡ true → take_apart l Literal Parts u ≡
       done (field 0x10 Literal (append (specifiers_from l) (attributes_in Parts)), set_collected (map (extend Literal (specifiers_from l)) u.collected) u)
@@ -140,13 +143,14 @@ module _ (s : List ℕ) (at stop : ℕ) (bytes : Bytes s) (room : at + 3 ≤ sto
 
   abbrev Apart : Id → List ℕ → List ℕ → ℕ → List ℕ → List ℕ → ℕ → Type 0
   Apart id t out o t' out' p =
-      Steps encode (λ x u. ReadAt s at stop × (among (value_of Literal) (sources_in u.collected) ≡ true))
+      Steps encode (λ x u. ReadAt part.bytes.now part.at part.stop × (among (value_of Literal) (sources_in u.collected) ≡ true))
       (λ _ u. take_apart (usages_of (id_by id) u.usages) Literal Parts u) t out o t' out' (Ok p)
 
-  pub apart-some : (id : Id) {t out out' : List ℕ} {o p : ℕ} {b : Bool} → Good t → length out' ≡ length out → Tells (λ u. any (usages_of (id_by id) u.usages)) t b → b ≡ true →
-      (ReadAt s at stop → Writes (λ u. encode (field 0x10 Literal (append (specifiers_from (usages_of (id_by id) u.usages)) (attributes_in Parts)))) t out o out' p) → Apart id t out o t out' p
-  apart-some id g z w q v =
-      steps-done g z (λ x u k h.
+  pub apart-some : (id : Id) {t out out' : List ℕ} {o p : ℕ} {b : Bool} → length out' ≡ length out → Tells (λ u. any (usages_of (id_by id) u.usages)) t b → b ≡ true →
+      (ReadAt part.bytes.now part.at part.stop → Writes (λ u. encode (field 0x10 Literal (append (specifiers_from (usages_of (id_by id) u.usages)) (attributes_in Parts)))) t out o out' p) →
+      Apart id t out o t out' p
+  apart-some id z w q v =
+      steps-done z (λ x u k h.
       let l = usages_of (id_by id) u.usages in
       record {
         value = field 0x10 Literal (append (specifiers_from l) (attributes_in Parts));
@@ -157,16 +161,16 @@ module _ (s : List ℕ) (at stop : ℕ) (bytes : Bytes s) (room : at + 3 ≤ sto
       })
 
   pub apart-none : (id : Id) (n : ℕ) {t t' out out' : List ℕ} {o p : ℕ} {b : Bool} → Tells (λ u. any (usages_of (id_by id) u.usages)) t b → b ≡ false →
-      n ≡ two_at s (at + 3) → Forces (two n) t t' → Wrote out o (slice at stop s) out' p → Apart id t out o t' out' p
+      n ≡ two_at part.bytes.now (part.at + 3) → Forces (two n) t t' → Wrote out o (slice part.at part.stop part.bytes.now) out' p → Apart id t out o t' out' p
   apart-none id n {t' = t'} w q c f v =
-      steps-done f.good v.size (λ x u k h.
-      let d = (headed-of room fits tag h.0).1 in
-      let g = head-source d bytes c in
+      steps-done v.size (λ x u k h.
+      let d = (headed-of part tag h.0).1 in
+      let g = head-source d c in
       record {
         value = field 0x10 Literal Parts;
         state = force_source (value_of Literal) u;
         is = taken-none (usages_of (id_by id) u.usages) u (sym (w.is u k) ∙ q);
-        wrote = head-copied d bytes h.0 v;
+        wrote = head-copied d h.0 v;
         shows =
             subst (λ (a : List ℕ). Shows x t' (force_source a u)) g (f.shows u (ap (λ (a : List ℕ). among a (sources_in u.collected)) g ∙ h.1) k);
       })

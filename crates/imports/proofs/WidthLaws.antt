@@ -16,9 +16,11 @@ use Rattle.tree.specs.Tree.{field}
 use Rattle.tree.specs.Grammar.{pieces_of}
 use Rattle.tree.specs.Access.{value_at, kinds, choice_of, on_choice, kind_at, piece_at, then_piece, fixed_at}
 use Rattle.tree.specs.Standing.{tree_at, row_at}
+use Rattle.tree.specs.declared.row.Part.{Part}
 use Rattle.tree.specs.Within.{Exact}
 use Rattle.tree.proofs.AccessLaws.{upto-in}
 use Rattle.tree.proofs.FixedLaws.{no-upto, fixed-same}
+use Rattle.tree.proofs.PartLaws.{part_tag, part_fixed}
 use Rattle.tree.proofs.SliceLaws.{get_d-slice, take-slice, drop-slice}
 use Rattle.tree.proofs.StandingLaws.{tree-upto}
 use Rattle.tree.proofs.WidthLaws.{skip-ends}
@@ -35,12 +37,12 @@ slice-of a b s i j k l e f h g =
 
 -- ---- Fixed bytes that were found
 
-pub framing : {s : List ℕ} {at stop from : ℕ} → at + 3 ≤ stop → stop ≤ length s → fixed_at s (get_or s at 0) (at + 3) stop ≡ Some from → Framed s at stop from
-framing a b f = record { room = a; fits = b; fixed = f }
+pub framing : (p : Part) {from : ℕ} → part_fixed p ≡ Some from → Framed p.bytes.now p.at p.stop from
+framing p f = record { room = p.whole.0; fits = p.whole.1; fixed = f }
 
 -- where the tag is known
-pub framing-as : {s : List ℕ} {at stop from tag : ℕ} → at + 3 ≤ stop → stop ≤ length s → get_or s at 0 ≡ tag → fixed_at s tag (at + 3) stop ≡ Some from → Framed s at stop from
-framing-as {s} {at} {stop} {from} a b e f = framing a b (subst (λ (k : ℕ). fixed_at s k (at + 3) stop ≡ Some from) (sym e) f)
+pub framing-as : (p : Part) {from tag : ℕ} → part_tag p ≡ tag → fixed_at p.bytes.now tag (p.at + 3) p.stop ≡ Some from → Framed p.bytes.now p.at p.stop from
+framing-as p {from} e f = framing p (subst (λ (k : ℕ). fixed_at p.bytes.now k (p.at + 3) p.stop ≡ Some from) (sym e) f)
 
 module _ {s : List ℕ} {at stop from : ℕ} (w : Framed s at stop from) where
   pub framed-in : (at + 3 ≤ from) × (from ≤ stop) × (from ≤ length s)

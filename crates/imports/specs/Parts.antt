@@ -13,14 +13,14 @@ use Rattle.inputs.specs.Outcome.{refused}
 use Rattle.extraction_rules.specs.State.{Imported, State, Act, ◌>>=◌, ◌>>◌, give, set_collected}
 use Rattle.extraction_rules.specs.First.{outside_name, note_id, note_specifiers, specifiers_in, attributes_in, attributes_of, with_context, collect}
 use Rattle.extraction_rules.specs.Second.{usages_of, specifiers_from}
-use Rattle.state.specs.Cells.{Env, records, held, Good, id_by, literal_by, Valued, count_namespaces, namespaces_in, Shows}
+use Rattle.state.specs.Cells.{Env, records, held, id_by, literal_by, Valued, count_namespaces, namespaces_in, Shows}
 use Rattle.state.specs.declared.Literal.{Literal}
 use Rattle.state.specs.declared.TableFull.{TableFull}
 use Rattle.state.specs.Does.{Did, extend_at}
 use Rattle.metadata.specs.Metadata.{append}
 use Rattle.steps.specs.Step.{ReadAt, Reads, Step}
 use Rattle.steps.specs.Refusal.{refusal_of}
-use Rattle.steps.specs.declared.Refusal.{Refusal}
+use Rattle.steps.specs.Refusal.{Refusal}
 use Rattle.imports.specs.declared.note.Outside.{Outside}
 use Rattle.imports.specs.declared.note.Outside.TheVariants.{Nothing, Name, Text}
 use Rattle.imports.specs.declared.note.Specifier.{Specifier}
@@ -94,27 +94,23 @@ namespace_by (Some f) = namespace_in f
 
 -- the record at a place gets specifiers, of which only the namespaces count: those of cs
 pub record Gathers (i : ℕ) (cs : Fields) (t t' : List ℕ) : Type 0 where
-  pub good : Good t'
   pub kept : held records t' ≡ held records t
   pub shows : {y : Env} (s : State) (fs : Fields) → keep (has 0x22) fs ≡ keep (has 0x22) cs → i < length s.collected →
       namespaces_in s.collected + count_namespaces cs ≤ 3641 → Shows y t s → Shows y t' (set_collected (extend_at i fs s.collected) s)
 
 -- a field more, as the first of those that are gathered
 pub record Extending (i : ℕ) (f : Field) (t t' : List ℕ) : Type 0 where
-  pub good : Good t'
   pub kept : held records t' ≡ held records t
   pub next : {t'' : List ℕ} {cs : Fields} → Gathers i cs t' t'' → Gathers i (more f cs) t t''
 
 -- a record with such specifiers is collected, or refused with 8
 pub record Gathering (l : Literal) (cs : Fields) (t t' : List ℕ) (r : Result Unit TableFull) : Type 0 where
-  pub good : Good t'
   pub made : r ≡ Ok tt → {y : Env} (s : State) (fs : Fields) (p : ℕ) → keep (has 0x22) fs ≡ keep (has 0x22) cs →
       namespaces_in s.collected + count_namespaces cs ≤ 3641 → Shows y t s → Valued y l → Did y (collect (record { literal = literal_by y l; specifiers = fs }) p s) t'
   pub full : (e : TableFull) → r ≡ Err e → {y : Env} (s : State) (fs : Fields) (p : ℕ) → Shows y t s → Valued y l → collect (record { literal = literal_by y l; specifiers = fs }) p s ≡ refused 8 p
 
 -- the same as a step that wrote up to p, where x is the literal of the import at `at` of s
 pub record Collected (s : List ℕ) (x : List ℕ) (cs : Fields) (at : ℕ) (t t' : List ℕ) (p : ℕ) (r : Step) : Type 0 where
-  pub good : Good t'
   pub place : (q : ℕ) → r ≡ Ok q → q ≡ p
   pub made : (q : ℕ) → r ≡ Ok q → {y : Env} (u : State) (fs : Fields) → keep (has 0x22) fs ≡ keep (has 0x22) cs →
       namespaces_in u.collected + count_namespaces cs ≤ 3641 → Shows y t u → Reads y s → Did y (collect (record { literal = x; specifiers = fs }) at u) t'

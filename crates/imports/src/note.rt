@@ -2,22 +2,24 @@
 ghost use Rattle.std.specs.Prelude.{◌≡◌, false, List, ◌∷◌, ◌++◌, ℕ, ◌+◌, ◌≤◌, ◌<◌, length, get_or};
 ghost use Rattle.tree.specs.Layout.{two, four, id_at};
 ghost use Rattle.tree.specs.Tree.{encode, encodes, field, none};
+ghost use Rattle.tree.specs.Access.{fixed_at};
 ghost use Rattle.tree.specs.Grammar.{rule_of};
-ghost use Rattle.tree.specs.Standing.{tree_at, row_at, Row};
+ghost use Rattle.tree.specs.Rows.{tree_of, fields_of};
+ghost use Rattle.tree.specs.Standing.{Row};
 ghost use Rattle.writer.specs.Wrote.{Wrote};
 ghost use Rattle.scope.specs.Id.{export};
 ghost use Rattle.metadata.specs.Metadata.{with_metadata};
 ghost use Rattle.extraction_rules.specs.First.{id_from, note_named, note_specifier, note_all, specifiers_in};
 ghost use Rattle.state.specs.Cells.{Good, id_by};
 ghost use Rattle.steps.specs.Step.{ReadAt, Steps};
-ghost use Rattle.imports.specs.Parts.{Framed, OutsideAt, OutsideIs, SpecifierIs, Specified, noting, Attributes};
+ghost use Rattle.imports.specs.Parts.{OutsideAt, OutsideIs, SpecifierIs, Specified, noting, Attributes};
 
 use scope::id::{Atom, Id, ModuleId, SyntaxContext};
+use state::Tables;
 use state::ident::{id_at, put_id};
-use state::imported::note_id;
 use steps::{Refusal, Step, Why};
-use tree::access::{extent, fixed};
 use tree::layout::atom_at;
+use tree::row::{self, Part};
 
 // A named import's outside name: none, an identifier or a string.
 #[derive(Clone, Copy, PartialEq, Eq)]
@@ -47,66 +49,53 @@ fn outside_at(s: &[u8], at: usize) -> Outside
     }
 }
 
-// The specifier at `at`, a field whose fixed bytes are whole.
-fn specifier_at(s: &[u8], at: usize) -> Specifier
-    requires { ((stop : ℕ) × (from : ℕ) × Framed s.now at stop from) × (0x20 ≤ get_or s.now at 0) × (get_or s.now at 0 ≤ 0x22) }
-    ensures { (stop from : ℕ) → Framed s.now at stop from → SpecifierIs (tree_at s.now at stop) result }
+// The specifier that a field is whose fixed bytes are whole.
+fn specifier_of(part: &Part) -> Specifier
+    requires { ((from : ℕ) × (fixed_at part.now.bytes.now (get_or part.now.bytes.now part.now.at 0) (part.now.at + 3) part.now.stop ≡ Some from))
+        × (0x20 ≤ get_or part.now.bytes.now part.now.at 0) × (get_or part.now.bytes.now part.now.at 0 ≤ 0x22) }
+    ensures { SpecifierIs (tree_of part.now) result }
 {
-    let id = id_at(s, at + 3);
-    match s[at] {
-        0x20 => Specifier::Named(id, outside_at(s, at + 9)),
+    let id = id_at(part.bytes, part.at + 3);
+    match part.tag() {
+        0x20 => Specifier::Named(id, outside_at(part.bytes, part.at + 9)),
         0x21 => Specifier::Default(id),
         _ => Specifier::Namespace(id),
     }
 }
 
-// The specifier at `at` up to stop is noted, and written: 'export context; own for default'.
-pub fn note_specifier(
-    s: &[u8],
-    at: usize,
-    stop: usize,
-    n: ModuleId,
-    t: &mut [u64],
-    out: &mut [u8],
-    o: usize,
-) -> Step
-    requires { (at + 3 ≤ stop) × (stop ≤ length s.now) × Good t.old }
-    ensures { Steps encode (λ x u. Specified s.now at stop) (λ _. note_specifier n.0 (tree_at s.now at stop) at) t.old
-        out.old o t.new out.new result }
+// A specifier is noted, and written: 'export context; own for default'.
+pub fn note_specifier(part: &Part, n: ModuleId, t: &mut Tables, out: &mut [u8], o: usize) -> Step
+    ensures { Steps encode (λ x u. Specified part.now.bytes.now part.now.at part.now.stop)
+        (λ _. note_specifier n.0 (tree_of part.now) part.now.at) t.old.cells out.old o t.new.cells out.new result }
 {
-    let tag = s[at];
-    let Some(_) = fixed(s, tag, at + 3, stop) else {
+    let tag = part.tag();
+    let Some(_) = part.fixed() else {
         return Ok(o);
     };
     if tag < 0x20 || 0x22 < tag {
         return Ok(o);
     }
-    match specifier_at(s, at) {
-        Specifier::Named(id, outside) => note_named(id, outside, at, n, t, out, o),
-        Specifier::Default(id) => note_other(s, at, stop, id.1, t, out, o),
-        Specifier::Namespace(_) => note_other(s, at, stop, n.export_ctxt(), t, out, o),
+    match specifier_of(part) {
+        Specifier::Named(id, outside) => note_named(id, outside, part.at, n, t, out, o),
+        Specifier::Default(id) => note_other(part, id.1, t, out, o),
+        Specifier::Namespace(_) => note_other(part, n.export_ctxt(), t, out, o),
     }
 }
 
 // A 21 or a 22: its id is noted in a context, and it stays as it is.
-fn note_other(
-    s: &[u8],
-    at: usize,
-    stop: usize,
-    c: SyntaxContext,
-    t: &mut [u64],
-    out: &mut [u8],
-    o: usize,
-) -> Step
-    requires { (at + 9 ≤ stop) × (stop ≤ length s.now) × Good t.old }
-    ensures { Steps encode (λ x u. ReadAt s.now at stop) (λ _. noting (record { id = id_at s.now (at + 3); context = four c.0 })
-        (tree_at s.now at stop) at) t.old out.old o t.new out.new result }
+fn note_other(part: &Part, c: SyntaxContext, t: &mut Tables, out: &mut [u8], o: usize) -> Step
+    requires { part.now.at + 9 ≤ part.now.stop }
+    ensures { Steps encode (λ x u. ReadAt part.now.bytes.now part.now.at part.now.stop)
+        (λ _. noting (record { id = id_at part.now.bytes.now (part.now.at + 3); context = four c.0 }) (tree_of part.now) part.now.at)
+        t.old.cells out.old o t.new.cells out.new result }
 {
-    note_id(t, id_at(s, at + 3), c).map_err(|_| Refusal {
-        why: Why::TableFull,
-        place: at,
-    })?;
-    Ok(writer::copy(out, o, s, at, stop))
+    let at = part.at;
+    t.note_id(id_at(part.bytes, at + 3), c)
+        .map_err(|_| Refusal {
+            why: Why::TableFull,
+            place: at,
+        })?;
+    Ok(writer::copy(out, o, part.bytes, at, part.stop))
 }
 
 // A 20: 'filling none with the local name'; a string name is refused.
@@ -115,13 +104,12 @@ fn note_named(
     outside: Outside,
     at: usize,
     n: ModuleId,
-    t: &mut [u64],
+    t: &mut Tables,
     out: &mut [u8],
     o: usize,
 ) -> Step
-    requires { Good t.old }
     ensures { (x : List ℕ) → id_by id ≡ id_at x 0 → OutsideIs x outside →
-        Steps encode (λ x u. Unit {0}) (λ _. note_named n.0 x at) t.old out.old o t.new out.new result }
+        Steps encode (λ x u. Unit {0}) (λ _. note_named n.0 x at) t.old.cells out.old o t.new.cells out.new result }
 {
     match outside {
         Outside::Nothing => note_as(id, id.0, at, n, t, out, o),
@@ -139,17 +127,16 @@ fn note_as(
     name: Atom,
     at: usize,
     n: ModuleId,
-    t: &mut [u64],
+    t: &mut Tables,
     out: &mut [u8],
     o: usize,
 ) -> Step
-    requires { Good t.old }
     ensures { Steps encode (λ x u. Unit {0})
         (λ _. noting (record { id = id_by id; context = four (export n.0) }) (field 0x20 (id_by id ++ 1 ∷ id_from (two name.0) (export n.0)) none)
-        at) t.old out.old o t.new out.new result }
+        at) t.old.cells out.old o t.new.cells out.new result }
 {
     let c = n.export_ctxt();
-    note_id(t, id, c).map_err(|_| Refusal {
+    t.note_id(id, c).map_err(|_| Refusal {
         why: Why::TableFull,
         place: at,
     })?;
@@ -168,59 +155,39 @@ fn put_outside(id: Id, outside: Id, out: &mut [u8], o: usize) -> usize
     p
 }
 
-// The specifiers from `from` up to the 2F or the end.
-pub fn note_all(
-    s: &[u8],
-    from: usize,
-    end: usize,
-    n: ModuleId,
-    t: &mut [u64],
-    out: &mut [u8],
-    o: usize,
-) -> Step
-    requires { (from ≤ end) × (end ≤ length s.now) × Good t.old }
-    ensures { Steps encodes (λ x u. Row s.now from end (rule_of 0x10)) (λ _. note_all n.0 (specifiers_in (row_at s.now from end)) from)
-        t.old out.old o t.new out.new result }
+// The specifiers of a row, up to its 2F or its end.
+pub fn note_all(row: row::Row, n: ModuleId, t: &mut Tables, out: &mut [u8], o: usize) -> Step
+    ensures { Steps encodes (λ x u. Row row.entry.bytes.now row.entry.at row.entry.end (rule_of 0x10))
+        (λ _. note_all n.0 (specifiers_in (fields_of row.entry)) row.entry.at) t.old.cells out.old o t.new.cells out.new result }
 {
-    let mut at = from;
     let mut to = o;
-    while let Some(stop) = extent(s, at, end) {
-        if s[at] == 0x2F {
+    for part in row {
+        if part.tag() == 0x2F {
             return Ok(to);
         }
-        to = note_specifier(s, at, stop, n, t, out, to)?;
-        at = stop;
+        to = note_specifier(&part, n, t, out, to)?;
     }
     Ok(to)
 }
 
-// Writes a 2F with the attributes of the one at `at`, if there is one, and the export context of module n.
-pub fn put_context_attributes(
-    s: &[u8],
-    at: usize,
-    end: usize,
-    n: ModuleId,
-    out: &mut [u8],
-    o: usize,
-) -> usize
-    requires { (at ≤ end) × (end ≤ length s.now) }
-    ensures { Attributes s.now at end (λ old. encode (with_metadata (record { injected = false; context = Some (export n.0) }) old))
-        out.old o out.new result }
+// Writes a 2F with the attributes that stand first in a row, if any, and the export context of module n.
+pub fn put_context_attributes(row: row::Row, n: ModuleId, out: &mut [u8], o: usize) -> usize
+    ensures { Attributes row.entry.bytes.now row.entry.at row.entry.end
+        (λ old. encode (with_metadata (record { injected = false; context = Some (export n.0) }) old)) out.old o out.new result }
 {
     let content = writer::open_field(out, o, 0x2F);
-    let old = put_attributes(s, at, end, out, content);
+    let old = put_attributes(row, out, content);
     let p = metadata::put_context(out, old, n.export_ctxt());
     writer::close_field(out, o, p);
     p
 }
 
-// Writes the attributes in the 2F at `at`, if there is one.
-fn put_attributes(s: &[u8], at: usize, end: usize, out: &mut [u8], o: usize) -> usize
-    requires { (at ≤ end) × (end ≤ length s.now) }
-    ensures { Attributes s.now at end encodes out.old o out.new result }
+// Writes the attributes in the 2F that stands first in a row, if there is one.
+fn put_attributes(mut row: row::Row, out: &mut [u8], o: usize) -> usize
+    ensures { Attributes row.entry.bytes.now row.entry.at row.entry.end encodes out.old o out.new result }
 {
-    match extent(s, at, end) {
-        Some(stop) => writer::copy(out, o, s, at + 3, stop),
+    match row.next() {
+        Some(part) => writer::copy(out, o, part.bytes, part.at + 3, part.stop),
         None => o,
     }
 }

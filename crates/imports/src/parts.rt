@@ -1,7 +1,8 @@
 // The parts of an import: its specifiers, and behind them its attributes, if any.
-ghost use Rattle.std.specs.Prelude.{◌≡◌, ◌+◌, ◌≤◌, length};
+ghost use Rattle.std.specs.Prelude.{◌≡◌, ◌≤◌};
 ghost use Rattle.tree.specs.Grammar.{rule_of};
-ghost use Rattle.tree.specs.Standing.{tree_at, row_at, Row};
+ghost use Rattle.tree.specs.Rows.{tree_of};
+ghost use Rattle.tree.specs.Standing.{row_at, Row};
 ghost use Rattle.inputs.specs.Fields.{sole};
 ghost use Rattle.extraction_rules.specs.First.{specifiers_in};
 ghost use Rattle.steps.specs.Step.{ident_by};
@@ -9,45 +10,42 @@ ghost use Rattle.imports.specs.Parts.{Ends, namespace_in, namespace_by};
 
 use scope::id::Id;
 use state::ident::id_at;
-use tree::access::{extent, fixed};
+use tree::row::Part;
 
-// Where the specifiers from `from` up to end stop: at the 2F, or at the end.
-pub fn specifiers_end(s: &[u8], from: usize, end: usize) -> usize
-    requires { (from ≤ end) × (end ≤ length s.now) }
-    ensures { Ends s.now from end result }
+// Where the specifiers from `from` on stop: at the 2F, or at the end of the import.
+pub fn specifiers_end(part: &Part, from: usize) -> usize
+    requires { from ≤ part.now.stop }
+    ensures { Ends part.now.bytes.now from part.now.stop result }
 {
-    let mut at = from;
-    while let Some(stop) = extent(s, at, end) {
-        if s[at] == 0x2F {
-            return at;
+    for p in part.row(from) {
+        if p.tag() == 0x2F {
+            return p.at;
         }
-        at = stop;
     }
-    at
+    part.stop
 }
 
-// The id of the field at `at` up to stop, if it is a 22.
-pub fn namespace_at(s: &[u8], at: usize, stop: usize) -> Option<Id>
-    requires { (at + 3 ≤ stop) × (stop ≤ length s.now) }
-    ensures { ident_by result ≡ namespace_in (tree_at s.now at stop) }
+// The id of a field, if it is a 22.
+pub fn namespace_of(part: &Part) -> Option<Id>
+    ensures { ident_by result ≡ namespace_in (tree_of part.now) }
 {
-    let tag = s[at];
-    fixed(s, tag, at + 3, stop)?;
-    if tag == 0x22 {
-        Some(id_at(s, at + 3))
+    part.fixed()?;
+    if part.tag() == 0x22 {
+        Some(id_at(part.bytes, part.at + 3))
     } else {
         None
     }
 }
 
-// The id of a 22 that is the only specifier.
-pub fn sole_namespace(s: &[u8], from: usize, end: usize) -> Option<Id>
-    requires { (from ≤ end) × (end ≤ length s.now) }
-    ensures { Row s.now from end (rule_of 0x10) → ident_by result ≡ namespace_by (sole (specifiers_in (row_at s.now from end))) }
+// The id of a 22 that is the only specifier from `from` on.
+pub fn sole_namespace(part: &Part, from: usize) -> Option<Id>
+    requires { from ≤ part.now.stop }
+    ensures { Row part.now.bytes.now from part.now.stop (rule_of 0x10) →
+        ident_by result ≡ namespace_by (sole (specifiers_in (row_at part.now.bytes.now from part.now.stop))) }
 {
-    let stop = extent(s, from, end)?;
-    if specifiers_end(s, stop, end) == stop {
-        namespace_at(s, from, stop)
+    let first = part.row(from).next()?;
+    if specifiers_end(part, first.stop) == first.stop {
+        namespace_of(&first)
     } else {
         None
     }

@@ -16,7 +16,7 @@ use Rattle.writer.proofs.Finished.{delivers, room-true}
 use Rattle.tree.specs.declared.grammar.Set.TheVariants.{Attributes}
 use Rattle.tree.specs.declared.grammar.Piece.TheVariants.{Plain}
 use Rattle.tree.specs.declared.grammar.Value.TheVariants.{Empty}
-use Rattle.tree.specs.declared.read.Unread.{Unread}
+use Rattle.tree.specs.Read.{Unread}
 use Rattle.tree.specs.Layout.{Bytes, skip_at}
 use Rattle.tree.specs.Tree.{Field, field, Fields, none, parts_of, framed as framed_field, encode, encodes, depth, depths}
 use Rattle.tree.specs.Grammar.{within, rule_of, pieces_of, holds_at}

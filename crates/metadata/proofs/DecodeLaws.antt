@@ -2,13 +2,12 @@
 use Rattle.std.specs.Prelude.{Option, None, Some}
 use Rattle.std.specs.Option.{MatchOption}
 use denote.Ref.{Bor}
-use Prim.Native.Nat.{ℕ, ◌+◌, ◌≤◌}
+use Prim.Native.Nat.{ℕ, ◌+◌}
 use mathlib.Core.Path.{◌≡◌, refl, sym, ap, ◌∙◌}
 use mathlib.Core.Bool.{Bool, true, false, ◌&&◌}
 use mathlib.Core.List.{List, [], ◌∷◌, ◌++◌}
-use native.Mathlib.Omega.{arith}
 use lib.Dec.{eqb}
-use lib.ListN.{length, take, drop, get_or}
+use lib.ListN.{length, take, drop}
 use lib.Pointwise.{pointwise}
 use lib.Seq.{slice}
 use Rattle.tree.specs.Layout.{same}
@@ -16,9 +15,11 @@ use Rattle.tree.specs.Tree.{fixed_of, Field, Fields, parts_of}
 use Rattle.tree.proofs.LayoutLaws.{same-pointwise}
 use Rattle.metadata.specs.Decimal.{parsed}
 use Rattle.metadata.specs.Metadata.{injected_key, context_key, header, injected_attribute, starts_with, context_in, Metadata, told, merged, unset, decode_from, decode}
-use Rattle.tree.specs.Access.{fixed_at, extent_at}
-use Rattle.tree.specs.Standing.{row_at, tree_at}
-use Rattle.tree.proofs.StandingLaws.{row-more, row-none, tree-upto, tree-short}
+use Rattle.tree.specs.Rows.{GivesPart, tree_of, fields_of}
+use Rattle.tree.specs.declared.row.Part.{Part}
+use Rattle.tree.specs.declared.row.Row.{Row}
+use Rattle.tree.proofs.PartLaws.{fields-none, fields-more, part_fixed, part-short, part-tree}
+use Rattle.tree.proofs.StandingLaws.{tree-upto}
 use Rattle.metadata.specs.Calls.{attributes_in}
 
 -- a run is two runs behind one another just where its front is the first and its back the second
@@ -75,40 +76,39 @@ module _ (x : List ℕ) where
 
 -- ---- A row of attributes
 
-module _ (s : List ℕ) where
-  -- the field at a place tells what its fixed bytes tell, and nothing where they are short
-  pub told-upto : (at stop b : ℕ) → fixed_at s (get_or s at 0) (at + 3) stop ≡ Some b → told (slice (at + 3) b s) ≡ told (fixed_of (tree_at s at stop))
-  told-upto at stop b e = ap (λ (f : Field). told (fixed_of f)) (sym (tree-upto s at stop b e))
+-- a field tells what its fixed bytes tell, and nothing where they are short
+module _ (p : Part) where
+  pub told-upto : {b : ℕ} → part_fixed p ≡ Some b → told (slice (p.at + 3) b p.bytes.now) ≡ told (fixed_of (tree_of p))
+  told-upto {b} e = ap (λ (f : Field). told (fixed_of f)) (sym (tree-upto p.bytes.now p.at p.stop b e))
 
-  pub told-short : (at stop : ℕ) → fixed_at s (get_or s at 0) (at + 3) stop ≡ None → unset ≡ told (fixed_of (tree_at s at stop))
+  pub told-short : part_fixed p ≡ None → unset ≡ told (fixed_of (tree_of p))
   unfolding told same starts_with context_in injected_attribute
-  told-short at stop e = ap (λ (f : Field). told (fixed_of f)) (sym (tree-short s at stop e))
+  told-short e = ap (λ (f : Field). told (fixed_of f)) (sym (part-short p e))
 
-  module _ (m : Metadata) (at end : ℕ) (h : at ≤ end) where
-    -- the field at a place, and the fields behind it
-    pub decode-more : (stop : ℕ) → extent_at s at end ≡ Some stop →
-        decode_from m (row_at s at end) ≡ decode_from (merged m (told (fixed_of (tree_at s at stop)))) (row_at s stop end)
-    unfolding decode_from
-    decode-more stop e = ap (decode_from m) (row-more s at end stop h e)
+-- in a walk over them: the field that it gave, and the fields behind it
+module _ (r r' : Row) where
+  pub decode-more : (m : Metadata) (p : Part) → GivesPart r (Some p) r' → decode_from m (fields_of r) ≡ decode_from (merged m (told (fixed_of (tree_of p)))) (fields_of r')
+  unfolding decode_from
+  decode-more m p g = ap (decode_from m) (fields-more r p r' g)
 
-    pub decode-none : extent_at s at end ≡ None → decode_from m (row_at s at end) ≡ m
-    unfolding decode_from
-    decode-none e = ap (decode_from m) (row-none s at end h e)
+  pub decode-none : (m : Metadata) → GivesPart r None r' → decode_from m (fields_of r) ≡ m
+  unfolding decode_from
+  decode-none m g = ap (decode_from m) (fields-none r r' g)
 
-  -- the parts of the field at 0
-  pub parts-upto : (stop b : ℕ) → extent_at s 0 (length s) ≡ Some stop → fixed_at s (get_or s 0 0) 3 stop ≡ Some b →
-      decode (row_at s b stop) ≡ decode (attributes_in (row_at s 0 (length s)))
-  parts-upto stop b e f =
-      ap (λ (x : Field). decode (parts_of x)) (sym (tree-upto s 0 stop b f))
-      ∙ ap (λ (fs : Fields). decode (attributes_in fs)) (sym (row-more s 0 (length s) stop (omega arith) e))
-
-  pub parts-short : (stop : ℕ) → extent_at s 0 (length s) ≡ Some stop → fixed_at s (get_or s 0 0) 3 stop ≡ None →
-      unset ≡ decode (attributes_in (row_at s 0 (length s)))
+  -- the parts of the first
+  pub parts-none : GivesPart r None r' → unset ≡ decode (attributes_in (fields_of r))
   unfolding decode decode_from
-  parts-short stop e f =
-      ap (λ (x : Field). decode (parts_of x)) (sym (tree-short s 0 stop f))
-      ∙ ap (λ (fs : Fields). decode (attributes_in fs)) (sym (row-more s 0 (length s) stop (omega arith) e))
+  parts-none g = ap (λ (fs : Fields). decode (attributes_in fs)) (sym (fields-none r r' g))
 
-  pub parts-none : extent_at s 0 (length s) ≡ None → unset ≡ decode (attributes_in (row_at s 0 (length s)))
-  unfolding decode decode_from
-  parts-none e = ap (λ (fs : Fields). decode (attributes_in fs)) (sym (row-none s 0 (length s) (omega arith) e))
+  module _ (p : Part) (g : GivesPart r (Some p) r') where
+    pub parts-short : part_fixed p ≡ None → unset ≡ decode (attributes_in (fields_of r))
+    unfolding decode decode_from
+    parts-short e =
+        ap (λ (f : Field). decode (parts_of f)) (sym (part-short p e))
+        ∙ ap (λ (fs : Fields). decode (attributes_in fs)) (sym (fields-more r p r' g))
+
+    pub parts-upto : {b : ℕ} (q : Row) → part_fixed p ≡ Some b → (q.bytes.now ≡ p.bytes.now) × (q.at ≡ b) × (q.end ≡ p.stop) →
+        decode (fields_of q) ≡ decode (attributes_in (fields_of r))
+    parts-upto q e made =
+        ap (λ (f : Field). decode (parts_of f)) (sym (part-tree p q e made))
+        ∙ ap (λ (fs : Fields). decode (attributes_in fs)) (sym (fields-more r p r' g))

@@ -1,7 +1,7 @@
 -- The two calls on lent bytes, with their refusals. Document 01, 'Metadata and detection' and 'Where a call turns back'.
 use Rattle.std.specs.Prelude.{ℕ, cond, Result, Ok, Err, List, ◌≡◌, eqb, length, replicate}
 use Rattle.tree.specs.declared.grammar.Set.TheVariants.{Attributes}
-use Rattle.tree.specs.declared.read.Unread.{Unread}
+use Rattle.tree.specs.Read.{Unread}
 use Rattle.tree.specs.Tree.{Fields, none, more, encode, parts_of}
 use Rattle.tree.specs.Read.{Reading, fine, refused, mapped, read, refusal_of}
 use Rattle.writer.specs.Finished.{has_room, delivered}

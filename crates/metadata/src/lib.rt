@@ -3,13 +3,13 @@
 
 mod decimal;
 
-ghost use Rattle.std.specs.Prelude.{◌≡◌, ◌++◌, ◌+◌, ◌≤◌, length};
+ghost use Rattle.std.specs.Prelude.{◌≡◌, ◌++◌};
 ghost use Rattle.writer.specs.Bytes.{framed};
 ghost use Rattle.writer.specs.Wrote.{Wrote};
 ghost use Rattle.tree.specs.Layout.{same};
 ghost use Rattle.tree.specs.Tree.{size, encode, encodes, fixed_of};
 ghost use Rattle.tree.specs.Read.{verdict};
-ghost use Rattle.tree.specs.Standing.{tree_at, row_at};
+ghost use Rattle.tree.specs.Rows.{tree_of, fields_of};
 ghost use Rattle.metadata.specs.declared.EncodeError.TheVariants.{Broken as broken};
 ghost use Rattle.metadata.specs.Metadata.{injected_attribute, context_attribute, injected_attributes, attributes_for, context_in, told, merged, unset, decode};
 ghost use Rattle.metadata.specs.Decimal.{decimal};
@@ -18,9 +18,9 @@ ghost use Rattle.metadata.specs.Calls.{attributes_in, lent, decoded, decode_call
 
 use decimal::{parse, put_decimal};
 use scope::id::SyntaxContext;
-use tree::access::{extent, fixed, pieces_end};
 use tree::grammar::Set;
 use tree::read::{Unread, read_tree};
+use tree::row::{Part, Row};
 
 // What stands before the value in the attribute of an injected export: kinds, key length and key.
 const INJECTED: [u8; 28] = *b"\x01\x01\x19__swc_bundler__injected__";
@@ -128,44 +128,40 @@ impl ExportMetadata {
         }
     }
 
-    // What the field at `at` up to stop tells.
-    fn told_at(s: &[u8], at: usize, stop: usize) -> ExportMetadata
-        requires { (at + 3 ≤ stop) × (stop ≤ length s.now) }
-        ensures { metadata_of result ≡ told (fixed_of (tree_at s.now at stop)) }
+    // What a field tells.
+    fn told(part: Part) -> ExportMetadata
+        ensures { metadata_of result ≡ told (fixed_of (tree_of part.entry)) }
     {
-        let Some(end) = pieces_end(s, s[at], at + 3, stop) else {
+        let Some(end) = part.fixed() else {
             return ExportMetadata::unset();
         };
-        let content = &s[at + 3..end];
+        let content = &part.bytes[part.at + 3..end];
         ExportMetadata {
             injected: tells_injected(content),
             export_ctxt: context_in(content),
         }
     }
 
-    // What the fields from `from` up to end tell.
-    fn decode_row(s: &[u8], from: usize, end: usize) -> ExportMetadata
-        requires { (from ≤ end) × (end ≤ length s.now) }
-        ensures { metadata_of result ≡ decode (row_at s.now from end) }
+    // What the fields of a row tell.
+    fn decode_row(row: Row) -> ExportMetadata
+        ensures { metadata_of result ≡ decode (fields_of row.entry) }
     {
         let mut m = ExportMetadata::unset();
-        let mut at = from;
-        while let Some(stop) = extent(s, at, end) {
-            m = m.merge(ExportMetadata::told_at(s, at, stop));
-            at = stop;
+        for part in row {
+            m = m.merge(ExportMetadata::told(part));
         }
         m
     }
 
-    // What the parts of the field at 0 tell; nothing where there is none.
-    fn decode_parts(s: &[u8]) -> ExportMetadata
-        ensures { metadata_of result ≡ decode (attributes_in (row_at s.now 0 (length s.now))) }
+    // What the parts of the first of the fields tell; nothing where there is none.
+    fn decode_parts(mut row: Row) -> ExportMetadata
+        ensures { metadata_of result ≡ decode (attributes_in (fields_of row.entry)) }
     {
-        let Some(stop) = extent(s, 0, s.len()) else {
+        let Some(part) = row.next() else {
             return ExportMetadata::unset();
         };
-        match fixed(s, s[0], 3, stop) {
-            Some(from) => ExportMetadata::decode_row(s, from, stop),
+        match part.fixed() {
+            Some(from) => ExportMetadata::decode_row(part.row(from)),
             None => ExportMetadata::unset(),
         }
     }
@@ -175,7 +171,7 @@ impl ExportMetadata {
         ensures { decoded result ≡ decode_call attributes.now }
     {
         read_lent(attributes)?;
-        Ok(ExportMetadata::decode_parts(attributes))
+        Ok(ExportMetadata::decode_parts(Row::new(attributes, 0, attributes.len())))
     }
 
     // Writes the attributes that the metadata adds.

@@ -1,18 +1,22 @@
 -- Collected records as they are written: the imports of their source, what was made of those with their literal, one after another.
 use Rattle.std.specs.Prelude.{None, Some}
-use Prim.Native.Nat.{ℕ, ◌+◌, ◌-◌, ◌≤◌, ◌<◌}
+use Prim.Native.Nat.{ℕ, ◌+◌, ◌≤◌, ◌<◌}
 use native.Mathlib.Omega.{arith}
 use mathlib.Core.Path.{◌≡◌, refl, sym, ap, ap₂, ◌∙◌}
 use mathlib.Core.Bool.{Bool, true, false, not, cond, ◌&&◌}
 use mathlib.Core.List.{List, [], ◌++◌, map}
 use lib.Dec.{eqb}
-use lib.ListN.{length, get_or, drop}
-use borrow.Author.Tests.{eq-eqb, ne_eqb, lt-leb}
-use Rattle.tree.specs.Layout.{Bytes, same, two, value_of, literal_value, literal_at, same_literal}
+use lib.ListN.{length, drop}
+use borrow.Author.Tests.{eq-eqb, ne_eqb}
+use Rattle.tree.specs.Layout.{same, two, value_of, literal_value, literal_at, same_literal}
 use Rattle.tree.specs.Tree.{Field, field, Fields, none, more, tag_of, fixed_of, parts_of, encode, encodes}
-use Rattle.tree.specs.Access.{fixed_at, extent_at}
-use Rattle.tree.specs.Standing.{row_on, row, row_at}
-use Rattle.tree.proofs.StandingLaws.{row-more, row-none, tree-upto, tree-short}
+use Rattle.tree.specs.Access.{extent_at}
+use Rattle.tree.specs.Standing.{row_at}
+use Rattle.tree.specs.Rows.{tree_of, fields_of}
+use Rattle.tree.specs.declared.row.Part.{Part}
+use Rattle.tree.specs.declared.row.Row.{Row}
+use Rattle.tree.proofs.StandingLaws.{row-more}
+use Rattle.tree.proofs.PartLaws.{part_fixed, part-short, part-tree}
 use Rattle.tree.proofs.TreeLaws.{encodes-none}
 use Rattle.metadata.specs.Metadata.{append}
 use Rattle.metadata.proofs.EncodeLaws.{framed-field, encodes-append}
@@ -30,8 +34,6 @@ use Rattle.extraction_rules.proofs.FirstLaws.{lose-literal}
 use Rattle.state.specs.declared.Literal.{Literal}
 use Rattle.state.specs.Cells.{Env, literal_by, Shows}
 use Rattle.state.specs.Does.{Tells, Holds}
-use Rattle.steps.specs.Step.{ReadAt}
-use Rattle.steps.proofs.SoundLaws.{read-parts}
 use Rattle.records.specs.Model.{gathered_of, gathered, is_namespace, starts_named, whole_of, taken_of, taken, specifiers_of, rebuilt}
 use Rattle.records.specs.Writes.{literal_in, Placing, WroteFor, Onward, WroteIf, RowRead, BothRead, sieve, named_parts, item_at, ImportIs, items_in, retold, records_in}
 use Rattle.records.proofs.LiteralLaws.{value-test}
@@ -52,100 +54,86 @@ sieve-nothing b fs e = ap (λ (gs : Fields). encodes (sieve b gs)) e ∙ ap enco
 sieve-bytes : (b : Bool) (fs gs : Fields) → encodes (sieve b (append fs gs)) ≡ encodes (sieve b fs) ++ encodes (sieve b gs)
 sieve-bytes b fs gs = ap encodes (sieve-append b fs gs) ∙ encodes-append (sieve b fs) (sieve b gs)
 
--- a row that ends before it starts
-row-past : (s : List ℕ) (at end : ℕ) → end < at → row_at s at end ≡ none
-unfolding row_at row row_on extent_at
-row-past s at end h = rw (lt-leb 3 (end - at) (omega arith)) refl
-
--- the parts of a field that was read
-pub parts-read : {s : List ℕ} {at stop b : ℕ} → fixed_at s (get_or s at 0) (at + 3) stop ≡ Some b → ReadAt s at stop → RowRead s b stop
-parts-read e r = (_, read-parts r e)
-
 -- ---- The imports of a source
 
-module _ (b : Bool) (s : List ℕ) (at : ℕ) (a : ℕ) where
-  pub gathered-none : (tag_of (item_at s at) ≡ 0x10 → ⊥) → encodes (sieve b (gathered_of (two a) (item_at s at))) ≡ []
+pub gathered-none : (b : Bool) (a : ℕ) (f : Field) → (tag_of f ≡ 0x10 → ⊥) → encodes (sieve b (gathered_of (two a) f)) ≡ []
+unfolding gathered_of
+gathered-none b a f h =
+    sieve-nothing b (gathered_of (two a) f)
+    (ap (λ (c : Bool). cond (c && same (value_of (fixed_of f)) (two a)) (specifiers_in (parts_of f)) none) (ne_eqb (tag_of f) 0x10 h))
+
+-- where no field stands
+pub gathered-nowhere : (b : Bool) (a : ℕ) (s : List ℕ) (at : ℕ) → extent_at s at (length s) ≡ None → encodes (sieve b (gathered_of (two a) (item_at s at))) ≡ []
+gathered-nowhere b a s at e =
+    gathered-none b a (item_at s at) (λ t. let z : 0 ≡ 0x10 = sym (ap tag_of (item-none s at e)) ∙ t in omega arith)
+
+module _ (b : Bool) (p : Part) (a : ℕ) (r : Row) (i : ImportIs p r) (k : a < 65536) where
+  by-value : gathered_of (two a) (tree_of p) ≡ cond (eqb (literal_value p.bytes.now (p.at + 3)) a) (specifiers_in (fields_of r)) none
   unfolding gathered_of
-  gathered-none h =
-      sieve-nothing b (gathered_of (two a) (item_at s at))
-      (ap (λ (c : Bool). cond (c && same (value_of (fixed_of (item_at s at))) (two a)) (specifiers_in (parts_of (item_at s at))) none) (ne_eqb (tag_of (item_at s at)) 0x10 h))
+  by-value =
+      let u = i.inside in
+      let v = p.whole.1 in
+      ap (gathered_of (two a)) i.item
+      ∙ ap (λ (c : Bool). cond c (specifiers_in (fields_of r)) none) (value-test p.bytes.now (p.at + 3) a p.of_bytes (omega arith) k)
 
-  module _ (stop : ℕ) (i : ImportIs s at stop) (y : Bytes s) (k : a < 65536) where
-    by-value : gathered_of (two a) (item_at s at) ≡ cond (eqb (literal_value s (at + 3)) a) (specifiers_in (row_at s (at + 9) stop)) none
-    unfolding gathered_of
-    by-value =
-        let u = i.inside in
-        let v = i.fits in
-        ap (gathered_of (two a)) i.item
-        ∙ ap (λ (c : Bool). cond c (specifiers_in (row_at s (at + 9) stop)) none) (value-test s (at + 3) a y (omega arith) k)
+  pub gathered-is : literal_value p.bytes.now (p.at + 3) ≡ a → encodes (sieve b (specifiers_in (fields_of r))) ≡ encodes (sieve b (gathered_of (two a) (tree_of p)))
+  gathered-is e =
+      ap (λ (fs : Fields). encodes (sieve b fs))
+      (sym (by-value ∙ ap (λ (c : Bool). cond c (specifiers_in (fields_of r)) none) (eq-eqb (literal_value p.bytes.now (p.at + 3)) a e)))
 
-    pub gathered-is : literal_value s (at + 3) ≡ a → encodes (sieve b (specifiers_in (row_at s (at + 9) stop))) ≡ encodes (sieve b (gathered_of (two a) (item_at s at)))
-    gathered-is e =
-        ap (λ (fs : Fields). encodes (sieve b fs))
-        (sym (by-value ∙ ap (λ (c : Bool). cond c (specifiers_in (row_at s (at + 9) stop)) none) (eq-eqb (literal_value s (at + 3)) a e)))
+  pub gathered-differs : (literal_value p.bytes.now (p.at + 3) ≡ a → ⊥) → encodes (sieve b (gathered_of (two a) (tree_of p))) ≡ []
+  gathered-differs e =
+      sieve-nothing b (gathered_of (two a) (tree_of p))
+      (by-value ∙ ap (λ (c : Bool). cond c (specifiers_in (fields_of r)) none) (ne_eqb (literal_value p.bytes.now (p.at + 3)) a e))
 
-    pub gathered-differs : (literal_value s (at + 3) ≡ a → ⊥) → encodes (sieve b (gathered_of (two a) (item_at s at))) ≡ []
-    gathered-differs e =
-        sieve-nothing b (gathered_of (two a) (item_at s at))
-        (by-value ∙ ap (λ (c : Bool). cond c (specifiers_in (row_at s (at + 9) stop)) none) (ne_eqb (literal_value s (at + 3)) a e))
-
-module _ (b : Bool) (v : List ℕ) (s : List ℕ) (at end : ℕ) where
-  pub imports-past : end < at → encodes (sieve b (gathered v (row_at s at end))) ≡ []
+module _ (b : Bool) (v : List ℕ) where
+  pub gathered-end : {fs : Fields} → fs ≡ none → encodes (sieve b (gathered v fs)) ≡ []
   unfolding gathered
-  imports-past h = sieve-nothing b (gathered v (row_at s at end)) (ap (gathered v) (row-past s at end h))
+  gathered-end {fs} e = sieve-nothing b (gathered v fs) (ap (gathered v) e)
 
-  pub imports-none : at ≤ end → extent_at s at end ≡ None → encodes (sieve b (gathered v (row_at s at end))) ≡ []
+  pub gathered-more : {f : Field} {fs gs : Fields} → fs ≡ more f gs →
+      encodes (sieve b (gathered v fs)) ≡ encodes (sieve b (gathered_of v f)) ++ encodes (sieve b (gathered v gs))
   unfolding gathered
-  imports-none le e = sieve-nothing b (gathered v (row_at s at end)) (ap (gathered v) (row-none s at end le e))
+  gathered-more {f} {fs} {gs} e = ap (λ (hs : Fields). encodes (sieve b (gathered v hs))) e ∙ sieve-bytes b (gathered_of v f) (gathered v gs)
 
-module _ (b : Bool) (v : List ℕ) (s : List ℕ) (at : ℕ) where
-  pub imports-more : (stop : ℕ) → at ≤ length s → extent_at s at (length s) ≡ Some stop →
+  -- by places
+  pub imports-more : (s : List ℕ) (at stop : ℕ) → at ≤ length s → extent_at s at (length s) ≡ Some stop →
       encodes (sieve b (gathered v (row_at s at (length s)))) ≡ encodes (sieve b (gathered_of v (item_at s at))) ++ encodes (sieve b (gathered v (row_at s stop (length s))))
-  unfolding gathered
-  imports-more stop le e =
-      ap (λ (fs : Fields). encodes (sieve b (gathered v fs))) (row-more s at (length s) stop le e)
-      ∙ ap (λ (f : Field). encodes (sieve b (append (gathered_of v f) (gathered v (row_at s stop (length s)))))) (sym (item-is s at stop e))
-      ∙ sieve-bytes b (gathered_of v (item_at s at)) (gathered v (row_at s stop (length s)))
+  imports-more s at stop le e =
+      gathered-more (row-more s at (length s) stop le e ∙ ap (λ (f : Field). more f (row_at s stop (length s))) (sym (item-is s at stop e)))
 
 -- ---- What was taken apart
 
-module _ (s : List ℕ) (at : ℕ) (l : List ℕ) where
-  pub whole-other : (tag_of (item_at s at) ≡ 0x10 → ⊥) → false ≡ whole_of l (item_at s at)
+pub whole-other : (l : List ℕ) (f : Field) → (tag_of f ≡ 0x10 → ⊥) → false ≡ whole_of l f
+unfolding whole_of
+whole-other l f h = sym (ap (λ (c : Bool). c && same_literal (fixed_of f) l && is_namespace (sole (specifiers_in (parts_of f)))) (ne_eqb (tag_of f) 0x10 h))
+
+module _ (p : Part) (l : List ℕ) (r : Row) (i : ImportIs p r) where
+  by-literal : whole_of l (tree_of p) ≡ (same_literal (literal_at p.bytes.now (p.at + 3)) l && is_namespace (sole (specifiers_in (fields_of r))))
   unfolding whole_of
-  whole-other h =
-      sym (ap (λ (c : Bool). c && same_literal (fixed_of (item_at s at)) l && is_namespace (sole (specifiers_in (parts_of (item_at s at))))) (ne_eqb (tag_of (item_at s at)) 0x10 h))
+  by-literal = ap (whole_of l) i.item
 
-  module _ (stop : ℕ) (i : ImportIs s at stop) where
-    by-literal : whole_of l (item_at s at) ≡ (same_literal (literal_at s (at + 3)) l && is_namespace (sole (specifiers_in (row_at s (at + 9) stop))))
-    unfolding whole_of
-    by-literal = ap (whole_of l) i.item
+  pub whole-is : same_literal (literal_at p.bytes.now (p.at + 3)) l ≡ true → is_namespace (sole (specifiers_in (fields_of r))) ≡ whole_of l (tree_of p)
+  whole-is e = sym (by-literal ∙ ap (λ (c : Bool). c && is_namespace (sole (specifiers_in (fields_of r)))) e)
 
-    pub whole-is : same_literal (literal_at s (at + 3)) l ≡ true → is_namespace (sole (specifiers_in (row_at s (at + 9) stop))) ≡ whole_of l (item_at s at)
-    whole-is e = sym (by-literal ∙ ap (λ (c : Bool). c && is_namespace (sole (specifiers_in (row_at s (at + 9) stop)))) e)
+  pub whole-differs : same_literal (literal_at p.bytes.now (p.at + 3)) l ≡ false → false ≡ whole_of l (tree_of p)
+  whole-differs e = sym (by-literal ∙ ap (λ (c : Bool). c && is_namespace (sole (specifiers_in (fields_of r)))) e)
 
-    pub whole-differs : same_literal (literal_at s (at + 3)) l ≡ false → false ≡ whole_of l (item_at s at)
-    whole-differs e = sym (by-literal ∙ ap (λ (c : Bool). c && is_namespace (sole (specifiers_in (row_at s (at + 9) stop)))) e)
-
-module _ (b : Bool) (s : List ℕ) (at : ℕ) where
-  pub named-nowhere : extent_at s at (length s) ≡ None → encodes (sieve b (named_parts (item_at s at))) ≡ []
+module _ (b : Bool) (p : Part) where
+  pub named-short : part_fixed p ≡ None → encodes (sieve b (named_parts (tree_of p))) ≡ []
   unfolding named_parts keep
-  named-nowhere e = sieve-nothing b (named_parts (item_at s at)) (ap named_parts (item-none s at e))
+  named-short e = sieve-nothing b (named_parts (tree_of p)) (ap named_parts (part-short p e))
 
-  module _ (stop : ℕ) (x : extent_at s at (length s) ≡ Some stop) where
-    pub named-short : fixed_at s (get_or s at 0) (at + 3) stop ≡ None → encodes (sieve b (named_parts (item_at s at))) ≡ []
-    unfolding named_parts keep
-    named-short e = sieve-nothing b (named_parts (item_at s at)) (ap named_parts (item-is s at stop x ∙ tree-short s at stop e))
+  module _ {c : ℕ} (r : Row) (e : part_fixed p ≡ Some c) (m : (r.bytes.now ≡ p.bytes.now) × (r.at ≡ c) × (r.end ≡ p.stop)) where
+    by-start : named_parts (tree_of p) ≡ cond (starts_named (specifiers_in (fields_of r))) (specifiers_in (fields_of r)) none
+    unfolding named_parts
+    by-start = ap named_parts (part-tree p r e m)
 
-    module _ (c : ℕ) (e : fixed_at s (get_or s at 0) (at + 3) stop ≡ Some c) where
-      by-start : named_parts (item_at s at) ≡ cond (starts_named (specifiers_in (row_at s c stop))) (specifiers_in (row_at s c stop)) none
-      unfolding named_parts
-      by-start = ap named_parts (item-is s at stop x ∙ tree-upto s at stop c e)
+    pub named-is : starts_named (specifiers_in (fields_of r)) ≡ true → encodes (sieve b (specifiers_in (fields_of r))) ≡ encodes (sieve b (named_parts (tree_of p)))
+    named-is h = ap (λ (fs : Fields). encodes (sieve b fs)) (sym (by-start ∙ ap (λ (y : Bool). cond y (specifiers_in (fields_of r)) none) h))
 
-      pub named-is : starts_named (specifiers_in (row_at s c stop)) ≡ true → encodes (sieve b (specifiers_in (row_at s c stop))) ≡ encodes (sieve b (named_parts (item_at s at)))
-      named-is h = ap (λ (fs : Fields). encodes (sieve b fs)) (sym (by-start ∙ ap (λ (y : Bool). cond y (specifiers_in (row_at s c stop)) none) h))
-
-      pub named-other : starts_named (specifiers_in (row_at s c stop)) ≡ false → encodes (sieve b (named_parts (item_at s at))) ≡ []
-      named-other h = sieve-nothing b (named_parts (item_at s at)) (by-start ∙ ap (λ (y : Bool). cond y (specifiers_in (row_at s c stop)) none) h)
+    pub named-other : starts_named (specifiers_in (fields_of r)) ≡ false → encodes (sieve b (named_parts (tree_of p))) ≡ []
+    named-other h = sieve-nothing b (named_parts (tree_of p)) (by-start ∙ ap (λ (y : Bool). cond y (specifiers_in (fields_of r)) none) h)
 
 module _ (b : Bool) (l : List ℕ) (w g : Field) where
   by-whole : taken_of l w g ≡ cond (whole_of l w) (named_parts g) none
@@ -164,39 +152,48 @@ module _ (b : Bool) (l : List ℕ) (w g : Field) where
   pub pair-other : whole_of l w ≡ false → encodes (sieve b (taken_of l w g)) ≡ []
   pair-other h = sieve-nothing b (taken_of l w g) (by-whole ∙ ap (λ (c : Bool). cond c (named_parts g) none) h)
 
-taken-end : (l : List ℕ) (ws : Fields) → taken l ws none ≡ none
-unfolding taken
-taken-end l none = refl
-taken-end l (more w ws) = refl
+-- where no field stands in either tree
+module _ (b : Bool) (l : List ℕ) where
+  pub pair-nowhere : (s : List ℕ) (at : ℕ) (g : Field) → extent_at s at (length s) ≡ None → encodes (sieve b (taken_of l (item_at s at) g)) ≡ []
+  pair-nowhere s at g e =
+      pair-other b l (item_at s at) g (sym (whole-other l (item_at s at) (λ t. let z : 0 ≡ 0x10 = sym (ap tag_of (item-none s at e)) ∙ t in omega arith)))
 
-taken-start : (l : List ℕ) (gs : Fields) → taken l none gs ≡ none
-unfolding taken
-taken-start l gs = refl
+  pub pair-nowhere-out : (w : Field) (s : List ℕ) (at : ℕ) → extent_at s at (length s) ≡ None → encodes (sieve b (taken_of l w (item_at s at))) ≡ []
+  unfolding named_parts keep
+  pair-nowhere-out w s at e =
+      sieve-nothing b (taken_of l w (item_at s at))
+      (by-whole b l w (item_at s at) ∙ ap (λ (f : Field). cond (whole_of l w) (named_parts f) none) (item-none s at e) ∙ cond-same (whole_of l w))
+    where
+      cond-same : (c : Bool) → cond c none none ≡ none
+      cond-same true = refl
+      cond-same false = refl
 
-module _ (b : Bool) (l : List ℕ) (s : List ℕ) (at end : ℕ) (r : List ℕ) (at' end' : ℕ) where
-  pub taken-past : end < at → encodes (sieve b (taken l (row_at s at end) (row_at r at' end'))) ≡ []
-  taken-past h = sieve-nothing b (taken l (row_at s at end) (row_at r at' end')) (ap (λ (ws : Fields). taken l ws (row_at r at' end')) (row-past s at end h) ∙ taken-start l (row_at r at' end'))
+module _ (b : Bool) (l : List ℕ) where
+  pub taken-end : {ws : Fields} (gs : Fields) → ws ≡ none → encodes (sieve b (taken l ws gs)) ≡ []
+  unfolding taken
+  taken-end {ws} gs e = sieve-nothing b (taken l ws gs) (ap (λ (fs : Fields). taken l fs gs) e)
 
-  pub taken-past-out : end' < at' → encodes (sieve b (taken l (row_at s at end) (row_at r at' end'))) ≡ []
-  taken-past-out h = sieve-nothing b (taken l (row_at s at end) (row_at r at' end')) (ap (taken l (row_at s at end)) (row-past r at' end' h) ∙ taken-end l (row_at s at end))
+  no-items : (ws : Fields) → taken l ws none ≡ none
+  unfolding taken
+  no-items none = refl
+  no-items (more w ws) = refl
 
-  pub taken-none : at ≤ end → extent_at s at end ≡ None → encodes (sieve b (taken l (row_at s at end) (row_at r at' end'))) ≡ []
-  taken-none le e = sieve-nothing b (taken l (row_at s at end) (row_at r at' end')) (ap (λ (ws : Fields). taken l ws (row_at r at' end')) (row-none s at end le e)
-      ∙ taken-start l (row_at r at' end'))
+  pub taken-end-out : (ws : Fields) {gs : Fields} → gs ≡ none → encodes (sieve b (taken l ws gs)) ≡ []
+  taken-end-out ws {gs} e = sieve-nothing b (taken l ws gs) (ap (taken l ws) e ∙ no-items ws)
 
-  pub taken-none-out : at' ≤ end' → extent_at r at' end' ≡ None → encodes (sieve b (taken l (row_at s at end) (row_at r at' end'))) ≡ []
-  taken-none-out le e = sieve-nothing b (taken l (row_at s at end) (row_at r at' end')) (ap (taken l (row_at s at end)) (row-none r at' end' le e) ∙ taken-end l (row_at s at end))
+  pub taken-both : {w g : Field} {ws gs ws' gs' : Fields} → ws ≡ more w ws' → gs ≡ more g gs' →
+      encodes (sieve b (taken l ws gs)) ≡ encodes (sieve b (taken_of l w g)) ++ encodes (sieve b (taken l ws' gs'))
+  unfolding taken
+  taken-both {w} {g} {ws' = ws'} {gs' = gs'} e e' = ap₂ (λ (x y : Fields). encodes (sieve b (taken l x y))) e e' ∙ sieve-bytes b (taken_of l w g) (taken l ws' gs')
 
-module _ (b : Bool) (l : List ℕ) (s : List ℕ) (at : ℕ) (r : List ℕ) (at' : ℕ) where
-  pub taken-more : (stop stop' : ℕ) → at ≤ length s → extent_at s at (length s) ≡ Some stop → at' ≤ length r → extent_at r at' (length r) ≡ Some stop' →
+  -- by places
+  pub taken-more : (s : List ℕ) (at : ℕ) (r : List ℕ) (at' stop stop' : ℕ) → at ≤ length s → extent_at s at (length s) ≡ Some stop → at' ≤ length r →
+      extent_at r at' (length r) ≡ Some stop' →
       encodes (sieve b (taken l (row_at s at (length s)) (row_at r at' (length r)))) ≡ encodes (sieve b (taken_of l (item_at s at) (item_at r at'))) ++
       encodes (sieve b (taken l (row_at s stop (length s)) (row_at r stop' (length r))))
-  unfolding taken
-  taken-more stop stop' le e le' e' =
-      ap₂ (λ (ws gs : Fields). encodes (sieve b (taken l ws gs))) (row-more s at (length s) stop le e) (row-more r at' (length r) stop' le' e')
-      ∙ ap₂ (λ (w g : Field). encodes (sieve b (append (taken_of l w g) (taken l (row_at s stop (length s)) (row_at r stop' (length r))))))
-      (sym (item-is s at stop e)) (sym (item-is r at' stop' e'))
-      ∙ sieve-bytes b (taken_of l (item_at s at) (item_at r at')) (taken l (row_at s stop (length s)) (row_at r stop' (length r)))
+  taken-more s at r at' stop stop' le e le' e' =
+      taken-both (row-more s at (length s) stop le e ∙ ap (λ (f : Field). more f (row_at s stop (length s))) (sym (item-is s at stop e)))
+      (row-more r at' (length r) stop' le' e' ∙ ap (λ (f : Field). more f (row_at r stop' (length r))) (sym (item-is r at' stop' e')))
 
 -- ---- One record
 

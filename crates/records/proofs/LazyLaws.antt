@@ -2,16 +2,18 @@
 use Rattle.std.specs.Prelude.{Option, None, Some}
 use Prim.Native.Nat.{ℕ, ◌+◌, ◌-◌, ◌/◌, ◌%◌, ◌≤◌, ◌<◌}
 use native.Mathlib.Omega.{arith}
-use mathlib.Core.Path.{◌≡◌, refl, sym, ap, ap₂, ◌∙◌}
+use mathlib.Core.Path.{◌≡◌, refl, sym, ap, ap₂, subst₂, ◌∙◌}
 use mathlib.Core.Bool.{Bool, true, false, cond}
 use mathlib.Core.List.{List, [], ◌∷◌, ◌++◌}
 use lib.Dec.{leb, ltb}
 use lib.ListN.{length, drop}
-use borrow.Author.Tests.{le-leb, lt-leb, eq-eqb, ne_eqb, lt-ltb, le-ltb}
+use borrow.Author.Tests.{le-leb, eq-eqb, ne_eqb, lt-ltb, le-ltb}
 use Rattle.tree.specs.Layout.{two}
 use Rattle.tree.specs.Tree.{Field, field, none, framed as framed_field, encode, encodes}
 use Rattle.tree.specs.Access.{extent_at}
 use Rattle.tree.specs.Standing.{tree_at}
+use Rattle.tree.specs.Rows.{tree_of}
+use Rattle.tree.specs.declared.row.Part.{Part}
 use Rattle.writer.specs.Bytes.{two_bytes, framed}
 use Rattle.writer.specs.Wrote.{Wrote}
 use Rattle.writer.proofs.Wrote.{wrote-none, wrote-as}
@@ -21,7 +23,7 @@ use Rattle.extraction_rules.specs.Records.{record_fields, forced_fields}
 use Rattle.state.specs.Cells.{Env, literal_by, Shows}
 use Rattle.state.specs.declared.Literal.{Literal}
 use Rattle.state.specs.Does.{Holds}
-use Rattle.records.specs.Writes.{pattern_on, pattern_at, placed, literal_in, Placing}
+use Rattle.records.specs.Writes.{FieldAt, pattern_on, pattern_at, placed, literal_in, Placing}
 
 -- ---- The pattern at a place
 
@@ -39,10 +41,13 @@ module _ (s : List ℕ) (at : ℕ) where
       by true = refl
       by false = refl
 
-  pub pattern-here : {l l' : List ℕ} {o p stop : ℕ} → at ≤ length s → extent_at s at (length s) ≡ Some stop →
-      Wrote l o (encodes (bindings (tree_at s at stop))) l' p → Wrote l o (encodes (pattern_at s at)) l' p
+  pub pattern-here : (p : Part) {l l' : List ℕ} {o q : ℕ} → FieldAt s at (Some p) → Wrote l o (encodes (bindings (tree_of p))) l' q →
+      Wrote l o (encodes (pattern_at s at)) l' q
   unfolding pattern_on
-  pattern-here {stop = stop} h e w = wrote-as w (sym (ap encodes (here h (Some stop) e)))
+  pattern-here p g w =
+      let i = subst₂ (λ (n : ℕ) (b : List ℕ). (n + 3 ≤ p.stop) × (p.stop ≤ length b)) g.1 g.2 p.whole in
+      wrote-as w
+      (ap₂ (λ (n : ℕ) (b : List ℕ). encodes (bindings (tree_at b n p.stop))) g.1 g.2 ∙ sym (ap encodes (here (omega arith) (Some p.stop) g.0)))
 
 module _ (tree work : List ℕ) (q : ℕ) where
   pub placed-none : {l : List ℕ} {o : ℕ} → q ≡ 0 → Wrote l o (encodes (placed tree work q)) l o

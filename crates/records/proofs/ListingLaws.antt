@@ -1,20 +1,19 @@
 -- The places of imports that a sweep lists: what stands there, and that listing an import, or passing another item, keeps the list true.
 use Rattle.std.specs.Prelude.{Option, None, Some}
 use Rattle.std.proofs.lemmas.List.{length-map}
-use Prim.Native.Nat.{ℕ, zero, suc, ◌+◌, ◌*◌, ◌/◌, ◌%◌, ◌≤◌, ◌<◌}
+use Prim.Native.Nat.{ℕ, suc, ◌+◌, ◌/◌, ◌%◌, ◌≤◌}
 use native.Mathlib.Omega.{arith}
-use mathlib.Core.Path.{◌≡◌, refl, sym, ap, ap₂, subst, ◌∙◌}
+use mathlib.Core.Path.{◌≡◌, refl, sym, ap, subst, ◌∙◌}
 use mathlib.Core.Bool.{Bool, true, false, cond, ◌&&◌}
 use mathlib.Core.List.{List, [], ◌∷◌, ◌++◌, append_assoc, append-nil, map-append}
-use lib.Dec.{leb, eqb}
+use lib.Dec.{leb}
 use lib.ListN.{length, get_or, get_or-map, take, replicate, length-replicate, get_or-replicate}
 use lib.Seq.{slice, drop-cons, get_or-take, length-take-le}
-use borrow.Author.Tests.{le-leb, leb-true, leb-false, eqb-true, eqb-false}
+use borrow.Author.Tests.{le-leb, leb-true, leb-false, eqb-true}
 use Rattle.tree.specs.Layout.{same, two, value_of, literal_value, same_literal}
 use Rattle.tree.specs.Tree.{Field, none, tag_of, fixed_of, parts_of, encodes}
 use Rattle.tree.specs.Access.{extent_at}
 use Rattle.tree.specs.Standing.{row_at}
-use Rattle.tree.proofs.AccessLaws.{extent-upto}
 use Rattle.tree.proofs.FixedLaws.{no-upto}
 use Rattle.tree.proofs.LayoutLaws.{same-equal}
 use Rattle.inputs.specs.Fields.{has, sole}
@@ -83,13 +82,13 @@ item-source s at h = by (extent_at s at (length s)) refl
     some : (b : Bool) (stop : ℕ) → leb at (length s) ≡ b → extent_at s at (length s) ≡ Some stop → SourceAt s at (item_at s at)
     some true stop q e =
         let i = import-is s at stop (leb-true at (length s) q) e (sym (ap tag_of (item-is s at stop e)) ∙ h) in
-        let u = i.inside in
-        let v = i.fits in
+        let u = i.0 in
+        let v = i.1 in
         let w : at + 3 + 1 ≡ at + 4 = omega arith in (
           omega arith,
-          ap (λ (f : Field). value_of (fixed_of f)) i.item ∙ two_bytes s (at + 3) (omega arith) ∙ ap (λ (j : ℕ). get_or s (at + 3) 0 ∷ get_or s j 0 ∷ []) w,
+          ap (λ (f : Field). value_of (fixed_of f)) i.2 ∙ two_bytes s (at + 3) (omega arith) ∙ ap (λ (j : ℕ). get_or s (at + 3) 0 ∷ get_or s j 0 ∷ []) w,
         )
-    some false stop q e = absurd (no-upto (sym (extent-past s at (length s) (leb-false at (length s) q)) ∙ e))
+    some false stop q e = absurd (no-upto (sym (extent-past s at (length s) (let k = leb-false at (length s) q in omega arith)) ∙ e))
 
     by : (r : Option ℕ) → extent_at s at (length s) ≡ r → SourceAt s at (item_at s at)
     by (Some stop) e = some (leb at (length s)) stop refl e

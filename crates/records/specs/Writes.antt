@@ -1,10 +1,13 @@
 -- What the functions that write records say: which binding ids a lazy record's place stands for, and what is written for every state that
 -- the array shows.
-use Rattle.std.specs.Prelude.{ℕ, ◌+◌, ◌-◌, ◌≤◌, ◌≡◌, Option, None, Some, Bool, true, false, not, cond, List, [], map, leb, ltb, eqb, length, get_or}
+use Rattle.std.specs.Prelude.{ℕ, ◌+◌, ◌-◌, ◌≤◌, ◌≡◌, Option, None, Some, Bool, true, false, not, cond, List, [], map, leb, ltb, eqb, length, min}
 use Rattle.tree.specs.declared.grammar.Rule.{Rule}
 use Rattle.tree.specs.Tree.{Field, field, Fields, none, more, tag_of, parts_of}
-use Rattle.tree.specs.Access.{fixed_at, extent_at}
-use Rattle.tree.specs.Standing.{tree_at, row_at, Row}
+use Rattle.tree.specs.Access.{extent_at}
+use Rattle.tree.specs.Standing.{tree_at, row_at, Row as Accepted}
+use Rattle.tree.specs.Rows.{tree_of, fields_of}
+use Rattle.tree.specs.declared.row.Part.{Part}
+use Rattle.tree.specs.declared.row.Row.{Row}
 use Rattle.inputs.specs.Fields.{has, keep}
 use Rattle.writer.specs.Wrote.{Wrote}
 use Rattle.extraction_rules.specs.State.{Record, State}
@@ -62,13 +65,20 @@ pub record WroteIf (P : Type 0) (bs l : List ℕ) (o : ℕ) (l' : List ℕ) (p :
 
 -- fields that reading accepts
 abbrev pub RowRead : List ℕ → ℕ → ℕ → Type 0
-RowRead s at end = (q : Rule) × Row s at end q
+RowRead s at end = (q : Rule) × Accepted s at end q
 
--- where the fields from `from` on are read, so are those from `at` on, and with the bytes cs that are left all of bs are written
-pub record RowOnward (s : List ℕ) (from at end : ℕ) (bs cs l : List ℕ) (o : ℕ) (l' : List ℕ) (p : ℕ) : Type 0 where
+-- those of a row, and one by itself
+abbrev pub FieldsRead : Row → Type 0
+FieldsRead r = RowRead r.bytes.now r.at r.end
+
+abbrev pub PartRead : Part → Type 0
+PartRead p = ReadAt p.bytes.now p.at p.stop
+
+-- where P holds, the fields of r are read, and with the bytes cs that are left all of bs are written
+pub record RowOnward (P : Type 0) (r : Row) (bs cs l : List ℕ) (o : ℕ) (l' : List ℕ) (p : ℕ) : Type 0 where
   pub size : length l' ≡ length l
-  pub read : RowRead s from end → RowRead s at end
-  pub is : RowRead s from end → {l'' : List ℕ} {q : ℕ} → Wrote l' p cs l'' q → Wrote l o bs l'' q
+  pub read : P → FieldsRead r
+  pub is : P → {l'' : List ℕ} {q : ℕ} → Wrote l' p cs l'' q → Wrote l o bs l'' q
 
 -- ---- Imports
 
@@ -88,16 +98,29 @@ abbrev pub is_none : Fields → Bool
 is_none none = true
 is_none (more f fs) = false
 
--- the first of these specifiers, of the fields up to end, has a tag and ends at stop
-pub record FirstAt (s : List ℕ) (end : ℕ) (fs : Fields) (tag stop : ℕ) : Type 0 where
+-- the first of the specifiers fs has a tag, and those behind it are those of r
+pub record FirstAt (fs : Fields) (tag : ℕ) (r : Row) : Type 0 where
   pub first : Field
-  pub is : fs ≡ more first (specifiers_in (row_at s stop end))
+  pub is : fs ≡ more first (specifiers_in (fields_of r))
   pub tagged : tag ≡ tag_of first
-  pub inside : stop ≤ end
 
-abbrev pub FirstIs : List ℕ → ℕ → Fields → Option (ℕ × ℕ) → Type 0
-FirstIs s end fs None = fs ≡ none
-FirstIs s end fs (Some r) = FirstAt s end fs r.0 r.1
+abbrev pub FirstIs : Fields → Option ℕ → Row → Type 0
+FirstIs fs None r = fs ≡ none
+FirstIs fs (Some tag) r = FirstAt fs tag r
+
+-- the items from a place on, none from past the end on
+abbrev pub ItemsFrom : List ℕ → ℕ → Row → Type 0
+ItemsFrom s at r = (r.bytes.now ≡ s) × (r.at ≡ min at (length s)) × (r.end ≡ length s)
+
+-- a field is an import, and its parts are the row r
+pub record ImportIs (p : Part) (r : Row) : Type 0 where
+  pub inside : p.at + 9 ≤ p.stop
+  pub item : tree_of p ≡ field 0x10 (literal_at p.bytes.now (p.at + 3)) (fields_of r)
+  pub read : PartRead p → FieldsRead r
+
+abbrev pub ImportParts : Part → Option Row → Type 0
+ImportParts p None = tag_of (tree_of p) ≡ 0x10 → ⊥
+ImportParts p (Some r) = ImportIs p r
 
 -- ---- The item at a place
 
@@ -112,17 +135,10 @@ item_at s at = item_on (extent_at s at (length s)) s at
 abbrev pub ItemRead : List ℕ → ℕ → Type 0
 ItemRead s at = (stop : ℕ) → extent_at s at (length s) ≡ Some stop → ReadAt s at stop
 
--- it is an import and ends at stop
-pub record ImportIs (s : List ℕ) (at stop : ℕ) : Type 0 where
-  pub inside : at + 9 ≤ stop
-  pub fits : stop ≤ length s
-  pub extent : extent_at s at (length s) ≡ Some stop
-  pub fixed : fixed_at s (get_or s at 0) (at + 3) stop ≡ Some (at + 9)
-  pub item : item_at s at ≡ field 0x10 (literal_at s (at + 3)) (row_at s (at + 9) stop)
-
-pub record ImportAt (s : List ℕ) (at : ℕ) (r : Option ℕ) : Type 0 where
-  pub is : (stop : ℕ) → r ≡ Some stop → ImportIs s at stop
-  pub other : r ≡ None → tag_of (item_at s at) ≡ 0x10 → ⊥
+-- the field that stands at a place, if one does
+abbrev pub FieldAt : List ℕ → ℕ → Option Part → Type 0
+FieldAt s at None = extent_at s at (length s) ≡ None
+FieldAt s at (Some p) = (extent_at s at (length s) ≡ Some p.stop) × (p.at ≡ at) × (p.bytes.now ≡ s)
 
 -- what a record is written for has the value of the literal at its place
 abbrev pub Valued : List ℕ → List ℕ → Wanted → Type 0

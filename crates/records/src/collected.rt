@@ -11,21 +11,19 @@ use crate::literals::{Wanted, put_literal};
 use crate::namespaces::put_taken;
 use crate::places::{CHAINS, Import, Imports, ROOM, link_imports, list_imports};
 use crate::sources::put_gathered;
-use state::collected::{count_records, record_literal};
-use state::forced::is_forced;
+use state::Tables;
 
 // Writes the collected records.
 pub fn put_collected(
     tree: &[u8],
     work: &[u8],
     out: &[u8],
-    t: &[u64],
+    t: &Tables,
     records: &mut [u8],
     o: usize,
 ) -> usize
-    requires { Good t.now }
     ensures { WroteFor (λ x. Placing tree.now work.now x × BothRead work.now out.now)
-        (λ s. encodes (record_fields 0x80 (retold work.now out.now s))) t.now records.old o
+        (λ s. encodes (record_fields 0x80 (retold work.now out.now s))) t.now.cells records.old o
         records.new result }
 {
     let mut first = [ROOM as u16; CHAINS];
@@ -47,22 +45,22 @@ fn put_each(
     work: &[u8],
     out: &[u8],
     imports: Imports,
-    t: &[u64],
+    t: &Tables,
     records: &mut [u8],
     o: usize,
 ) -> usize
-    requires { Good t.now × ChartedBoth work.now out.now imports }
+    requires { ChartedBoth work.now out.now imports }
     ensures { WroteFor (λ x. Placing tree.now work.now x × BothRead work.now out.now)
-        (λ s. encodes (record_fields 0x80 (retold work.now out.now s))) t.now records.old o
+        (λ s. encodes (record_fields 0x80 (retold work.now out.now s))) t.now.cells records.old o
         records.new result }
 {
     let mut to = o;
-    for i in 0..count_records(t) {
-        let literal = record_literal(t, i);
+    for i in 0..t.count_records() {
+        let literal = t.record_literal(i);
         let wanted = Wanted {
             value: literal.value,
             place: literal.place,
-            namespaces: is_forced(t, literal.value),
+            namespaces: t.is_forced(literal.value),
         };
         to = put_record(tree, work, out, imports, wanted, records, to);
     }

@@ -7,20 +7,17 @@ ghost use Rattle.records.specs.Writes.{placed, literal_in, Placing, WroteFor};
 
 use crate::bindings::put_bindings;
 use crate::literals::{put_literal, tree_with};
-use crate::parts::field_end;
-use state::Literal;
-use state::forced::{count_forced, forced_at};
-use state::rest::{count_lazies, lazy_literal, lazy_place};
+use crate::parts::field_at;
+use state::{Literal, Tables};
 
 // Writes the lazy records.
-pub fn put_lazies(tree: &[u8], work: &[u8], t: &[u64], records: &mut [u8], o: usize) -> usize
-    requires { Good t.now }
-    ensures { WroteFor (Placing tree.now work.now) (λ s. encodes (record_fields 0x81 s.lazy)) t.now records.old o records.new result }
+pub fn put_lazies(tree: &[u8], work: &[u8], t: &Tables, records: &mut [u8], o: usize) -> usize
+    ensures { WroteFor (Placing tree.now work.now) (λ s. encodes (record_fields 0x81 s.lazy)) t.now.cells records.old o records.new result }
 {
     let mut to = o;
-    for i in 0..count_lazies(t) {
-        let literal = lazy_literal(t, i);
-        let place = lazy_place(t, i);
+    for i in 0..t.count_lazies() {
+        let literal = t.lazy_literal(i);
+        let place = t.lazy_place(i);
         to = put_lazy(tree, work, literal, place, records, to);
     }
     to
@@ -54,21 +51,20 @@ fn put_placed(tree: &[u8], work: &[u8], place: u32, records: &mut [u8], o: usize
         return o;
     }
     let (s, at) = tree_with(tree, work, place);
-    match field_end(s, at) {
-        Some(stop) => put_bindings(s, at, stop, records, o),
+    match field_at(s, at) {
+        Some(pattern) => put_bindings(pattern, records, o),
         None => o,
     }
 }
 
 // Writes the forced sources, first forced first.
-pub fn put_forced(t: &[u64], records: &mut [u8], o: usize) -> usize
-    requires { Good t.now }
-    ensures { WroteFor (λ _. Unit {0}) (λ s. encodes (forced_fields s.forced)) t.now records.old o records.new result }
+pub fn put_forced(t: &Tables, records: &mut [u8], o: usize) -> usize
+    ensures { WroteFor (λ _. Unit {0}) (λ s. encodes (forced_fields s.forced)) t.now.cells records.old o records.new result }
 {
     let mut to = o;
-    for i in 0..count_forced(t) {
+    for i in 0..t.count_forced() {
         let source = writer::open_field(records, to, 0x83);
-        let p = writer::put_u16(records, source, forced_at(t, i).0);
+        let p = writer::put_u16(records, source, t.forced_at(i).0);
         writer::close_field(records, to, p);
         to = p;
     }

@@ -16,12 +16,12 @@ mod sources; // the imports of a source
 
 use collected::put_collected;
 use lazy::{put_forced, put_lazies};
+use state::Tables;
 
 // Writes the records at 0: collected, lazy, forced. `work` and `out` are the trees after the first and the second pass.
-pub fn put_records(tree: &[u8], work: &[u8], out: &[u8], t: &[u64], records: &mut [u8]) -> usize
-    requires { Good t.now }
+pub fn put_records(tree: &[u8], work: &[u8], out: &[u8], t: &Tables, records: &mut [u8]) -> usize
     ensures { WroteFor (λ x. Placing tree.now work.now x × BothRead work.now out.now)
-        (λ s. encode (records_in work.now out.now s)) t.now records.old 0 records.new result }
+        (λ s. encode (records_in work.now out.now s)) t.now.cells records.old 0 records.new result }
 {
     let content = writer::open_field(records, 0, 0x02);
     let lazies = put_collected(tree, work, out, t, records, content);

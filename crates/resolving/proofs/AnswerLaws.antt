@@ -12,7 +12,6 @@ use Rattle.scope.specs.ScopeValue.{modules_of}
 use Rattle.scope.specs.declared.Scope.{Scope}
 use Rattle.tree.specs.declared.grammar.Set.TheVariants.{Records}
 use Rattle.tree.specs.Tree.{Field, field, Fields, encode}
-use Rattle.tree.specs.Layout.{Bytes}
 use Rattle.tree.specs.Read.{Reading, fine, refused as unread, read, verdict}
 use Rattle.tree.proofs.TreeLaws.{size-encode}
 use Rattle.writer.specs.Finished.{has_room, zeroed, Finished, Delivered}
@@ -23,7 +22,7 @@ use Rattle.inputs.specs.Buffer.{fits, buffer_of}
 use Rattle.inputs.proofs.AcceptedLaws.{done-inj, done-refused, onto-done}
 use Rattle.resolving_rules.specs.Resolve.{sources_in, forced_in, number_all, resolved_all}
 use Rattle.resolving_rules.specs.Call.{records_read, Numbered, numbered, Resolved, listed, resolved, modules_after, Left, resolving}
-use Rattle.resolving.specs.declared.specifiers.Refusal.{Refusal}
+use Rattle.resolving.specs.Writes.{Refusal}
 use Rattle.resolving.specs.declared.ResolveError.{ResolveError}
 use Rattle.resolving.specs.declared.ResolveError.TheVariants.{BadTable, NamedTwice, TooManyFiles, Refused, NoRoom}
 use Rattle.resolving.specs.Records.{RecordsRead, records_in}
@@ -65,8 +64,8 @@ said : (table records : List ℕ) {r : Result Unit ResolveError} (a : Result Uni
 said table records a d e = subst (Says table records) (sym d ∙ e) (lists-say table records)
 
 -- what goes on was read
-pub records-good : (table records : List ℕ) {r : Result Unit ResolveError} → r ≡ lists_of table records → r ≡ Ok tt → Bytes records → RecordsRead records
-records-good table records d e bs = let s = said table records (Ok tt) d e in records-sound records s.1.0 s.1.1 bs
+pub records-good : (table records : List ℕ) {r : Result Unit ResolveError} → r ≡ lists_of table records → r ≡ Ok tt → RecordsRead records
+records-good table records d e = let s = said table records (Ok tt) d e in records-sound records s.1.0 s.1.1
 
 -- ---- '5'
 
@@ -114,12 +113,12 @@ module _ (modes : Modes) (table records : List ℕ) (ms : Modules) {new : Module
       × (number_all (rows_in table) (sources_in (records_in records)) ms 3 ≡ done new)
   steps = numbered-made (lent_as modes table records) ms (numbered_as table records new) (sym e)
 
-  fine-by : (r : Reading Fields) → read Records records ≡ r → records_read r ≡ done (records_in records) → Bytes records → RecordsRead records
-  fine-by (fine fs) q w bs = records-sound records fs q bs
-  fine-by (unread w p) q e bs = done-refused e
+  fine-by : (r : Reading Fields) → read Records records ≡ r → records_read r ≡ done (records_in records) → RecordsRead records
+  fine-by (fine fs) q w = records-sound records fs q
+  fine-by (unread w p) q e = done-refused e
 
-  pub given-read : Bytes records → RecordsRead records
-  given-read bs = fine-by (read Records records) refl steps.1 bs
+  pub given-read : RecordsRead records
+  given-read = fine-by (read Records records) refl steps.1
 
   pub given-all : NumbersAll (rows_in table) new (sources_in (records_in records))
   given-all = numbers-all (rows_in table) (sources_in (records_in records)) ms new 3 steps.2

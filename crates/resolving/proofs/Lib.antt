@@ -1,5 +1,5 @@
--- Records that were read (RecordsLaws), the numbers of their sources (NumbersLaws), what is written of values (WritesLaws), of
--- specifiers (SpecifiersLaws) and of records (ListLaws), and the whole call (AnswerLaws).
+-- Records that were read (RecordsLaws), the numbers of their sources (NumbersLaws), what is
+-- written of values (WritesLaws), of specifiers (SpecifiersLaws) and of records (ListLaws), and the whole call (AnswerLaws).
 pub mod RecordsLaws
 pub mod NumbersLaws
 pub mod WritesLaws

@@ -17,17 +17,21 @@ use Rattle.scope.specs.declared.id.FileName.{FileName}
 use Rattle.scope.proofs.Laws.{gen-known}
 use Rattle.tree.specs.Layout.{two, four, literal_value}
 use Rattle.tree.specs.Tree.{Field, field, Fields, none}
-use Rattle.tree.specs.Standing.{tree_at, row_at}
+use Rattle.tree.specs.Standing.{row_at}
+use Rattle.tree.specs.Rows.{tree_of, fields_of}
+use Rattle.tree.specs.declared.row.Part.{Part}
+use Rattle.tree.specs.declared.row.Row.{Row as PartRow}
 use Rattle.writer.specs.Bytes.{two_bytes, four_bytes}
 use Rattle.inputs.specs.Outcome.{done, refused, onto}
 use Rattle.inputs.specs.Lists.{among}
 use Rattle.inputs.specs.Table.{Row, file_of}
 use Rattle.resolving_rules.specs.Resolve.{source_of, sources_in, kind_byte, module_of, heading, resolved_specifiers, resolved_record, resolved_all}
 use Rattle.resolving.proofs.NumbersLaws.{generated_as}
-use Rattle.resolving.specs.Records.{RecordsFrom, SourceRead, source_end}
+use Rattle.resolving.specs.Records.{SourceRead}
 use Rattle.resolving.specs.Numbers.{Numbers, NumbersAll}
-use Rattle.resolving.proofs.RecordsLaws.{source-stands, sources-end}
-use Rattle.resolving.proofs.NumbersLaws.{source-value, source-after}
+use Rattle.tree.proofs.PartLaws.{row-there}
+use Rattle.resolving.proofs.RecordsLaws.{Standing}
+use Rattle.resolving.proofs.NumbersLaws.{source-value}
 use Rattle.resolving.proofs.WritesLaws.{consed, Cons}
 
 -- ---- What stands before the specifiers
@@ -71,53 +75,62 @@ module _ (rows : List Row) (ms : Modules) (f : Field) {file : FileName} (g : Gen
       ap (λ (k : Generated). k.id.0) (sym (ap (λ (r : Result Given TooManyFiles). generated_as r (modules_of g.scope)) z) ∙ again)
       ∙ sym (ap (λ (o : Option ℕ). unwrap_or o 0) (w.given file.0 h).1)
 
-module _ (rows : List Row) (forced : List (List ℕ)) (ms : Modules) {s : List ℕ} {at stop v : ℕ} (r : SourceRead s at stop) (l : v ≡ literal_value s (at + 3)) where
-  pub source-file : {o : Option ℕ} → file_of (two v) rows ≡ o → file_of (source_of (tree_at s at stop)) rows ≡ o
+module _ (rows : List Row) (forced : List (List ℕ)) (ms : Modules) {p : Part} {v : ℕ} (r : SourceRead p) (l : v ≡ literal_value p.bytes.now (p.at + 3)) where
+  pub source-file : {o : Option ℕ} → file_of (two v) rows ≡ o → file_of (source_of (tree_of p)) rows ≡ o
   source-file q = ap (λ (a : List ℕ). file_of a rows) (source-value r ∙ ap two (sym l)) ∙ q
 
-  pub record-nowhere : file_of (two v) rows ≡ None → resolved_record (file_of (source_of (tree_at s at stop)) rows) forced ms (tree_at s at stop) at ≡ refused 11 at
+  pub record-nowhere : file_of (two v) rows ≡ None → resolved_record (file_of (source_of (tree_of p)) rows) forced ms (tree_of p) p.at ≡ refused 11 p.at
   unfolding resolved_record
-  record-nowhere q = ap (λ (o : Option ℕ). resolved_record o forced ms (tree_at s at stop) at) (source-file q)
+  record-nowhere q = ap (λ (o : Option ℕ). resolved_record o forced ms (tree_of p) p.at) (source-file q)
+
+  abbrev literal : List ℕ
+  literal = slice (p.at + 3) (p.at + 9) p.bytes.now
 
   abbrev head : ℕ → ℕ → ℕ → List ℕ
-  head kind m file = kind ∷ two m ++ two file ++ four (local m) ++ four (export m) ++ slice (at + 3) (at + 9) s
+  head kind m file = kind ∷ two m ++ two file ++ four (local m) ++ four (export m) ++ literal
 
-  pub record-file : {kind m file : ℕ} {all : Bool} → file_of (two v) rows ≡ Some file → kind ≡ kind_byte (get_or s at 0) → m ≡ module_of file ms → all ≡ among (two v) forced →
-      resolved_record (file_of (source_of (tree_at s at stop)) rows) forced ms (tree_at s at stop) at
-      ≡ onto (resolved_specifiers all (row_at s (at + 9) stop) (at + 9)) (λ gs. done (field 0x90 (head kind m file) gs))
+  -- its specifiers are those of the row q
+  pub record-file : {kind m file : ℕ} {all : Bool} (q : PartRow) → (q.bytes.now ≡ p.bytes.now) × (q.at ≡ p.at + 9) × (q.end ≡ p.stop) →
+      file_of (two v) rows ≡ Some file → kind ≡ kind_byte (get_or p.bytes.now p.at 0) → m ≡ module_of file ms → all ≡ among (two v) forced →
+      resolved_record (file_of (source_of (tree_of p)) rows) forced ms (tree_of p) p.at
+      ≡ onto (resolved_specifiers all (fields_of q) q.at) (λ gs. done (field 0x90 (head kind m file) gs))
   unfolding resolved_record heading
-  record-file {kind} {m} {file} {all} q k n a =
+  record-file {kind} {m} {file} {all} q made here k n a =
       let w = r.wide in
-      let f = r.parts.fits in
-      let d = length-slice (at + 3) (at + 9) s (omega arith) in
-      let z : at + 3 + length (slice (at + 3) (at + 9) s) ≡ at + 9 = omega arith in
-      let t : source_of (field (get_or s at 0) (slice (at + 3) (at + 9) s) (row_at s (at + 9) stop)) ≡ two v = sym (ap source_of r.tree) ∙ source-value r ∙ ap two (sym l) in
-      ap (λ (o : Option ℕ). resolved_record o forced ms (tree_at s at stop) at) (source-file q)
-      ∙ ap (λ (g : Field). resolved_record (Some file) forced ms g at) r.tree
-      ∙ ap₂ (λ (b : Bool) (p : ℕ). onto (resolved_specifiers b (row_at s (at + 9) stop) p) (λ gs. done (field 0x90 (head (kind_byte (get_or s at 0)) (module_of file ms) file) gs)))
+      let f = p.whole.1 in
+      let d = length-slice (p.at + 3) (p.at + 9) p.bytes.now (omega arith) in
+      let z : p.at + 3 + length literal ≡ p.at + 9 = omega arith in
+      let t : source_of (field (get_or p.bytes.now p.at 0) literal (row_at p.bytes.now (p.at + 9) p.stop)) ≡ two v = sym (ap source_of r.tree) ∙ source-value r ∙ ap two (sym l) in
+      row-there q made
+      (λ s i e. resolved_record (file_of (source_of (tree_of p)) rows) forced ms (tree_of p) p.at ≡ onto (resolved_specifiers all (row_at s i e) i) (λ gs. done (field 0x90 (head kind m file) gs)))
+      (ap (λ (o : Option ℕ). resolved_record o forced ms (tree_of p) p.at) (source-file here)
+      ∙ ap (λ (g : Field). resolved_record (Some file) forced ms g p.at) r.tree
+      ∙ ap₂ (λ (b : Bool) (i : ℕ). onto (resolved_specifiers b (row_at p.bytes.now (p.at + 9) p.stop) i)
+      (λ gs. done (field 0x90 (head (kind_byte (get_or p.bytes.now p.at 0)) (module_of file ms) file) gs)))
       (ap (λ (x : List ℕ). among x forced) t ∙ sym a) z
-      ∙ ap₂ (λ (i j : ℕ). onto (resolved_specifiers all (row_at s (at + 9) stop) (at + 9)) (λ gs. done (field 0x90 (head i j file) gs))) (sym k) (sym n)
+      ∙ ap₂ (λ (i j : ℕ). onto (resolved_specifiers all (row_at p.bytes.now (p.at + 9) p.stop) (p.at + 9)) (λ gs. done (field 0x90 (head i j file) gs))) (sym k) (sym n))
 
 -- ---- All of them
 
-module _ (rows : List Row) (forced : List (List ℕ)) (ms : Modules) {s : List ℕ} {at : ℕ} (r : RecordsFrom s at) where
-  pub list-end : source_end s at ≡ None → resolved_all rows forced ms (sources_in (row_at s at (length s))) at ≡ done none
+module _ (rows : List Row) (forced : List (List ℕ)) (ms : Modules) where
+  pub list-end : (at : ℕ) {fs : Fields} → fs ≡ none → resolved_all rows forced ms fs at ≡ done none
   unfolding resolved_all
-  list-end e = ap (λ (fs : Fields). resolved_all rows forced ms fs at) (sources-end r e)
+  list-end at e = ap (λ (fs : Fields). resolved_all rows forced ms fs at) e
 
-  module _ {stop : ℕ} (e : source_end s at ≡ Some stop) where
-    pub list-more : Cons (resolved_all rows forced ms (sources_in (row_at s at (length s))) at) (resolved_record (file_of (source_of (tree_at s at stop)) rows) forced ms (tree_at s at stop) at)
-        (resolved_all rows forced ms (sources_in (row_at s stop (length s))) stop)
+  module _ {here next : PartRow} {p : Part} (w : Standing here p next) where
+    -- with the forced sources as the record tells them
+    pub list-more : {told : List (List ℕ)} → told ≡ forced → Cons (resolved_all rows forced ms (sources_in (fields_of here)) here.at)
+        (resolved_record (file_of (source_of (tree_of p)) rows) told ms (tree_of p) p.at) (resolved_all rows forced ms (sources_in (fields_of next)) next.at)
     unfolding resolved_all
-    list-more =
-        let w = source-stands r e in
-        let f = tree_at s at stop in
+    list-more e =
         record {
           is =
-              ap (λ (fs : Fields). resolved_all rows forced ms fs at) w.row
-              ∙ ap (λ (p : ℕ). consed (resolved_record (file_of (source_of f) rows) forced ms f at)
-              (resolved_all rows forced ms (sources_in (row_at s stop (length s))) p)) (source-after w.source);
+              ap (λ (fs : Fields). resolved_all rows forced ms fs here.at) w.row
+              ∙ ap₂ (λ (m n : ℕ). consed (resolved_record (file_of (source_of (tree_of p)) rows) forced ms (tree_of p) m)
+              (resolved_all rows forced ms (sources_in (fields_of next)) n)) w.stands w.after
+              ∙ ap (λ (x : List (List ℕ)). consed (resolved_record (file_of (source_of (tree_of p)) rows) x ms (tree_of p) p.at)
+              (resolved_all rows forced ms (sources_in (fields_of next)) next.at)) (sym e);
         }
 
-    pub numbers-next : NumbersAll rows ms (sources_in (row_at s at (length s))) → Numbers rows ms (tree_at s at stop) × NumbersAll rows ms (sources_in (row_at s stop (length s)))
-    numbers-next n = subst (NumbersAll rows ms) (source-stands r e).row n
+    pub numbers-next : NumbersAll rows ms (sources_in (fields_of here)) → Numbers rows ms (tree_of p) × NumbersAll rows ms (sources_in (fields_of next))
+    numbers-next n = subst (NumbersAll rows ms) w.row n

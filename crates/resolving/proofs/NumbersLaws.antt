@@ -4,7 +4,6 @@ use Prim.Native.Nat.{ℕ, ◌+◌}
 use native.Mathlib.Omega.{arith}
 use mathlib.Core.Path.{◌≡◌, refl, sym, ap, ap₂, subst, ◌∙◌}
 use mathlib.Core.List.{List}
-use lib.ListN.{length}
 use Rattle.scope.specs.Modules.{Modules, too_many_files, Generated, generated_by, number_of, request, gen}
 use Rattle.scope.specs.ScopeValue.{modules_of, numbers_by, file_refusal, generated}
 use Rattle.scope.specs.declared.Gen.{Gen}
@@ -14,7 +13,9 @@ use Rattle.scope.specs.declared.id.FileName.{FileName}
 use Rattle.scope.proofs.Laws.{request-numbers}
 use Rattle.tree.specs.Layout.{two, literal_value, value_of}
 use Rattle.tree.specs.Tree.{Field, Fields, none, more, fixed_of, size}
-use Rattle.tree.specs.Standing.{tree_at, row_at}
+use Rattle.tree.specs.Rows.{tree_of, fields_of}
+use Rattle.tree.specs.declared.row.Part.{Part}
+use Rattle.tree.specs.declared.row.Row.{Row as PartRow}
 use Rattle.tree.proofs.SliceLaws.{take-slice}
 use Rattle.tree.proofs.LayoutLaws.{two_at-is}
 use Rattle.inputs.specs.Outcome.{Outcome, done, refused, onto}
@@ -22,9 +23,9 @@ use Rattle.inputs.specs.Table.{Row, file_of}
 use Rattle.inputs.proofs.AcceptedLaws.{done-inj, done-refused, onto-done}
 use Rattle.resolving_rules.specs.Resolve.{source_of, sources_in, requested, number_one, number_all}
 use Rattle.resolving_rules.proofs.ResolveLaws.{number_all-keeps}
-use Rattle.resolving.specs.Records.{RecordsFrom, SourceRead, source_end}
+use Rattle.resolving.specs.Records.{SourceRead}
 use Rattle.resolving.specs.Numbers.{NumbersAll}
-use Rattle.resolving.proofs.RecordsLaws.{source-stands, sources-end}
+use Rattle.resolving.proofs.RecordsLaws.{Standing}
 
 -- what a request stands for whose answer is r, where the modules are then ms
 abbrev pub generated_as : Result Numbers TooManyFiles → Modules → Generated
@@ -72,38 +73,36 @@ module _ (rows : List Row) (a : List ℕ) (ms : Modules) (p : ℕ) where
 -- ---- All sources
 
 -- the source of a record, as its number
-pub source-value : {s : List ℕ} {at stop : ℕ} → SourceRead s at stop → source_of (tree_at s at stop) ≡ two (literal_value s (at + 3))
-source-value {s} {at} {stop} r =
+pub source-value : {p : Part} → SourceRead p → source_of (tree_of p) ≡ two (literal_value p.bytes.now (p.at + 3))
+source-value {p} r =
     let w = r.wide in
-    let f = r.parts.fits in
-    ap (λ (g : Field). value_of (fixed_of g)) r.tree ∙ take-slice 2 (at + 3) (at + 9) s (omega arith) (omega arith) ∙ sym (two_at-is s (at + 3) r.parts.bytes (omega arith))
+    let f = p.whole.1 in
+    ap (λ (g : Field). value_of (fixed_of g)) r.tree
+    ∙ take-slice 2 (p.at + 3) (p.at + 9) p.bytes.now (omega arith) (omega arith)
+    ∙ sym (two_at-is p.bytes.now (p.at + 3) p.of_bytes (omega arith))
 
--- the next place, as the rules count
-pub source-after : {s : List ℕ} {at stop : ℕ} → SourceRead s at stop → at + size (tree_at s at stop) ≡ stop
-source-after r = let w = r.wide in let l = r.long in omega arith
-
-module _ (rows : List Row) {s : List ℕ} {at : ℕ} (ms : Modules) (r : RecordsFrom s at) where
-  pub numbers-end : source_end s at ≡ None → done ms ≡ number_all rows (sources_in (row_at s at (length s))) ms at
+module _ (rows : List Row) (ms : Modules) where
+  pub numbers-end : (at : ℕ) {fs : Fields} → fs ≡ none → done ms ≡ number_all rows fs ms at
   unfolding number_all
-  numbers-end e = sym (ap (λ (fs : Fields). number_all rows fs ms at) (sources-end r e))
+  numbers-end at e = sym (ap (λ (fs : Fields). number_all rows fs ms at) e)
 
-  module _ {stop v : ℕ} (e : source_end s at ≡ Some stop) (l : v ≡ literal_value s (at + 3)) where
-    numbers-step : {o : Outcome Modules} → number_one (file_of (two v) rows) ms at ≡ o →
-        number_all rows (sources_in (row_at s at (length s))) ms at ≡ onto o (λ new. number_all rows (sources_in (row_at s stop (length s))) new stop)
+  module _ {here next : PartRow} {p : Part} {v : ℕ} (w : Standing here p next) (l : v ≡ literal_value p.bytes.now (p.at + 3)) where
+    numbers-step : {o : Outcome Modules} → number_one (file_of (two v) rows) ms p.at ≡ o →
+        number_all rows (sources_in (fields_of here)) ms here.at ≡ onto o (λ new. number_all rows (sources_in (fields_of next)) new next.at)
     unfolding number_all
     numbers-step q =
-        let w = source-stands r e in
-        ap (λ (fs : Fields). number_all rows fs ms at) w.row
-        ∙ ap (λ (a : List ℕ). onto (number_one (file_of a rows) ms at) (λ new. number_all rows (sources_in (row_at s stop (length s))) new (at + size (tree_at s at stop))))
+        ap (λ (fs : Fields). number_all rows fs ms here.at) w.row
+        ∙ ap (λ (a : List ℕ). onto (number_one (file_of a rows) ms here.at) (λ new. number_all rows (sources_in (fields_of next)) new (here.at + size (tree_of p))))
         (source-value w.source ∙ ap two (sym l))
-        ∙ ap₂ (λ (o : Outcome Modules) (p : ℕ). onto o (λ new. number_all rows (sources_in (row_at s stop (length s))) new p)) q (source-after w.source)
+        ∙ ap₂ (λ (o : Outcome Modules) (k : ℕ). onto o (λ new. number_all rows (sources_in (fields_of next)) new k))
+        (ap (number_one (file_of (two v) rows) ms) w.stands ∙ q) w.after
 
-    pub numbers-more : {new : Modules} → number_one (file_of (two v) rows) ms at ≡ done new →
-        number_all rows (sources_in (row_at s at (length s))) ms at ≡ number_all rows (sources_in (row_at s stop (length s))) new stop
+    pub numbers-more : {new : Modules} → number_one (file_of (two v) rows) ms p.at ≡ done new →
+        number_all rows (sources_in (fields_of here)) ms here.at ≡ number_all rows (sources_in (fields_of next)) new next.at
     numbers-more q = numbers-step q
 
-    pub numbers-stop : {n p : ℕ} → number_one (file_of (two v) rows) ms at ≡ refused n p →
-        refused n p ≡ number_all rows (sources_in (row_at s at (length s))) ms at
+    pub numbers-stop : {n k : ℕ} → number_one (file_of (two v) rows) ms p.at ≡ refused n k →
+        refused n k ≡ number_all rows (sources_in (fields_of here)) ms here.at
     numbers-stop q = sym (numbers-step q)
 
 -- ---- Once numbered, each has its number

@@ -1,5 +1,5 @@
 -- Records that were read, one by one: those with a source come first, the forced ones behind them.
-use Rattle.std.specs.Prelude.{Option, None, Some}
+use Rattle.std.specs.Prelude.{None, Some}
 use Prim.Native.Nat.{ℕ, zero, suc, ◌+◌, ◌-◌, ◌≤◌, ◌<◌}
 use native.Mathlib.Omega.{arith}
 use mathlib.Core.Path.{◌≡◌, refl, sym, ap, subst, ◌∙◌}
@@ -18,15 +18,19 @@ use Rattle.tree.specs.declared.grammar.Value.TheVariants.{Empty, Atom, Literal}
 use Rattle.tree.specs.Layout.{Bytes, two, two_at, same}
 use Rattle.tree.specs.Grammar.{parts3, parts4, within, holds_at, rule_of, step_at}
 use Rattle.tree.specs.Tree.{Field, field, Fields, none, more, tag_of, fixed_of, size}
-use Rattle.tree.specs.Access.{fixed_at, extent_at}
+use Rattle.tree.specs.Access.{extent_at}
 use Rattle.tree.specs.Read.{fine, read}
 use Rattle.tree.specs.Standing.{tree_at, row_at, Whole, Row}
 use Rattle.tree.specs.Within.{FormedAll}
-use Rattle.tree.proofs.FixedLaws.{no-upto, upto-inj}
+use Rattle.tree.specs.Rows.{GivesPart, tree_of, fields_of}
+use Rattle.tree.specs.declared.row.Part.{Part}
+use Rattle.tree.specs.declared.row.Row.{Row as PartRow}
+use Rattle.tree.proofs.FixedLaws.{upto-inj}
 use Rattle.tree.proofs.GrammarLaws.{go-inj, many-slot, no-step}
 use Rattle.tree.proofs.AccessLaws.{extent-upto, upto-in}
 use Rattle.tree.proofs.LayoutLaws.{two_at-is, same-two}
-use Rattle.tree.proofs.StandingLaws.{row-more, row-none, tree-upto, whole-step, whole-tag, row-next, read-field}
+use Rattle.tree.proofs.PartLaws.{fields-none, fields-more, row-there, part-there, part_tag, part_fixed}
+use Rattle.tree.proofs.StandingLaws.{tree-upto, whole-step, whole-tag, row-next, read-field}
 use Rattle.tree.proofs.WidthLaws.{Plainly, plain-ends, tree-bare}
 use Rattle.tree.proofs.SoundLaws.{row-sound, whole-sound}
 use Rattle.tree.proofs.TreeLaws.{size-encode}
@@ -35,7 +39,7 @@ use Rattle.inputs.specs.Fields.{keep}
 use Rattle.inputs.specs.Outcome.{done}
 use Rattle.resolving_rules.specs.Resolve.{sources_in, forced_in}
 use Rattle.resolving_rules.specs.Call.{records_read}
-use Rattle.resolving.specs.Records.{FieldRead, FieldsRead, records_in, left_rule, RecordsFrom, RecordsRead, SourceRead, source_on, source_end, forces_at}
+use Rattle.resolving.specs.Records.{FieldRead, FieldsRead, records_in, left_rule, RecordsLeft, RecordsRead, SourceRead, forces_at}
 
 -- ---- The rules that are left
 
@@ -115,149 +119,131 @@ field-long s at end stop bs le fits e w =
     let i = extent-upto s at end le e in
     size-encode (tree_at s at stop) ∙ ap length (whole-sound s at end stop bs le fits e w).0 ∙ length-slice at stop s (omega arith)
 
-module _ {s : List ℕ} {at end stop : ℕ} (r : FieldsRead s at end) (e : extent_at s at end ≡ Some stop) where
-  next-field : (q : Rule) × (step_at r.rule (get_or s at 0) ≡ Some q) × FieldRead s at stop × Row s stop end q
-  next-field =
-      let i = extent-upto s at end r.inside e in
-      let f = row-next s at end r.rule r.inside r.row (λ z. omega arith) in
-      let z : f.1 ≡ stop = upto-inj (sym f.3 ∙ e) in
-      let whole = subst (Whole s at) z f.4 in
-      let n = r.fits in (
-        f.0,
-        f.2,
-        record { inside = i.0; fits = omega arith; whole = whole; long = field-long s at end stop r.bytes r.inside r.fits e whole },
-        subst (λ (k : ℕ). Row s k end f.0) z f.5,
-      )
+module _ (r : PartRow) (p : Part) (r' : PartRow) (g : GivesPart r (Some p) r') where
+  module _ (w : FieldsRead r) where
+    next-field : (q : Rule) × (step_at w.rule (part_tag p) ≡ Some q) × FieldRead p × Row r'.bytes.now r'.at r'.end q
+    next-field =
+        let i = extent-upto r.bytes.now r.at r.end r.inside.0 g.0 in
+        let f = row-next r.bytes.now r.at r.end w.rule r.inside.0 w.row (λ z. omega arith) in
+        let z : f.1 ≡ p.stop = upto-inj (sym f.3 ∙ g.0) in
+        let whole = subst (Whole r.bytes.now r.at) z f.4 in (
+          f.0,
+          part-there r p r' g (λ s n e. step_at w.rule (get_or s n 0) ≡ Some f.0) f.2,
+          record {
+            whole = part-there r p r' g Whole whole;
+            long = part-there r p r' g (λ s n e. size (tree_at s n e) ≡ e - n) (field-long r.bytes.now r.at r.end p.stop r.of_bytes r.inside.0 r.inside.1 g.0 whole);
+          },
+          row-there r' (g.2, g.3, g.4) (λ s n e. Row s n e f.0) (subst (λ (k : ℕ). Row r.bytes.now k r.end f.0) z f.5),
+        )
 
-  -- the first of some fields, and the others
-  pub fields-next : FieldRead s at stop × FieldsRead s stop end
-  fields-next =
-      let n = next-field in
-      (n.2, record { bytes = r.bytes; inside = (extent-upto s at end r.inside e).1; fits = r.fits; rule = n.0; row = n.3 })
+    -- the first of some fields, and the others
+    pub fields-next : FieldRead p × FieldsRead r'
+    fields-next = let n = next-field in (n.2, record { rule = n.0; row = n.3 })
 
 -- ---- Records in bytes
 
 -- the first of some records
-record Next (s : List ℕ) (at stop : ℕ) : Type 0 where
-  read : FieldRead s at stop
+record Next (p : Part) (r' : PartRow) : Type 0 where
+  read : FieldRead p
   kind : ℕ
   most : kind ≤ 3
-  tag : get_or s at 0 ≡ 0x80 + kind
-  row : Row s stop (length s) (left_rule kind)
+  tag : part_tag p ≡ 0x80 + kind
+  row : Row r'.bytes.now r'.at r'.end (left_rule kind)
   fixed : ℕ
-  fixes : fixed_at s (get_or s at 0) (at + 3) stop ≡ Some fixed
-  parts : Row s fixed stop (rule_of (get_or s at 0))
+  fixes : part_fixed p ≡ Some fixed
+  parts : Row p.bytes.now fixed p.stop (rule_of (part_tag p))
 
-module _ {s : List ℕ} {at stop : ℕ} (r : RecordsFrom s at) (e : extent_at s at (length s) ≡ Some stop) where
-  next-record : Next s at stop
+module _ (r : PartRow) (p : Part) (r' : PartRow) (w : RecordsLeft r) (g : GivesPart r (Some p) r') where
+  next-record : Next p r'
   next-record =
-      let f = next-field (record { bytes = r.bytes; inside = r.inside; fits = omega arith; rule = left_rule r.kind; row = r.row }) e in
-      let k = kind-of r.kind (get_or s at 0) f.0 f.1 in
-      let w = whole-step s at stop f.2.whole in
+      let f = next-field r p r' g (record { rule = left_rule w.kind; row = w.row }) in
+      let k = kind-of w.kind (part_tag p) f.0 f.1 in
+      let h = whole-step p.bytes.now p.at p.stop f.2.whole in
       record {
         read = f.2;
         kind = k.kind;
         most = k.most;
         tag = k.tag;
-        row = subst (Row s stop (length s)) k.rule f.3;
-        fixed = w.0;
-        fixes = w.1;
-        parts = w.2;
+        row = subst (Row r'.bytes.now r'.at r'.end) k.rule f.3;
+        fixed = h.0;
+        fixes = h.1;
+        parts = h.2;
       }
 
-  pub records-next : RecordsFrom s stop
-  records-next = let n = next-record in record { bytes = r.bytes; inside = n.read.fits; kind = n.kind; row = n.row }
+  pub records-next : RecordsLeft r'
+  records-next = let n = next-record in record { kind = n.kind; row = n.row }
 
-  records-more : row_at s at (length s) ≡ more (tree_at s at stop) (row_at s stop (length s))
-  records-more = row-more s at (length s) stop r.inside e
+  record-tag : tag_of (tree_of p) ≡ part_tag p
+  record-tag = whole-tag p.bytes.now p.at p.stop next-record.read.whole
 
-  record-tag : tag_of (tree_at s at stop) ≡ get_or s at 0
-  record-tag = whole-tag s at stop next-record.read.whole
+  record-fixed : p.at + 3 ≤ next-record.fixed × next-record.fixed ≤ p.stop
+  record-fixed = upto-in p.bytes.now (part_tag p) (p.at + 3) p.stop p.whole.0 next-record.fixes
 
   -- ---- those with a source
 
-  module _ (h : get_or s at 0 ≡ 0x83 → ⊥) where
-    source-fixed : next-record.fixed ≡ at + 9
+  module _ (h : part_tag p ≡ 0x83 → ⊥) where
+    source-fixed : next-record.fixed ≡ p.at + 9
     source-fixed =
         let n = next-record in
-        let b = plain-ends (0x80 + n.kind) Literal (by n.kind n.tag n.most) s (get_or s at 0) (at + 3) stop n.fixed n.tag n.fixes in omega arith
+        let b = plain-ends (0x80 + n.kind) Literal (by n.kind n.tag n.most) p.bytes.now (part_tag p) (p.at + 3) p.stop n.fixed n.tag n.fixes in omega arith
       where
-        by : (k : ℕ) → get_or s at 0 ≡ 0x80 + k → k ≤ 3 → Plainly (0x80 + k) Literal
+        by : (k : ℕ) → part_tag p ≡ 0x80 + k → k ≤ 3 → Plainly (0x80 + k) Literal
         by zero q l = refl
         by (suc zero) q l = refl
         by (suc (suc zero)) q l = refl
         by (suc (suc (suc zero))) q l = absurd (h q)
         by (suc (suc (suc (suc k)))) q l = absurd (omega arith)
 
-    source-here : SourceRead s at stop
+    source-here : SourceRead p
     source-here =
         let n = next-record in
         let b = source-fixed in
-        let i = upto-in s (get_or s at 0) (at + 3) stop n.read.inside n.fixes in
+        let i = record-fixed in
         record {
           wide = omega arith;
-          tree = tree-upto s at stop n.fixed n.fixes ∙ ap (λ (k : ℕ). field (get_or s at 0) (slice (at + 3) k s) (row_at s k stop)) b;
+          tree =
+              tree-upto p.bytes.now p.at p.stop n.fixed n.fixes
+              ∙ ap (λ (k : ℕ). field (part_tag p) (slice (p.at + 3) k p.bytes.now) (row_at p.bytes.now k p.stop)) b;
           long = n.read.long;
-          parts =
-              record {
-                bytes = r.bytes;
-                inside = omega arith;
-                fits = n.read.fits;
-                rule = rule_of (get_or s at 0);
-                row = subst (λ (k : ℕ). Row s k stop (rule_of (get_or s at 0))) b n.parts;
-              };
+          parts = record { rule = rule_of (part_tag p); row = subst (λ (k : ℕ). Row p.bytes.now k p.stop (rule_of (part_tag p))) b n.parts };
         }
 
-    source-more : sources_in (row_at s at (length s)) ≡ more (tree_at s at stop) (sources_in (row_at s stop (length s)))
-    source-more = ap sources_in records-more ∙ source-take (tree_at s at stop) (row_at s stop (length s)) (λ q. h (sym record-tag ∙ q))
+    source-more : sources_in (fields_of r) ≡ more (tree_of p) (sources_in (fields_of r'))
+    source-more = ap sources_in (fields-more r p r' g) ∙ source-take (tree_of p) (fields_of r') (λ q. h (sym record-tag ∙ q))
 
   -- ---- the forced ones behind them
 
-  module _ (h : get_or s at 0 ≡ 0x83) where
+  module _ (h : part_tag p ≡ 0x83) where
     forced-kind : next-record.kind ≡ 3
     forced-kind = let t = next-record.tag in omega arith
 
-    source-gone : sources_in (row_at s at (length s)) ≡ none
-    source-gone =
-        let n = next-record in
-        let w = row-sound s stop (length s) (left_rule 3) r.bytes n.read.fits (omega arith) (subst (λ (k : ℕ). Row s stop (length s) (left_rule k)) forced-kind n.row) in
-        ap sources_in records-more ∙ source-skip (tree_at s at stop) (row_at s stop (length s)) (record-tag ∙ h) ∙ forced-rest (row_at s stop (length s)) w.1
+    pub sources-end : sources_in (fields_of r) ≡ none
+    sources-end =
+        let left = subst (λ (k : ℕ). Row r'.bytes.now r'.at r'.end (left_rule k)) forced-kind next-record.row in
+        let f = row-sound r'.bytes.now r'.at r'.end (left_rule 3) r'.of_bytes r'.inside.0 r'.inside.1 left in
+        ap sources_in (fields-more r p r' g) ∙ source-skip (tree_of p) (fields_of r') (record-tag ∙ h) ∙ forced-rest (fields_of r') f.1
 
--- ---- By the code's test
+pub sources-none : (r r' : PartRow) → GivesPart r None r' → sources_in (fields_of r) ≡ none
+sources-none r r' g = ap sources_in (fields-none r r' g) ∙ source-end
 
--- there is a record with a source at `at`
-pub record Standing (s : List ℕ) (at stop : ℕ) : Type 0 where
-  pub source : SourceRead s at stop
-  pub rest : RecordsFrom s stop
-  pub row : sources_in (row_at s at (length s)) ≡ more (tree_at s at stop) (sources_in (row_at s stop (length s)))
+-- ---- In a walk over them, by the code's test
 
-module _ {s : List ℕ} {at : ℕ} (r : RecordsFrom s at) where
-  pub source-stands : {stop : ℕ} → source_end s at ≡ Some stop → Standing s at stop
-  unfolding source_end source_on
-  source-stands {stop} e = on (extent_at s at (length s)) refl e
-    where
-      by : (b : Bool) (i : ℕ) → extent_at s at (length s) ≡ Some i → eqb (get_or s at 0) 0x83 ≡ b → cond b None (Some i) ≡ Some stop → Standing s at stop
-      by true i x t q = absurd (no-upto q)
-      by false i x t q =
-          let y : extent_at s at (length s) ≡ Some stop = x ∙ q in
-          let h = eqb-false (get_or s at 0) 0x83 t in
-          record { source = source-here r y h; rest = records-next r y; row = source-more r y h }
+-- the walk that stood at `here` gave a record with a source, and goes on at `next`
+pub record Standing (here : PartRow) (p : Part) (next : PartRow) : Type 0 where
+  pub source : SourceRead p
+  pub rest : RecordsLeft next
+  pub row : sources_in (fields_of here) ≡ more (tree_of p) (sources_in (fields_of next))
+  pub stands : here.at ≡ p.at
+  pub after : here.at + size (tree_of p) ≡ next.at
 
-      on : (k : Option ℕ) → extent_at s at (length s) ≡ k → source_on k (get_or s at 0) ≡ Some stop → Standing s at stop
-      on None x q = absurd (no-upto q)
-      on (Some i) x q = by (eqb (get_or s at 0) 0x83) i x refl q
-
-  pub sources-end : source_end s at ≡ None → sources_in (row_at s at (length s)) ≡ none
-  unfolding source_end source_on
-  sources-end e = on (extent_at s at (length s)) refl e
-    where
-      by : (b : Bool) (i : ℕ) → extent_at s at (length s) ≡ Some i → eqb (get_or s at 0) 0x83 ≡ b → cond b None (Some i) ≡ None → sources_in (row_at s at (length s)) ≡ none
-      by true i x t q = source-gone r x (eqb-true (get_or s at 0) 0x83 t)
-      by false i x t q = absurd (no-upto (sym q))
-
-      on : (k : Option ℕ) → extent_at s at (length s) ≡ k → source_on k (get_or s at 0) ≡ None → sources_in (row_at s at (length s)) ≡ none
-      on None x q = ap sources_in (row-none s at (length s) r.inside x) ∙ source-end
-      on (Some i) x q = by (eqb (get_or s at 0) 0x83) i x refl q
+pub source-part : (r : PartRow) (p : Part) (r' : PartRow) → RecordsLeft r → GivesPart r (Some p) r' → (part_tag p ≡ 0x83 → ⊥) → Standing r p r'
+source-part r p r' w g h =
+    let x = source-here r p r' w g h in
+    let wide = x.wide in
+    let long = x.long in
+    let at = g.1 in
+    let next = g.3 in
+    record { source = x; rest = records-next r p r' w g; row = source-more r p r' w g h; stands = sym at; after = omega arith }
 
 -- ---- Forced sources
 
@@ -270,60 +256,54 @@ module _ (a : ℕ) (small : a < 65536) where
   unfolding forced_in
   among-past f fs h = ap (λ (b : Bool). among (two a) (cond b (fixed_of f ∷ forced_in fs) (forced_in fs))) (ne_eqb (tag_of f) 0x83 h)
 
-  module _ {s : List ℕ} {at : ℕ} (r : RecordsFrom s at) where
-    pub forced-end : extent_at s at (length s) ≡ None → among (two a) (forced_in (row_at s at (length s))) ≡ false
-    unfolding forced_in among
-    forced-end e = ap (λ (fs : Fields). among (two a) (forced_in fs)) (row-none s at (length s) r.inside e)
+  pub forced-end : (r r' : PartRow) → GivesPart r None r' → among (two a) (forced_in (fields_of r)) ≡ false
+  unfolding forced_in among
+  forced-end r r' g = ap (λ (fs : Fields). among (two a) (forced_in fs)) (fields-none r r' g)
 
-    module _ {stop : ℕ} (e : extent_at s at (length s) ≡ Some stop) where
-      forced-fixed : get_or s at 0 ≡ 0x83 → (next-record r e).fixed ≡ at + 5
-      forced-fixed h =
-          let n = next-record r e in
-          let b = plain-ends 0x83 Atom refl s (get_or s at 0) (at + 3) stop n.fixed h n.fixes in omega arith
+  module _ (r : PartRow) (p : Part) (r' : PartRow) (w : RecordsLeft r) (g : GivesPart r (Some p) r') where
+    forced-fixed : part_tag p ≡ 0x83 → (next-record r p r' w g).fixed ≡ p.at + 5
+    forced-fixed h =
+        let n = next-record r p r' w g in
+        let b = plain-ends 0x83 Atom refl p.bytes.now (part_tag p) (p.at + 3) p.stop n.fixed h n.fixes in omega arith
 
-      -- the atom of a forced source
-      forced-atom : get_or s at 0 ≡ 0x83 → same (two a) (fixed_of (tree_at s at stop)) ≡ eqb a (two_at s (at + 3))
-      forced-atom h =
-          let n = next-record r e in
-          let i = upto-in s (get_or s at 0) (at + 3) stop n.read.inside n.fixes in
-          let b = forced-fixed h in
-          let f = n.read.fits in
-          let z : at + 5 ≡ at + 3 + 2 = omega arith in
-          let u = r.bytes (at + 3) in
-          let v = r.bytes (at + 3 + 1) in
-          ap (λ (g : Field). same (two a) (fixed_of g)) (tree-upto s at stop n.fixed n.fixes)
-          ∙ ap (λ (k : ℕ). same (two a) (slice (at + 3) k s)) (b ∙ z)
-          ∙ ap (same (two a)) (sym (two_at-is s (at + 3) r.bytes (omega arith)))
-          ∙ same-two a (two_at s (at + 3)) small (omega arith)
+    -- the atom of a forced source
+    forced-atom : part_tag p ≡ 0x83 → same (two a) (fixed_of (tree_of p)) ≡ eqb a (two_at p.bytes.now (p.at + 3))
+    forced-atom h =
+        let n = next-record r p r' w g in
+        let i = record-fixed r p r' w g in
+        let b = forced-fixed h in
+        let f = p.whole.1 in
+        let z : p.at + 5 ≡ p.at + 3 + 2 = omega arith in
+        let u = p.of_bytes (p.at + 3) in
+        let v = p.of_bytes (p.at + 3 + 1) in
+        ap (λ (x : Field). same (two a) (fixed_of x)) (tree-upto p.bytes.now p.at p.stop n.fixed n.fixes)
+        ∙ ap (λ (k : ℕ). same (two a) (slice (p.at + 3) k p.bytes.now)) (b ∙ z)
+        ∙ ap (same (two a)) (sym (two_at-is p.bytes.now (p.at + 3) p.of_bytes (omega arith)))
+        ∙ same-two a (two_at p.bytes.now (p.at + 3)) small (omega arith)
 
-      pub forced-inside : at + 5 ≤ length s
-      forced-inside =
-          by (eqb (get_or s at 0) 0x83) refl
-        where
-          by : (b : Bool) → eqb (get_or s at 0) 0x83 ≡ b → at + 5 ≤ length s
-          by true q =
-              let n = next-record r e in
-              let i = upto-in s (get_or s at 0) (at + 3) stop n.read.inside n.fixes in
-              let f = n.read.fits in
-              let b = forced-fixed (eqb-true (get_or s at 0) 0x83 q) in omega arith
-          by false q =
-              let w = source-here r e (eqb-false (get_or s at 0) 0x83 q) in
-              let u = w.wide in
-              let v = w.parts.fits in omega arith
+    pub forced-inside : p.at + 5 ≤ p.stop
+    forced-inside =
+        by (eqb (part_tag p) 0x83) refl
+      where
+        by : (b : Bool) → eqb (part_tag p) 0x83 ≡ b → p.at + 5 ≤ p.stop
+        by true q =
+            let i = record-fixed r p r' w g in
+            let b = forced-fixed (eqb-true (part_tag p) 0x83 q) in omega arith
+        by false q =
+            let u = (source-here r p r' w g (eqb-false (part_tag p) 0x83 q)).wide in omega arith
 
-      pub forced-step : among (two a) (forced_in (row_at s at (length s))) ≡ forces_at s at a || among (two a) (forced_in (row_at s stop (length s)))
-      unfolding forces_at
-      forced-step = ap (λ (fs : Fields). among (two a) (forced_in fs)) (records-more r e) ∙ by (eqb (get_or s at 0) 0x83) refl
-        where
-          by : (b : Bool) → eqb (get_or s at 0) 0x83 ≡ b →
-              among (two a) (forced_in (more (tree_at s at stop) (row_at s stop (length s)))) ≡ cond b (eqb a (two_at s (at + 3))) false || among (two a) (forced_in (row_at s stop (length s)))
-          by true q =
-              let h = eqb-true (get_or s at 0) 0x83 q in
-              among-here (tree_at s at stop) (row_at s stop (length s)) (record-tag r e ∙ h)
-              ∙ ap (λ (b : Bool). b || among (two a) (forced_in (row_at s stop (length s)))) (forced-atom h)
-          by false q =
-              let h = eqb-false (get_or s at 0) 0x83 q in
-              among-past (tree_at s at stop) (row_at s stop (length s)) (λ z. h (sym (record-tag r e) ∙ z))
+    pub forced-step : among (two a) (forced_in (fields_of r)) ≡ forces_at p.bytes.now p.at a || among (two a) (forced_in (fields_of r'))
+    unfolding forces_at
+    forced-step = ap (λ (fs : Fields). among (two a) (forced_in fs)) (fields-more r p r' g) ∙ by (eqb (part_tag p) 0x83) refl
+      where
+        by : (b : Bool) → eqb (part_tag p) 0x83 ≡ b →
+            among (two a) (forced_in (more (tree_of p) (fields_of r'))) ≡ cond b (eqb a (two_at p.bytes.now (p.at + 3))) false || among (two a) (forced_in (fields_of r'))
+        by true q =
+            let h = eqb-true (part_tag p) 0x83 q in
+            among-here (tree_of p) (fields_of r') (record-tag r p r' w g ∙ h) ∙ ap (λ (b : Bool). b || among (two a) (forced_in (fields_of r'))) (forced-atom h)
+        by false q =
+            let h = eqb-false (part_tag p) 0x83 q in
+            among-past (tree_of p) (fields_of r') (λ z. h (sym (record-tag r p r' w g) ∙ z))
 
 -- ---- The records of a call
 
@@ -341,15 +321,17 @@ records-read s fs e =
     let r = read-field Records s fs e in
     ap records_read (e ∙ ap fine (r.tree ∙ ap (λ (f : Field). more f none) (tree-bare 0x02 refl s 0 (length s) r.room (records-tag (get_or s 0 0) r.tag))))
 
-pub records-sound : (s : List ℕ) (fs : Fields) → read Records s ≡ fine fs → Bytes s → RecordsRead s
-records-sound s fs e bs =
+pub records-sound : (s : List ℕ) (fs : Fields) → read Records s ≡ fine fs → RecordsRead s
+records-sound s fs e =
     let r = read-field Records s fs e in
     let w = whole-step s 0 (length s) r.whole in
     let t : get_or s 0 0 ≡ 0x02 = records-tag (get_or s 0 0) r.tag in
     let b : w.0 ≡ 3 = plain-ends 0x02 Empty refl s (get_or s 0 0) 3 (length s) w.0 t w.1 in
     record {
-      bytes = bs;
       inside = r.room;
-      kind = 0;
-      row = subst (Row s 3 (length s)) (ap rule_of t ∙ records-rule) (subst (λ (k : ℕ). Row s k (length s) (rule_of (get_or s 0 0))) b w.2);
+      records =
+          record {
+            kind = 0;
+            row = subst (Row s 3 (length s)) (ap rule_of t ∙ records-rule) (subst (λ (k : ℕ). Row s k (length s) (rule_of (get_or s 0 0))) b w.2);
+          };
     }

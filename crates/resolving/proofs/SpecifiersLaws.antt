@@ -2,7 +2,7 @@
 use Rattle.std.specs.Prelude.{Option, None, Some, IsSome}
 use Prim.Native.Nat.{ℕ, ◌+◌, ◌≤◌, ◌<◌}
 use native.Mathlib.Omega.{arith}
-use mathlib.Core.Path.{◌≡◌, refl, sym, ap, subst, ◌∙◌}
+use mathlib.Core.Path.{◌≡◌, refl, sym, ap, ap₂, subst, ◌∙◌}
 use mathlib.Core.Bool.{Bool, true, false, cond, true≢false}
 use mathlib.Core.List.{List, [], ◌∷◌, ◌++◌, append_assoc}
 use mir.Val.{bool_byte}
@@ -15,12 +15,15 @@ use Rattle.tree.specs.declared.grammar.Value.{Value}
 use Rattle.tree.specs.Layout.{skip_at, two, four}
 use Rattle.tree.specs.Grammar.{pieces_of}
 use Rattle.tree.specs.Tree.{Field, field, Fields, none, encode, size}
-use Rattle.tree.specs.Access.{value_at, choice_of, on_choice, kind_at, piece_at, then_piece, fixed_at, extent_at}
-use Rattle.tree.specs.Standing.{tree_at, row_at}
+use Rattle.tree.specs.Access.{value_at, choice_of, on_choice, kind_at, piece_at, then_piece, fixed_at}
+use Rattle.tree.specs.Rows.{GivesPart, tree_of, fields_of}
+use Rattle.tree.specs.declared.row.Part.{Part}
+use Rattle.tree.specs.declared.row.Row.{Row}
 use Rattle.tree.proofs.AccessLaws.{ReachIn, cond-ind, value_in}
 use Rattle.tree.proofs.FixedLaws.{no-upto}
+use Rattle.tree.proofs.PartLaws.{fields-none, fields-more, part_tag, part_fixed}
 use Rattle.tree.proofs.SliceLaws.{get_d-slice}
-use Rattle.tree.proofs.StandingLaws.{row-more, row-none, tree-upto, whole-step}
+use Rattle.tree.proofs.StandingLaws.{tree-upto, whole-step}
 use Rattle.tree.proofs.WidthLaws.{skip-ends}
 use Rattle.inputs.specs.Outcome.{Outcome, done, refused}
 use Rattle.resolving_rules.specs.Resolve.{resolved_named, resolved_default, resolved_namespace, resolved_specifier, resolved_specifiers}
@@ -85,51 +88,57 @@ resolved_by (Named outside) all x p = named_by outside x p
 resolved_by Default all x p = done (resolved_default x)
 resolved_by Namespace all x p = done (resolved_namespace all x)
 
-module _ (all : Bool) (s : List ℕ) (at stop b : ℕ) (e : fixed_at s (get_or s at 0) (at + 3) stop ≡ Some b) where
+module _ (all : Bool) (p : Part) (b : ℕ) (e : part_fixed p ≡ Some b) where
   -- a 20 has its kind byte
-  pub named-inside : get_or s at 0 ≡ 0x20 → at + 9 < b
-  named-inside h = let z = ends-20 s (get_or s at 0) (at + 3) stop b h e in omega arith
+  pub named-inside : part_tag p ≡ 0x20 → p.at + 9 < b
+  named-inside h = let z = ends-20 p.bytes.now (part_tag p) (p.at + 3) p.stop b h e in omega arith
 
-  name-kind : get_or s at 0 ≡ 0x20 → get_or (slice (at + 3) b s) 6 0 ≡ get_or s (at + 9) 0
+  abbrev here : List ℕ
+  here = slice (p.at + 3) b p.bytes.now
+
+  name-kind : part_tag p ≡ 0x20 → get_or here 6 0 ≡ get_or p.bytes.now (p.at + 9) 0
   name-kind h =
       let i = named-inside h in
-      let z : at + 3 + 6 ≡ at + 9 = omega arith in
-      get_d-slice (at + 3) b s 6 (omega arith) ∙ ap (λ (k : ℕ). get_or s k 0) z
+      let z : p.at + 3 + 6 ≡ p.at + 9 = omega arith in
+      get_d-slice (p.at + 3) b p.bytes.now 6 (omega arith) ∙ ap (λ (k : ℕ). get_or p.bytes.now k 0) z
 
-  pub specifier-by : {r : Specifier} → specifier_at s at ≡ r → resolved_specifier all (tree_at s at stop) at ≡ resolved_by r all (slice (at + 3) b s) at
+  pub specifier-by : {r : Specifier} → specifier_at p.bytes.now p.at ≡ r → resolved_specifier all (tree_of p) p.at ≡ resolved_by r all here p.at
   unfolding resolved_specifier specifier_at
   specifier-by {r} q =
-      ap (λ (f : Field). resolved_specifier all f at) (tree-upto s at stop b e)
-      ∙ go (eqb (get_or s at 0) 0x20) (eqb (get_or s at 0) 0x21) refl
-      ∙ ap (λ (i : Specifier). resolved_by i all (slice (at + 3) b s) at) q
+      ap (λ (f : Field). resolved_specifier all f p.at) (tree-upto p.bytes.now p.at p.stop b e)
+      ∙ go (eqb (part_tag p) 0x20) (eqb (part_tag p) 0x21) refl
+      ∙ ap (λ (i : Specifier). resolved_by i all here p.at) q
     where
-      go : (c d : Bool) → eqb (get_or s at 0) 0x20 ≡ c →
-          cond c (resolved_named (slice (at + 3) b s) at) (cond d (done (resolved_default (slice (at + 3) b s))) (done (resolved_namespace all (slice (at + 3) b s))))
-          ≡ resolved_by (cond c (Named (outside_of (get_or s (at + 9) 0))) (cond d Default Namespace)) all (slice (at + 3) b s) at
-      go true d t = by-outside (slice (at + 3) b s) at (get_or s (at + 9) 0) (name-kind (eqb-true (get_or s at 0) 0x20 t))
+      go : (c d : Bool) → eqb (part_tag p) 0x20 ≡ c →
+          cond c (resolved_named here p.at) (cond d (done (resolved_default here)) (done (resolved_namespace all here)))
+          ≡ resolved_by (cond c (Named (outside_of (get_or p.bytes.now (p.at + 9) 0))) (cond d Default Namespace)) all here p.at
+      go true d t = by-outside here p.at (get_or p.bytes.now (p.at + 9) 0) (name-kind (eqb-true (part_tag p) 0x20 t))
       go false true t = refl
       go false false t = refl
 
 -- the fixed bytes of a field that was read are whole
-pub read-fixed : {s : List ℕ} {at stop : ℕ} → FieldRead s at stop → {o : Option ℕ} → o ≡ fixed_at s (get_or s at 0) (at + 3) stop → IsSome o
-read-fixed {s = s} {at} {stop} r e = let w = whole-step s at stop r.whole in rw (e ∙ w.1)
+pub read-fixed : {p : Part} → FieldRead p → {o : Option ℕ} → o ≡ part_fixed p → IsSome o
+read-fixed {p = p} r e = let w = whole-step p.bytes.now p.at p.stop r.whole in rw (e ∙ w.1)
 
 -- ---- All of them
 
-module _ (all : Bool) (s : List ℕ) (at end : ℕ) (le : at ≤ end) where
-  pub specifiers-end : extent_at s at end ≡ None → resolved_specifiers all (row_at s at end) at ≡ done none
+module _ (all : Bool) (r r' : Row) where
+  pub specifiers-end : GivesPart r None r' → resolved_specifiers all (fields_of r) r.at ≡ done none
   unfolding resolved_specifiers
-  specifiers-end e = ap (λ (fs : Fields). resolved_specifiers all fs at) (row-none s at end le e)
+  specifiers-end g = ap (λ (fs : Fields). resolved_specifiers all fs r.at) (fields-none r r' g)
 
-  pub specifiers-more : {stop : ℕ} → extent_at s at end ≡ Some stop → FieldRead s at stop →
-      Cons (resolved_specifiers all (row_at s at end) at) (resolved_specifier all (tree_at s at stop) at) (resolved_specifiers all (row_at s stop end) stop)
+  -- the one that a walk over them gave, and the others
+  pub specifiers-more : {p : Part} → GivesPart r (Some p) r' → FieldRead p →
+      Cons (resolved_specifiers all (fields_of r) r.at) (resolved_specifier all (tree_of p) p.at) (resolved_specifiers all (fields_of r') r'.at)
   unfolding resolved_specifiers
-  specifiers-more {stop} e r =
-      let l = r.long in
-      let i = r.inside in
-      let z : at + size (tree_at s at stop) ≡ stop = omega arith in
+  specifiers-more {p} g w =
+      let l = w.long in
+      let i = p.whole.0 in
+      let at = g.1 in
+      let next = g.3 in
+      let z : r.at + size (tree_of p) ≡ r'.at = omega arith in
       record {
         is =
-            ap (λ (fs : Fields). resolved_specifiers all fs at) (row-more s at end stop le e)
-            ∙ ap (λ (p : ℕ). consed (resolved_specifier all (tree_at s at stop) at) (resolved_specifiers all (row_at s stop end) p)) z;
+            ap (λ (fs : Fields). resolved_specifiers all fs r.at) (fields-more r p r' g)
+            ∙ ap₂ (λ (m n : ℕ). consed (resolved_specifier all (tree_of p) m) (resolved_specifiers all (fields_of r') n)) (sym g.1) z;
       }

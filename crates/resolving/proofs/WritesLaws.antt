@@ -11,7 +11,7 @@ use Rattle.writer.specs.Bytes.{framed}
 use Rattle.writer.specs.Wrote.{Wrote, Opened, closed}
 use Rattle.writer.proofs.Wrote.{wrote-none, wrote-then, wrote-as, wrote-field}
 use Rattle.inputs.specs.Outcome.{Outcome, done, refused, onto}
-use Rattle.resolving.specs.declared.specifiers.Refusal.{Refusal}
+use Rattle.resolving.specs.Writes.{Refusal}
 use Rattle.resolving.specs.Writes.{Step, Puts, Onward}
 use Rattle.resolving.specs.Answer.{why_number}
 

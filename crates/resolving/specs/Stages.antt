@@ -6,7 +6,7 @@ use Rattle.scope.specs.Modules.{Modules}
 use Rattle.scope.specs.ScopeValue.{modules_of}
 use Rattle.scope.specs.declared.Scope.{Scope}
 use Rattle.tree.specs.declared.grammar.Set.TheVariants.{Records}
-use Rattle.tree.specs.declared.read.Unread.{Unread as TreeUnread}
+use Rattle.tree.specs.Read.{Unread as TreeUnread}
 use Rattle.tree.specs.Read.{read, verdict}
 use Rattle.inputs.specs.Outcome.{Outcome, done, refused, refusal_in}
 use Rattle.inputs.specs.Table.{rows_in, bad_table, repeats}

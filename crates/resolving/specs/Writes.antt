@@ -3,8 +3,13 @@ use Rattle.std.specs.Prelude.{ℕ, ◌≡◌, List, [], length, Result, Ok, Err}
 use Rattle.tree.specs.Tree.{Field, field, Fields, encodes}
 use Rattle.writer.specs.Wrote.{Wrote}
 use Rattle.inputs.specs.Outcome.{Outcome, done, refused, onto}
-use Rattle.resolving.specs.declared.specifiers.Refusal.{Refusal}
+use Rattle.tree.specs.declared.refused.Refused.{Refused}
+use Rattle.resolving.specs.declared.specifiers.Why.{Why}
 use Rattle.resolving.specs.Answer.{why_number}
+
+-- why a list turns back, and at which field
+abbrev pub Refusal : Type 0
+Refusal = Refused Why
 
 -- the position behind what was written, or a refusal
 abbrev pub Step : Type 0

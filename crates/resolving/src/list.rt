@@ -4,7 +4,7 @@ ghost use Rattle.scope.specs.Id.{local, export};
 ghost use Rattle.scope.specs.ScopeValue.{modules_of};
 ghost use Rattle.tree.specs.Layout.{two, four};
 ghost use Rattle.tree.specs.Tree.{encode, encodes};
-ghost use Rattle.tree.specs.Standing.{tree_at};
+ghost use Rattle.tree.specs.Rows.{tree_of};
 ghost use Rattle.writer.specs.Wrote.{Wrote};
 ghost use Rattle.inputs.specs.Table.{rows_in, file_of};
 ghost use Rattle.resolving_rules.specs.Resolve.{source_of, sources_in, forced_in, kind_byte, resolved_record, resolved_all};
@@ -12,11 +12,12 @@ ghost use Rattle.resolving.specs.Records.{RecordsRead, SourceRead, records_in};
 ghost use Rattle.resolving.specs.Numbers.{Numbers, NumbersAll};
 ghost use Rattle.resolving.specs.Writes.{Puts, list_with};
 
-use crate::sources::{START, is_forced, source_end};
+use crate::sources::{START, is_forced};
 use crate::specifiers::{Refusal, Step, Why, put_specifiers};
 use scope::Scope;
 use scope::id::{Atom, FileName, ModuleId};
 use tree::layout::literal_value;
+use tree::row::{Part, Row};
 
 // 'byte (3 collected, 1 lazy, 0 dynamic)'
 fn kind_of(tag: u8) -> u8
@@ -49,41 +50,28 @@ fn put_heading(
     writer::put_all(list, e, literal)
 }
 
-// The record at `at` up to stop.
-fn put_record(
-    scope: Scope,
-    table: &[u8],
-    records: &[u8],
-    at: usize,
-    stop: usize,
-    list: &mut [u8],
-    o: usize,
-) -> Step
-    requires { RecordsRead records.now × SourceRead records.now at stop × Numbers (rows_in table.now) (modules_of scope) (tree_at records.now at stop) }
+// A record with a source. All records stand in its bytes, which tell whether the source is forced.
+fn put_record(scope: Scope, table: &[u8], part: Part, list: &mut [u8], o: usize) -> Step
+    requires { RecordsRead part.bytes.now × SourceRead part × Numbers (rows_in table.now) (modules_of scope) (tree_of part) }
     ensures { Puts encode
-        (resolved_record (file_of (source_of (tree_at records.now at stop)) (rows_in table.now))
-        (forced_in (records_in records.now)) (modules_of scope) (tree_at records.now at stop) at) list.old o
+        (resolved_record (file_of (source_of (tree_of part.entry)) (rows_in table.now))
+        (forced_in (records_in part.entry.bytes.now)) (modules_of scope) (tree_of part.entry) part.entry.at) list.old o
         list.new result }
 {
-    let source = Atom(literal_value(records, at + 3));
+    let source = Atom(literal_value(part.bytes, part.at + 3));
     let Some(file) = inputs::resolve(table, source) else {
         return Err(Refusal {
             why: Why::Unresolved,
-            place: at,
+            place: part.at,
         });
     };
     let content = writer::open_field(list, o, 0x90);
     let numbers = scope.gen_id(file).answer.unwrap();
-    let kind = kind_of(records[at]);
-    let c = put_heading(
-        kind,
-        numbers.id,
-        file,
-        &records[at + 3..at + 9],
-        list,
-        content,
-    );
-    let p = put_specifiers(records, at + 9, stop, is_forced(records, source), list, c)?;
+    let kind = kind_of(part.tag());
+    let literal = &part.bytes[part.at + 3..part.at + 9];
+    let c = put_heading(kind, numbers.id, file, literal, list, content);
+    let all = is_forced(part.bytes, source);
+    let p = put_specifiers(part.row(part.at + 9), all, list, c)?;
     writer::close_field(list, o, p);
     Ok(p)
 }
@@ -95,11 +83,13 @@ fn put_records(scope: Scope, table: &[u8], records: &[u8], list: &mut [u8], o: u
         (resolved_all (rows_in table.now) (forced_in (records_in records.now)) (modules_of scope)
         (sources_in (records_in records.now)) 3) list.old o list.new result }
 {
-    let mut at = START;
     let mut to = o;
-    while let Some(stop) = source_end(records, at) {
-        to = put_record(scope, table, records, at, stop, list, to)?;
-        at = stop;
+    for part in Row::new(records, START, records.len()) {
+        // forced sources stand behind all the others
+        if part.tag() == 0x83 {
+            break;
+        }
+        to = put_record(scope, table, part, list, to)?;
     }
     Ok(to)
 }

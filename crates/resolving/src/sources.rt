@@ -5,13 +5,13 @@ ghost use Rattle.tree.specs.Layout.{two};
 ghost use Rattle.inputs.specs.Lists.{among};
 ghost use Rattle.inputs.specs.Table.{rows_in, file_of};
 ghost use Rattle.resolving_rules.specs.Resolve.{sources_in, forced_in, number_one, number_all};
-ghost use Rattle.resolving.specs.Records.{RecordsRead, records_in, source_end, forces_at};
+ghost use Rattle.resolving.specs.Records.{RecordsRead, records_in, forces_at};
 ghost use Rattle.resolving.specs.Numbers.{number_by};
 
 use scope::Scope;
 use scope::id::Atom;
-use tree::access::extent;
 use tree::layout::{atom_at, literal_value};
+use tree::row::{Part, Row};
 
 // Where the records start.
 pub const START: usize = 3;
@@ -19,19 +19,6 @@ pub const START: usize = 3;
 // A 257th file is refused, at the place of the record that asks for it.
 #[derive(Clone, Copy, PartialEq, Eq)]
 pub struct TooManyFilesAt(pub usize);
-
-// The end of the record with a source that stands at `at`, if there is one: forced sources stand behind all of them.
-pub fn source_end(records: &[u8], at: usize) -> Option<usize>
-    requires { at ≤ length records.now }
-    ensures { result ≡ source_end records.now at }
-{
-    let stop = extent(records, at, records.len())?;
-    if records[at] == 0x83 {
-        None
-    } else {
-        Some(stop)
-    }
-}
 
 // Gives a source its number, if it resolves; the record stands at place.
 fn number_source(
@@ -61,21 +48,24 @@ pub fn number_sources(
     requires { RecordsRead records.now }
     ensures { number_by result ≡ number_all (rows_in table.now) (sources_in (records_in records.now)) (modules_of scope) 3 }
 {
-    let mut at = START;
-    while let Some(stop) = source_end(records, at) {
-        scope = number_source(scope, table, Atom(literal_value(records, at + 3)), at)?;
-        at = stop;
+    for part in Row::new(records, START, records.len()) {
+        // forced sources stand behind all the others
+        if part.tag() == 0x83 {
+            break;
+        }
+        let source = Atom(literal_value(part.bytes, part.at + 3));
+        scope = number_source(scope, table, source, part.at)?;
     }
     Ok(scope)
 }
 
-// Whether the record at `at` forces a source.
+// Whether a record forces a source.
 #[tactic(auto, unfolding(crate::specs::Records::forces_at))]
-fn forces_at(records: &[u8], at: usize, source: Atom) -> bool
-    requires { at + 5 ≤ length records.now }
-    ensures { result ≡ forces_at records.now at source.0 }
+fn forces(part: Part, source: Atom) -> bool
+    requires { part.at + 5 ≤ length part.bytes.now }
+    ensures { result ≡ forces_at part.entry.bytes.now part.entry.at source.0 }
 {
-    records[at] == 0x83 && source.0 == atom_at(records, at + 3)
+    part.tag() == 0x83 && source.0 == atom_at(part.bytes, part.at + 3)
 }
 
 // Whether a source is forced.
@@ -83,12 +73,10 @@ pub fn is_forced(records: &[u8], source: Atom) -> bool
     requires { RecordsRead records.now }
     ensures { result ≡ among (two source.0) (forced_in (records_in records.now)) }
 {
-    let mut at = START;
-    while let Some(stop) = extent(records, at, records.len()) {
-        if forces_at(records, at, source) {
+    for part in Row::new(records, START, records.len()) {
+        if forces(part, source) {
             return true;
         }
-        at = stop;
     }
     false
 }

@@ -1,14 +1,15 @@
 // The specifiers of a record, as the resolved list has them.
-ghost use Rattle.std.specs.Prelude.{◌≡◌, ◌++◌, ◌+◌, ◌≤◌, ◌<◌, length, get_or};
+ghost use Rattle.std.specs.Prelude.{◌≡◌, ◌++◌, ◌+◌, ◌<◌, length, get_or};
 ghost use Rattle.tree.specs.Tree.{field, none, encode, encodes};
-ghost use Rattle.tree.specs.Standing.{tree_at, row_at};
+ghost use Rattle.tree.specs.Rows.{tree_of, fields_of};
 ghost use Rattle.writer.specs.Wrote.{Wrote};
 ghost use Rattle.resolving_rules.specs.Resolve.{resolved_specifier, resolved_specifiers};
 ghost use Rattle.resolving.specs.Records.{FieldRead, FieldsRead};
 ghost use Rattle.resolving.specs.Specifiers.{outside_of, specifier_at, named_by};
 ghost use Rattle.resolving.specs.Writes.{Puts};
 
-use tree::access::{extent, fixed};
+use tree::refused::Refused;
+use tree::row::{Part, Row};
 
 // Why a list turns back.
 #[derive(Clone, Copy, PartialEq, Eq)]
@@ -20,11 +21,7 @@ pub enum Why {
 }
 
 // Why a list turns back, and at which field.
-#[derive(Clone, Copy, PartialEq, Eq)]
-pub struct Refusal {
-    pub why: Why,
-    pub place: usize,
-}
+pub type Refusal = Refused<Why>;
 
 // The position behind what was written.
 pub type Step = Result<usize, Refusal>;
@@ -73,14 +70,14 @@ fn outside_at(s: &[u8], at: usize) -> Outside
     }
 }
 
-// The specifier at `at`, whose fixed bytes end at `end`.
+// The specifier that a field is, by its tag; a 20 has its kind byte behind its id.
 #[tactic(auto, unfolding(crate::specs::Specifiers::specifier_at))]
-fn specifier_at(s: &[u8], at: usize, end: usize) -> Specifier
-    requires { (at < end) × (get_or s.now at 0 ≡ 0x20 → at + 9 < end) × (end ≤ length s.now) }
-    ensures { result ≡ specifier_at s.now at }
+fn specifier_of(part: Part) -> Specifier
+    requires { get_or part.bytes.now part.at 0 ≡ 0x20 → part.at + 9 < part.stop }
+    ensures { result ≡ specifier_at part.entry.bytes.now part.entry.at }
 {
-    match s[at] {
-        0x20 => Specifier::Named(outside_at(s, at + 9)),
+    match part.tag() {
+        0x20 => Specifier::Named(outside_at(part.bytes, part.at + 9)),
         0x21 => Specifier::Default,
         _ => Specifier::Namespace,
     }
@@ -99,37 +96,28 @@ fn put_named(bytes: &[u8], outside: Outside, place: usize, list: &mut [u8], o: u
     }
 }
 
-// The specifier at `at` up to stop: a default's and a namespace's bytes are their ids, and a namespace is told whether it is all of a module.
-fn put_specifier(s: &[u8], at: usize, stop: usize, all: bool, list: &mut [u8], o: usize) -> Step
-    requires { FieldRead s.now at stop }
-    ensures { Puts encode (resolved_specifier all (tree_at s.now at stop) at) list.old o list.new result }
+// A specifier: a default's and a namespace's bytes are their ids, and a namespace is told whether it is all of a module.
+fn put_specifier(part: Part, all: bool, list: &mut [u8], o: usize) -> Step
+    requires { FieldRead part }
+    ensures { Puts encode (resolved_specifier all (tree_of part.entry) part.entry.at) list.old o list.new result }
 {
-    let end = fixed(s, s[at], at + 3, stop).unwrap();
-    let bytes = &s[at + 3..end];
-    match specifier_at(s, at, end) {
-        Specifier::Named(outside) => put_named(bytes, outside, at, list, o),
+    let end = part.fixed().unwrap();
+    let bytes = &part.bytes[part.at + 3..end];
+    match specifier_of(part) {
+        Specifier::Named(outside) => put_named(bytes, outside, part.at, list, o),
         Specifier::Default => Ok(put_leaf(list, o, 0x91, bytes, &DEFAULT_ALIAS)),
         Specifier::Namespace => Ok(put_leaf(list, o, 0x92, bytes, &[u8::from(all)])),
     }
 }
 
-// The specifiers from `from` up to end, in order.
-pub fn put_specifiers(
-    s: &[u8],
-    from: usize,
-    end: usize,
-    all: bool,
-    list: &mut [u8],
-    o: usize,
-) -> Step
-    requires { FieldsRead s.now from end }
-    ensures { Puts encodes (resolved_specifiers all (row_at s.now from end) from) list.old o list.new result }
+// The specifiers of a row, in order.
+pub fn put_specifiers(row: Row, all: bool, list: &mut [u8], o: usize) -> Step
+    requires { FieldsRead row }
+    ensures { Puts encodes (resolved_specifiers all (fields_of row.entry) row.entry.at) list.old o list.new result }
 {
-    let mut at = from;
     let mut to = o;
-    while let Some(stop) = extent(s, at, end) {
-        to = put_specifier(s, at, stop, all, list, to)?;
-        at = stop;
+    for part in row {
+        to = put_specifier(part, all, list, to)?;
     }
     Ok(to)
 }

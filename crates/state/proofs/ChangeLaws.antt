@@ -7,7 +7,7 @@ use mathlib.Core.Path.{◌≡◌, refl, sym, ap, subst, ◌∙◌}
 use mathlib.Core.Bool.{Bool, true, false}
 use mathlib.Core.List.{List, [], ◌∷◌, ◌++◌}
 use mathlib.Core.Logic.{◌⊎◌, inl, inr}
-use lib.ListN.{length, set}
+use lib.ListN.{set}
 use lib.Seq.{get_or-set_same, get_or-set_other}
 use lib.Dec.{eqb}
 use borrow.Author.Tests.{leb-true, eqb-true, eqb-false}
@@ -15,13 +15,13 @@ use Rattle.tree.proofs.Table.{both-true}
 use Rattle.tables.specs.Rows.{Row, rows, between, first_in, NoneBefore, without, without_row, with_value}
 use Rattle.tables.specs.Only.{Only}
 use Rattle.std.specs.Prelude.{is_some}
-use Rattle.state.specs.Cells.{id_limit, Kind, imports, uses, records, namespaces, modules, table_of, top_cell, pass_cell, own_cell, require_cell, InLimits, held, Good}
+use Rattle.state.specs.Cells.{id_limit, Kind, imports, uses, records, namespaces, modules, table_of, top_cell, pass_cell, own_cell, require_cell, held, Good}
 use Rattle.state.specs.Cells.{cell_at, hint_at, import_hint, namespace_hint, use_hint, named_in, source_in, name_cell, row_hint, module_hint, Covered, Hinted}
 use Rattle.state.specs.Does.{CellsKept, Others, Changes, Aside, Behind, Grows, Starts}
 use Rattle.state.proofs.ListLaws.{below-append, below-value, below-without, length-more, length-value, length-without, row_of}
 use Rattle.state.proofs.HintLaws.{none-out, distinct-append, distinct-without, covered-append, covered-without, covered-none}
 use Rattle.state.proofs.HintLaws.{row-out, named-append, named-value, named-at, source-at, reached-append, grows-same, grows-stays, grows-set}
-use Rattle.state.proofs.FrameLaws.{cells-same, cells-then, beside-hint, beside-set, beside-rows, beside-good, changed, room-for}
+use Rattle.state.proofs.FrameLaws.{cells-same, cells-then, beside-hint, beside-set, beside-rows, beside-good, good-kept, changed, room-for}
 
 -- ---- A cell is stored
 
@@ -34,23 +34,25 @@ cells-beside t i v n h =
       require_kept = get_or-set_other t i require_cell v 0 (h require_cell (omega arith) (omega arith));
     }
 
-pub cell-set : {t : List ℕ} (h v : ℕ) → Good t → h < 2003 → Grows (cell_at t h) v → Aside t (set t (15994 + h) v) × (cell_at (set t (15994 + h) v) h ≡ v)
-cell-set {t} h v g b k =
-    let size = g.size in
-    let f = beside-hint h b in
-    let c = cells-beside t (15994 + h) v (λ z. omega arith) (λ j p q z. omega arith) in (
-      record {
-        good =
-            beside-good (15994 + h) v g f
-            (record {
-              grown = λ i d. grows-set t h v (omega arith) k i;
-              reaching = λ i d. let e = get_or-set_other t (15994 + h) (21074 + i) v 0 (λ z. omega arith) in omega arith;
-            }) (let e = c.own_kept in let n = g.own_below in omega arith);
-        same_rows = beside-rows (15994 + h) v g f;
-        same_cells = c;
-      },
-      get_or-set_same t (15994 + h) v 0 (omega arith),
-    )
+module _ {t : List ℕ} (h v : ℕ) (g : Good t) (b : h < 2003) where
+  hints-beside : CellsKept t (set t (15994 + h) v)
+  hints-beside = cells-beside t (15994 + h) v (λ z. omega arith) (λ j p q z. omega arith)
+
+  pub cell-set : Aside t (set t (15994 + h) v) × (cell_at (set t (15994 + h) v) h ≡ v)
+  cell-set =
+      let size = g.size in (
+        record { same_rows = beside-rows (15994 + h) v g (beside-hint h b); same_cells = hints-beside },
+        get_or-set_same t (15994 + h) v 0 (omega arith),
+      )
+
+  pub cell-good : Grows (cell_at t h) v → Good (set t (15994 + h) v)
+  cell-good k =
+      let size = g.size in
+      beside-good (15994 + h) v g (beside-hint h b)
+      (record {
+        grown = λ i d. grows-set t h v (omega arith) k i;
+        reaching = λ i d. let e = get_or-set_other t (15994 + h) (21074 + i) v 0 (λ z. omega arith) in omega arith;
+      }) (let e = hints-beside.own_kept in let n = g.own_below in omega arith)
 
 -- a hint behind the setting grows
 module _ {t : List ℕ} (h v : ℕ) (g : Good t) (b : h < 1280) (k : row_hint t h ≤ v) where
@@ -64,24 +66,24 @@ module _ {t : List ℕ} (h v : ℕ) (g : Good t) (b : h < 1280) (k : row_hint t 
       by true e = let s = raised-same in subst (λ (j : ℕ). row_hint t j ≤ row_hint (set t (21074 + h) v) j) (sym (eqb-true i h e)) (omega arith)
       by false e = let z = eqb-false i h e in let y = get_or-set_other t (21074 + h) (21074 + i) v 0 (λ q. z (omega arith)) in omega arith
 
-  pub raise-set : Aside t (set t (21074 + h) v) × Behind t (set t (21074 + h) v) × (v ≤ row_hint (set t (21074 + h) v) h)
-  raise-set =
-      let f = beside-set (21074 + h) (omega arith) (omega arith) in
-      let c = cells-beside t (21074 + h) v (λ z. omega arith) (λ j p q z. omega arith) in (
-        record {
-          good =
-              beside-good (21074 + h) v g f
-              (record { grown = λ i d. grows-stays (get_or-set_other t (21074 + h) (15994 + i) v 0 (λ z. omega arith)); reaching = raised })
-              (let e = c.own_kept in let n = g.own_below in omega arith);
-          same_rows = beside-rows (21074 + h) v g f;
-          same_cells = c;
-        },
-        record { same = λ i d. get_or-set_other t (21074 + h) i v 0 (λ z. omega arith); grown = raised },
-        let s = raised-same in omega arith,
-      )
+  places-beside : CellsKept t (set t (21074 + h) v)
+  places-beside = cells-beside t (21074 + h) v (λ z. omega arith) (λ j p q z. omega arith)
 
-pub cell-stays : {t : List ℕ} → Good t → Aside t t
-cell-stays g = record { good = g; same_rows = λ k. refl; same_cells = cells-same _ }
+  pub raise-set : Aside t (set t (21074 + h) v) × Behind t (set t (21074 + h) v) × (v ≤ row_hint (set t (21074 + h) v) h)
+  raise-set = (
+    record { same_rows = beside-rows (21074 + h) v g (beside-set (21074 + h) (omega arith) (omega arith)); same_cells = places-beside },
+    record { same = λ i d. get_or-set_other t (21074 + h) i v 0 (λ z. omega arith); grown = raised },
+    let s = raised-same in omega arith,
+  )
+
+  pub raise-good : Good (set t (21074 + h) v)
+  raise-good =
+      beside-good (21074 + h) v g (beside-set (21074 + h) (omega arith) (omega arith))
+      (record { grown = λ i d. grows-stays (get_or-set_other t (21074 + h) (15994 + i) v 0 (λ z. omega arith)); reaching = raised })
+      (let e = places-beside.own_kept in let n = g.own_below in omega arith)
+
+pub cell-stays : (t : List ℕ) → Aside t t
+cell-stays t = record { same_rows = λ k. refl; same_cells = cells-same _ }
 
 pub behind-stays : (t : List ℕ) → Behind t t
 behind-stays t = record { same = λ i d. refl; grown = λ h d. omega arith }
@@ -170,88 +172,97 @@ opens {t} {from} id g h = record { passed = λ i p q. by i p q (between (id - id
 others-after : {k : Kind} {t m t' : List ℕ} → Aside t m → Others k m t' → Others k t t'
 others-after a o = record { rows_kept = λ m e. o.rows_kept m e ∙ a.same_rows m; cells_kept = cells-then a.same_cells o.cells_kept }
 
-after : (k : Kind) {t m t' : List ℕ} {l : List Row} → Aside t m → Only (table_of k) m t' → rows (table_of k) t' ≡ l → length l ≤ (table_of k).room → InLimits k l → Hinted k m l →
-    Changes k l t t'
-after k a o e n b h = let c = changed k a.good o e n b h in record { good = c.good; now_rows = e; others = others-after a c.others }
+after : (k : Kind) {t m t' : List ℕ} {l : List Row} → Good m → Aside t m → Only (table_of k) m t' → rows (table_of k) t' ≡ l → Changes k l t t'
+after k h a o e = record { now_rows = e; others = others-after a (changed k h o e).others }
 
-module _ {t m t' : List ℕ} (g : Good t) (a : Aside t m) where
+-- one that enters a table, and one with another value
+pub entered : (k : Kind) (r : Row) {t m t' : List ℕ} → Good m → Aside t m → rows (table_of k) t' ≡ rows (table_of k) m ++ (r ∷ []) → Only (table_of k) m t' →
+    Changes k (rows (table_of k) t ++ (r ∷ [])) t t'
+entered k r h a e o = after k h a o (e ∙ ap (λ (x : List Row). x ++ (r ∷ [])) (a.same_rows k))
+
+pub valued : (k : Kind) (i v : ℕ) {t m t' : List ℕ} → Good m → Aside t m → rows (table_of k) t' ≡ with_value i v (rows (table_of k) m) → Only (table_of k) m t' →
+    Changes k (with_value i v (rows (table_of k) t)) t t'
+valued k i v h a e o = after k h a o (e ∙ ap (with_value i v) (a.same_rows k))
+
+-- the array stays good
+module _ {t m t' : List ℕ} (g : Good t) (w : Good m) (a : Aside t m) where
   pub import-added : {id c : ℕ} → id < id_limit → c < 4294967296 → held imports t < 512 → first_in id id (rows (table_of imports) t) ≡ None →
-      0 < import_hint (hint_at m id) → rows (table_of imports) t' ≡ rows (table_of imports) m ++ ((id, c) ∷ []) → Only (table_of imports) m t' →
-      Changes imports (rows (table_of imports) t ++ ((id, c) ∷ [])) t t'
+      0 < import_hint (hint_at m id) → rows (table_of imports) t' ≡ rows (table_of imports) m ++ ((id, c) ∷ []) → Only (table_of imports) m t' → Good t'
   import-added {id} {c} h b n f z e o =
       let l = rows (table_of imports) t in
       let k = length-more l (id, c) in
-      after imports a o (e ∙ ap (λ (x : List Row). x ++ ((id, c) ∷ [])) (a.same_rows imports)) (omega arith) (below-append _ _ l (id, c) (g.below imports) h b) (
-        covered-append import_hint m l (id, c) (subst (Covered import_hint m) (a.same_rows imports) (a.good.hinted imports).0) z,
+      good-kept imports w o (e ∙ ap (λ (x : List Row). x ++ ((id, c) ∷ [])) (a.same_rows imports)) (omega arith) (below-append _ _ l (id, c) (g.below imports) h b) (
+        covered-append import_hint m l (id, c) (subst (Covered import_hint m) (a.same_rows imports) (w.hinted imports).0) z,
         distinct-append l (id, c) (g.hinted imports).1 f,
       )
 
   pub use-added : {id q : ℕ} → id < id_limit → q < id_limit → held uses t < 2048 → 0 < use_hint (hint_at m id) →
-      rows (table_of uses) t' ≡ rows (table_of uses) m ++ ((id, q) ∷ []) → Only (table_of uses) m t' → Changes uses (rows (table_of uses) t ++ ((id, q) ∷ [])) t t'
+      rows (table_of uses) t' ≡ rows (table_of uses) m ++ ((id, q) ∷ []) → Only (table_of uses) m t' → Good t'
   use-added {id} {q} h b n z e o =
       let l = rows (table_of uses) t in
       let k = length-more l (id, q) in
-      after uses a o (e ∙ ap (λ (x : List Row). x ++ ((id, q) ∷ [])) (a.same_rows uses)) (omega arith) (below-append _ _ l (id, q) (g.below uses) h b)
-      (covered-append use_hint m l (id, q) (subst (Covered use_hint m) (a.same_rows uses) (a.good.hinted uses)) z)
+      good-kept uses w o (e ∙ ap (λ (x : List Row). x ++ ((id, q) ∷ [])) (a.same_rows uses)) (omega arith) (below-append _ _ l (id, q) (g.below uses) h b)
+      (covered-append use_hint m l (id, q) (subst (Covered use_hint m) (a.same_rows uses) (w.hinted uses)) z)
 
   pub held-added : {id i : ℕ} → id < id_limit → i < 256 → held namespaces t < 3641 → 0 < namespace_hint (hint_at m id) →
-      rows (table_of namespaces) t' ≡ rows (table_of namespaces) m ++ ((id, i) ∷ []) → Only (table_of namespaces) m t' →
-      Changes namespaces (rows (table_of namespaces) t ++ ((id, i) ∷ [])) t t'
+      rows (table_of namespaces) t' ≡ rows (table_of namespaces) m ++ ((id, i) ∷ []) → Only (table_of namespaces) m t' → Good t'
   held-added {id} {i} h b n z e o =
       let l = rows (table_of namespaces) t in
       let k = length-more l (id, i) in
-      after namespaces a o (e ∙ ap (λ (x : List Row). x ++ ((id, i) ∷ [])) (a.same_rows namespaces)) (omega arith) (below-append _ _ l (id, i) (g.below namespaces) h b)
-      (covered-append namespace_hint m l (id, i) (subst (Covered namespace_hint m) (a.same_rows namespaces) (a.good.hinted namespaces)) z)
+      good-kept namespaces w o (e ∙ ap (λ (x : List Row). x ++ ((id, i) ∷ [])) (a.same_rows namespaces)) (omega arith) (below-append _ _ l (id, i) (g.below namespaces) h b)
+      (covered-append namespace_hint m l (id, i) (subst (Covered namespace_hint m) (a.same_rows namespaces) (w.hinted namespaces)) z)
 
   pub record-added : {x : ℕ} → x < id_limit → held records t < 256 → 256 ≤ held records t + source_in (cell_at m (name_cell x)) →
-      rows (table_of records) t' ≡ rows (table_of records) m ++ ((x, 0) ∷ []) → Only (table_of records) m t' → Changes records (rows (table_of records) t ++ ((x, 0) ∷ [])) t t'
+      rows (table_of records) t' ≡ rows (table_of records) m ++ ((x, 0) ∷ []) → Only (table_of records) m t' → Good t'
   record-added {x} h n z e o =
       let l = rows (table_of records) t in
       let k = length-more l (x, 0) in
-      after records a o (e ∙ ap (λ (y : List Row). y ++ ((x, 0) ∷ [])) (a.same_rows records)) (omega arith) (below-append _ _ l (x, 0) (g.below records) h (omega arith))
-      (named-append 0 m l (x, 0) (subst (λ (y : List Row). Hinted records m y) (a.same_rows records) (a.good.hinted records)) refl (omega arith))
+      good-kept records w o (e ∙ ap (λ (y : List Row). y ++ ((x, 0) ∷ [])) (a.same_rows records)) (omega arith) (below-append _ _ l (x, 0) (g.below records) h (omega arith))
+      (named-append 0 m l (x, 0) (subst (λ (y : List Row). Hinted records m y) (a.same_rows records) (w.hinted records)) refl (omega arith))
 
   pub module-added : {f : ℕ} → f < 65536 → held modules t < 256 → 256 ≤ held modules t + module_hint m (f % 256) →
-      rows (table_of modules) t' ≡ rows (table_of modules) m ++ ((f, 0) ∷ []) → Only (table_of modules) m t' → Changes modules (rows (table_of modules) t ++ ((f, 0) ∷ [])) t t'
+      rows (table_of modules) t' ≡ rows (table_of modules) m ++ ((f, 0) ∷ []) → Only (table_of modules) m t' → Good t'
   module-added {f} h n z e o =
       let l = rows (table_of modules) t in
       let k = length-more l (f, 0) in
-      after modules a o (e ∙ ap (λ (y : List Row). y ++ ((f, 0) ∷ [])) (a.same_rows modules)) (omega arith) (below-append _ _ l (f, 0) (g.below modules) h (omega arith))
-      (reached-append 256 (λ c. module_hint m (c % 256)) 0 l (f, 0) (subst (λ (y : List Row). Hinted modules m y) (a.same_rows modules) (a.good.hinted modules)) (omega arith))
+      good-kept modules w o (e ∙ ap (λ (y : List Row). y ++ ((f, 0) ∷ [])) (a.same_rows modules)) (omega arith) (below-append _ _ l (f, 0) (g.below modules) h (omega arith))
+      (reached-append 256 (λ c. module_hint m (c % 256)) 0 l (f, 0) (subst (λ (y : List Row). Hinted modules m y) (a.same_rows modules) (w.hinted modules)) (omega arith))
 
   -- a record's first namespace
   pub first-set : {id : ℕ} (i : ℕ) → id < id_limit → 256 ≤ i + named_in (cell_at m (name_cell id)) → rows (table_of records) t' ≡ with_value i (id + 1) (rows (table_of records) m) →
-      Only (table_of records) m t' → Changes records (with_value i (id + 1) (rows (table_of records) t)) t t'
+      Only (table_of records) m t' → Good t'
   first-set {id} i h n e o =
       let l = rows (table_of records) t in
       let k = length-value l i (id + 1) in
       let r = room-for records g in
-      after records a o (e ∙ ap (with_value i (id + 1)) (a.same_rows records)) (omega arith) (below-value _ _ l i (id + 1) (g.below records) (omega arith))
-      (named-value 0 i m l id (subst (λ (x : List Row). Hinted records m x) (a.same_rows records) (a.good.hinted records)) (omega arith))
+      good-kept records w o (e ∙ ap (with_value i (id + 1)) (a.same_rows records)) (omega arith) (below-value _ _ l i (id + 1) (g.below records) (omega arith))
+      (named-value 0 i m l id (subst (λ (x : List Row). Hinted records m x) (a.same_rows records) (w.hinted records)) (omega arith))
 
 -- ---- Rows are taken out
 
+pub row-dropped : (id : ℕ) {t : List ℕ} (t' : List ℕ) {i : ℕ} → Good t → Some i ≡ first_in id id (rows (table_of imports) t) →
+    rows (table_of imports) t' ≡ without_row i (rows (table_of imports) t) → rows (table_of imports) t' ≡ without id (rows (table_of imports) t)
+row-dropped id {t} t' {i} g f e = e ∙ row-out id (rows (table_of imports) t) i (g.hinted imports).1 (sym f)
+
 module _ (id : ℕ) {t t' : List ℕ} (g : Good t) where
-  pub import-dropped : {i : ℕ} → Some i ≡ first_in id id (rows (table_of imports) t) → rows (table_of imports) t' ≡ without_row i (rows (table_of imports) t) →
-      Only (table_of imports) t t' → Changes imports (without id (rows (table_of imports) t)) t t'
-  import-dropped {i} f e o =
+  pub imports-good : rows (table_of imports) t' ≡ without id (rows (table_of imports) t) → Only (table_of imports) t t' → Good t'
+  imports-good e o =
       let l = rows (table_of imports) t in
       let n = length-without id l in
       let r = room-for imports g in
-      changed imports g o (e ∙ row-out id l i (g.hinted imports).1 (sym f)) (omega arith) (below-without _ _ id l (g.below imports))
+      good-kept imports g o e (omega arith) (below-without _ _ id l (g.below imports))
       (covered-without import_hint t id l (g.hinted imports).0, distinct-without id l (g.hinted imports).1)
 
-  pub uses-dropped : rows (table_of uses) t' ≡ without id (rows (table_of uses) t) → Only (table_of uses) t t' → Changes uses (without id (rows (table_of uses) t)) t t'
-  uses-dropped e o =
+  pub uses-good : rows (table_of uses) t' ≡ without id (rows (table_of uses) t) → Only (table_of uses) t t' → Good t'
+  uses-good e o =
       let l = rows (table_of uses) t in
       let n = length-without id l in
       let r = room-for uses g in
-      changed uses g o e (omega arith) (below-without _ _ id l (g.below uses)) (covered-without use_hint t id l (g.hinted uses))
+      good-kept uses g o e (omega arith) (below-without _ _ id l (g.below uses)) (covered-without use_hint t id l (g.hinted uses))
 
 -- none are there
-pub absent : (k : Kind) (id : ℕ) {t : List ℕ} → Good t → first_in id id (rows (table_of k) t) ≡ None → Changes k (without id (rows (table_of k) t)) t t
-absent k id {t} g e =
-    record { good = g; now_rows = sym (none-out id (rows (table_of k) t) e); others = record { rows_kept = λ m h. refl; cells_kept = cells-same _ } }
+pub absent : (k : Kind) (id : ℕ) {t : List ℕ} → first_in id id (rows (table_of k) t) ≡ None → Changes k (without id (rows (table_of k) t)) t t
+absent k id {t} e = record { now_rows = sym (none-out id (rows (table_of k) t) e); others = record { rows_kept = λ m h. refl; cells_kept = cells-same _ } }
 
 pub some-none : (o : Option ℕ) → is_some o ≡ false → o ≡ None
 some-none None e = refl

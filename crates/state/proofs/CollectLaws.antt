@@ -126,7 +126,6 @@ module _ (x : ℕ) (l : Literal) (a : x / 4294967296 ≡ l.value.0) (c : x % 429
   pub collected-again : {i : ℕ} → Some i ≡ first_in (x - x % 4294967296) (x - x % 4294967296 + 4294967295) (rows (table_of records) t) → Collects l t t (Ok i)
   collected-again {i} e =
       record {
-        good = g;
         below = λ j p. let z : i ≡ j = cc in let b = first-below _ _ (rows (table_of records) t) i (sym e) in omega arith;
         made = λ j p {y} s w v. let z : i ≡ j = cc in subst (λ (k : ℕ). Gathered y (literal_by y l) k s t) z (gathered-again i e s w v);
         full = λ y p s w v fs q. absurd (cc);
@@ -167,7 +166,6 @@ module _ (x : ℕ) (l : Literal) (a : x / 4294967296 ≡ l.value.0) (c : x % 429
       let m = length-more (rows (table_of records) t) (x, 0) in
       let size = ap length d.now_rows in
       record {
-        good = d.good;
         below = λ j p. let z : i ≡ j = cc in omega arith;
         made = λ j p {y} s w v. let z : held records t ≡ j = cc in subst (λ (n : ℕ). Gathered y (literal_by y l) n s t') z (gathered-new e k d s w v);
         full = λ y p s w v fs q. absurd (cc);
@@ -185,7 +183,6 @@ module _ (x : ℕ) (l : Literal) (a : x / 4294967296 ≡ l.value.0) (c : x % 429
   pub collected-full : {z : TableFull} → None ≡ first_in (x - x % 4294967296) (x - x % 4294967296 + 4294967295) (rows (table_of records) t) → 256 ≤ held records t → Collects l t t (Err z)
   collected-full e k =
       record {
-        good = g;
         below = λ j p. absurd (cc);
         made = λ j p s w v. absurd (cc);
         full = λ z p s w v fs q. collect-refused e k s w v fs q;

@@ -10,7 +10,7 @@ use Rattle.tree.specs.Tree.{Field, none, more, fixed_of}
 use Rattle.inputs.specs.Lists.{among}
 use Rattle.inputs.specs.Fields.{has}
 use Rattle.extraction_rules.specs.State.{State, set_collected}
-use Rattle.state.specs.Cells.{Env, id_limit, Kind, imports, uses, records, namespaces, lazies, forces, modules, externals, table, table_of, held, Good}
+use Rattle.state.specs.Cells.{Env, id_limit, Kind, imports, uses, records, namespaces, lazies, forces, modules, externals, table, table_of, held}
 use Rattle.state.specs.Cells.{id_of, imported_of, usage_of, brief, brief_of, lazy_of, atom_of, module_of, flag, namespaces_in, Shows}
 use Rattle.state.specs.Does.{one?, CellsKept, Changes, extend_at, Extends}
 use Rattle.state.proofs.ListLaws.{length-more, length-value, row_of}
@@ -55,7 +55,6 @@ module _ {k i : ℕ} {t m v : List ℕ} (j : id_of k ≡ v) (h : k < id_limit) (
   pub extended-again : ((row_of (rows (table_of records) m) i).1 ≡ 0 → ⊥) → Extends i v t m
   extended-again z =
       record {
-        good = d.good;
         kept = ap length met-records;
         shows = λ {y} s f tag x full w.
             shows-extended k i j h b (record { rest = λ c q r. d.others.rows_kept c r; cells_rest = d.others.cells_kept }) d.now_rows s f tag x w
@@ -68,7 +67,6 @@ module _ {k i : ℕ} {t m v : List ℕ} (j : id_of k ≡ v) (h : k < id_limit) (
       let p = d.others in
       let q = u.others in
       record {
-        good = u.good;
         kept = ap length u.now_rows ∙ length-value (rows (table_of records) m) i (k + 1) ∙ ap length met-records;
         shows = λ {y} s f tag x full w.
             shows-extended k i j h b (record { rest = λ c y e. q.rows_kept c y ∙ p.rows_kept c e; cells_rest = cells-then p.cells_kept q.cells_kept })
@@ -77,8 +75,8 @@ module _ {k i : ℕ} {t m v : List ℕ} (j : id_of k ≡ v) (h : k < id_limit) (
       }
 
 -- there was room: a full table shows no state that asks for more
-pub extended-full : (i : ℕ) (x : List ℕ) {t : List ℕ} → Good t → 3641 ≤ held namespaces t → Extends i x t t
-extended-full i x g n = record { good = g; kept = refl; shows = λ s f tag e m w. absurd (let k = w.met in omega arith) }
+pub extended-full : (i : ℕ) (x : List ℕ) {t : List ℕ} → 3641 ≤ held namespaces t → Extends i x t t
+extended-full i x n = record { kept = refl; shows = λ s f tag e m w. absurd (let k = w.met in omega arith) }
 
 -- a specifier that is no namespace is nothing to the array
 pub extended-other : {y : Env} {t : List ℕ} {s : State} (i : ℕ) (f : Field) → has 0x22 f ≡ false → Shows y t s → i < length s.collected →

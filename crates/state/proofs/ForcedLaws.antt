@@ -118,15 +118,19 @@ module _ {t : List ℕ} (a : ℕ) (g : Good t) where
   pub force-again : Tells (λ s. among (two a) s.forced) t true → Forces (two a) t t
   unfolding force_source
   force-again n =
-      record { good = g; shows = λ {x = y} s f w. subst (λ (b : Bool). Shows y t (cond b s (set_forced (s.forced ++ (two a ∷ [])) s))) (n.is s w) w }
+      record { shows = λ {x = y} s f w. subst (λ (b : Bool). Shows y t (cond b s (set_forced (s.forced ++ (two a ∷ [])) s))) (n.is s w) w }
 
-  pub force-new : {t' : List ℕ} → a < 65536 → Tells (λ s. among (two a) s.forced) t false → held forces t < 256 →
+  pub forced-good : {t' : List ℕ} → a < 65536 → held forces t < 256 →
+      rows (table_of forces) t' ≡ rows (table_of forces) t ++ ((a, 0) ∷ []) → Only (table_of forces) t t' → Good t'
+  forced-good h k e o =
+      let m = length-more (rows (table_of forces) t) (a, 0) in
+      good-kept forces g o e (omega arith) (below-append _ _ (rows (table_of forces) t) (a, 0) (g.below forces) h (omega arith)) tt
+
+  pub force-new : {t' : List ℕ} → Tells (λ s. among (two a) s.forced) t false →
       rows (table_of forces) t' ≡ rows (table_of forces) t ++ ((a, 0) ∷ []) → Only (table_of forces) t t' → Forces (two a) t t'
   unfolding force_source
-  force-new {t'} h n k e o =
-      let m = length-more (rows (table_of forces) t) (a, 0) in
+  force-new {t'} n e o =
       record {
-        good = good-kept forces g o e (omega arith) (below-append _ _ (rows (table_of forces) t) (a, 0) (g.below forces) h (omega arith)) tt;
         shows = λ {x = y} s f w.
             subst (λ (b : Bool). Shows y t' (cond b s (set_forced (s.forced ++ (two a ∷ [])) s))) (n.is s w)
             (shows-forced w (others-kept forces g o)
@@ -135,7 +139,7 @@ module _ {t : List ℕ} (a : ℕ) (g : Good t) where
       }
 
   pub force-full : Tells (λ s. among (two a) s.forced) t false → 256 ≤ held forces t → Forces (two a) t t
-  force-full n k = record { good = g; shows = λ s f w. absurd (let r = room-to-force (two a) g w f (sym (n.is s w)) in omega arith) }
+  force-full n k = record { shows = λ s f w. absurd (let r = room-to-force (two a) g w f (sym (n.is s w)) in omega arith) }
 
 -- ---- An id is forced
 
@@ -152,7 +156,6 @@ module _ {t m : List ℕ} (i : List ℕ) (u : Turns (forget i) t m) where
   unfolding force_id forget
   forced-none n =
       record {
-        good = u.good;
         shows = λ s w.
             let v = u.shows s w in
             subst (Shows _ m) (sym (holder-none (find (holds_namespace i) s.collected) (forget i s) (n.is (forget i s) v))) v;
@@ -162,7 +165,6 @@ module _ {t m : List ℕ} (i : List ℕ) (u : Turns (forget i) t m) where
   unfolding force_id forget
   forced-some {t'} {x} n f =
       record {
-        good = f.good;
         shows = λ s w.
             let v = u.shows s w in
             let e = n.is (forget i s) v in
@@ -174,5 +176,5 @@ module _ {t m : List ℕ} (i : List ℕ) (u : Turns (forget i) t m) where
 pub forced-nowhere : {t x : List ℕ} (id : ℕ) → Good t → id_of id ≡ x → id < id_limit → hint_at t id ≡ 0 → Turns (force_id x) t t
 forced-nowhere id g n h e =
     forced-none _
-    (forgotten g n h (absent uses id g (not-used id g (ap use_hint e))) (absent imports id g (not-imported id g (ap import_hint e))))
+    (forgotten g n h (absent uses id (not-used id g (ap use_hint e))) (absent imports id (not-imported id g (ap import_hint e))))
     (holder-told n h (sym (none-least id _ (not_held id g (ap namespace_hint e)))))

@@ -192,9 +192,8 @@ good-kept k {t} {t'} {l} g o e n b f =
     hints m true h = subst (λ (x : Kind). Hinted x t' (rows (table_of x) t')) (kinds-one k m h) (subst (Hinted k t') (sym e) (hints_kept k o k l f))
     hints m false h = subst (Hinted m t') (sym ((others-kept k g o).rows_kept m h)) (hints_kept k o m (rows (table_of m) t) (g.hinted m))
 
-pub changed : (k : Kind) {t t' : List ℕ} {l : List Row} → Good t → Only (table_of k) t t' → rows (table_of k) t' ≡ l → length l ≤ (table_of k).room →
-    InLimits k l → Hinted k t l → Changes k l t t'
-changed k g o e n b f = record { good = good-kept k g o e n b f; now_rows = e; others = others-kept k g o }
+pub changed : (k : Kind) {t t' : List ℕ} {l : List Row} → Good t → Only (table_of k) t t' → rows (table_of k) t' ≡ l → Changes k l t t'
+changed k g o e = record { now_rows = e; others = others-kept k g o }
 
 -- how many rows a good array holds
 pub room-for : (k : Kind) {t : List ℕ} → Good t → length (rows (table_of k) t) ≤ (table_of k).room

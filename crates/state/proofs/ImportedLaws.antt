@@ -21,7 +21,7 @@ use Rattle.state.specs.declared.TableFull.{TableFull}
 use Rattle.state.proofs.IdLaws.{same-id, same-key, between-one}
 use Rattle.state.proofs.ListLaws.{below-value, length-value, length-more, row_of, find-row}
 use Rattle.state.proofs.HintLaws.{covered-value, distinct-value}
-use Rattle.state.proofs.FrameLaws.{room-for, changed, shows-imported}
+use Rattle.state.proofs.FrameLaws.{room-for, good-kept, changed, shows-imported}
 
 -- ---- A refusal for want of room
 
@@ -107,7 +107,6 @@ module _ {t x : List ℕ} {k c : ℕ} (g : Good t) (i : id_of k ≡ x) (h : k < 
       Changes imports (noted o k c (rows (table_of imports) t)) t t' → Notes t t' (Ok tt)
   noted-acts {t'} {o} f n d =
       record {
-        good = d.good;
         made = λ m {x = y} s p w u. subst (λ (z : List ℕ). Did y (note_id (record { id = z; context = four c }) p s) t') i
             (noted-done (d.now_rows ∙ ap (λ (x : Option ℕ). noted x k c (rows (table_of imports) t)) f) (rw d.now_rows n) d.others s p w);
         full = λ e m s p w u. absurd (cc);
@@ -120,9 +119,15 @@ module _ {t x : List ℕ} {k c : ℕ} (g : Good t) (i : id_of k ≡ x) (h : k < 
       let l = rows (table_of imports) t in
       let n = length-value l i c in
       let r = room-for imports g in
-      noted-acts {o = Some i} f (omega arith)
-      (changed imports g only e (omega arith) (below-value _ _ l i c (g.below imports) hc)
-      (covered-value import_hint t l i c (g.hinted imports).0, distinct-value l i c (g.hinted imports).1))
+      noted-acts {o = Some i} f (omega arith) (changed imports g only e)
+
+  pub noted-good : {t' : List ℕ} (i : ℕ) → rows (table_of imports) t' ≡ with_value i c (rows (table_of imports) t) → Only (table_of imports) t t' → Good t'
+  noted-good i e only =
+      let l = rows (table_of imports) t in
+      let n = length-value l i c in
+      let r = room-for imports g in
+      good-kept imports g only e (omega arith) (below-value _ _ l i c (g.below imports) hc)
+      (covered-value import_hint t l i c (g.hinted imports).0, distinct-value l i c (g.hinted imports).1)
 
   -- an id that was not is one more
   pub noted-new : {t' : List ℕ} → None ≡ first_in k k (rows (table_of imports) t) → length (rows (table_of imports) t) < 512 →
@@ -145,7 +150,6 @@ module _ {t x : List ℕ} {k c : ℕ} (g : Good t) (i : id_of k ≡ x) (h : k < 
   pub noted-full : {e : TableFull} → None ≡ first_in k k (rows (table_of imports) t) → 512 ≤ length (rows (table_of imports) t) → Notes t t (Err e)
   noted-full f m =
       record {
-        good = g;
         made = λ n s p w u. absurd (cc);
         full = λ e n s p w u. ap (λ (z : List ℕ). note_id (record { id = z; context = four c }) p s) (sym i) ∙ note-refused f m s p w;
       }

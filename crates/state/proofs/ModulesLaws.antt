@@ -80,29 +80,31 @@ module _ {t m : List ℕ} (g : Good t) (r : Rewrites 15482 (15482 + 512) (set t 
   unfolding Below Reached
   loading-good = good-kept modules g loading-only loading-rows (omega arith) tt tt
 
-  pub modules-loaded : {k : List ℕ} {n : ℕ} {ms : Modules} → n ≤ 256 → modules_in n 15482 m ≡ ms →
-      ((i : ℕ) → i < n → (get_or m (15482 + 2 * i) 0 < 65536) × (get_or m (15482 + 2 * i + 1) 0 < 16)) → HintsModules n m k → Turns (set_modules ms) t (set k 6 n)
-  modules-loaded {k} {n} {ms} h e b w =
-      let only = store-count (table_of modules) k n in
-      let size = w.aside.good.size in
-      let l = rows_from n 15482 m in
-      let f = rows-loaded k n (omega arith) ∙ from-agree n 15482 m k (λ i p q. w.behind.same i (omega arith)) in
-      let c = rows-length (table_of modules) (set k 6 n) in
-      let d = get_or-set_same k 6 n 0 (omega arith) in
-      let z = ap length f in
-      let o = others-kept modules g loading-only in
-      let p = others-kept modules w.aside.good only in
-      record {
-        good =
-            good-kept modules w.aside.good only f (omega arith) (cells-below n 15482 m b)
-            (reached-from 256 (λ y. module_hint k (y % 256)) n 0 15482 m (λ i q. let x = w.hinted i q in omega arith));
-        shows = λ s v.
-            shows-modules v
-            (record {
-              rows_kept = λ y q. p.rows_kept y q ∙ w.aside.same_rows y ∙ o.rows_kept y q;
-              cells_kept = cells-then (cells-then o.cells_kept w.aside.same_cells) p.cells_kept;
-            }) (ap (map module_of) f ∙ cells-rows n 15482 m ∙ e);
-      }
+  module _ {k : List ℕ} {n : ℕ} (a : Good k) (h : n ≤ 256) (w : HintsModules n m k) where
+    now-loaded : rows (table_of modules) (set k 6 n) ≡ rows_from n 15482 m
+    now-loaded = let size = a.size in rows-loaded k n (omega arith) ∙ from-agree n 15482 m k (λ i p q. w.behind.same i (omega arith))
+
+    pub loaded-good : ((i : ℕ) → i < n → (get_or m (15482 + 2 * i) 0 < 65536) × (get_or m (15482 + 2 * i + 1) 0 < 16)) → Good (set k 6 n)
+    loaded-good b =
+        let size = a.size in
+        let c = rows-length (table_of modules) (set k 6 n) in
+        let d = get_or-set_same k 6 n 0 (omega arith) in
+        let z = ap length now-loaded in
+        good-kept modules a (store-count (table_of modules) k n) now-loaded (omega arith) (cells-below n 15482 m b)
+        (reached-from 256 (λ y. module_hint k (y % 256)) n 0 15482 m (λ i q. let x = w.hinted i q in omega arith))
+
+    pub modules-loaded : {ms : Modules} → modules_in n 15482 m ≡ ms → Turns (set_modules ms) t (set k 6 n)
+    modules-loaded e =
+        let o = others-kept modules g loading-only in
+        let p = others-kept modules a (store-count (table_of modules) k n) in
+        record {
+          shows = λ s v.
+              shows-modules v
+              (record {
+                rows_kept = λ y q. p.rows_kept y q ∙ w.aside.same_rows y ∙ o.rows_kept y q;
+                cells_kept = cells-then (cells-then o.cells_kept w.aside.same_cells) p.cells_kept;
+              }) (ap (map module_of) now-loaded ∙ cells-rows n 15482 m ∙ e);
+        }
 
 -- ---- A file is requested
 
@@ -137,7 +139,6 @@ module _ (f : ℕ) {t : List ℕ} (g : Good t) where
   unfolding request
   request-known {i} n j e =
       record {
-        good = g;
         resolved = λ m q s p w. given m (let z : Some n ≡ m = cc in z) (record {
           state = s;
           is = ap (λ (o : Option ℕ). requested (request_by o f s.modules) p s) (number-shown s w ∙ sym e) ∙ ap (λ (k : ℕ). done (Some k, s)) (sym j);
@@ -153,7 +154,6 @@ module _ (f : ℕ) {t : List ℕ} (g : Good t) where
   request-new {t'} n j h e r d =
       let l = rows (table_of modules) t in
       record {
-        good = d.good;
         resolved = λ m q s p w.
             let c = modules-held s w in
             let u : f % 65536 ≡ f = omega arith in
@@ -177,7 +177,6 @@ module _ (f : ℕ) {t : List ℕ} (g : Good t) where
   unfolding request
   request-full e r =
       record {
-        good = g;
         resolved = λ m q s p w. absurd (cc);
         full = λ z q s p w.
             let c = modules-held s w in
@@ -197,15 +196,13 @@ module _ (a : List ℕ) {t : List ℕ} where
       Resolves (λ e. module_for e a) t t' r
   source-resolved {f} n u =
       record {
-        good = u.good;
         resolved = λ m q s p w. let k = u.resolved m q s p w in record { state = k.state; is = sym (named (Some f) s p n w) ∙ k.is; shows = k.shows };
         full = λ z q s p w. sym (named (Some f) s p n w) ∙ u.full z q s p w;
       }
 
-  pub source-unresolved : Good t → Says (λ e. file_of a e.table) t None → Resolves (λ e. module_for e a) t t (Ok None)
-  source-unresolved g n =
+  pub source-unresolved : Says (λ e. file_of a e.table) t None → Resolves (λ e. module_for e a) t t (Ok None)
+  source-unresolved n =
       record {
-        good = g;
         resolved = λ m q s p w. given m (let z : None ≡ m = cc in z) (record { state = s; is = sym (named None s p n w); shows = w });
         full = λ z q s p w. absurd (cc);
       }
@@ -237,7 +234,6 @@ module _ (k : Mark) (i : ℕ) {t : List ℕ} (g : Good t) where
       Turns (λ s. set_modules (set_mark k i s.modules) s) t t
   unchanged e =
       record {
-        good = g;
         shows = λ {x = y} s w. subst (λ (ms : Modules). Shows y t (set_modules ms s)) (sym w.modules ∙ sym e ∙ ap (set_mark k i) w.modules) w;
       }
 
@@ -250,17 +246,22 @@ module _ (k : Mark) (i : ℕ) {t : List ℕ} (g : Good t) where
       Turns (λ s. set_modules (set_mark k i s.modules) s) t t
   marked-again e = unchanged (mark-kept k i (rows (table_of modules) t) e)
 
-  pub marked-new : {t' : List ℕ} {v : ℕ} → module_by (row_of (rows (table_of modules) t) i).0 v ≡ with_mark k (module_of (row_of (rows (table_of modules) t) i)) → v < 16 →
-      rows (table_of modules) t' ≡ with_value i v (rows (table_of modules) t) → Only (table_of modules) t t' → Turns (λ s. set_modules (set_mark k i s.modules) s) t t'
-  marked-new {t'} {v} e h f o =
-      let l = rows (table_of modules) t in
-      let n = length-value l i v in
-      let r = room-for modules g in
+  pub marked-new : (v : ℕ) {t' : List ℕ} → rows (table_of modules) t' ≡ with_value i v (rows (table_of modules) t) → Only (table_of modules) t t' →
+      module_by (row_of (rows (table_of modules) t) i).0 v ≡ with_mark k (module_of (row_of (rows (table_of modules) t) i)) →
+      Turns (λ s. set_modules (set_mark k i s.modules) s) t t'
+  marked-new v f o e =
       record {
-        good =
-            good-kept modules g o f (omega arith) (below-value _ _ l i v (g.below modules) h) (reached-value 256 (λ y. module_hint t (y % 256)) 0 i v l (g.hinted modules));
-        shows = λ s w. shows-modules w (others-kept modules g o) (ap (map module_of) f ∙ mark-rows k i v l e ∙ ap (set_mark k i) w.modules);
+        shows = λ s w.
+            shows-modules w (others-kept modules g o) (ap (map module_of) f ∙ mark-rows k i v (rows (table_of modules) t) e ∙ ap (set_mark k i) w.modules);
       }
+
+pub marked-good : (i v : ℕ) {t t' : List ℕ} → Good t → rows (table_of modules) t' ≡ with_value i v (rows (table_of modules) t) → Only (table_of modules) t t' →
+    v < 16 → Good t'
+marked-good i v {t} g f o h =
+    let l = rows (table_of modules) t in
+    let n = length-value l i v in
+    let r = room-for modules g in
+    good-kept modules g o f (omega arith) (below-value _ _ l i v (g.below modules) h) (reached-value 256 (λ y. module_hint t (y % 256)) 0 i v l (g.hinted modules))
 
 -- a bit that is added changes no other
 other-bit : (a b k : ℕ) → a ≡ b + 2 * k → a % 2 ≡ b % 2
@@ -332,10 +333,17 @@ module _ (k : Mark) (i : ℕ) {t : List ℕ} {b v : ℕ} (g : Good t) (n : i < h
       let r = row_of (rows (table_of modules) t) i in
       marked-again k i g (bit-there k r.0 r.1 (λ z. h (ap₂ (λ (x y : ℕ). x / y % 2) e c ∙ z)))
 
-  pub mark-set : {t' : List ℕ} → v / b % 2 ≡ 0 → rows (table_of modules) t' ≡ with_value i (v + b) (rows (table_of modules) t) → Only (table_of modules) t t' →
-      Turns (λ s. set_modules (set_mark k i s.modules) s) t t'
-  mark-set h f o =
-      let r = row_of (rows (table_of modules) t) i in
-      let z : r.1 / bit_of k % 2 ≡ 0 = sym (ap₂ (λ (x y : ℕ). x / y % 2) e c) ∙ h in
-      let q = bit-fits k r.1 (below-row _ _ (rows (table_of modules) t) i (g.below modules) n).1 z in
-      marked-new k i g (bit-added k r.0 r.1 z) q (f ∙ ap₂ (λ (x y : ℕ). with_value i (x + y) (rows (table_of modules) t)) e c) o
+  module _ {t' : List ℕ} (h : v / b % 2 ≡ 0) (f : rows (table_of modules) t' ≡ with_value i (v + b) (rows (table_of modules) t)) (o : Only (table_of modules) t t') where
+    bit-free : (row_of (rows (table_of modules) t) i).1 / bit_of k % 2 ≡ 0
+    bit-free = sym (ap₂ (λ (x y : ℕ). x / y % 2) e c) ∙ h
+
+    bit-stored : rows (table_of modules) t' ≡ with_value i ((row_of (rows (table_of modules) t) i).1 + bit_of k) (rows (table_of modules) t)
+    bit-stored = f ∙ ap₂ (λ (x y : ℕ). with_value i (x + y) (rows (table_of modules) t)) e c
+
+    pub mark-set : Turns (λ s. set_modules (set_mark k i s.modules) s) t t'
+    mark-set = let r = row_of (rows (table_of modules) t) i in marked-new k i g _ bit-stored o (bit-added k r.0 r.1 bit-free)
+
+    pub mark-good : Good t'
+    mark-good =
+        let r = row_of (rows (table_of modules) t) i in
+        marked-good i _ g bit-stored o (bit-fits k r.1 (below-row _ _ (rows (table_of modules) t) i (g.below modules) n).1 bit-free)

@@ -1,11 +1,11 @@
 -- The array after a lazy record is appended and after top is set, and an array of zeros.
 use Rattle.std.specs.Prelude.{Ok, Err}
-use Prim.Native.Nat.{ℕ, ◌+◌, ◌*◌, ◌%◌, ◌≤◌, ◌<◌}
+use Prim.Native.Nat.{ℕ, zero, suc, ◌+◌, ◌*◌, ◌%◌, ◌≤◌, ◌<◌}
 use native.Mathlib.Omega.{arith}
 use mathlib.Core.Path.{◌≡◌, refl, sym, ap, subst, ◌∙◌}
 use mathlib.Core.Bool.{Bool, true, false}
 use mathlib.Core.List.{List, [], ◌∷◌, ◌++◌, map, map-append}
-use lib.ListN.{length, get_or, set, length-map}
+use lib.ListN.{length, get_or, set, length-map, replicate, length-replicate}
 use lib.Seq.{get_or-set_same, get_or-set_other}
 use lib.Dec.{eqb}
 use Rattle.tables.specs.declared.Table.{Table}
@@ -57,12 +57,16 @@ module _ (x : ℕ) (a : Literal) (q : ℕ) (v : x % 4294967296 ≡ a.place) {t :
             (ap (map (lazy_of y)) e ∙ map-append (lazy_of y) (rows (table_of lazies) t) ((x, q) ∷ []) ∙ ap (λ (m : List Record). m ++ (r ∷ [])) w.lazy);
       }
 
-  pub lazy-made : {t' : List ℕ} → x < id_limit → q < place_limit → rows (table_of lazies) t' ≡ rows (table_of lazies) t ++ ((x, q) ∷ []) →
-      held lazies t < 1024 → Only (table_of lazies) t t' → Acts Anyhow (lazily a q) t t' (Ok tt)
-  lazy-made {t'} h b e n o =
+  pub lazy-good : {t' : List ℕ} → x < id_limit → q < place_limit → rows (table_of lazies) t' ≡ rows (table_of lazies) t ++ ((x, q) ∷ []) →
+      held lazies t < 1024 → Only (table_of lazies) t t' → Good t'
+  lazy-good h b e n o =
       let m = length-more (rows (table_of lazies) t) (x, q) in
+      good-kept lazies g o e (omega arith) (below-append _ _ (rows (table_of lazies) t) (x, q) (g.below lazies) h b) tt
+
+  pub lazy-made : {t' : List ℕ} → rows (table_of lazies) t' ≡ rows (table_of lazies) t ++ ((x, q) ∷ []) →
+      held lazies t < 1024 → Only (table_of lazies) t t' → Acts Anyhow (lazily a q) t t' (Ok tt)
+  lazy-made {t'} e n o =
       record {
-        good = good-kept lazies g o e (omega arith) (below-append _ _ (rows (table_of lazies) t) (x, q) (g.below lazies) h b) tt;
         made = λ r {x = y} s p w u. subst (λ (c : Record). Did y (add_lazy c p s) t') (one-lazy y) (lazy-done e n o s p w);
         full = λ e r s p w u. absurd (cc);
       }
@@ -75,9 +79,9 @@ lazy-refused r s p w n =
     let k = lazy-length s w in
     room-full (length l) 1024 p (set_lazy l) s (omega arith)
 
-pub lazy-full : (a : Literal) (q : ℕ) {t : List ℕ} {e : TableFull} → Good t → 1024 ≤ held lazies t → Acts Anyhow (lazily a q) t t (Err e)
-lazy-full a q g n =
-    record { good = g; made = λ r s p w u. absurd (cc); full = λ e r s p w u. lazy-refused _ s p w n }
+pub lazy-full : (a : Literal) (q : ℕ) {t : List ℕ} {e : TableFull} → 1024 ≤ held lazies t → Acts Anyhow (lazily a q) t t (Err e)
+lazy-full a q n =
+    record { made = λ r s p w u. absurd (cc); full = λ e r s p w u. lazy-refused _ s p w n }
 
 -- ---- Top
 
@@ -91,9 +95,6 @@ top-set {t} b g =
     let size = g.size in
     let c = get_or-set_other t top_cell own_cell (flag b) 0 (λ e. omega arith) in
     record {
-      good =
-          beside-good top_cell (flag b) g beside-top (agrees-set t top_cell (flag b) (λ h k e. omega arith) (λ h k e. omega arith))
-          (let n = g.own_below in omega arith);
       shows = λ s w.
           shows-top w f (get_or-set_same t top_cell (flag b) 0 (omega arith))
           (record {
@@ -104,6 +105,12 @@ top-set {t} b g =
             require = get_or-set_other t top_cell require_cell (flag b) 0 (λ e. omega arith) ∙ w.sets.require;
           });
     }
+
+pub top-good : {t : List ℕ} (b : Bool) → Good t → Good (set t top_cell (flag b))
+top-good {t} b g =
+    let c = get_or-set_other t top_cell own_cell (flag b) 0 (λ e. omega arith) in
+    beside-good top_cell (flag b) g beside-top (agrees-set t top_cell (flag b) (λ h k e. omega arith) (λ h k e. omega arith))
+    (let n = g.own_below in omega arith)
 
 -- ---- An array of zeros shows the state at the start of a scope without modules, but for top
 
@@ -127,7 +134,7 @@ module _ (t : List ℕ) (n : length t ≡ cells) (z : (i : ℕ) → get_or t i 0
   unfolding Covered Distinct Named Reached
   nothing-hinted = each _ (tt, tt) tt tt tt tt tt tt tt tt
 
-  pub zero-good : Good t
+  zero-good : Good t
   unfolding Below
   zero-good =
       record {
@@ -142,7 +149,7 @@ module _ (t : List ℕ) (n : length t ≡ cells) (z : (i : ℕ) → get_or t i 0
       }
 
   -- what it is set to: the first pass, module 0, no mode, no lent list
-  pub zero-shows : (literal : ℕ → List ℕ) (bound : ℕ → Fields) → Shows (unset literal bound) t (set_top false (start []))
+  zero-shows : (literal : ℕ → List ℕ) (bound : ℕ → Fields) → Shows (unset literal bound) t (set_top false (start []))
   unfolding least_of index_of namespaces_in
   zero-shows literal bound =
       record {
@@ -165,3 +172,16 @@ module _ (t : List ℕ) (n : length t ≡ cells) (z : (i : ℕ) → get_or t i 0
               require = z require_cell;
             };
       }
+
+zero-at : (n i : ℕ) → ◌≡◌ {A = ℕ} (get_or (replicate n 0) i 0) 0
+zero-at zero i = refl
+zero-at (suc n) zero = refl
+zero-at (suc n) (suc i) = zero-at n i
+
+pub zeros-good : {t : List ℕ} → t ≡ replicate cells 0 → Good t
+zeros-good e = subst Good (sym e) (zero-good (replicate cells 0) (length-replicate {A = ℕ} cells 0) (zero-at cells))
+
+pub zeros-show : {t : List ℕ} → t ≡ replicate cells 0 → (literal : ℕ → List ℕ) (bound : ℕ → Fields) → Shows (unset literal bound) t (set_top false (start []))
+zeros-show z literal bound =
+    subst (λ (t : List ℕ). Shows (unset literal bound) t (set_top false (start []))) (sym z)
+    (zero-shows (replicate cells 0) (length-replicate {A = ℕ} cells 0) (zero-at cells) literal bound)

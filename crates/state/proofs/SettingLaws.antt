@@ -15,7 +15,7 @@ use Rattle.inputs.specs.Lists.{mapped, among}
 use Rattle.inputs.specs.Table.{Row as LentRow, atoms_in, rows_in, row_of as row_for, file_of}
 use Rattle.inputs.proofs.TableLaws.{bytes-two, rows-step, rows-end}
 use Rattle.extraction_rules.specs.State.{Pass, first, second, Setting}
-use Rattle.state.specs.Cells.{Kind, pass_flag, externals, table, table_of, InLimits, Below, held, Good, Hinted, row_hint, atom_of, lent_of, flag, Sets}
+use Rattle.state.specs.Cells.{Kind, pass_flag, externals, table, table_of, Below, held, Good, row_hint, atom_of, lent_of, flag, Sets}
 use Rattle.state.specs.Cells.{top_cell, pass_cell, own_cell, require_cell}
 use Rattle.modes.specs.declared.Modes.{Modes}
 use Rattle.state.specs.Does.{Aside, Others, Says, Resets, is_second, place_in, with_setting, with_second, with_own, with_modes, with_externals, with_table}
@@ -107,10 +107,12 @@ module _ {t : List ℕ} (i v : ℕ) (g : Good t) (p : pass_cell ≤ i) (q : i < 
         require = z;
       }
 
-  set-resets : (f : Setting → Setting) → get_or (set t i v) own_cell 0 < 65536 → ((e : Setting) → Sets e t → Sets (f e) (set t i v)) → Resets (with_setting f) t (set t i v)
-  set-resets f n k =
+  pub set-good : get_or (set t i v) own_cell 0 < 65536 → Good (set t i v)
+  set-good = beside-good i v g beside (agrees-set t i v (λ h b e. omega arith) (λ h b e. omega arith))
+
+  set-resets : (f : Setting → Setting) → ((e : Setting) → Sets e t → Sets (f e) (set t i v)) → Resets (with_setting f) t (set t i v)
+  set-resets f k =
       record {
-        good = beside-good i v g beside (agrees-set t i v (λ h b e. omega arith) (λ h b e. omega arith)) n;
         shows = λ {x} s w. shows-set w f (λ m a b. set-rows m) (get_or-set_other t i top_cell v 0 (λ e. omega arith)) (k x.setting w.sets);
       }
 
@@ -118,15 +120,31 @@ pub second-set : {t : List ℕ} → Good t → Resets with_second t (set t pass_
 second-set {t} g =
     let size = g.size in
     let c = get_or-set_other t pass_cell own_cell 1 0 (λ e. omega arith) in
-    set-resets pass_cell 1 g (omega arith) (omega arith) to_second (let n = g.own_below in omega arith) (λ e w.
+    set-resets pass_cell 1 g (omega arith) (omega arith) to_second (λ e w.
     cells-set pass_cell 1 g (omega arith) (omega arith) second e.own e.config w (get_or-set_same t pass_cell 1 0 (omega arith)) (c ∙ w.own)
     (get_or-set_other t pass_cell require_cell 1 0 (λ z. omega arith) ∙ w.require))
 
-pub own-set : {t : List ℕ} (n : ℕ) → n < 65536 → Good t → Resets (with_own n) t (set t own_cell n)
-own-set {t} n h g =
+pub second-good : {t : List ℕ} → Good t → Good (set t pass_cell 1)
+second-good {t} g =
+    let c = get_or-set_other t pass_cell own_cell 1 0 (λ e. omega arith) in
+    set-good pass_cell 1 g (omega arith) (omega arith) (let n = g.own_below in omega arith)
+
+pub own-good : {t : List ℕ} (n : ℕ) → n < 65536 → Good t → Good (set t own_cell n)
+own-good {t} n h g =
     let size = g.size in
     let c = get_or-set_same t own_cell n 0 (omega arith) in
-    set-resets own_cell n g (omega arith) (omega arith) (to_own n) (omega arith) (λ e w.
+    set-good own_cell n g (omega arith) (omega arith) (omega arith)
+
+pub modes-good : {t : List ℕ} (m : Modes) → Good t → Good (set t require_cell (flag m.require))
+modes-good {t} m g =
+    let c = get_or-set_other t require_cell own_cell (flag m.require) 0 (λ e. omega arith) in
+    set-good require_cell (flag m.require) g (omega arith) (omega arith) (let n = g.own_below in omega arith)
+
+pub own-set : {t : List ℕ} (n : ℕ) → Good t → Resets (with_own n) t (set t own_cell n)
+own-set {t} n g =
+    let size = g.size in
+    let c = get_or-set_same t own_cell n 0 (omega arith) in
+    set-resets own_cell n g (omega arith) (omega arith) (to_own n) (λ e w.
     cells-set own_cell n g (omega arith) (omega arith) e.pass n e.config w (get_or-set_other t own_cell pass_cell n 0 (λ z. omega arith) ∙ w.pass) c
     (get_or-set_other t own_cell require_cell n 0 (λ z. omega arith) ∙ w.require))
 
@@ -135,7 +153,7 @@ modes-set {t} m g =
     let size = g.size in
     let v = flag m.require in
     let c = get_or-set_other t require_cell own_cell v 0 (λ e. omega arith) in
-    set-resets require_cell v g (omega arith) (omega arith) (to_modes m) (let n = g.own_below in omega arith) (λ e w.
+    set-resets require_cell v g (omega arith) (omega arith) (to_modes m) (λ e w.
     cells-set require_cell v g (omega arith) (omega arith) e.pass e.own m w (get_or-set_other t require_cell pass_cell v 0 (λ z. omega arith) ∙ w.pass)
     (c ∙ w.own) (get_or-set_same t require_cell v 0 (omega arith)))
 
@@ -143,28 +161,24 @@ modes-set {t} m g =
 
 -- what the table k shows by f, with what is left of the list s from i on, is what the list says
 pub record Lending {A : Type 0} (k : Kind) (f : Row → A) (said : List ℕ → List A) (s : List ℕ) (i : ℕ) (t₀ t : List ℕ) : Type 0 where
-  pub good : Good t
   pub size : length t ≡ length t₀
   pub lent : map f (rows (table_of k) t) ++ said (drop i s) ≡ said s
   pub others : Others k t₀ t
 
-pub lend-start : {A : Type 0} {k : Kind} {f : Row → A} {said : List ℕ → List A} {s t : List ℕ} → Good t → rows (table_of k) t ≡ [] → Lending k f said s 0 t t
-lend-start {f = f} {said} {s} g e =
+pub lend-start : {A : Type 0} {k : Kind} {f : Row → A} {said : List ℕ → List A} {s t : List ℕ} → rows (table_of k) t ≡ [] → Lending k f said s 0 t t
+lend-start {f = f} {said} {s} e =
     record {
-      good = g;
       size = refl;
       lent = ap (λ (l : List Row). map f l ++ said s) e;
       others = record { rows_kept = λ m h. refl; cells_kept = cells-same _ };
     }
 
 module _ {A : Type 0} {k : Kind} {f : Row → A} {said : List ℕ → List A} {s t₀ t : List ℕ} {i : ℕ} (l : Lending k f said s i t₀ t) where
-  lend-more : {j : ℕ} {t' : List ℕ} (r : Row) → held k t < (table_of k).room → InLimits k (rows (table_of k) t ++ (r ∷ [])) → Hinted k t (rows (table_of k) t ++ (r ∷ [])) →
+  lend-more : {j : ℕ} {t' : List ℕ} (r : Row) → Good t →
       said (drop i s) ≡ f r ∷ said (drop j s) → rows (table_of k) t' ≡ rows (table_of k) t ++ (r ∷ []) → Only (table_of k) t t' → Lending k f said s j t₀ t'
-  lend-more {j} {t'} r n b h d e o =
-      let m = length-more (rows (table_of k) t) r in
-      let c = others-kept k l.good o in
+  lend-more {j} {t'} r g d e o =
+      let c = others-kept k g o in
       record {
-        good = good-kept k l.good o e (omega arith) b h;
         size = o.size ∙ l.size;
         lent =
             ap (λ (x : List Row). map f x ++ said (drop j s)) e ∙ ap (λ (x : List A). x ++ said (drop j s)) (map-append f (rows (table_of k) t) (r ∷ []))
@@ -180,7 +194,6 @@ module _ {A : Type 0} {k : Kind} {f : Row → A} {said : List ℕ → List A} {s
   lend-aside : {m : List ℕ} → Aside t m → length m ≡ length t → Lending k f said s i t₀ m
   lend-aside a e =
       record {
-        good = a.good;
         size = e ∙ l.size;
         lent = ap (λ (x : List Row). map f x ++ said (drop i s)) (a.same_rows k) ∙ l.lent;
         others =
@@ -192,6 +205,22 @@ module _ {A : Type 0} {k : Kind} {f : Row → A} {said : List ℕ → List A} {s
 
   lend-end : said (drop i s) ≡ [] → map f (rows (table_of k) t) ≡ said s
   lend-end e = sym (append-nil (map f (rows (table_of k) t))) ∙ ap (λ (x : List A). map f (rows (table_of k) t) ++ x) (sym e) ∙ l.lent
+
+-- the array stays good
+pub external-good : {t t' : List ℕ} {n : ℕ} → Good t → held externals t < 512 → n < 65536 → rows (table_of externals) t' ≡ rows (table_of externals) t ++ ((n, 0) ∷ []) →
+    Only (table_of externals) t t' → Good t'
+external-good {t} {n = n} g h k e o =
+    let l = rows (table_of externals) t in
+    let m = length-more l (n, 0) in
+    good-kept externals g o e (omega arith) (below-append _ _ l (n, 0) (g.below externals) k (omega arith)) tt
+
+pub row-good : {t t' : List ℕ} {n v : ℕ} → Good t → held table t < 1024 → n < 65536 → v < 65536 → 1024 ≤ held table t + row_hint t (n % 1024) →
+    rows (table_of table) t' ≡ rows (table_of table) t ++ ((n, v) ∷ []) → Only (table_of table) t t' → Good t'
+row-good {t} {n = n} {v} g h k j b e o =
+    let l = rows (table_of table) t in
+    let m = length-more l (n, v) in
+    good-kept table g o e (omega arith) (below-append _ _ l (n, v) (g.below table) k j)
+    (reached-append 1024 (λ y. row_hint t (y % 1024)) 0 l (n, v) (g.hinted table) (omega arith))
 
 -- ---- Externals, two bytes each
 
@@ -212,17 +241,16 @@ atoms-end (a ∷ []) h = refl
 atoms-end (a ∷ (b ∷ l)) h = absurd (omega arith)
 
 module _ {s t₀ t : List ℕ} {i : ℕ} (l : Lending externals atom_of atoms_in s i t₀ t) where
-  pub external-more : {j n : ℕ} {t' : List ℕ} → j ≡ i + 2 → Bytes s → i + 2 ≤ length s → held externals t < 512 → n < 65536 → n ≡ two_at s i →
+  pub external-more : {j n : ℕ} {t' : List ℕ} → j ≡ i + 2 → Bytes s → i + 2 ≤ length s → Good t → n ≡ two_at s i →
       rows (table_of externals) t' ≡ rows (table_of externals) t ++ ((n, 0) ∷ []) → Only (table_of externals) t t' → Lending externals atom_of atoms_in s j t₀ t'
-  external-more {n = n} q b h r k e =
-      lend-more l (n, 0) r (below-append _ _ (rows (table_of externals) t) (n, 0) (l.good.below externals) k (omega arith)) tt
+  external-more {n = n} q b h g e =
+      lend-more l (n, 0) g
       (atoms-step s i b h ∙ ap₂ (λ (m x : ℕ). two m ∷ atoms_in (drop x s)) (sym e) (sym q))
 
   pub externals-lent : length s < i + 2 → Resets (with_externals (atoms_in s)) t₀ t
   externals-lent h =
       let c = l.others.cells_kept in
       record {
-        good = l.good;
         shows = λ q w.
             shows-set w (to_externals (atoms_in s)) (λ m a b. l.others.rows_kept m a) c.top_kept
             (record {
@@ -237,15 +265,11 @@ module _ {s t₀ t : List ℕ} {i : ℕ} (l : Lending externals atom_of atoms_in
 -- ---- The table, four bytes to a row
 
 module _ {s t₀ t : List ℕ} {i : ℕ} (l : Lending table lent_of rows_in s i t₀ t) where
-  pub row-more : {j n v : ℕ} {m t' : List ℕ} → j ≡ i + 4 → Bytes s → i + 4 ≤ length s → held table t < 1024 →
-      n < 65536 → v < 65536 → n ≡ two_at s i → v ≡ two_at s (i + 2) →
-      Aside t m → length m ≡ length t → 1024 ≤ held table t + row_hint m (n % 1024) →
+  pub row-more : {j n v : ℕ} {m t' : List ℕ} → j ≡ i + 4 → Bytes s → i + 4 ≤ length s → n ≡ two_at s i → v ≡ two_at s (i + 2) →
+      Good m → Aside t m → length m ≡ length t →
       rows (table_of table) t' ≡ rows (table_of table) m ++ ((n, v) ∷ []) → Only (table_of table) m t' → Lending table lent_of rows_in s j t₀ t'
-  row-more {n = n} {v} {m} p b h r k j e f a z c =
-      let q = lend-aside l a z in
-      let x = ap length (a.same_rows table) in
-      lend-more q (n, v) (omega arith) (below-append _ _ (rows (table_of table) m) (n, v) (q.good.below table) k j)
-      (reached-append 1024 (λ y. row_hint m (y % 1024)) 0 (rows (table_of table) m) (n, v) (q.good.hinted table) (omega arith))
+  row-more {n = n} {v} {m} p b h e f g a z =
+      lend-more (lend-aside l a z) (n, v) g
       (rows-step s i h
       ∙ ap₂ (λ (y : List ℕ) (d : ℕ). record { source = y; file = d } ∷ rows_in (drop (i + 4) s))
       (bytes-two (get_or s i 0) (get_or s (i + 1) 0) (b i) (b (i + 1)) ∙ ap two (sym e)) (sym f)
@@ -255,7 +279,6 @@ module _ {s t₀ t : List ℕ} {i : ℕ} (l : Lending table lent_of rows_in s i 
   table-lent h =
       let c = l.others.cells_kept in
       record {
-        good = l.good;
         shows = λ q w.
             shows-set w (to_table (rows_in s)) (λ m a b. l.others.rows_kept m b) c.top_kept
             (record {

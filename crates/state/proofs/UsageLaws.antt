@@ -68,7 +68,6 @@ module _ (k q : ℕ) {t x v : List ℕ} (g : Good t) (i : id_of k ≡ x) (j : id
       Acts Anyhow (λ _. add_usage (record { id = x; property = v })) t t' (Ok tt)
   usage-made {t'} n d =
       record {
-        good = d.good;
         made = λ r {x = y} s p w u. subst (λ (a : Usage). Did y (add_usage a p s) t') one-usage (usage-done n d s p w);
         full = λ e r s p w u. absurd (cc);
       }
@@ -82,9 +81,9 @@ usage-refused u {t = t} s p w n =
     let held : length s.usages ≡ length l = sym (ap length w.usages) ∙ length-map l usage_of in
     room-full (length x) 2048 p (set_usages x) s (omega arith)
 
-pub usage-full : (u : Usage) {t : List ℕ} {e : TableFull} → Good t → 2048 ≤ held uses t → Acts Anyhow (λ _. add_usage u) t t (Err e)
-usage-full u g n =
-    record { good = g; made = λ r s p w a. absurd (cc); full = λ e r s p w a. usage-refused u s p w n }
+pub usage-full : (u : Usage) {t : List ℕ} {e : TableFull} → 2048 ≤ held uses t → Acts Anyhow (λ _. add_usage u) t t (Err e)
+usage-full u n =
+    record { made = λ r s p w a. absurd (cc); full = λ e r s p w a. usage-refused u s p w n }
 
 -- ---- An id is forgotten
 
@@ -93,7 +92,6 @@ pub forgotten : {t m t' x : List ℕ} {id : ℕ} → Good t → id_of id ≡ x �
 unfolding forget
 forgotten {t} {m} {t'} {x} {id} g n h d f =
     subst (λ (y : List ℕ). Turns (forget y) t t') n (record {
-      good = f.good;
       shows = λ s w.
           shows-imported (shows-usages w d.others
           (ap (map usage_of) d.now_rows

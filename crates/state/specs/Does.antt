@@ -22,7 +22,7 @@ use Rattle.extraction_rules.specs.State.{Record, Usage, State, Pass, first, seco
 use Rattle.extraction_rules.specs.First.{collect, force_source}
 use Rattle.extraction_rules.specs.Second.{usages_of}
 use Rattle.state.specs.Cells.{Kind, import_hint, namespace_hint, use_hint, tag_of, hint_in, named_in, source_in, row_hint, module_hint, top_cell}
-use Rattle.state.specs.Cells.{Env, records, table_of, held, pass_cell, own_cell, require_cell, Good, id_by, literal_by, Valued, namespaces_in, sources_in, Shows}
+use Rattle.state.specs.Cells.{Env, records, table_of, held, pass_cell, own_cell, require_cell, id_by, literal_by, Valued, namespaces_in, sources_in, Shows}
 use Rattle.state.specs.declared.Literal.{Literal}
 use Rattle.state.specs.declared.TableFull.{TableFull}
 
@@ -45,13 +45,11 @@ pub record Others (k : Kind) (t t' : List ℕ) : Type 0 where
 
 -- one table has other rows
 pub record Changes (k : Kind) (l : List Row) (t t' : List ℕ) : Type 0 where
-  pub good : Good t'
   pub now_rows : rows (table_of k) t' ≡ l
   pub others : Others k t t'
 
 -- hints alone changed
 pub record Aside (t t' : List ℕ) : Type 0 where
-  pub good : Good t'
   pub same_rows : (k : Kind) → rows (table_of k) t' ≡ rows (table_of k) t
   pub same_cells : CellsKept t t'
 
@@ -112,12 +110,10 @@ pub record Holds {A B : Type 0} (f : State → List A) (g : A → B) (i : ℕ) (
 
 -- each state that the array shows is changed by f
 pub record Turns (f : State → State) (t t' : List ℕ) : Type 0 where
-  pub good : Good t'
   pub shows : {x : Env} (s : State) → Shows x t s → Shows x t' (f s)
 
 -- what is set or stands at places is changed by f, and every state that the array shows stays
 pub record Resets (f : Env → Env) (t t' : List ℕ) : Type 0 where
-  pub good : Good t'
   pub shows : {x : Env} (s : State) → Shows x t s → Shows (f x) t' s
 
 -- a step was done, and the array shows its state
@@ -128,7 +124,6 @@ pub record Did (x : Env) (o : Outcome (Unit {0} × State)) (t : List ℕ) : Type
 
 -- where P holds, a rule with its place is followed, or refused with 8
 pub record Acts (P : Env → Type 0) (act : Env → ℕ → Act (Unit {0})) (t t' : List ℕ) (r : Result Unit TableFull) : Type 0 where
-  pub good : Good t'
   pub made : r ≡ Ok tt → {x : Env} (s : State) (p : ℕ) → Shows x t s → P x → Did x (act x p s) t'
   pub full : (e : TableFull) → r ≡ Err e → {x : Env} (s : State) (p : ℕ) → Shows x t s → P x → act x p s ≡ refused 8 p
 
@@ -190,7 +185,6 @@ pub record Gathered (y : Env) (x : List ℕ) (i : ℕ) (s : State) (t : List ℕ
   pub is : (fs : Fields) (p : ℕ) → collect (record { literal = x; specifiers = fs }) p s ≡ done (tt, set_collected (extend_at i fs list) s)
 
 pub record Collects (l : Literal) (t t' : List ℕ) (r : Result ℕ TableFull) : Type 0 where
-  pub good : Good t'
   pub below : (i : ℕ) → r ≡ Ok i → i < held records t'
   pub made : (i : ℕ) → r ≡ Ok i → {y : Env} (s : State) → Shows y t s → Valued y l → Gathered y (literal_by y l) i s t'
   pub full : (e : TableFull) → r ≡ Err e → {y : Env} (s : State) → Shows y t s → Valued y l → (fs : Fields) (p : ℕ) →
@@ -198,7 +192,6 @@ pub record Collects (l : Literal) (t t' : List ℕ) (r : Result ℕ TableFull) :
 
 -- the record at a place gets a 22 more
 pub record Extends (i : ℕ) (x : List ℕ) (t t' : List ℕ) : Type 0 where
-  pub good : Good t'
   pub kept : held records t' ≡ held records t
   pub shows : {y : Env} (s : State) (f : Field) → has 0x22 f ≡ true → fixed_of f ≡ x → namespaces_in s.collected < 3641 → Shows y t s →
       Shows y t' (set_collected (extend_at i (more f none) s.collected) s)
@@ -223,7 +216,6 @@ source_at t i = two ((get_or (rows (table_of records) t) i (0, 0)).0 / 429496729
 
 -- where a source is that of a collected record, it is forced
 pub record Forces (a : List ℕ) (t t' : List ℕ) : Type 0 where
-  pub good : Good t'
   pub shows : {x : Env} (s : State) → among a (sources_in s.collected) ≡ true → Shows x t s → Shows x t' (force_source a s)
 
 -- ---- Modules
@@ -236,7 +228,6 @@ pub record Gave {A : Type 0} (x : Env) (o : Outcome (A × State)) (a : A) (t : L
 
 -- a source is resolved by a rule with its place, or refused with 5
 pub record Resolves (act : Setting → ℕ → Act (Option ℕ)) (t t' : List ℕ) (r : Result (Option ModuleId) TooManyFiles) : Type 0 where
-  pub good : Good t'
   pub resolved : (m : Option ModuleId) → r ≡ Ok m → {x : Env} (s : State) (p : ℕ) → Shows x t s → Gave x (act x.setting p s) (mapped (λ n. n.0) m) t'
   pub full : (e : TooManyFiles) → r ≡ Err e → {x : Env} (s : State) (p : ℕ) → Shows x t s → act x.setting p s ≡ refused 5 p
 

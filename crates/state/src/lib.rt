@@ -1,9 +1,11 @@
 // What the walk keeps: its tables in one lent array, and the functions of which the rules are made. Callers see the rules' state alone.
 #![tactic(auto, using(crate::proofs::LiesLaws::lies))]
 
-ghost use Rattle.std.specs.Prelude.{◌≡◌, length};
+ghost use Rattle.std.specs.Prelude.{◌≡◌, length, replicate};
 ghost use Rattle.tables.specs.Rows.{rows, Lies};
+ghost use Rattle.state.specs.Cells.{cells as size, Good};
 ghost use Rattle.state.specs.Does.{HasRoom};
+ghost use Rattle.state.specs.OneGood.{good-one};
 
 pub mod ident; // ids and literals
 pub mod setting; // what a pass is set to, and the lent lists
@@ -104,15 +106,34 @@ pub struct Literal {
     pub place: u32,
 }
 
+// What the walk keeps, in one array: its tables lie there with their numbers inside their limits, and the hints hold.
+#[derive(Drop)]
+pub struct Tables {
+    cells: [u64; CELLS],
+    ghost good: { Good cells } by { good-one cells },
+}
+
+impl Tables {
+    // Tables without rows, for the first pass.
+    pub fn new() -> Tables
+        ensures { result.cells ≡ replicate size 0 }
+    {
+        let cells = [0; CELLS];
+        Tables { cells }
+    }
+}
+
 // A table has no room for one more row.
 #[derive(Clone, Copy, PartialEq, Eq)]
 pub struct TableFull;
 
-// How many rows a table holds, where one more has room.
-fn room_in(t: &[u64], b: Table) -> Result<usize, TableFull>
-    requires { Lies b t.now }
-    ensures { HasRoom b.room (length (rows b t.now)) result }
-{
-    let n = tables::count_of(t, b);
-    if n < b.room { Ok(n) } else { Err(TableFull) }
+impl Tables {
+    // How many rows a table holds, where one more has room.
+    fn room_in(&self, b: Table) -> Result<usize, TableFull>
+        requires { Lies b self.now.cells }
+        ensures { HasRoom b.room (length (rows b self.now.cells)) result }
+    {
+        let n = tables::count_of(&self.cells, b);
+        if n < b.room { Ok(n) } else { Err(TableFull) }
+    }
 }

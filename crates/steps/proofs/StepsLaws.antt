@@ -10,9 +10,9 @@ use Rattle.tree.specs.Tree.{field, Fields, encode, encodes}
 use Rattle.metadata.proofs.EncodeLaws.{framed-field}
 use Rattle.inputs.specs.Outcome.{Outcome, done, refused, onto}
 use Rattle.extraction_rules.specs.State.{State, Act}
-use Rattle.state.specs.Cells.{Env, Good, Shows}
+use Rattle.state.specs.Cells.{Env, Shows}
 use Rattle.state.specs.Does.{Turns, Did}
-use Rattle.steps.specs.declared.Refusal.{Refusal}
+use Rattle.steps.specs.Refusal.{Refusal}
 use Rattle.steps.specs.Step.{Step, Effect, Steps, Effects, Begun, Ended, with_parts, Made}
 use Rattle.steps.specs.Refusal.{refusal_of}
 
@@ -38,12 +38,11 @@ turned-as g h = refused-as g h
 -- ---- One step
 
 -- it is done, or refused
-module _ {A : Type 0} {bytes : A → List ℕ} {P : Env → State → Type 0} {act : Env → Act A} {t out : List ℕ} {o : ℕ} {t' out' : List ℕ} (g : Good t')
+module _ {A : Type 0} {bytes : A → List ℕ} {P : Env → State → Type 0} {act : Env → Act A} {t out : List ℕ} {o : ℕ} {t' out' : List ℕ}
     (z : length out' ≡ length out) where
   pub steps-done : {p : ℕ} → ((x : Env) (s : State) → Shows x t s → P x s → Made bytes x (act x s) out o t' out' p) → Steps bytes P act t out o t' out' (Ok p)
   steps-done h =
       record {
-        good = g;
         size = z;
         made = λ q e {x = x} s w c. subst (λ (j : ℕ). Made bytes x (act x s) out o t' out' j) (done-same e) (h x s w c);
         turned = λ e f s w c. done-refused refl f;
@@ -52,7 +51,7 @@ module _ {A : Type 0} {bytes : A → List ℕ} {P : Env → State → Type 0} {a
   pub steps-refused : {e : Refusal} → ((x : Env) (s : State) → Shows x t s → P x s → act x s ≡ refused (refusal_of e.why) e.place) →
       Steps bytes P act t out o t' out' (Err e)
   steps-refused h =
-      record { good = g; size = z; made = λ p f s w c. done-refused f refl; turned = λ f g {x = x} s w c. refused-as (h x s w c) g }
+      record { size = z; made = λ p f s w c. done-refused f refl; turned = λ f g {x = x} s w c. refused-as (h x s w c) g }
 
 -- by what its answer is
 pub steps-is : {A : Type 0} {bytes : A → List ℕ} {P : Env → State → Type 0} {act : Env → Act A} {t out t' out' : List ℕ} {o : ℕ} {j k : Step} →
@@ -60,17 +59,16 @@ pub steps-is : {A : Type 0} {bytes : A → List ℕ} {P : Env → State → Type
 steps-is {bytes = bytes} {P} {act} {t} {out} {t'} {out'} {o} m e = subst (Steps bytes P act t out o t' out') e m
 
 -- nothing is written, and nothing changes
-pub steps-give : {A : Type 0} (bytes : A → List ℕ) (P : Env → State → Type 0) (act : Env → Act A) (a : A) {t out : List ℕ} {o : ℕ} → Good t → bytes a ≡ [] →
+pub steps-give : {A : Type 0} (bytes : A → List ℕ) (P : Env → State → Type 0) (act : Env → Act A) (a : A) {t out : List ℕ} {o : ℕ} → bytes a ≡ [] →
     ((x : Env) (s : State) → P x s → act x s ≡ done (a, s)) → Steps bytes P act t out o t out (Ok o)
-steps-give bytes P act a g e h =
-    steps-done g refl (λ x s w c. record { value = a; state = s; is = h x s c; wrote = wrote-as wrote-none (sym e); shows = w })
+steps-give bytes P act a e h =
+    steps-done refl (λ x s w c. record { value = a; state = s; is = h x s c; wrote = wrote-as wrote-none (sym e); shows = w })
 
 -- another rule that does the same in every state that is shown
 pub steps-by : {A : Type 0} {bytes : A → List ℕ} {P Q : Env → State → Type 0} {act : Env → Act A} (rule : Env → Act A) {t out t' out' : List ℕ} {o : ℕ} {k : Step} →
     Steps bytes P act t out o t' out' k → ((x : Env) (s : State) → Shows x t s → Q x s → P x s × (rule x s ≡ act x s)) → Steps bytes Q rule t out o t' out' k
 steps-by rule m h =
     record {
-      good = m.good;
       size = m.size;
       made = λ p q {x = x} s w c.
           let z = h x s w c in
@@ -92,7 +90,6 @@ pub steps-map : {A B : Type 0} (b_a : A → List ℕ) (b_b : B → List ℕ) (h 
     Steps b_b R (λ x s. onto (m x s) (λ r. done (h r.0, r.1))) t out o t' out' k
 steps-map {A} {B} b_a b_b h R m before bytes =
     record {
-      good = m.good;
       size = m.size;
       made = λ p q {x = x} s w c.
           let d = m.made p q s w (before x s c) in
@@ -111,7 +108,6 @@ pub steps-changed : {A : Type 0} {bytes : A → List ℕ} {P : Env → State →
     Turns f t u → Steps bytes P act u out o t' out' k → ((x : Env) (s : State) → P x s → P x (f s)) → Steps bytes P (λ x s. act x (f s)) t out o t' out' k
 steps-changed f g m h =
     record {
-      good = m.good;
       size = m.size;
       made = λ p q {x = x} s w c.
           let d = m.made p q (f s) (g.shows s w) (h x s c) in
@@ -123,13 +119,13 @@ steps-changed f g m h =
 pub steps-write : {A : Type 0} (bytes : A → List ℕ) (P : Env → State → Type 0) (rule : Env → Act A) (a : A) (f : State → State) {t t' out out' : List ℕ} {o p : ℕ} →
     Turns f t t' → Wrote out o (bytes a) out' p → ((x : Env) (s : State) → Shows x t s → P x s → rule x s ≡ done (a, f s)) → Steps bytes P rule t out o t' out' (Ok p)
 steps-write bytes P rule a f g v h =
-    steps-done g.good v.size (λ x s w c. record { value = a; state = f s; is = h x s w c; wrote = v; shows = g.shows s w })
+    steps-done v.size (λ x s w c. record { value = a; state = f s; is = h x s w c; wrote = v; shows = g.shows s w })
 
 -- where nothing can stand
-pub steps-never : {A : Type 0} (bytes : A → List ℕ) (P : Env → State → Type 0) (act : Env → Act A) {t out : List ℕ} {o : ℕ} (k : Step) → Good t →
+pub steps-never : {A : Type 0} (bytes : A → List ℕ) (P : Env → State → Type 0) (act : Env → Act A) {t out : List ℕ} {o : ℕ} (k : Step) →
     ((x : Env) (s : State) → P x s → ⊥) → Steps bytes P act t out o t out k
-steps-never bytes P act k g h =
-    record { good = g; size = refl; made = λ p q {x = x} s w c. absurd (h x s c); turned = λ e q {x = x} s w c. absurd (h x s c) }
+steps-never bytes P act k h =
+    record { size = refl; made = λ p q {x = x} s w c. absurd (h x s c); turned = λ e q {x = x} s w c. absurd (h x s c) }
 
 -- ---- Two steps
 
@@ -145,7 +141,6 @@ module _ {A B C : Type 0} (b_a : A → List ℕ) (b_b : B → List ℕ) (b_c : C
       Steps b_c R (pair_of h m n) t out o t2 out2 k
   steps-pair {p = p} first {t2} {out2} {k} second a₀ before between =
       record {
-        good = (second a₀).good;
         size = (second a₀).size ∙ first.size;
         made = λ q e {x = x} s w c.
             let d = first.made p refl s w (before x s c) in
@@ -170,7 +165,7 @@ module _ {A B C : Type 0} (b_a : A → List ℕ) (b_b : B → List ℕ) (b_c : C
   pub steps-turned : {t1 out1 : List ℕ} {e : Refusal} → Steps b_a P m t out o t1 out1 (Err e) → ((x : Env) (s : State) → R x s → P x s) →
       Steps b_c R (pair_of h m n) t out o t1 out1 (Err e)
   steps-turned {e = e} first before =
-      steps-refused first.good first.size (λ x s w c.
+      steps-refused first.size (λ x s w c.
       ap (λ (z : Outcome (A × State)). onto z (λ a. onto (n a.0 x a.1) (λ b. done (h a.0 b.0, b.1)))) (first.turned e refl s w (before x s c)))
 
 -- ---- A field and its parts
@@ -186,7 +181,6 @@ pub steps-field : {P : Env → State → Type 0} {act : Env → Act Fields} {t t
 steps-field {out = out} {out3 = out3} {x} {o} {n} (Ok p) b m e =
     let k = e.done p refl in
     record {
-      good = m.good;
       size = e.size ∙ m.size ∙ b.fixed.size ∙ opened-size b.opened;
       made = λ q f s w c.
           let d = m.made p refl s w c in
@@ -204,7 +198,6 @@ steps-field {out = out} {out3 = out3} {x} {o} {n} (Ok p) b m e =
     }
 steps-field {x = x} {n = n} (Err v) b m e =
     record {
-      good = m.good;
       size = e.size ∙ m.size ∙ b.fixed.size ∙ opened-size b.opened;
       made = λ q f s w c. done-refused f (e.refused v refl);
       turned = λ u f s w c.
@@ -213,18 +206,18 @@ steps-field {x = x} {n = n} (Err v) b m e =
 
 -- ---- Steps that write nothing
 
-pub steps-did : {P : Env → State → Type 0} {act : Env → Act (Unit {0})} {t t' out : List ℕ} {o : ℕ} → Good t' → ((x : Env) (s : State) → Shows x t s → P x s →
+pub steps-did : {P : Env → State → Type 0} {act : Env → Act (Unit {0})} {t t' out : List ℕ} {o : ℕ} → ((x : Env) (s : State) → Shows x t s → P x s →
     Did x (act x s) t') →
     Steps (λ _. []) P act t out o t' out (Ok o)
-steps-did g h = steps-done g refl (λ x s w c. let d = h x s w c in record { value = tt; state = d.state; is = d.is; wrote = wrote-none; shows = d.shows })
+steps-did h = steps-done refl (λ x s w c. let d = h x s w c in record { value = tt; state = d.state; is = d.is; wrote = wrote-none; shows = d.shows })
 
 pub effects-fine : {P : Env → State → Type 0} {act : Env → Act (Unit {0})} {t t' out : List ℕ} {o : ℕ} {k : Effect} → Effects P act t t' k → k ≡ Ok tt →
     Steps (λ _. []) P act t out o t' out (Ok o)
-effects-fine m e = steps-did m.good (λ x s w c. m.fine e s w c)
+effects-fine m e = steps-did (λ x s w c. m.fine e s w c)
 
 pub effects-turned : {P : Env → State → Type 0} {act : Env → Act (Unit {0})} {t t' out : List ℕ} {o : ℕ} {e : Refusal} {k : Effect} → Effects P act t t' k → k ≡ Err e →
     Steps (λ _. []) P act t out o t' out (Err e)
-effects-turned {e = e} m f = steps-refused m.good refl (λ x s w c. m.turned e f s w c)
+effects-turned {e = e} m f = steps-refused refl (λ x s w c. m.turned e f s w c)
 
 -- a step, and then one that writes nothing
 abbrev pub then_of : {A : Type 0} → (Env → Act A) → (Env → Act (Unit {0})) → Env → Act A

@@ -13,9 +13,9 @@ use Rattle.scope.specs.declared.id.Id.{Id}
 use Rattle.extraction_rules.specs.State.{State, Act}
 use Rattle.extraction_rules.specs.First.{bindings}
 use Rattle.extraction_rules.proofs.AlikeLaws.{Regular, RegularAll}
-use Rattle.state.specs.Cells.{Env, Good, id_by, Shows}
+use Rattle.state.specs.Cells.{Env, id_by, Shows}
 use Rattle.state.specs.Does.{place_in, Did}
-use Rattle.steps.specs.declared.Refusal.{Refusal}
+use Rattle.steps.specs.Refusal.{Refusal}
 use Rattle.steps.specs.Refusal.{refusal_of}
 
 -- ---- What answers stand for
@@ -72,14 +72,12 @@ pub record Made {A : Type 0} (bytes : A → List ℕ) (x : Env) (m : Outcome (A 
 
 -- from every state that the array shows, where P holds, the step is done as the rules do it and its bytes are written, or it is refused
 pub record Steps {A : Type 0} (bytes : A → List ℕ) (P : Env → State → Type 0) (act : Env → Act A) (t out : List ℕ) (o : ℕ) (t' out' : List ℕ) (k : Step) : Type 0 where
-  pub good : Good t'
   pub size : length out' ≡ length out
   pub made : (p : ℕ) → k ≡ Ok p → {x : Env} (s : State) → Shows x t s → P x s → Made bytes x (act x s) out o t' out' p
   pub turned : (e : Refusal) → k ≡ Err e → {x : Env} (s : State) → Shows x t s → P x s → act x s ≡ refused (refusal_of e.why) e.place
 
 -- the same of a step that writes nothing
 pub record Effects (P : Env → State → Type 0) (act : Env → Act (Unit {0})) (t t' : List ℕ) (k : Effect) : Type 0 where
-  pub good : Good t'
   pub fine : k ≡ Ok tt → {x : Env} (s : State) → Shows x t s → P x s → Did x (act x s) t'
   pub turned : (e : Refusal) → k ≡ Err e → {x : Env} (s : State) → Shows x t s → P x s → act x s ≡ refused (refusal_of e.why) e.place
 

@@ -5,6 +5,9 @@ ghost use Rattle.std.specs.Prelude.{◌+◌, ◌≤◌, length, get_or};
 ghost use Rattle.std.proofs.Math.Seq.{slice};
 ghost use Rattle.steps.specs.Step.{Begun, Ended};
 
+use tree::refused::Refused;
+use tree::row::Part;
+
 // Why the walk turns back.
 #[derive(Clone, Copy, PartialEq, Eq)]
 pub enum Why {
@@ -19,11 +22,7 @@ pub enum Why {
 }
 
 // Why the walk turns back, and at which field.
-#[derive(Clone, Copy, PartialEq, Eq)]
-pub struct Refusal {
-    pub why: Why,
-    pub place: usize,
-}
+pub type Refusal = Refused<Why>;
 
 // The position behind what was written.
 pub type Step = Result<usize, Refusal>;
@@ -31,13 +30,13 @@ pub type Step = Result<usize, Refusal>;
 // What a rule says that writes nothing.
 pub type Effect = Result<(), Refusal>;
 
-// Starts the field that is read at `at` and whose parts start at `from`: its head, and its fixed bytes. Answers where its parts go.
-pub fn begin_field(s: &[u8], at: usize, from: usize, out: &mut [u8], o: usize) -> usize
-    requires { (at + 3 ≤ from) × (from ≤ length s.now) }
-    ensures { Begun out.old o (get_or s.now at 0) (slice (at + 3) from s.now) out.new result }
+// Starts a field whose parts start at `from`: its head, and its fixed bytes. Answers where its parts go.
+pub fn begin_field(part: &Part, from: usize, out: &mut [u8], o: usize) -> usize
+    requires { (part.now.at + 3 ≤ from) × (from ≤ length part.now.bytes.now) }
+    ensures { Begun out.old o (get_or part.now.bytes.now part.now.at 0) (slice (part.now.at + 3) from part.now.bytes.now) out.new result }
 {
-    let content = writer::open_field(out, o, s[at]);
-    writer::copy(out, content, s, at + 3, from)
+    let content = writer::open_field(out, o, part.tag());
+    writer::copy(out, content, part.bytes, part.at + 3, from)
 }
 
 // Fills in the length of the field at o, once its parts are written.

@@ -8,6 +8,7 @@ pub mod FixedLaws
 pub mod LayoutLaws
 pub mod TreeLaws
 pub mod AccessLaws
+pub mod PartLaws
 pub mod ReadLaws
 pub mod StandingLaws
 pub mod SoundLaws

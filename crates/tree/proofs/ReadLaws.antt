@@ -15,7 +15,7 @@ use Rattle.tree.specs.declared.read.Why.{Why}
 use Rattle.tree.specs.declared.read.Why.TheVariants.{Cut, Lacking, Deep}
 use Rattle.tree.specs.declared.read.Head.{Head}
 use Rattle.tree.specs.declared.read.Head.TheVariants.{Done, Missing, Bad, Child}
-use Rattle.tree.specs.declared.read.Unread.{Unread}
+use Rattle.tree.specs.Read.{Unread}
 use Rattle.tree.specs.Layout.{skip_at}
 use Rattle.tree.specs.Tree.{field, Fields, more}
 use Rattle.tree.specs.Grammar.{rule_of, step_at, done_at}

@@ -1,4 +1,4 @@
--- Fixed bytes by their width. The packed widths are those of the grammar: this is computed for each of the 256 tags. Below 9 no piece has a
+-- Fixed bytes by their width. The widths in the table are those of the grammar: this is computed for each of the 256 tags. Below 9 no piece has a
 -- kind byte, and skipping two values is skipping the sum of their widths. A 75 has a spread byte alone.
 use Rattle.std.specs.Prelude.{Option, Some, None}
 use Prim.Native.Nat.{ℕ, zero, suc, ◌+◌, ◌-◌, ◌≤◌, ◌<◌}
@@ -16,20 +16,21 @@ use Rattle.tree.specs.declared.grammar.Piece.TheVariants.{Plain, Source, Origina
 use Rattle.tree.specs.Layout.{skip_at}
 use Rattle.tree.specs.Grammar.{pieces_of}
 use Rattle.tree.specs.Access.{value_at, kinds, choice_of, on_choice, kind_at, piece_at, then_piece, fixed_at}
-use Rattle.tree.specs.Width.{value_width, piece_width, width_at, packed_width_at}
+use Rattle.tree.specs.Width.{value_width, piece_width, width_at}
+use Rattle.tree.specs.declared.access.TheConstants.{WIDTHS}
 use Rattle.tree.proofs.Table.{all_below, below}
 use Rattle.tree.proofs.WidthLaws.{value-skips}
 
 width_agrees : ℕ → Bool
-width_agrees t = eqb (packed_width_at t) (width_at t)
+width_agrees t = eqb (get_or WIDTHS t 0) (width_at t)
 
 all-widths : all_below width_agrees 256 ≡ true
 unfolding width_agrees width_at pieces_of
 all-widths = refl
 
-pub width-is : (t : ℕ) → t < 256 → packed_width_at t ≡ width_at t
+pub width-is : (t : ℕ) → t < 256 → get_or WIDTHS t 0 ≡ width_at t
 unfolding width_agrees
-width-is t h = eqb-true (packed_width_at t) (width_at t) (below width_agrees 256 all-widths t h)
+width-is t h = eqb-true (get_or WIDTHS t 0) (width_at t) (below width_agrees 256 all-widths t h)
 
 module _ (s : List ℕ) (at stop : ℕ) (inside : at ≤ stop) where
   -- a bytes and b more are a + b

@@ -9,4 +9,5 @@ pub mod PackedPieces
 pub mod Read
 pub mod Standing
 pub mod Within
+pub mod Rows
 pub mod Example

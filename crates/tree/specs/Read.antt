@@ -8,7 +8,7 @@ use Rattle.tree.specs.declared.read.Why.{Why}
 use Rattle.tree.specs.declared.read.Why.TheVariants.{Misplaced, Cut, Lacking, Deep}
 use Rattle.tree.specs.declared.read.Head.{Head}
 use Rattle.tree.specs.declared.read.Head.TheVariants.{Done, Missing, Bad, Child}
-use Rattle.tree.specs.declared.read.Unread.{Unread}
+use Rattle.tree.specs.declared.refused.Refused.{Refused}
 use Rattle.tree.specs.Tree.{Field, field, Fields, none, more}
 use Rattle.tree.specs.Grammar.{parts1, rule_of, step_at, done_at}
 use Rattle.tree.specs.Access.{fixed_at, extent_at}
@@ -17,6 +17,10 @@ use Rattle.tree.specs.Access.{fixed_at, extent_at}
 pub data Reading (A : Type 0) : Type 0 where
   fine : A → Reading A
   refused : Why → ℕ → Reading A
+
+-- why not, and the offset
+abbrev pub Unread : Type 0
+Unread = Refused Why
 
 -- the refusal's number: 'field off the grammar' is 3, 'depth over 64' is 4
 abbrev pub refusal_of : Why → ℕ

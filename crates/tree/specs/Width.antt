@@ -1,6 +1,6 @@
--- How many fixed bytes a tag has, where no kind byte chooses; and these widths packed into numbers, as the code has them. A model of the
--- table in the code: `read` does not reach it, and TagWidthLaws shows that it says what Grammar says.
-use Rattle.std.specs.Prelude.{ℕ, ◌+◌, cond, ltb, List, [], ◌∷◌}
+-- How many fixed bytes a tag has, where no kind byte chooses. A model of the table in the code: `read` does not reach it, and TagWidthLaws
+-- shows that the table says what Grammar says.
+use Rattle.std.specs.Prelude.{ℕ, ◌+◌, cond, ltb}
 use Rattle.tree.specs.declared.grammar.Value.{Value}
 use Rattle.tree.specs.declared.grammar.Value.TheVariants.{Empty, Byte, Atom, Id, Literal, Number}
 use Rattle.tree.specs.declared.grammar.Piece.{Piece}
@@ -8,7 +8,6 @@ use Rattle.tree.specs.declared.grammar.Piece.TheVariants.{Plain, Source, Origina
 use Rattle.tree.specs.declared.grammar.Pieces.{Pieces}
 use Rattle.tree.specs.Layout.{literal_width}
 use Rattle.tree.specs.Grammar.{pieces_of}
-use Rattle.tree.specs.Runs.{Run, nibble_at}
 
 -- how many bytes a value takes
 abbrev pub value_width : Value → ℕ
@@ -35,19 +34,3 @@ pieces_width ps =
 
 unfoldable pub width_at : ℕ → ℕ
 width_at t = pieces_width (pieces_of t)
-
--- the same packed: a number for sixteen tags, four bits for each
-abbrev pub width_rows : List Run
-width_rows =
-    (1, 1, 0x696) ∷
-    (2, 2, 0x69669) ∷
-    (3, 3, 0x9) ∷
-    (4, 4, 0x6000) ∷
-    (5, 5, 0x62006) ∷
-    (6, 6, 0x10100000000866) ∷
-    (7, 7, 0x260900202) ∷
-    (8, 8, 0x2666) ∷
-    []
-
-abbrev pub packed_width_at : ℕ → ℕ
-packed_width_at t = nibble_at width_rows t

@@ -1,10 +1,9 @@
 // Where a field ends, and where its fixed bytes end: what every walk over the bytes goes by.
 ghost use Rattle.std.specs.Prelude.{◌≡◌, ◌+◌, ◌≤◌, ◌<◌, length};
-ghost use Rattle.tree.specs.Runs.{Answers};
-ghost use Rattle.tree.specs.Width.{value_width, width_at, width_rows};
+ghost use Rattle.tree.specs.Width.{value_width, width_at};
 ghost use Rattle.tree.specs.Access.{value_at, choice_of, kind_at, key_at, piece_at, fixed_at, extent_at};
 
-use crate::grammar::{Piece, Value, nibble_of, pieces_of};
+use crate::grammar::{Piece, Value, pieces_of};
 use crate::layout::{ATOM, ID, LITERAL, skip};
 
 // How many bytes a value takes.
@@ -103,27 +102,30 @@ fn piece_end(s: &[u8], p: Piece, at: usize, stop: usize) -> Option<usize>
     }
 }
 
-// How many fixed bytes each of sixteen tags has, four bits for a tag, the first one lowest; 9 where a kind byte chooses.
-fn widths(row: u8) -> u64
-    ensures { Answers width_rows row result }
-{
-    match row {
-        1 => 0x696,
-        2 => 0x69669,
-        3 => 0x9,
-        4 => 0x6000,
-        5 => 0x62006,
-        6 => 0x10100000000866,
-        7 => 0x260900202,
-        8 => 0x2666,
-        _ => 0,
-    }
-}
+// How many fixed bytes each tag has; 9 where a kind byte chooses.
+const WIDTHS: [u8; 256] = [
+    0, 0, 0, 0, 0, 0, 0, 0, 0, 0, 0, 0, 0, 0, 0, 0, // 00 to 0F
+    6, 9, 6, 0, 0, 0, 0, 0, 0, 0, 0, 0, 0, 0, 0, 0, // 10 to 1F
+    9, 6, 6, 9, 6, 0, 0, 0, 0, 0, 0, 0, 0, 0, 0, 0, // 20 to 2F
+    9, 0, 0, 0, 0, 0, 0, 0, 0, 0, 0, 0, 0, 0, 0, 0, // 30 to 3F
+    0, 0, 0, 6, 0, 0, 0, 0, 0, 0, 0, 0, 0, 0, 0, 0, // 40 to 4F
+    6, 0, 0, 2, 6, 0, 0, 0, 0, 0, 0, 0, 0, 0, 0, 0, // 50 to 5F
+    6, 6, 8, 0, 0, 0, 0, 0, 0, 0, 0, 1, 0, 1, 0, 0, // 60 to 6F
+    2, 0, 2, 0, 0, 9, 0, 6, 2, 0, 0, 0, 0, 0, 0, 0, // 70 to 7F
+    6, 6, 6, 2, 0, 0, 0, 0, 0, 0, 0, 0, 0, 0, 0, 0, // 80 to 8F
+    0, 0, 0, 0, 0, 0, 0, 0, 0, 0, 0, 0, 0, 0, 0, 0, // 90 to 9F
+    0, 0, 0, 0, 0, 0, 0, 0, 0, 0, 0, 0, 0, 0, 0, 0, // A0 to AF
+    0, 0, 0, 0, 0, 0, 0, 0, 0, 0, 0, 0, 0, 0, 0, 0, // B0 to BF
+    0, 0, 0, 0, 0, 0, 0, 0, 0, 0, 0, 0, 0, 0, 0, 0, // C0 to CF
+    0, 0, 0, 0, 0, 0, 0, 0, 0, 0, 0, 0, 0, 0, 0, 0, // D0 to DF
+    0, 0, 0, 0, 0, 0, 0, 0, 0, 0, 0, 0, 0, 0, 0, 0, // E0 to EF
+    0, 0, 0, 0, 0, 0, 0, 0, 0, 0, 0, 0, 0, 0, 0, 0, // F0 to FF
+];
 
 fn width_of(tag: u8) -> usize
     ensures { result ≡ width_at tag }
 {
-    usize::from(nibble_of(widths(tag / 16), tag))
+    usize::from(WIDTHS[usize::from(tag)])
 }
 
 // Where the spread byte at `at` of a 75 ends.

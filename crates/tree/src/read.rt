@@ -5,6 +5,7 @@ ghost use Rattle.tree.specs.Packed.{unpack_rule, unpack_head};
 
 use crate::access::{extent, fixed};
 use crate::grammar::{Rule, Set, done, root_rule, rule_of, step_by};
+use crate::refused::Refused;
 
 // Why bytes are no tree.
 #[derive(Clone, Copy, PartialEq, Eq)]
@@ -20,11 +21,7 @@ pub enum Why {
 }
 
 // Why bytes are no tree, and at which offset.
-#[derive(Clone, Copy, PartialEq, Eq)]
-pub struct Unread {
-    pub why: Why,
-    pub place: usize,
-}
+pub type Unread = Refused<Why>;
 
 // What stands at a place in a row of parts.
 #[derive(Clone, Copy, PartialEq, Eq)]

@@ -24,7 +24,7 @@ ghost use Rattle.tychodrel.specs.Calls.{extract_call, resolve_call, Tells, Leave
 use answers::{encoded_answer, extract_answer, pack, resolve_answer, unread_answer};
 use counts::report_bytes;
 use detection::{DetectError, is_es6};
-use extraction::extract_import_info;
+use extraction::{Lent, extract_import_info};
 use listing::scope_bytes;
 use metadata::ExportMetadata;
 use modes::modes_of;
@@ -158,9 +158,11 @@ pub fn tychodrel_extract(
             entry,
             FileName(file),
             modes,
-            externals,
-            table,
-            tree,
+            &Lent {
+                externals,
+                table,
+                tree,
+            },
             scope,
             report,
             work,
@@ -181,9 +183,7 @@ fn extract_in(
     entry: Scope,
     file: FileName,
     modes: u32,
-    externals: &[u8],
-    table: &[u8],
-    tree: &[u8],
+    lent: &Lent,
     scope: &mut [u8; 770],
     report: &mut [u8; 32],
     work: &mut [u8],
@@ -191,21 +191,11 @@ fn extract_in(
     records: &mut [u8],
 ) -> u64
     ensures { Leaves
-        (extraction (lent_as file.0 (modes_of modes) externals.now table.now tree.now)
+        (extraction (lent_as file.0 (modes_of modes) lent.now.externals.now lent.now.table.now lent.now.tree.now)
         (room_in work.old out.old records.old) (modules_of entry)) result scope.new report.new work.new
         out.new records.new }
 {
-    let r = extract_import_info(
-        entry,
-        file,
-        modes_of(modes),
-        externals,
-        table,
-        tree,
-        work,
-        out,
-        records,
-    );
+    let r = extract_import_info(entry, file, modes_of(modes), lent, work, out, records);
     *scope = scope_bytes(r.scope);
     *report = report_bytes(r.report);
     extract_answer(r.answer)

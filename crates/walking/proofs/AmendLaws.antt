@@ -18,7 +18,7 @@ use Rattle.state.specs.declared.Literal.{Literal}
 use Rattle.state.proofs.NamespaceLaws.{extend-none}
 use Rattle.state.specs.declared.TableFull.{TableFull}
 use Rattle.expressions.specs.Require.{called, Requires, CalleeSet}
-use Rattle.steps.specs.declared.Refusal.{Refusal}
+use Rattle.steps.specs.Refusal.{Refusal}
 use Rattle.steps.specs.declared.Why.TheVariants.{TooManyFiles as too-many, TableFull as no-room}
 use Rattle.steps.specs.Refusal.{refusal}
 use Rattle.steps.specs.Step.{Step, Effect, Steps}
@@ -32,11 +32,11 @@ module _ (l : Literal) (at place : ℕ) (out : List ℕ) {t t' : List ℕ} {r : 
     (m : Acts Anyhow (λ x. add_lazy (record { literal = literal_by x l; specifiers = x.bound place })) t t' r) where
   pub lazy-made : {p : ℕ} → r ≡ Ok tt →
       Steps (λ _. []) (λ x u. Unit {0}) (λ x. add_lazy (record { literal = literal_by x l; specifiers = x.bound place }) at) t out p t' out (Ok p)
-  lazy-made e = steps-did m.good (λ x s w c. m.made e s at w tt)
+  lazy-made e = steps-did (λ x s w c. m.made e s at w tt)
 
   pub lazy-full : {p : ℕ} {e : TableFull} → r ≡ Err e →
       Steps (λ _. []) (λ x u. Unit {0}) (λ x. add_lazy (record { literal = literal_by x l; specifiers = x.bound place }) at) t out p t' out (Err (refusal no-room at))
-  lazy-full {e = e} h = steps-refused m.good refl (λ x s w c. m.full e h s at w tt)
+  lazy-full {e = e} h = steps-refused refl (λ x s w c. m.full e h s at w tt)
 
 -- what binds nothing, and is a literal by its value
 abbrev pub Bare : Literal → Env → Type 0
@@ -62,7 +62,7 @@ module _ (l : Literal) (at : ℕ) (out : List ℕ) {t : List ℕ} {b : Bool} (d 
   pub record-collected : {t' : List ℕ} {p i : ℕ} {r : Result ℕ TableFull} → b ≡ true → Collects l t t' r → r ≡ Ok i →
       Steps (λ _. []) (λ x u. Bare l x) (λ x. recorded (literal_by x l) at) t out p t' out (Ok p)
   record-collected {i = i} e m h =
-      steps-did m.good (λ x s w c.
+      steps-did (λ x s w c.
       let g = m.made i h s w c.1 in
       record {
         state = set_collected g.list s;
@@ -72,7 +72,7 @@ module _ (l : Literal) (at : ℕ) (out : List ℕ) {t : List ℕ} {b : Bool} (d 
 
   pub record-full : {t' : List ℕ} {p : ℕ} {r : Result ℕ TableFull} {y : TableFull} → b ≡ true → Collects l t t' r → r ≡ Err y →
       Steps (λ _. []) (λ x u. Bare l x) (λ x. recorded (literal_by x l) at) t out p t' out (Err (refusal no-room at))
-  record-full {y = y} e m h = steps-refused m.good refl (λ x s w c. recorded-as (literal_by x l) true e s w ∙ m.full y h s w c.1 none at)
+  record-full {y = y} e m h = steps-refused refl (λ x s w c. recorded-as (literal_by x l) true e s w ∙ m.full y h s w c.1 none at)
 
 -- ---- A module is marked, and the callee set
 
@@ -80,7 +80,6 @@ module _ (l : Literal) (at : ℕ) {t t1 : List ℕ} {r : Result (Option ModuleId
   pub marks-found : {n : ModuleId} {out out1 : List ℕ} {o : ℕ} → r ≡ Ok (Some n) → CalleeSet n.0 o out out1 → Marks l at o t out t1 out1 (Ok tt)
   marks-found {n} {out} {out1} {o} c y =
       record {
-        good = m.good;
         size = y.size;
         marked = λ _. record {
           found = Some n;
@@ -96,7 +95,6 @@ module _ (l : Literal) (at : ℕ) {t t1 : List ℕ} {r : Result (Option ModuleId
   pub marks-none : {out : List ℕ} {o : ℕ} → r ≡ Ok None → Marks l at o t out t1 out (Ok tt)
   marks-none c =
       record {
-        good = m.good;
         size = refl;
         marked = λ _. record { found = None; gave = λ {x} f s w h. m.marked None c f at s w h; writes = λ {i} {p} f bs b wrote. wrote };
         turned = λ e k f s w h. fine-turned k;
@@ -104,7 +102,7 @@ module _ (l : Literal) (at : ℕ) {t t1 : List ℕ} {r : Result (Option ModuleId
 
   pub marks-full : {e : TooManyFiles} {out : List ℕ} {o : ℕ} → r ≡ Err e → Marks l at o t out t1 out (Err (refusal too-many at))
   marks-full {e} c =
-      record { good = m.good; size = refl; marked = λ k. fine-turned (sym k); turned = λ y k f s w h. turned-as (m.full e c f at s w h) k }
+      record { size = refl; marked = λ k. fine-turned (sym k); turned = λ y k f s w h. turned-as (m.full e c f at s w h) k }
 
 -- ---- And then a rule that writes nothing follows
 
@@ -121,7 +119,6 @@ module _ (l : Literal) (at : ℕ) (rule : Env → Field → Act Field) (act : En
     amends-then e n =
         let z = m.marked e in
         record {
-          good = n.good;
           size = m.size;
           made = λ q c {x = x} s w h i f bs b wrote.
               let a = z.gave f s w (valued x h) in
@@ -142,7 +139,6 @@ module _ (l : Literal) (at : ℕ) (rule : Env → Field → Act Field) (act : En
     amends-turned : {p : ℕ} {e : Refusal} → j ≡ Err e → Amends P rule o p t out t1 out1 (Err e)
     amends-turned {e = e} c =
         record {
-          good = m.good;
           size = m.size;
           made = λ q k s w h i f bs b wrote. done-refused k refl;
           turned = λ y k {x = x} s w h f.

@@ -23,7 +23,7 @@ use Rattle.state.specs.declared.Literal.{Literal}
 use Rattle.expressions.specs.After.{required_after}
 use Rattle.expressions.specs.Require.{SourceIs, RequiredIs}
 use Rattle.expressions.proofs.RequiredLaws.{parts-required}
-use Rattle.steps.specs.declared.Refusal.{Refusal}
+use Rattle.steps.specs.Refusal.{Refusal}
 use Rattle.steps.specs.Step.{Reads, Sound, SoundAll, Step}
 use Rattle.steps.proofs.SoundLaws.{sound-parts}
 use Rattle.steps.proofs.StepsLaws.{done-refused, steps-by}
@@ -131,7 +131,6 @@ module _ (object : Bool) (s : List ℕ) (bytes : Bytes s) (at stop : ℕ) (h : a
         FieldSteps s at stop (λ y. walk (tree_at s at stop) y.setting object at) t out o t' out' (Err v)
     call-turned m =
         record {
-          good = m.good;
           size = m.size;
           made = λ p z u w k. done-refused z refl;
           turned = λ j z {x = y} u w k.
@@ -145,7 +144,6 @@ module _ (object : Bool) (s : List ℕ) (bytes : Bytes s) (at stop : ℕ) (h : a
         FieldSteps s at stop (λ y. walk (tree_at s at stop) y.setting object at) t out o t2 out2 k
     call-required n {out} {t1} {out1} {o = o} {p} told e m a =
         record {
-          good = a.good;
           size = a.size ∙ m.size;
           made = λ i z {x = y} u w k.
               let d = m.made p refl u w k in

@@ -16,7 +16,6 @@ use Rattle.tree.specs.Tree.{Field, field, Fields, none, more, tag_of, fixed_of, 
 use Rattle.tree.specs.Access.{fixed_at, extent_at}
 use Rattle.tree.specs.Standing.{tree_at, row_at}
 use Rattle.tree.proofs.AccessLaws.{extent-upto}
-use Rattle.tree.proofs.FixedLaws.{upto-inj}
 use Rattle.tree.proofs.StandingLaws.{row-more, row-none, tree-upto, tree-short}
 use Rattle.tree.proofs.WidthLaws.{tree-bare}
 use Rattle.tree.proofs.TreeLaws.{encodes-none, encodes-more}
@@ -31,13 +30,13 @@ use Rattle.extraction_rules.proofs.ValueLaws.{after-any, first-expression}
 use Rattle.extraction_rules.proofs.ExactLaws.{id-width}
 use Rattle.extraction_rules.proofs.AlikeLaws.{Regular}
 use Rattle.extraction_rules.proofs.ShapeLaws.{Shaped, ShapedAll}
-use Rattle.state.specs.Cells.{Env, Good, literal_by}
+use Rattle.state.specs.Cells.{Env, literal_by}
 use Rattle.state.specs.declared.Literal.{Literal}
 use Rattle.expressions.specs.After.{required_after}
 use Rattle.expressions.specs.Require.{RequiredIs}
 use Rattle.expressions.proofs.RequiredLaws.{none-after, walk-required}
 use Rattle.expressions.proofs.BindingLaws.{walk-binds}
-use Rattle.steps.specs.declared.Refusal.{Refusal}
+use Rattle.steps.specs.Refusal.{Refusal}
 use Rattle.steps.specs.Step.{Reads, SoundAll, Step, Steps}
 use Rattle.steps.proofs.SoundLaws.{read-size, read-inside, sound_all-first, sound_all-rest}
 use Rattle.steps.proofs.StepsLaws.{done-refused, steps-by, steps-as, steps-give, steps-map, pair_of, steps-pair, steps-turned}
@@ -107,11 +106,11 @@ call-bare s at stop h k = go (fixed_at s (get_or s at 0) (at + 3) stop) refl
     go (Some b) z = ap fixed_of (tree-bare 0x65 refl s at stop h (ap tag_of (sym (tree-upto s at stop b z)) ∙ k))
 
 module _ (object : Bool) (s : List ℕ) (bytes : Bytes s) (at end p pattern : ℕ) (le : at ≤ end) (q : Field) where
-  pub behind-over : {t out : List ℕ} {o : ℕ} → extent_at s at end ≡ None → Good t →
+  pub behind-over : {t out : List ℕ} {o : ℕ} → extent_at s at end ≡ None →
       Steps encodes (Behind s at end pattern q) (λ y. behind y.setting object s at end p q) t out o t out (Ok o)
   unfolding initialised encode
-  behind-over x g =
-      steps-give encodes _ (λ y. behind y.setting object s at end p q) none g refl
+  behind-over x =
+      steps-give encodes _ (λ y. behind y.setting object s at end p q) none refl
       (λ y u w. ap (λ (fs : Fields). onto (walk_all fs y.setting object at u) (λ b. initialised y.setting q b.0 p b.1)) (row-none s at end le x)
       ∙ ap (λ (m : Outcome (Fields × State)). onto m (λ b. initialised y.setting q b.0 p b.1)) (all-none object y.setting at u))
 
@@ -175,7 +174,6 @@ module _ (object : Bool) (s : List ℕ) (bytes : Bytes s) (at end p pattern : �
         Steps encodes (Behind s at end pattern q) (λ y. behind y.setting object s at end p q) t out o t' out' (Err v)
     behind-turned m =
         record {
-          good = m.good;
           size = m.size;
           made = λ i z u w k. done-refused z refl;
           turned = λ j z {x = y} u w k.
@@ -189,7 +187,6 @@ module _ (object : Bool) (s : List ℕ) (bytes : Bytes s) (at end p pattern : �
         Steps encodes (Behind s at end pattern q) (λ y. behind y.setting object s at end p q) t out o t2 out2 k
     behind-required n {t} {out} {t1} {out1} {o = o} {r} told c m a =
         record {
-          good = a.good;
           size = a.size ∙ m.size;
           made = λ i z {x = y} u w k.
               let d = (sole-row m).made r refl u w (k.0, k.1, k.3) in
@@ -223,13 +220,6 @@ module _ (object : Bool) (s : List ℕ) (bytes : Bytes s) (at end p pattern : �
             ∙ ap (λ (fs : Fields). initialised y.setting q fs p v) z ∙ initialised-more y.setting q i rest p v
             ∙ ap (λ (o : Option (List ℕ)). onto (require_lazily o y.setting q i p v) (λ j. done (more j.0 rest, j.1))) l
 
--- where the pattern ends
-pub behind-from : (object : Bool) (s : List ℕ) (at stop p pattern : ℕ) {from : ℕ} → extent_at s at stop ≡ Some from → {t out t' out' : List ℕ} {o : ℕ} {k : Step} →
-    ((q : Field) → Steps encodes (Behind s from stop pattern q) (λ y. behind y.setting object s from stop p q) t out o t' out' k) →
-    (q : Field) (f : ℕ) → extent_at s at stop ≡ Some f → Steps encodes (Behind s f stop pattern q) (λ y. behind y.setting object s f stop p q) t out o t' out' k
-behind-from object s at stop p pattern x {t} {out} {t'} {out'} {o} {k} m q f z =
-    subst (λ (n : ℕ). Steps encodes (Behind s n stop pattern q) (λ y. behind y.setting object s n stop p q) t out o t' out' k) (upto-inj (sym x ∙ z)) (m q)
-
 -- ---- The pattern, and what stands behind it
 
 declarator-more : (e : Setting) (q : Field) (ds : Fields) (p : ℕ) (u : State) → declarator e (more q ds) p u ≡ onto (initialised e q ds p u) (λ b. done (more q b.0, b.1))
@@ -244,11 +234,11 @@ declarator-more e q (more i rest) p u = go (require_lazily (required e i) e q i 
     go (refused n k) = refl
 
 module _ (object : Bool) (s : List ℕ) (bytes : Bytes s) (at end p : ℕ) (le : at ≤ end) where
-  pub declared-over : {t out : List ℕ} {o : ℕ} → extent_at s at end ≡ None → Good t → Steps encodes (λ y u. Declares s at end y)
+  pub declared-over : {t out : List ℕ} {o : ℕ} → extent_at s at end ≡ None → Steps encodes (λ y u. Declares s at end y)
       (λ y. declared y.setting object s at end p) t out o t out (Ok o)
   unfolding declarator encode
-  declared-over x g =
-      steps-give encodes _ (λ y. declared y.setting object s at end p) none g refl
+  declared-over x =
+      steps-give encodes _ (λ y. declared y.setting object s at end p) none refl
       (λ y u w. ap (λ (fs : Fields). onto (walk_all fs y.setting object at u) (λ b. declarator y.setting b.0 p b.1)) (row-none s at end le x)
       ∙ ap (λ (m : Outcome (Fields × State)). onto m (λ b. declarator y.setting b.0 p b.1)) (all-none object y.setting at u))
 

@@ -24,10 +24,10 @@ use Rattle.extraction_rules.specs.First.{force_id, on_ident, usage}
 use Rattle.extraction_rules.specs.Walk.{after_expression, walk, walk_member, walk_target}
 use Rattle.extraction_rules.proofs.OutcomeLaws.{After}
 use Rattle.extraction_rules.proofs.AlikeLaws.{Regular}
-use Rattle.state.specs.Cells.{Env, Good, id_by, Shows}
+use Rattle.state.specs.Cells.{Env, id_by, Shows}
 use Rattle.state.specs.Does.{is_second, Turns, Tells, Says}
 use Rattle.expressions.specs.After.{ident_after}
-use Rattle.steps.specs.declared.Refusal.{Refusal}
+use Rattle.steps.specs.Refusal.{Refusal}
 use Rattle.steps.specs.Step.{Reads, Sound, Step, Steps}
 use Rattle.steps.proofs.SoundLaws.{read-short, read-inside}
 use Rattle.steps.proofs.StepsLaws.{steps-done, steps-never, steps-by, steps-write, then_of, steps-then, steps-then-turned}
@@ -77,7 +77,7 @@ pub ident-written : (s : List ℕ) (at stop : ℕ) (object : Bool) (id : Id) {t 
     FieldSteps s at stop (λ y. walk (tree_at s at stop) y.setting object at) t out o t' out' (Ok p)
 ident-written s at stop object id q h i g v =
     let x = plain-upto 0x60 id-value refl s (get_or s at 0) (at + 3) stop q (omega arith) in
-    steps-done g.good v.size (λ y u w k. record {
+    steps-done v.size (λ y u w k. record {
       value = field 0x60 (id_by id) none;
       state = forced_by y.setting.pass object (id_by id) u;
       is = ident-walk s at (at + 3 + 6) stop x q y.setting y.setting.pass object id u refl i k.0 ∙ ident-by y.setting.pass y.setting (id_by id) object at u;
@@ -86,9 +86,9 @@ ident-written s at stop object id q h i g v =
     })
 
 -- one that is too short was not read
-pub ident-short : (s : List ℕ) (at stop : ℕ) (act : Env → Act Field) {t out : List ℕ} {o : ℕ} (k : Step) → get_or s at 0 ≡ 0x60 → stop < at + 9 → Good t →
+pub ident-short : (s : List ℕ) (at stop : ℕ) (act : Env → Act Field) {t out : List ℕ} {o : ℕ} (k : Step) → get_or s at 0 ≡ 0x60 → stop < at + 9 →
     FieldSteps s at stop act t out o t out k
-ident-short s at stop act k q h g = steps-never encode _ act k g (λ y u w. go w.0 (fixed_at s (get_or s at 0) (at + 3) stop) refl)
+ident-short s at stop act k q h = steps-never encode _ act k (λ y u w. go w.0 (fixed_at s (get_or s at 0) (at + 3) stop) refl)
   where
     go : Sound s at stop → (r : Option ℕ) → fixed_at s (get_or s at 0) (at + 3) stop ≡ r → ⊥
     go w None e = read-short w.read e
@@ -99,23 +99,22 @@ ident-short s at stop act k q h g = steps-never encode _ act k g (λ y u w. go w
 
 -- what the forcing of an id does, by the tests
 module _ (i : List ℕ) {t : List ℕ} where
-  pub forced-object : {b : Bool} → Good t → b ≡ true → ForcedFirst b i t t
+  pub forced-object : {b : Bool} → b ≡ true → ForcedFirst b i t t
   unfolding forced_by
-  forced-object {b} g e = record { good = g; shows = λ {x} u w. go x.setting.pass b e u w }
+  forced-object {b} e = record { shows = λ {x} u w. go x.setting.pass b e u w }
     where
       go : {x : Env} (k : Pass) (b : Bool) → b ≡ true → (u : State) → Shows x t u → Shows x t (forced_by k b i u)
       go first b e u w = rw e w
       go second b e u w = w
 
-  pub forced-again : (b : Bool) → Good t → InPass second t → ForcedFirst b i t t
+  pub forced-again : (b : Bool) → InPass second t → ForcedFirst b i t t
   unfolding forced_by
-  forced-again b g two = record { good = g; shows = λ {x} u w. subst (λ (k : Pass). Shows x t (forced_by k b i u)) (sym (two x u w)) w }
+  forced-again b two = record { shows = λ {x} u w. subst (λ (k : Pass). Shows x t (forced_by k b i u)) (sym (two x u w)) w }
 
   pub forced-first : {t' : List ℕ} {b : Bool} → b ≡ false → InPass first t → Turns (force_id i) t t' → ForcedFirst b i t t'
   unfolding forced_by
   forced-first {t'} {b} e one g =
       record {
-        good = g.good;
         shows = λ {x} u w.
             subst (λ (k : Pass). Shows x t' (forced_by k b i u)) (sym (one x u w))
             (subst (λ (c : Bool). Shows x t' (cond c u (force_id i u))) (sym e) (g.shows u w));
@@ -124,11 +123,11 @@ module _ (i : List ℕ) {t : List ℕ} where
 -- ---- A 63
 
 -- in the second pass: what becomes an id is written as one
-pub member-ident : (s : List ℕ) (at stop : ℕ) (object : Bool) (id : Id) {t out out' : List ℕ} {o p : ℕ} → Good t → InPass second t →
+pub member-ident : (s : List ℕ) (at stop : ℕ) (object : Bool) (id : Id) {t out out' : List ℕ} {o p : ℕ} → InPass second t →
     Tells (ident_after (tree_at s at stop) second) t (Some (id_by id)) → Wrote out o (encode (field 0x60 (id_by id) none)) out' p →
     FieldSteps s at stop (λ y. walk (tree_at s at stop) y.setting object at) t out o t out' (Ok p)
-member-ident s at stop object id g two n v =
-    steps-write encode _ _ (field 0x60 (id_by id) none) (λ u. u) (record { good = g; shows = λ u w. w }) v
+member-ident s at stop object id two n v =
+    steps-write encode _ _ (field 0x60 (id_by id) none) (λ u. u) (record { shows = λ u w. w }) v
     (λ y u w k. ident-walks y.setting (two y u w) (tree_at s at stop) object at u (id_by id) k.0.regular (sym (n.is u w)))
 
 -- else it is walked as the target of an assignment is

@@ -27,7 +27,7 @@ use Rattle.extraction_rules.specs.State.{State, Pass, first, second, Setting, Ac
 use Rattle.extraction_rules.specs.Walk.{walk, walk_member}
 use Rattle.extraction_rules.proofs.AlikeLaws.{Two, Regular}
 use Rattle.expressions.proofs.IdentLaws.{walk-70}
-use Rattle.state.specs.Cells.{Env, Good, Shows}
+use Rattle.state.specs.Cells.{Env, Shows}
 use Rattle.steps.specs.Step.{Sound, SoundAll}
 use Rattle.steps.proofs.SoundLaws.{read-short, read-inside, read-parts, read-bytes, sound-parts, sound_all-first, sound_all-rest}
 use Rattle.steps.proofs.StepsLaws.{steps-done}
@@ -40,10 +40,10 @@ use Rattle.walking.proofs.NodeLaws.{none-left}
 use Rattle.walking.proofs.ExpressionLaws.{ident-tree}
 
 -- a field that a rule leaves as it is, with the state
-pub as-stands : (rule : Env → Act Field) {s : List ℕ} {at stop : ℕ} (bytes : Bytes s) {t out out' : List ℕ} {o p : ℕ} → Good t → Wrote out o (slice at stop s) out' p →
+pub as-stands : (rule : Env → Act Field) {s : List ℕ} {at stop : ℕ} (bytes : Bytes s) {t out out' : List ℕ} {o p : ℕ} → Wrote out o (slice at stop s) out' p →
     ((y : Env) (u : State) → Shows y t u → Sound s at stop → rule y u ≡ done (tree_at s at stop, u)) → FieldSteps s at stop rule t out o t out' (Ok p)
-as-stands rule {s} {at} {stop} bytes g v h =
-    steps-done g v.size (λ y u w k. record {
+as-stands rule {s} {at} {stop} bytes v h =
+    steps-done v.size (λ y u w k. record {
       value = tree_at s at stop;
       state = u;
       is = h y u w k.0;
@@ -61,9 +61,9 @@ node-none way e p u (field n x cs) z =
     ∙ ap (λ (ds : Fields). done (field n x ds, u)) (sym z)
 
 pub node-leaf : (way : Way) (s : List ℕ) (bytes : Bytes s) (at from stop : ℕ) {t out out' : List ℕ} {o p : ℕ} → fixed_at s (get_or s at 0) (at + 3) stop ≡ Some from → from ≡ stop →
-    Good t → Wrote out o (slice at stop s) out' p → FieldSteps s at stop (λ y. node_by way (tree_at s at stop) y.setting at) t out o t out' (Ok p)
-node-leaf way s bytes at from stop x z g v =
-    as-stands (λ y. node_by way (tree_at s at stop) y.setting at) bytes g v (λ y u _ w.
+    Wrote out o (slice at stop s) out' p → FieldSteps s at stop (λ y. node_by way (tree_at s at stop) y.setting at) t out o t out' (Ok p)
+node-leaf way s bytes at from stop x z v =
+    as-stands (λ y. node_by way (tree_at s at stop) y.setting at) bytes v (λ y u _ w.
     node-none way y.setting at u (tree_at s at stop)
     (ap parts_of (tree-upto s at stop from x) ∙ ap (λ (n : ℕ). row_at s n stop) z ∙ row-none s stop stop (omega arith) (none-left s stop)))
 
@@ -191,7 +191,7 @@ member-stays e s at stop u h a d =
     (both-stay e d.object d.name (inside at []) u d.object_regular d.name_regular (ap tag_of d.object_is) (ap tag_of d.name_is))
     ∙ ap (λ (f : Field). done (f, u)) (sym z)
 
-pub node-name : (s : List ℕ) (bytes : Bytes s) (at stop : ℕ) {t out out' : List ℕ} {o p : ℕ} → at + 3 ≤ stop → NameIs s at true → Good t → Wrote out o (slice at stop s) out' p →
+pub node-name : (s : List ℕ) (bytes : Bytes s) (at stop : ℕ) {t out out' : List ℕ} {o p : ℕ} → at + 3 ≤ stop → NameIs s at true → Wrote out o (slice at stop s) out' p →
     FieldSteps s at stop (λ y. node_by Member (tree_at s at stop) y.setting at) t out o t out' (Ok p)
-node-name s bytes at stop h n g v =
-    as-stands (λ y. node_by Member (tree_at s at stop) y.setting at) bytes g v (λ y u _ w. member-stays y.setting s at stop u h n.0 (named s at stop h w n))
+node-name s bytes at stop h n v =
+    as-stands (λ y. node_by Member (tree_at s at stop) y.setting at) bytes v (λ y u _ w. member-stays y.setting s at stop u h n.0 (named s at stop h w n))

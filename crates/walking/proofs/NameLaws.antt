@@ -22,7 +22,7 @@ use Rattle.extraction_rules.specs.First.{imported_as, on_ident, use_imported, us
 use Rattle.extraction_rules.specs.Second.{usages_of}
 use Rattle.extraction_rules.specs.Walk.{walk}
 use Rattle.extraction_rules.proofs.AlikeLaws.{Regular}
-use Rattle.state.specs.Cells.{Env, Good, id_by, Shows}
+use Rattle.state.specs.Cells.{Env, id_by, Shows}
 use Rattle.state.specs.Does.{Tells, any, context_by}
 use Rattle.expressions.specs.After.{as_ident, becomes, ident_after}
 use Rattle.steps.specs.Step.{Sound, Step, Steps}
@@ -71,13 +71,13 @@ module _ (s : List ℕ) (bytes : Bytes s) (at stop : ℕ) (h : at + 3 ≤ stop) 
       ∙ ap (λ (f : Field). field 0x63 [] (more f (more d.name none))) (d.object_is ∙ ap (λ (x : List ℕ). field 0x60 x none) (sym i))
       ∙ ap (λ (f : Field). field 0x63 [] (more (field 0x60 (id_by id) none) (more f none))) d.name_is
 
-  module _ {t : List ℕ} (g : Good t) where
+  module _ {t : List ℕ} where
     -- in the second pass it stays
     stays : (object : Bool) {out out' : List ℕ} {o p : ℕ} → InPass second t → Wrote out o (slice at stop s) out' p →
         ((y : Env) (u : State) → Sound s at stop → Shows y t u → ident_after (name_on (id_by id) (atom_at s (at + 15))) second u ≡ None) →
         FieldSteps s at stop (λ y. walk (tree_at s at stop) y.setting object at) t out o t out' (Ok p)
     stays object two v k =
-        as-stands (λ y. walk (tree_at s at stop) y.setting object at) bytes g v (λ y u r w.
+        as-stands (λ y. walk (tree_at s at stop) y.setting object at) bytes v (λ y u r w.
         let d = named s at stop h w n in
         let z = tree-bare 0x63 refl s at stop h n.0 ∙ ap (field 0x63 []) d.row in
         ap (λ (f : Field). walk f y.setting object at u) z
@@ -108,7 +108,7 @@ module _ (s : List ℕ) (bytes : Bytes s) (at stop : ℕ) (h : at + 3 ≤ stop) 
         Tells (λ u. any (usages_of (id_by id) u.usages)) t b → b ≡ true → Tells (λ u. imported_as (id_by id) u.imported) t (context_by c) → c ≡ Some d → a ≡ two_at s (at + 15) →
         Wrote out o (encode (field 0x60 (two a ++ four d.0) none)) out' p → FieldSteps s at stop (λ y. walk (tree_at s at stop) y.setting object at) t out o t out' (Ok p)
     name-becomes object {b} {a = a} {d} again m e k f z v =
-        steps-done g v.size (λ y u r w. record {
+        steps-done v.size (λ y u r w. record {
           value = field 0x60 (two a ++ four d.0) none;
           state = u;
           is =
@@ -128,12 +128,12 @@ module _ (s : List ℕ) (bytes : Bytes s) (at stop : ℕ) (h : at + 3 ≤ stop) 
     pub name-first : (object : Bool) {out out1 t2 : List ℕ} {o p : ℕ} {k : Step} → InPass first t → Wrote out o (slice at stop s) out1 p →
         Steps (λ _. []) (λ y u. Sound s at stop) (λ y. usage (on_ident (tree_at s at stop)) y.setting at) t out1 p t2 out1 k →
         FieldSteps s at stop (λ y. walk (tree_at s at stop) y.setting object at) t out o t2 out1 k
-    name-first object one v = member-used object s at stop h n.0 one (as-target (node-name s bytes at stop h n g v))
+    name-first object one v = member-used object s at stop h n.0 one (as-target (node-name s bytes at stop h n v))
 
     pub name-unimported : {c : Option SyntaxContext} {out : List ℕ} {p : ℕ} → Tells (λ u. imported_as (id_by id) u.imported) t (context_by c) → c ≡ None →
         Steps (λ _. []) (λ y u. Sound s at stop) (λ y. usage (on_ident (tree_at s at stop)) y.setting at) t out p t out (Ok p)
     name-unimported m e =
-        steps-did g (λ y u r w. record {
+        steps-did (λ y u r w. record {
           state = u;
           is =
               ap (λ (f : Field). usage (on_ident f) y.setting at u) (name-tree w)

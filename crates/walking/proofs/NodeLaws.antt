@@ -26,7 +26,7 @@ use Rattle.extraction_rules.specs.First.{export_specifier, declarator}
 use Rattle.extraction_rules.specs.Walk.{walk, walk_all, walk_target}
 use Rattle.extraction_rules.proofs.RuleLaws.{maybe-step}
 use Rattle.extraction_rules.proofs.AlikeLaws.{Regular}
-use Rattle.state.specs.Cells.{Env, Good}
+use Rattle.state.specs.Cells.{Env}
 use Rattle.state.specs.Does.{Turns}
 use Rattle.steps.specs.Step.{Reads, Sound, Step, Steps, Begun, Ended, with_parts}
 use Rattle.steps.proofs.SoundLaws.{read-short, read-inside, read-tag, read-parts, row-read, inside-fixed, sound-parts}
@@ -37,9 +37,9 @@ use Rattle.walking.specs.Walking.{FieldSteps, RowSteps, row_by, node_by, declare
 use Rattle.walking.proofs.TagLaws.{around, walk-23, walk-42, plain-by, block-by, super-by, assignment-by, target-by}
 
 -- bytes that are no field cannot have been read
-pub walk-short : (act : Env → Act Field) {s : List ℕ} {at stop : ℕ} {t out : List ℕ} {o : ℕ} (k : Step) → Good t → fixed_at s (get_or s at 0) (at + 3) stop ≡ None →
+pub walk-short : (act : Env → Act Field) {s : List ℕ} {at stop : ℕ} {t out : List ℕ} {o : ℕ} (k : Step) → fixed_at s (get_or s at 0) (at + 3) stop ≡ None →
     FieldSteps s at stop act t out o t out k
-walk-short act k g x = steps-never encode _ act k g (λ y u w. read-short w.0.read x)
+walk-short act g x = steps-never encode _ act g (λ y u w. read-short w.0.read x)
 
 -- no field stands in no bytes
 pub none-left : (s : List ℕ) (at : ℕ) → extent_at s at at ≡ None

@@ -16,8 +16,8 @@ use Rattle.tree.proofs.TreeLaws.{encodes-none, encodes-more}
 use Rattle.inputs.specs.Outcome.{done}
 use Rattle.extraction_rules.specs.State.{State, Setting, Act}
 use Rattle.extraction_rules.specs.Walk.{walk, walk_all, walk_target}
-use Rattle.state.specs.Cells.{Env, Good}
-use Rattle.steps.specs.declared.Refusal.{Refusal}
+use Rattle.state.specs.Cells.{Env}
+use Rattle.steps.specs.Refusal.{Refusal}
 use Rattle.steps.specs.Step.{Reads, SoundAll, Step}
 use Rattle.steps.proofs.SoundLaws.{read-size, read-inside, sound_all-first, sound_all-rest}
 use Rattle.steps.proofs.StepsLaws.{steps-is, steps-give, steps-as, pair_of, steps-pair, steps-turned}
@@ -73,9 +73,9 @@ rest_by way s stop end = λ v. row_by (Children (others_by way)) (row_at s stop 
 
 module _ (way : Way) {s : List ℕ} (bytes : Bytes s) {at end : ℕ} (le : at ≤ end) where
   -- no field is left
-  pub row-over : extent_at s at end ≡ None → {t out : List ℕ} {o : ℕ} → Good t → RowSteps s at end (λ y. row_by way (row_at s at end) y.setting at) t out o t out (Ok o)
-  row-over x g =
-      steps-give encodes (λ y u. SoundAll s at end × Reads y s) (λ y. row_by way (row_at s at end) y.setting at) none g encodes-none
+  pub row-over : extent_at s at end ≡ None → {t out : List ℕ} {o : ℕ} → RowSteps s at end (λ y. row_by way (row_at s at end) y.setting at) t out o t out (Ok o)
+  row-over x =
+      steps-give encodes (λ y u. SoundAll s at end × Reads y s) (λ y. row_by way (row_at s at end) y.setting at) none encodes-none
       (λ y u w. ap (λ (fs : Fields). row_by way fs y.setting at u) (row-none s at end le x) ∙ by-none way y.setting at u)
 
   module _ {stop : ℕ} (x : extent_at s at end ≡ Some stop) where
@@ -108,31 +108,27 @@ module _ (way : Way) {s : List ℕ} (bytes : Bytes s) {at end : ℕ} (le : at �
 
 -- the fields before `at` are walked, and what is left, by the way `by`, makes the whole
 pub record Going (way : Way) (s : List ℕ) (from end : ℕ) (t₀ out₀ : List ℕ) (o : ℕ) (by : Way) (t out : List ℕ) (at to : ℕ) : Type 0 where
-  pub good : Good t
-  pub kept : length t ≡ length t₀
   pub size : length out ≡ length out₀
   pub after : from ≤ at
   pub inside : at ≤ end
   pub rest : (t' out' : List ℕ) (k : Step) → RowSteps s at end (λ x. row_by by (row_at s at end) x.setting at) t out to t' out' k →
       RowSteps s from end (λ x. row_by way (row_at s from end) x.setting from) t₀ out₀ o t' out' k
 
-pub going-start : {way : Way} {s : List ℕ} {from end : ℕ} {t out : List ℕ} {o : ℕ} → Good t → from ≤ end → Going way s from end t out o way t out from o
-going-start g le = record { good = g; kept = refl; size = refl; after = omega arith; inside = le; rest = λ t' out' k m. m }
+pub going-start : {way : Way} {s : List ℕ} {from end : ℕ} {t out : List ℕ} {o : ℕ} → from ≤ end → Going way s from end t out o way t out from o
+going-start le = record { size = refl; after = omega arith; inside = le; rest = λ t' out' k m. m }
 
 module _ {way : Way} {s : List ℕ} {from end : ℕ} {t₀ out₀ : List ℕ} {o : ℕ} {by : Way} {t out : List ℕ} {at to : ℕ} (bytes : Bytes s)
     (g : Going way s from end t₀ out₀ o by t out at to) where
   pub going-over : extent_at s at end ≡ None → RowSteps s from end (λ y. row_by way (row_at s from end) y.setting from) t₀ out₀ o t out (Ok to)
-  going-over x = g.rest t out (Ok to) (row-over by bytes g.inside x g.good)
+  going-over x = g.rest t out (Ok to) (row-over by bytes g.inside x)
 
   module _ {stop : ℕ} (x : extent_at s at end ≡ Some stop) {t1 out1 : List ℕ} {k : Step}
       (m : FieldSteps s at stop (λ y. first_by by (tree_at s at stop) y.setting at) t out to t1 out1 k) where
-    pub going-more : {p : ℕ} {b : Bool} → k ≡ Ok p → b ≡ others_by by → length t1 ≡ length t → Going way s from end t₀ out₀ o (Children b) t1 out1 stop p
-    going-more {p} {b} z e n =
+    pub going-more : {p : ℕ} {b : Bool} → k ≡ Ok p → b ≡ others_by by → Going way s from end t₀ out₀ o (Children b) t1 out1 stop p
+    going-more {p} {b} z e =
         let i = extent-upto s at end g.inside x in
         let a = g.after in
         record {
-          good = m.good;
-          kept = n ∙ g.kept;
           size = m.size ∙ g.size;
           after = omega arith;
           inside = i.1;

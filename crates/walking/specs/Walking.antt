@@ -10,12 +10,12 @@ use Rattle.inputs.specs.Fields.{inside}
 use Rattle.extraction_rules.specs.State.{State, Pass, first, second, Setting, Act, ◌>>=◌, give}
 use Rattle.extraction_rules.specs.First.{force_id, bindings, required, collect, add_lazy, mark_required, require_lazily, declarator}
 use Rattle.extraction_rules.specs.Walk.{walk, walk_all, walk_member, walk_assignment, walk_target}
-use Rattle.state.specs.Cells.{Env, Good, literal_by, Valued, Shows}
+use Rattle.state.specs.Cells.{Env, literal_by, Valued, Shows}
 use Rattle.state.specs.Does.{place_in, Gave}
 use Rattle.state.specs.declared.Literal.{Literal}
 use Rattle.scope.specs.declared.id.ModuleId.{ModuleId}
 use Rattle.expressions.specs.Require.{called}
-use Rattle.steps.specs.declared.Refusal.{Refusal}
+use Rattle.steps.specs.Refusal.{Refusal}
 use Rattle.steps.specs.Step.{Reads, Sound, SoundAll, Made, Step, Effect, Steps}
 use Rattle.steps.specs.Refusal.{refusal_of}
 use Rattle.walking.specs.declared.Way.{Way}
@@ -96,7 +96,6 @@ forced_by first object i s = cond object s (force_id i s)
 forced_by second object i s = s
 
 pub record ForcedFirst (object : Bool) (i : List ℕ) (t t' : List ℕ) : Type 0 where
-  pub good : Good t'
   pub shows : {x : Env} (s : State) → Shows x t s → Shows x t' (forced_by x.setting.pass object i s)
 
 -- ---- Calls of require
@@ -117,7 +116,6 @@ pub record Marked (l : Literal) (at o : ℕ) (t out t' out' : List ℕ) : Type 0
 
 -- or the mark is refused
 pub record Marks (l : Literal) (at o : ℕ) (t out t' out' : List ℕ) (k : Effect) : Type 0 where
-  pub good : Good t'
   pub size : length out' ≡ length out
   pub marked : k ≡ Ok tt → Marked l at o t out t' out'
   pub turned : (e : Refusal) → k ≡ Err e → {x : Env} (f : Field) (s : State) → Shows x t s → Valued x l →
@@ -125,7 +123,6 @@ pub record Marks (l : Literal) (at o : ℕ) (t out t' out' : List ℕ) (k : Effe
 
 -- a call that stands written at o, with bs behind it up to p, is amended by a rule, or the rule is refused
 pub record Amends (P : Env → Type 0) (act : Env → Field → Act Field) (o p : ℕ) (t out t' out' : List ℕ) (k : Step) : Type 0 where
-  pub good : Good t'
   pub size : length out' ≡ length out
   pub made : (q : ℕ) → k ≡ Ok q → {x : Env} (s : State) → Shows x t s → P x → (l : List ℕ) (f : Field) (bs : List ℕ) → Called f → Wrote l o (encode f ++ bs) out p →
       Made (λ g. encode g ++ bs) x (act x f s) l o t' out' q

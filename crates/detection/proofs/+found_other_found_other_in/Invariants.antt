@@ -3,18 +3,17 @@
 -- behind its head of three bytes.
 use Prim.Native.Nat.{◌+◌, ◌-◌, ◌≤◌}
 use mathlib.Core.Path.{◌≡◌}
-use Rattle.tree.specs.Standing.{row_at}
+use Rattle.tree.specs.Rows.{fields_of}
 use Rattle.detection.specs.Detection.{found_other_in}
 use Rattle.detection.proofs.+found_other_found_other_in.Given as goal
 
 abbrev pub decreases-found_other : goal.decreases-found_other
-decreases-found_other l = l.stop - l.at
+decreases-found_other l = l.part.stop - l.part.at
 
 abbrev pub decreases-found_other_in : goal.decreases-found_other_in
-decreases-found_other_in l = l.end - l.from + 1
+decreases-found_other_in l = l.row.end - l.row.at + 1
 
-abbrev pub invariant-found_other_in-loop-stop : goal.invariant-found_other_in-loop-stop
-invariant-found_other_in-loop-stop l = (l.from ≤ l.at) × (l.at ≤ l.end) × (found_other_in (row_at l.s l.from l.end) ≡ found_other_in (row_at l.s l.at l.end))
-
-abbrev pub decreases-found_other_in-loop-stop : goal.decreases-found_other_in-loop-stop
-decreases-found_other_in-loop-stop l = l.end - l.at
+abbrev pub invariant-found_other_in-loop-part : goal.invariant-found_other_in-loop-part
+invariant-found_other_in-loop-part l =
+    (l.initial.row.at ≤ l.part-iterator.at) × (l.part-iterator.end ≡ l.initial.row.end)
+    × (found_other_in (fields_of l.initial.row) ≡ found_other_in (fields_of l.part-iterator))

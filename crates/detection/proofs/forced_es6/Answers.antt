@@ -1,73 +1,41 @@
 -- `forced_es6`: the invariant says that the items from here on answer what all items answer, and that reading accepts them
--- (`accepted-next`): so the byte that is tested is the tag of the field that stands there (`forced-more`).
-use Rattle.tree.proofs.GrammarLaws.{within-true, within-below, within-above}
+-- (`accepted-on`): so the tag that is tested is that of the field that stands there (`forced-more`).
 use mathlib.Core.Path.{sym, ◌∙◌}
 use native.Mathlib.Omega.{arith}
-use lib.ListN.{get_or}
-use Rattle.tree.proofs.AccessLaws.{extent-upto}
-use Rattle.detection.proofs.DetectionLaws.{forced-none, forced-more, accepted-next}
+use Rattle.tree.proofs.GrammarLaws.{within-true, within-below, within-above}
+use Rattle.tree.proofs.PartLaws.{part_tag}
+use Rattle.detection.proofs.DetectionLaws.{forced-none, forced-more, accepted-on}
 use Rattle.detection.proofs.forced_es6.Goals as goal
 
 pub returns : goal.returns
 returns c =
-    let a = c.args in
-    let l = c.loop-stop in
-    sym (l.invariant.2 ∙ forced-none a.s.now l.at a.end l.invariant.1 (sym c.extent.ensures ∙ c.in_default.is))
-
-pub bounds-s-at : goal.bounds-s-at
-bounds-s-at c =
-    let a = c.args in
-    let l = c.loop-stop in
-    let x = sym c.extent.ensures ∙ c.in-Some.is in
-    let i = extent-upto a.s.now l.at a.end l.invariant.1 x in
-    omega arith
+    let l = c.loop-part in
+    sym (l.invariant.0 ∙ forced-none l.part-iterator c.next.new.self c.in-None.ensures.steps)
 
 pub returns-in-16-to-20 : goal.returns-in-16-to-20
 returns-in-16-to-20 c =
-    let a = c.args in
-    let l = c.loop-stop in
-    let x = sym c.extent.ensures ∙ c.in-Some.is in
-    sym (l.invariant.2 ∙ forced-more a.s.now l.at a.end _ l.invariant.1 l.invariant.3 x ∙ rw (within-true 0x10 0x14 (get_or a.s.now l.at 0) (omega arith) (omega arith)))
+    let l = c.loop-part in
+    let p = c.in-Some in
+    let t = c.tag.ensures in
+    sym (l.invariant.0 ∙ forced-more l.part-iterator p.part c.next.new.self p.ensures.steps l.invariant.1
+    ∙ rw (within-true 0x10 0x14 (part_tag p.part) (omega arith) (omega arith)))
 
-pub loop-stop-smaller-in_default-s : goal.loop-stop-smaller-in_default-s
-loop-stop-smaller-in_default-s c =
-    let a = c.args in
-    let l = c.loop-stop in
-    let x = sym c.extent.ensures ∙ c.in-Some.is in
-    let i = extent-upto a.s.now l.at a.end l.invariant.1 x in
-    omega arith
-
-pub loop-stop-preserved-in_default-s : goal.loop-stop-preserved-in_default-s
-loop-stop-preserved-in_default-s c =
-    let a = c.args in
-    let l = c.loop-stop in
-    let x = sym c.extent.ensures ∙ c.in-Some.is in
-    let i = extent-upto a.s.now l.at a.end l.invariant.1 x in (
-      omega arith,
-      omega arith,
-      l.invariant.2 ∙ forced-more a.s.now l.at a.end _ l.invariant.1 l.invariant.3 x
-          ∙ rw (within-below 0x10 0x14 (get_or a.s.now l.at 0) (omega arith)),
-      (accepted-next a.s.now l.at a.end _ l.invariant.1 l.invariant.3 x).1,
+pub loop-part-preserved-then-tag-lt16 : goal.loop-part-preserved-then-tag-lt16
+loop-part-preserved-then-tag-lt16 c =
+    let l = c.loop-part in
+    let p = c.in-Some in
+    let t = c.tag.ensures in (
+      l.invariant.0 ∙ forced-more l.part-iterator p.part c.next.new.self p.ensures.steps l.invariant.1
+          ∙ rw (within-below 0x10 0x14 (part_tag p.part) (omega arith)),
+      accepted-on l.part-iterator p.part c.next.new.self p.ensures.steps l.invariant.1,
     )
 
-pub loop-stop-smaller : goal.loop-stop-smaller
-loop-stop-smaller c =
-    let a = c.args in
-    let l = c.loop-stop in
-    let x = sym c.extent.ensures ∙ c.in-Some.is in
-    let i = extent-upto a.s.now l.at a.end l.invariant.1 x in
-    omega arith
-
-pub loop-stop-preserved : goal.loop-stop-preserved
-loop-stop-preserved c =
-    let a = c.args in
-    let l = c.loop-stop in
-    let x = sym c.extent.ensures ∙ c.in-Some.is in
-    let i = extent-upto a.s.now l.at a.end l.invariant.1 x in (
-      omega arith,
-      omega arith,
-      l.invariant.2 ∙ forced-more a.s.now l.at a.end _ l.invariant.1 l.invariant.3 x
-          ∙ rw (within-above 0x10 0x14 (get_or a.s.now l.at 0) (omega arith) (omega arith)),
-      (accepted-next a.s.now l.at a.end _ l.invariant.1 l.invariant.3 x
-          ).1,
+pub loop-part-preserved : goal.loop-part-preserved
+loop-part-preserved c =
+    let l = c.loop-part in
+    let p = c.in-Some in
+    let t = c.tag.ensures in (
+      l.invariant.0 ∙ forced-more l.part-iterator p.part c.next.new.self p.ensures.steps l.invariant.1
+          ∙ rw (within-above 0x10 0x14 (part_tag p.part) (omega arith) (omega arith)),
+      accepted-on l.part-iterator p.part c.next.new.self p.ensures.steps l.invariant.1,
     )

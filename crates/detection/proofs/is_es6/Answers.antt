@@ -6,7 +6,8 @@ use Rattle.std.proofs.lemmas.Result.{err_from_is_err_and}
 use Rattle.tree.specs.declared.grammar.Set.TheVariants.{Module}
 use Rattle.tree.specs.Read.{read}
 use Rattle.tree.proofs.ReadLaws.{verdict-refused}
-use Rattle.detection.specs.Detection.{answers}
+use Rattle.tree.proofs.PartLaws.{fields-made, row-there}
+use Rattle.detection.specs.Detection.{answers, es6, Accepted}
 use Rattle.detection.proofs.DetectionLaws.{items-accepted, detect-long, detect-refused, detect-read}
 use Rattle.detection.proofs.is_es6.Goals as goal
 
@@ -15,17 +16,24 @@ returns-then-tree-gt-MOST c =
     let a = c.args in
     (sym (detect-long a.modes a.tree.now c.if-tree-gt-MOST.true), tt)
 
+pub new-requires : goal.new-requires
+new-requires c =
+    let i = items-accepted c.args.tree.now (sym c.read_tree.ensures ∙ c.in_ok-read_tree.was) in
+    let k = i.0 in
+    omega arith
+
 pub items_es6-requires : goal.items_es6-requires
 items_es6-requires c =
     let a = c.args in
     let i = items-accepted a.tree.now (sym c.read_tree.ensures ∙ c.in_ok-read_tree.was) in
-    (i.0, omega arith, i.1)
+    row-there c.new.result c.new.ensures Accepted i.1
 
 pub returns : goal.returns
 returns c =
     let a = c.args in
     let e = sym c.read_tree.ensures ∙ c.in_ok-read_tree.was in
-    (ap answers c.items_es6.ensures ∙ sym (detect-read a.modes a.tree.now c.if-tree-gt-MOST.false e), tt)
+    let r = fields-made c.new.result c.new.ensures in
+    (ap answers (c.items_es6.ensures ∙ ap (es6 a.modes) r) ∙ sym (detect-read a.modes a.tree.now c.if-tree-gt-MOST.false e), tt)
 
 pub returns-in_err-read_tree : goal.returns-in_err-read_tree
 returns-in_err-read_tree c =

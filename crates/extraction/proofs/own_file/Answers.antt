@@ -8,9 +8,6 @@ use Rattle.extraction.specs.declared.ExtractError.TheVariants.{Refused}
 use Rattle.extraction.proofs.OnceLaws.{own-given, own-full}
 use Rattle.extraction.proofs.own_file.Goals as goal
 
-pub set_own-requires : goal.set_own-requires
-set_own-requires c = c.load.ensures.good
-
 pub returns : goal.returns
 returns c =
     let h : c.gen_id-g.result.answer ≡ Ok c.in_ok-own.own = search rules in
@@ -20,4 +17,4 @@ pub returns-in_err-own : goal.returns-in_err-own
 returns-in_err-own c =
     let h : c.from_residual.result ≡ Err (Refused (refusal no-number 0)) = search rules in
     let k : (e : TooManyFiles) × (c.gen_id-g.result.answer ≡ Err e) = search rules in
-    rw h (own-full c.args.file (modules_of c.args.scope) c.gen_id-g.result c.gen_id-g.ensures c.requires k.1)
+    rw h (own-full c.args.file (modules_of c.args.scope) c.gen_id-g.result c.gen_id-g.ensures k.1)

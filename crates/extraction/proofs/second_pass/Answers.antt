@@ -1,8 +1,8 @@
 -- `second_pass`: by whether the pass or the marks refused, and then by whether the tree fits; each return has its law of AgainLaws.
-use Rattle.std.proofs.Common.{◌≡◌, ℕ, Ok, Err, rules}
+use Rattle.std.proofs.Common.{◌≡◌, Ok, Err, rules}
 use Rattle.std.specs.Bool.{then_some}
 use Rattle.std.specs.Option.{ok_or}
-use Rattle.steps.specs.declared.Refusal.{Refusal}
+use Rattle.steps.specs.Refusal.{Refusal}
 use Rattle.steps.specs.Refusal.{refusal}
 use Rattle.extraction.specs.declared.ExtractError.TheVariants.{Refused, NoRoom}
 use Rattle.extraction.proofs.AgainLaws.{again-refused, again-unmarked, again-held}

@@ -1,13 +1,11 @@
 -- `wrap`: the invariant `Wrapping` says that wrapping the forced sources from i on completes wrapping all of them.
 -- The measure is 256 - i; `forces-most` says that at most 256 sources are forced.
 use Prim.Native.Nat.{◌-◌}
-use mathlib.Core.Path.{◌≡◌}
-use lib.ListN.{length}
 use Rattle.extraction.specs.Stages.{Wrapping}
 use Rattle.extraction.proofs.wrap.Given as goal
 
 abbrev pub invariant-loop-i : goal.invariant-loop-i
-invariant-loop-i l = Wrapping l.initial.t l.i l.t × (length l.t ≡ length l.initial.t)
+invariant-loop-i l = Wrapping l.initial.t.cells l.i l.t.cells
 
 abbrev pub decreases-loop-i : goal.decreases-loop-i
 decreases-loop-i l = 256 - l.i

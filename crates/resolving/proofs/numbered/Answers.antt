@@ -15,7 +15,7 @@ returns-in_err-lists c =
 
 pub number_sources-requires : goal.number_sources-requires
 number_sources-requires c =
-    records-good c.args.table.now c.args.records.now c.lists.ensures c.in_ok-lists.was (λ i. (c.type_inv.records i).fits)
+    records-good c.args.table.now c.args.records.now c.lists.ensures c.in_ok-lists.was
 
 pub returns-in_err-number_sources : goal.returns-in_err-number_sources
 returns-in_err-number_sources c =

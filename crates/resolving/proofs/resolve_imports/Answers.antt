@@ -13,7 +13,7 @@ pub listing-requires : goal.listing-requires
 listing-requires c =
     let a = c.args in
     let given = c.in-Ok.ensures.rules a.modes in (
-      given-read a.modes a.table.now a.records.now (modules_of a.scope) given (λ i. (c.type_inv.records i).fits),
+      given-read a.modes a.table.now a.records.now (modules_of a.scope) given,
       given-all a.modes a.table.now a.records.now (modules_of a.scope) given,
     )
 

@@ -1,6 +1,6 @@
 -- `tychodrel_decode_metadata`: by whether `decode` was done or broke off; its contract, with that answer put in, gives number and bytes.
 use Rattle.std.specs.Prelude.{Result}
-use Rattle.tree.specs.declared.read.Unread.{Unread}
+use Rattle.tree.specs.Read.{Unread}
 use Rattle.metadata.specs.declared.ExportMetadata.{ExportMetadata}
 use mathlib.Core.Path.{sym, ◌∙◌, ap}
 use Rattle.metadata.specs.Calls.{decoded}

@@ -7,9 +7,9 @@ use Rattle.walking.proofs.force_first.Goals as goal
 pub returns-else-not-object : goal.returns-else-not-object
 returns-else-not-object c =
     elim c.else-not-object.branch [
-      | else-not-object-via-else-not-object w ↦ forced-object (id_by c.args.id) c.requires w.if-not-object.false
+      | else-not-object-via-else-not-object w ↦ forced-object (id_by c.args.id) w.if-not-object.false
       | else-not-object-via-then-not-object+else-not-is_second w ↦
-          forced-again (id_by c.args.id) c.args.object c.requires (pass-second w.is_second.ensures w.if-not-is_second.false)
+          forced-again (id_by c.args.id) c.args.object (pass-second w.is_second.ensures w.if-not-is_second.false)
     ]
 
 pub returns-then-not-is_second : goal.returns-then-not-is_second

@@ -2,11 +2,13 @@
 use Rattle.walking.proofs.ExpressionLaws.{ident-short, ident-written}
 use Rattle.walking.proofs.ident.Goals as goal
 
-pub returns-then-stop-at : goal.returns-then-stop-at
-returns-then-stop-at c =
-    ident-short c.args.s.now c.args.at c.args.stop _ _ c.requires.0 c.if-stop-at.true c.requires.3
+pub returns-then-part : goal.returns-then-part
+returns-then-part c =
+    let p = c.args.part.now in
+    ident-short p.bytes.now p.at p.stop _ _ c.requires c.if-part.true
 
 pub returns : goal.returns
 returns c =
-    ident-written c.args.s.now c.args.at c.args.stop c.args.object c.id_at-id.result c.requires.0 c.if-stop-at.false c.id_at-id.ensures c.force_first.ensures
+    let p = c.args.part.now in
+    ident-written p.bytes.now p.at p.stop c.args.object c.id_at-id.result c.requires c.if-part.false c.id_at-id.ensures c.force_first.ensures
     c.put_ident.ensures

@@ -1,44 +1,26 @@
--- `items`: the invariant `Passing` says that the pass over the items from here on completes the pass over those from `from` on.
--- The measure is end - at.
-use mathlib.Core.Path.{◌≡◌, sym, ◌∙◌}
+-- `items`: the invariant `Passing` says that the pass over the items that are left completes the pass over all of the row.
+use mathlib.Core.Path.{◌≡◌}
 use Rattle.std.proofs.Common.{Err, rules}
-use native.Mathlib.Omega.{arith}
-use Rattle.tree.proofs.AccessLaws.{extent-upto}
 use Rattle.extraction.proofs.PassLaws.{passing-start, passing-over, passing-more, passing-turned}
 use Rattle.extraction.proofs.passes.items.Goals as goal
 
-pub loop-stop-init : goal.loop-stop-init
-loop-stop-init c =
-    passing-start c.requires.2 c.requires.0
-
-pub extent-requires : goal.extent-requires
-extent-requires c =
-    (c.loop-stop.invariant.inside, c.requires.1)
+pub loop-part-init : goal.loop-part-init
+loop-part-init c =
+    rw c.into_iter-part-iterator.ensures.into_iter_gives (passing-start c.args.row)
 
 pub returns : goal.returns
 returns c =
-    passing-over (λ i. omega (arith, c.type_inv.s i)) c.loop-stop.invariant (sym c.extent.ensures ∙ c.in_default.is)
+    let l = c.loop-part in
+    passing-over l.part-iterator c.next.new.self l.invariant c.in-None.ensures.steps
 
-pub item-requires : goal.item-requires
-item-requires c =
-    let i =
-    extent-upto c.args.s.now c.loop-stop.at c.args.end c.loop-stop.invariant.inside (sym c.extent.ensures ∙ c.in-Some.is) in
-    (omega arith, omega arith, c.loop-stop.invariant.good)
-
-pub loop-stop-smaller : goal.loop-stop-smaller
-loop-stop-smaller c =
-    let i = extent-upto c.args.s.now c.loop-stop.at c.args.end c.loop-stop.invariant.inside (sym c.extent.ensures ∙ c.in-Some.is) in omega arith
-
-pub loop-stop-preserved : goal.loop-stop-preserved
-loop-stop-preserved c =
-    passing-more (λ i. omega (arith, c.type_inv.s i))
-    c.loop-stop.invariant
-    (sym c.extent.ensures
-    ∙ c.in-Some.is)
-    c.item.ensures c.in_ok-to.was (omega arith)
+pub loop-part-preserved : goal.loop-part-preserved
+loop-part-preserved c =
+    let l = c.loop-part in
+    passing-more l.part-iterator c.next.new.self l.invariant c.in-Some.part c.in-Some.ensures.steps c.item.ensures c.in_ok-to.was
 
 pub returns-in_err-to : goal.returns-in_err-to
 returns-in_err-to c =
     let h : c.from_residual.result ≡ Err c.in_err-to.field-0.0 = search rules in
+    let l = c.loop-part in
     rw h
-    (passing-turned (λ i. omega (arith, c.type_inv.s i)) c.loop-stop.invariant (sym c.extent.ensures ∙ c.in-Some.is) c.item.ensures c.in_err-to.was)
+    (passing-turned l.part-iterator c.next.new.self l.invariant c.in-Some.part c.in-Some.ensures.steps c.item.ensures c.in_err-to.was)

@@ -1,11 +1,6 @@
--- `items`: the invariant `Passing` says that the pass over the items from here on completes the pass over those from `from` on.
--- The measure is end - at.
-use Prim.Native.Nat.{◌-◌}
+-- `items`: the invariant `Passing` says that the pass over the items that are left completes the pass over all of the row.
 use Rattle.extraction.proofs.PassLaws.{Passing}
 use Rattle.extraction.proofs.passes.items.Given as goal
 
-abbrev pub invariant-loop-stop : goal.invariant-loop-stop
-invariant-loop-stop l = Passing l.s l.from l.end l.initial.t l.initial.out l.o l.t l.out l.at l.to
-
-abbrev pub decreases-loop-stop : goal.decreases-loop-stop
-decreases-loop-stop l = l.end - l.at
+abbrev pub invariant-loop-part : goal.invariant-loop-part
+invariant-loop-part l = Passing l.initial.row l.initial.t.cells l.initial.out l.o l.t.cells l.out l.part-iterator l.to

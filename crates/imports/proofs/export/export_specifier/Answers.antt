@@ -5,44 +5,44 @@ use native.Mathlib.Omega.{arith}
 use mathlib.Core.Path.{ap}
 use Rattle.imports.proofs.WidthLaws.{framing-as, framed-in}
 use Rattle.imports.proofs.ExportLaws.{export-first, export-second, export-room, export-string, export-outside, export-made}
-use Rattle.imports.proofs.export.export_specifier.Goals.{then-s-at-eq2-via-then-s-at-eq2, then-s-at-eq2-via-else-s-at-eq2+then-s-at-eq2-2}
+use Rattle.imports.proofs.export.export_specifier.Goals.{then-part-at-eq2-via-then-part-at-eq2, then-part-at-eq2-via-else-part-at-eq2+then-part-at-eq2-2}
 use Rattle.imports.proofs.export.export_specifier.Goals as goal
 
-pub bounds-s-at : goal.bounds-s-at
-bounds-s-at c =
-    let w = framing-as c.requires.0 c.requires.1 c.requires.2 c.requires.3 in
-    let h = export-first c.requires.2 w in
+pub bounds-part-at : goal.bounds-part-at
+bounds-part-at c =
+    let w = framing-as c.args.part.now c.requires.0 c.requires.1 in
+    let h = export-first c.requires.0 w in
     let i = framed-in w in
     omega arith
 
-pub returns-then-s-at-eq2 : goal.returns-then-s-at-eq2
-returns-then-s-at-eq2 c =
-    let w = framing-as c.requires.0 c.requires.1 c.requires.2 c.requires.3 in
-    elim c.then-s-at-eq2.branch [
-      | then-s-at-eq2-via-then-s-at-eq2 v ↦ export-string c.requires.2 w c.requires.4 v.if-s-at-eq2.true
-      | then-s-at-eq2-via-else-s-at-eq2+then-s-at-eq2-2 v ↦ export-outside c.requires.2 w v.if-s-at-eq2.false c.requires.4 v.if-s-at-eq2-2.true
+pub returns-then-part-at-eq2 : goal.returns-then-part-at-eq2
+returns-then-part-at-eq2 c =
+    let w = framing-as c.args.part.now c.requires.0 c.requires.1 in
+    elim c.then-part-at-eq2.branch [
+      | then-part-at-eq2-via-then-part-at-eq2 v ↦ export-string c.requires.0 w v.if-part-at-eq2.true
+      | then-part-at-eq2-via-else-part-at-eq2+then-part-at-eq2-2 v ↦ export-outside c.requires.0 w v.if-part-at-eq2.false v.if-part-at-eq2-2.true
     ]
 
-pub bounds-s-at-else-s-at-eq2 : goal.bounds-s-at-else-s-at-eq2
-bounds-s-at-else-s-at-eq2 c =
-    let w = framing-as c.requires.0 c.requires.1 c.requires.2 c.requires.3 in
-    let h = export-second c.requires.2 w c.if-s-at-eq2.false in
+pub bounds-part-at-else-part-at-eq2 : goal.bounds-part-at-else-part-at-eq2
+bounds-part-at-else-part-at-eq2 c =
+    let w = framing-as c.args.part.now c.requires.0 c.requires.1 in
+    let h = export-second c.requires.0 w c.if-part-at-eq2.false in
     let i = framed-in w in
     omega arith
 
 pub id_at-requires : goal.id_at-requires
 id_at-requires c =
-    let w = framing-as c.requires.0 c.requires.1 c.requires.2 c.requires.3 in
-    let h = export-second c.requires.2 w c.if-s-at-eq2.false in
+    let w = framing-as c.args.part.now c.requires.0 c.requires.1 in
+    let h = export-second c.requires.0 w c.if-part-at-eq2.false in
     let i = framed-in w in
     omega arith
 
 pub put_exported-requires : goal.put_exported-requires
 put_exported-requires c =
-    export-room c.requires.2 (framing-as c.requires.0 c.requires.1 c.requires.2 c.requires.3) c.if-s-at-eq2.false
+    export-room c.requires.0 (framing-as c.args.part.now c.requires.0 c.requires.1) c.if-part-at-eq2.false
 
 pub returns : goal.returns
 returns c =
-    export-made c.requires.2 (framing-as c.requires.0 c.requires.1 c.requires.2 c.requires.3) c.if-s-at-eq2.false
-    c.id_at.result c.if-s-at-eq2-2.false c.id_at.ensures c.force_id.ensures c.own_module-own.ensures
+    export-made c.requires.0 (framing-as c.args.part.now c.requires.0 c.requires.1) c.if-part-at-eq2.false
+    c.id_at.result c.if-part-at-eq2-2.false c.id_at.ensures c.force_id.ensures c.own_module-own.ensures
     (ap (λ k. k.0) c.local_ctxt.ensures) c.put_exported.ensures

@@ -15,4 +15,4 @@ returns c =
     (wrote-field c.open_field-content.ensures (wrote-then c.copy-kind.ensures (wrote-then c.put-name.ensures c.put_id-p.ensures))
     c.close_field.ensures)
     (framed-leaf 0x23 _
-    ∙ ap (λ (b : List ℕ). encode (field 0x23 (slice (c.args.at + 3) (c.args.at + 10) c.args.s.now ++ 1 ∷ (b ++ four c.args.c.0)) none)) c.exported_name.ensures)
+    ∙ ap (λ (b : List ℕ). encode (field 0x23 (slice (c.args.part.now.at + 3) (c.args.part.now.at + 10) c.args.part.now.bytes.now ++ 1 ∷ (b ++ four c.args.c.0)) none)) c.exported_name.ensures)

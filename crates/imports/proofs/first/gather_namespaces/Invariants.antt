@@ -1,11 +1,8 @@
--- `gather_namespaces`: the invariant `Filling` says that gathering the fields from here on completes gathering those from `from` on.
--- `filling-more` takes one field; `filling-end` says that none is left. The measure is end - at.
-use Prim.Native.Nat.{◌-◌}
+-- `gather_namespaces`: the invariant `Filling` says that gathering the fields that are left completes gathering those of the whole row.
+-- `filling-more` takes one field; `filling-end` says that none is left.
+use Rattle.tree.specs.Rows.{fields_of}
 use Rattle.imports.proofs.GatherLaws.{Filling}
 use Rattle.imports.proofs.first.gather_namespaces.Given as goal
 
-abbrev pub invariant-loop-stop : goal.invariant-loop-stop
-invariant-loop-stop l = Filling l.i l.s l.from l.end l.initial.t l.t l.at
-
-abbrev pub decreases-loop-stop : goal.decreases-loop-stop
-decreases-loop-stop l = l.end - l.at
+abbrev pub invariant-loop-part : goal.invariant-loop-part
+invariant-loop-part l = Filling l.i (fields_of l.initial.row) l.initial.t.cells l.t.cells (fields_of l.part-iterator)

@@ -12,4 +12,4 @@ returns-in-Name c =
 
 pub returns-in-Text : goal.returns-in-Text
 returns-in-Text c =
-    λ x i h. named-text x c.args.n.0 c.args.at c.requires c.in-Text.is h
+    λ x i h. named-text x c.args.n.0 c.args.at c.in-Text.is h

@@ -9,44 +9,43 @@ use Rattle.imports.proofs.second.import_second.Goals as goal
 
 pub returns-in_default : goal.returns-in_default
 returns-in_default c =
-    head-short c.requires.2 (sym c.fixed.ensures ∙ c.in_default.is) c.requires.3 (λ x u k. k.0)
+    head-short c.args.part.now (sym c.fixed.ensures ∙ c.in_default.is) (λ x u k. k.0)
 
 pub atom_at-requires : goal.atom_at-requires
 atom_at-requires c =
-    let i = head-in (headed c.requires.0 c.requires.1 c.requires.2 (sym c.fixed.ensures ∙ c.in-Some.is)) in omega arith
+    let i = head-in (headed c.args.part.now c.requires (sym c.fixed.ensures ∙ c.in-Some.is)) in omega arith
 
 pub returns-then-is_external : goal.returns-then-is_external
 returns-then-is_external c =
-    let w = headed c.requires.0 c.requires.1 c.requires.2 (sym c.fixed.ensures ∙ c.in-Some.is) in
-    let h = head-source w (λ i. (c.type_inv.s i).fits) c.atom_at.ensures in
+    let w = headed c.args.part.now c.requires (sym c.fixed.ensures ∙ c.in-Some.is) in
+    let h = head-source w c.atom_at.ensures in
     elim c.then-is_external.branch [
       | then-is_external-via-then-is_external v ↦
-          again-external (λ i. (c.type_inv.s i).fits) w c.atom_at.result h c.is_external.ensures c.requires.3 v.if-is_external.true c.copy.ensures
+          again-external w c.atom_at.result h c.is_external.ensures v.if-is_external.true c.copy.ensures
       | then-is_external-via-else-is_external+then-is_forced v ↦
-          again-forced (λ i. (c.type_inv.s i).fits) w c.atom_at.result h c.is_external.ensures c.requires.3 v.if-is_external.false v.is_forced.ensures
+          again-forced w c.atom_at.result h c.is_external.ensures v.if-is_external.false v.is_forced.ensures
           v.if-is_forced.true c.copy.ensures
     ]
 
 pub sole_namespace-requires : goal.sole_namespace-requires
 sole_namespace-requires c =
-    let i = head-in (headed c.requires.0 c.requires.1 c.requires.2 (sym c.fixed.ensures ∙ c.in-Some.is)) in
-    (i.1, c.requires.1)
+    (head-in (headed c.args.part.now c.requires (sym c.fixed.ensures ∙ c.in-Some.is))).1
 
 pub take_apart-requires : goal.take_apart-requires
 take_apart-requires c =
-    let i = head-in (headed c.requires.0 c.requires.1 c.requires.2 (sym c.fixed.ensures ∙ c.in-Some.is)) in
-    (omega arith, c.requires.1, c.requires.2, c.requires.3)
+    let i = head-in (headed c.args.part.now c.requires (sym c.fixed.ensures ∙ c.in-Some.is)) in
+    (omega arith, c.requires)
 
 pub returns-in-Some-sole_namespace : goal.returns-in-Some-sole_namespace
 returns-in-Some-sole_namespace c =
-    let w = headed c.requires.0 c.requires.1 c.requires.2 (sym c.fixed.ensures ∙ c.in-Some.is) in
-    again-apart (λ i. (c.type_inv.s i).fits) w c.atom_at.result (head-source w (λ i. (c.type_inv.s i).fits) c.atom_at.ensures)
-    c.is_external.ensures c.requires.3 c.if-is_external.false c.is_forced.ensures c.if-is_forced.false c.sole_namespace.result c.sole_namespace.ensures
+    let w = headed c.args.part.now c.requires (sym c.fixed.ensures ∙ c.in-Some.is) in
+    again-apart w c.atom_at.result (head-source w c.atom_at.ensures)
+    c.is_external.ensures c.if-is_external.false c.is_forced.ensures c.if-is_forced.false c.sole_namespace.result c.sole_namespace.ensures
     c.in-Some-sole_namespace.id c.in-Some-sole_namespace.is c.take_apart.ensures
 
 pub returns-in-None : goal.returns-in-None
 returns-in-None c =
-    let w = headed c.requires.0 c.requires.1 c.requires.2 (sym c.fixed.ensures ∙ c.in-Some.is) in
-    again-other (λ i. (c.type_inv.s i).fits) w c.atom_at.result (head-source w (λ i. (c.type_inv.s i).fits) c.atom_at.ensures)
-    c.is_external.ensures c.requires.3 c.if-is_external.false c.is_forced.ensures c.if-is_forced.false c.sole_namespace.result c.sole_namespace.ensures
+    let w = headed c.args.part.now c.requires (sym c.fixed.ensures ∙ c.in-Some.is) in
+    again-other w c.atom_at.result (head-source w c.atom_at.ensures)
+    c.is_external.ensures c.if-is_external.false c.is_forced.ensures c.if-is_forced.false c.sole_namespace.result c.sole_namespace.ensures
     c.in-None.is c.copy-in-None.ensures

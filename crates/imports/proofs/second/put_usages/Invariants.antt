@@ -5,4 +5,4 @@ use Rattle.imports.proofs.TakenLaws.{Listing}
 use Rattle.imports.proofs.second.put_usages.Given as goal
 
 abbrev pub invariant-loop-i : goal.invariant-loop-i
-invariant-loop-i l = Listing (id_by l.id) l.t l.initial.out l.o l.out l.i l.to
+invariant-loop-i l = Listing (id_by l.id) l.t.cells l.initial.out l.o l.out l.i l.to

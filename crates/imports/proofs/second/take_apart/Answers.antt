@@ -6,17 +6,17 @@ use Rattle.imports.proofs.second.take_apart.Goals as goal
 pub returns-then-has_usages : goal.returns-then-has_usages
 returns-then-has_usages c =
     let a = c.requires.0 in
-    apart-some c.args.s.now c.args.at c.args.stop (λ i. (c.type_inv.s i).fits) (omega arith) c.requires.1 c.requires.2 c.args.id c.requires.3
+    apart-some c.args.part.now c.requires.1 c.args.id
     c.put_taken_apart.auto.out c.has_usages.ensures c.if-has_usages.true c.put_taken_apart.ensures
 
 pub atom_at-requires : goal.atom_at-requires
 atom_at-requires c =
     let a = c.requires.0 in
-    let b = c.requires.1 in
+    let b = c.args.part.now.whole.1 in
     omega arith
 
 pub returns : goal.returns
 returns c =
     let a = c.requires.0 in
-    apart-none c.args.s.now c.args.at c.args.stop (λ i. (c.type_inv.s i).fits) (omega arith) c.requires.1 c.requires.2 c.args.id
+    apart-none c.args.part.now c.requires.1 c.args.id
     c.atom_at.result c.has_usages.ensures c.if-has_usages.false c.atom_at.ensures c.force_source.ensures c.copy.ensures

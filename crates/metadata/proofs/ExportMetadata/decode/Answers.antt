@@ -2,6 +2,10 @@
 use mathlib.Core.Path.{sym, ap, ◌∙◌}
 use Rattle.std.proofs.lemmas.Result.{err_from_is_err_and}
 use Rattle.tree.specs.Read.{fine}
+use Rattle.tree.specs.Tree.{Fields}
+use Rattle.metadata.specs.Calls.{attributes_in}
+use Rattle.metadata.specs.Metadata.{decode}
+use Rattle.tree.proofs.PartLaws.{fields-made}
 use Rattle.metadata.proofs.CallsLaws.{decode-good, decode-refused}
 use Rattle.metadata.proofs.ExportMetadata.decode.Goals as goal
 
@@ -12,4 +16,5 @@ returns-in_err-read_lent c =
 
 pub returns : goal.returns
 returns c =
-    ap fine c.decode_parts.ensures ∙ decode-good c.args.attributes.now (sym c.read_lent.ensures ∙ c.in_ok-read_lent.was)
+    let row = fields-made c.new.result c.new.ensures in
+    ap fine (c.decode_parts.ensures ∙ ap (λ (fs : Fields). decode (attributes_in fs)) row) ∙ decode-good c.args.attributes.now (sym c.read_lent.ensures ∙ c.in_ok-read_lent.was)

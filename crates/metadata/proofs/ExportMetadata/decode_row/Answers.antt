@@ -1,50 +1,25 @@
 -- `decode_row`: the invariant: what is left tells, onto what was told, what the whole row tells.
-use mathlib.Core.Path.{sym, ap, ◌∙◌}
-use native.Mathlib.Omega.{arith}
-use Rattle.tree.specs.Standing.{row_at}
-use Rattle.tree.proofs.AccessLaws.{extent-upto}
+use mathlib.Core.Path.{sym, ap, ap₂, ◌∙◌}
+use Rattle.tree.specs.Rows.{fields_of}
+use Rattle.tree.specs.declared.row.Row.{Row}
 use Rattle.metadata.specs.Metadata.{Metadata, merged, decode_from, decode}
 use Rattle.metadata.specs.MetadataValue.{metadata_of}
 use Rattle.metadata.proofs.DecodeLaws.{decode-more, decode-none}
 use Rattle.metadata.proofs.ExportMetadata.decode_row.Goals as goal
 
-pub loop-stop-init : goal.loop-stop-init
+pub loop-part-init : goal.loop-part-init
 unfolding decode
-loop-stop-init c =
-    let a = c.args in
-    (ap (λ (x : Metadata). decode_from x (row_at a.s.now a.from a.end)) c.unset-m.ensures, c.requires.0)
+loop-part-init c =
+    ap₂ (λ (x : Metadata) (r : Row). decode_from x (fields_of r)) c.unset-m.ensures c.into_iter-part-iterator.ensures.into_iter_gives
 
-pub told_at-requires : goal.told_at-requires
-told_at-requires c =
-    let a = c.args in
-    let here = c.loop-stop in
-    let e = sym c.extent.ensures ∙ c.in-Some.is in
-    let i = extent-upto a.s.now here.at a.end here.invariant.1 e in
-    (i.0, omega arith)
-
-pub loop-stop-smaller : goal.loop-stop-smaller
-loop-stop-smaller c =
-    let a = c.args in
-    let here = c.loop-stop in
-    let e = sym c.extent.ensures ∙ c.in-Some.is in
-    let i = extent-upto a.s.now here.at a.end here.invariant.1 e in
-    omega arith
-
-pub loop-stop-preserved : goal.loop-stop-preserved
-loop-stop-preserved c =
-    let a = c.args in
-    let here = c.loop-stop in
-    let e = sym c.extent.ensures ∙ c.in-Some.is in
-    let i = extent-upto a.s.now here.at a.end here.invariant.1 e in
-    let m = metadata_of here.m in
-    let new = c.merge-m.ensures ∙ ap (merged m) c.told_at.ensures in (
-      ap (λ (x : Metadata). decode_from x (row_at a.s.now c.in-Some.stop a.end)) new
-          ∙ sym (decode-more a.s.now m here.at a.end here.invariant.1 _ e) ∙ here.invariant.0,
-      i.1,
-    )
+pub loop-part-preserved : goal.loop-part-preserved
+loop-part-preserved c =
+    let l = c.loop-part in
+    let m = metadata_of l.m in
+    ap (λ (x : Metadata). decode_from x (fields_of c.next.new.self)) (c.merge-m.ensures ∙ ap (merged m) c.told.ensures)
+    ∙ sym (decode-more l.part-iterator c.next.new.self m c.in-Some.part c.in-Some.ensures.steps) ∙ l.invariant
 
 pub returns : goal.returns
 returns c =
-    let a = c.args in
-    let here = c.loop-stop in
-    sym (decode-none a.s.now (metadata_of here.m) here.at a.end here.invariant.1 (sym c.extent.ensures ∙ c.in_default.is)) ∙ here.invariant.0
+    let l = c.loop-part in
+    sym (decode-none l.part-iterator c.next.new.self (metadata_of l.m) c.in-None.ensures.steps) ∙ l.invariant

@@ -2,7 +2,7 @@
 use lib.ListN.{drop}
 use native.Mathlib.Omega.{arith}
 use Rattle.records.specs.Writes.{items_in}
-use Rattle.records.proofs.OnwardLaws.{onward-start, onward-end, drop-end}
+use Rattle.records.proofs.OnwardLaws.{onward-end, drop-end}
 use Rattle.records.proofs.CollectedLaws.{onward-if, valued-by, collected-more, collected-none}
 use Rattle.records.proofs.collected.put_each.Goals as goal
 

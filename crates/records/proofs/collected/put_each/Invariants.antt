@@ -9,4 +9,4 @@ use Rattle.records.proofs.collected.put_each.Given as goal
 
 abbrev pub invariant-loop-i : goal.invariant-loop-i
 invariant-loop-i l = Onward (λ x. Placing l.tree l.work x × BothRead l.work l.out) (λ s. encodes (record_fields 0x80 (retold l.work l.out s)))
-    (λ s. encodes (record_fields 0x80 (map (rebuilt (items_in l.work) (items_in l.out) s.forced) (drop l.i s.collected)))) l.t l.initial.records l.o l.records l.to
+    (λ s. encodes (record_fields 0x80 (map (rebuilt (items_in l.work) (items_in l.out) s.forced) (drop l.i s.collected)))) l.t.cells l.initial.records l.o l.records l.to

@@ -2,7 +2,7 @@
 use lib.ListN.{drop}
 use native.Mathlib.Omega.{arith}
 use Rattle.writer.proofs.Wrote.{wrote-as, wrote-field}
-use Rattle.records.proofs.OnwardLaws.{onward-start, onward-step, onward-end, drop-end}
+use Rattle.records.proofs.OnwardLaws.{onward-step, onward-end, drop-end}
 use Rattle.records.proofs.LazyLaws.{forced-more, forced-none, forced-field}
 use Rattle.records.proofs.lazy.put_forced.Goals as goal
 

@@ -6,4 +6,4 @@ use Rattle.records.specs.Writes.{Onward}
 use Rattle.records.proofs.lazy.put_forced.Given as goal
 
 abbrev pub invariant-loop-i : goal.invariant-loop-i
-invariant-loop-i l = Onward (λ _. Unit {0}) (λ s. encodes (forced_fields s.forced)) (λ s. encodes (forced_fields (drop l.i s.forced))) l.t l.initial.records l.o l.records l.to
+invariant-loop-i l = Onward (λ _. Unit {0}) (λ s. encodes (forced_fields s.forced)) (λ s. encodes (forced_fields (drop l.i s.forced))) l.t.cells l.initial.records l.o l.records l.to

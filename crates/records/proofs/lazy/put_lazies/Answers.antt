@@ -1,7 +1,7 @@
 -- `put_lazies`: the invariant says that with the lazy records from i on all of them are written; `lazy-more` splits off the one at i.
 use lib.ListN.{drop}
 use native.Mathlib.Omega.{arith}
-use Rattle.records.proofs.OnwardLaws.{onward-start, onward-step, onward-end, drop-end}
+use Rattle.records.proofs.OnwardLaws.{onward-step, onward-end, drop-end}
 use Rattle.records.proofs.LazyLaws.{lazy-more, record-none}
 use Rattle.records.proofs.lazy.put_lazies.Goals as goal
 

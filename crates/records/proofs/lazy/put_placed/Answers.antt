@@ -1,6 +1,5 @@
 -- `put_placed`: nothing for 0 (`placed-none`), and elsewhere by whether a field stands there.
-use mathlib.Core.Path.{sym, ap, ◌∙◌}
-use native.Mathlib.Omega.{arith}
+use mathlib.Core.Path.{sym, ap}
 use Rattle.tree.specs.Tree.{encodes}
 use Rattle.writer.proofs.Wrote.{wrote-as}
 use Rattle.records.proofs.LazyLaws.{placed-none, pattern-none, pattern-here}
@@ -11,9 +10,8 @@ returns-then-place-eq0 c = placed-none c.args.tree.now c.args.work.now c.args.pl
 
 pub returns-in-Some : goal.returns-in-Some
 returns-in-Some c =
-    wrote-as (pattern-here _ _ (let i = c.in-Some.ensures.inside in omega arith) (sym c.field_end.ensures.end ∙ c.in-Some.is) c.put_bindings.ensures)
-    (sym (ap encodes (c.tree_with-at.ensures.pattern c.if-place-eq0.false)))
+    wrote-as (pattern-here _ _ c.in-Some.pattern c.in-Some.ensures c.put_bindings.ensures) (sym (ap encodes (c.tree_with-at.ensures.pattern c.if-place-eq0.false)))
 
 pub returns-in-None : goal.returns-in-None
 returns-in-None c =
-    wrote-as (pattern-none _ _ (sym c.field_end.ensures.end ∙ c.in-None.is)) (sym (ap encodes (c.tree_with-at.ensures.pattern c.if-place-eq0.false)))
+    wrote-as (pattern-none _ _ c.in-None.ensures) (sym (ap encodes (c.tree_with-at.ensures.pattern c.if-place-eq0.false)))

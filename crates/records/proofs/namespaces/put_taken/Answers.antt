@@ -1,10 +1,19 @@
 -- `put_taken`: the invariant says that with the places of the chain from here on all that are listed are written, since nothing is written of
 -- those off the chain (`pair-off`). `pairs-next` goes on along the chain, which leads on (`leads-on`).
 -- Behind the listed imports come the others (`pairs-joined`).
-use mathlib.Core.Path.{◌≡◌, sym, ap, subst, ◌∙◌}
+use mathlib.Core.Path.{◌≡◌, sym, ap, ap₂, subst, ◌∙◌}
+use mathlib.Core.List.{List}
+use Prim.Native.Nat.{ℕ}
+use lib.ListN.{length}
+use Rattle.tree.specs.Tree.{Fields, encodes}
+use Rattle.tree.specs.Standing.{row_at}
+use Rattle.tree.specs.Rows.{fields_of}
+use Rattle.records.specs.Model.{taken}
 use Rattle.records.specs.declared.places.Chain.{Chain}
-use Rattle.records.specs.Writes.{literal_in}
-use Rattle.records.specs.Listing.{listed_in, LeadsOn}
+use Rattle.records.specs.Writes.{sieve, literal_in}
+use Rattle.records.specs.Listing.{listed_in, behind_in, LeadsOn}
+use Rattle.records.proofs.SpecifierLaws.{items-are, items-read}
+use Rattle.records.proofs.CollectedLaws.{if-as, if-from}
 use Rattle.records.proofs.ListingLaws.{pairs-joined}
 use Rattle.records.proofs.ChainLaws.{leads-on, gave-next, gave-none, pairs-start, pairs-next, pairs-last}
 use Rattle.records.proofs.namespaces.put_taken.Goals as goal
@@ -30,14 +39,22 @@ loop-pair-preserved c =
       tt,
       n.4,
       pairs-next a.wanted.namespaces a.wanted.value.0 l a.work.now a.out.now a.imports.first.now (listed_in a.imports) c.requires.charted.linked n.0 n.1 n.2 n.3
-          c.loop-pair.invariant.3 c.put_pair-to.ensures,
+          c.loop-pair.invariant.3 c.put_pair_at-to.ensures,
     )
 
 pub returns : goal.returns
 returns c =
     let a = c.args in
     let l = literal_in a.tree.now a.work.now a.wanted.place in
+    let f = c.items_from-items.result in
+    let u = c.items_from-items.ensures in
+    let g = c.items_from-made.result in
+    let v = c.items_from-made.ensures in
     pairs-joined a.wanted.namespaces l c.requires.paired
     (pairs-last a.wanted.namespaces a.wanted.value.0 l a.work.now a.out.now a.imports.first.now (listed_in a.imports) c.requires.charted.linked
     c.loop-pair.pair-iterator.next (gave-none c.loop-pair.pair-iterator c.next.new.self (listed_in a.imports) c.in-None.ensures.steps c.loop-pair.invariant.2)
-    c.loop-pair.invariant.3) c.put_pairs.ensures
+    c.loop-pair.invariant.3)
+    (if-as (if-from (items-read a.out.now a.imports.behind.made g v) c.put_pairs.ensures)
+    (ap₂ (λ (x : List ℕ) (fs : Fields). encodes (sieve a.wanted.namespaces (taken x fs (fields_of c.items_from-made.result))))
+    (ap (λ (s : List ℕ). literal_in a.tree.now s a.wanted.place) u.0) (items-are a.work.now a.imports.behind.at f u)
+    ∙ ap (λ (gs : Fields). encodes (sieve a.wanted.namespaces (taken l (row_at a.work.now (behind_in a.imports) (length a.work.now)) gs))) (items-are a.out.now a.imports.behind.made g v)))

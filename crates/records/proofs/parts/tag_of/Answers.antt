@@ -5,8 +5,10 @@ use Rattle.records.proofs.parts.tag_of.Goals as goal
 
 pub returns-in-Some : goal.returns-in-Some
 returns-in-Some c =
-    tag-upto c.args.s.now c.args.at c.args.stop _ (sym c.fixed.ensures ∙ c.in-Some.is)
+    let p = c.args.part in
+    c.tag.ensures ∙ tag-upto p.bytes.now p.at p.stop _ (sym c.fixed.ensures ∙ c.in-Some.is)
 
 pub returns-in-None : goal.returns-in-None
 returns-in-None c =
-    tag-short c.args.s.now c.args.at c.args.stop (sym c.fixed.ensures ∙ c.in-None.is)
+    let p = c.args.part in
+    tag-short p.bytes.now p.at p.stop (sym c.fixed.ensures ∙ c.in-None.is)

@@ -3,8 +3,13 @@
 -- Behind the listed imports come the others (`imports-joined`).
 use mathlib.Core.Path.{◌≡◌, sym, ap, subst, ◌∙◌}
 use Rattle.tree.specs.Layout.{two}
+use Rattle.tree.specs.Tree.{Fields, encodes}
 use Rattle.records.specs.declared.places.Chain.{Chain}
+use Rattle.records.specs.Model.{gathered}
+use Rattle.records.specs.Writes.{sieve}
 use Rattle.records.specs.Listing.{listed_in, LeadsOn}
+use Rattle.records.proofs.SpecifierLaws.{items-are, items-read}
+use Rattle.records.proofs.CollectedLaws.{if-as, if-from}
 use Rattle.records.proofs.ListingLaws.{imports-joined}
 use Rattle.records.proofs.ChainLaws.{leads-on, gave-next, gave-none, imports-start, imports-next, imports-last}
 use Rattle.records.proofs.sources.put_gathered.Goals as goal
@@ -29,7 +34,7 @@ loop-pair-preserved c =
       tt,
       n.4,
       imports-next a.wanted.namespaces a.wanted.value.0 a.work.now a.imports.first.now (listed_in a.imports) c.requires.linked n.0 n.1 n.3 c.loop-pair.invariant.3
-          c.put_import-to.ensures,
+          c.put_import_at-to.ensures,
     )
 
 pub returns : goal.returns
@@ -38,4 +43,5 @@ returns c =
     imports-joined a.wanted.namespaces (two a.wanted.value.0) c.requires.listed
     (imports-last a.wanted.namespaces a.wanted.value.0 a.work.now a.imports.first.now (listed_in a.imports) c.requires.linked c.loop-pair.pair-iterator.next
     (gave-none c.loop-pair.pair-iterator c.next.new.self (listed_in a.imports) c.in-None.ensures.steps c.loop-pair.invariant.2) c.loop-pair.invariant.3)
-    c.put_imports.ensures
+    (if-as (if-from (items-read a.work.now a.imports.behind.at c.items_from.result c.items_from.ensures) c.put_imports.ensures)
+    (ap (λ (fs : Fields). encodes (sieve a.wanted.namespaces (gathered (two a.wanted.value.0) fs))) (items-are a.work.now a.imports.behind.at c.items_from.result c.items_from.ensures)))

@@ -1,51 +1,44 @@
 -- `resolving::sources::is_forced`: the invariant: whether the source is forced is what the records from here on say.
-use mathlib.Core.Path.{refl, sym, ap, ◌∙◌}
-use mathlib.Core.Bool.{Bool, ◌||◌}
+use mathlib.Core.Path.{◌≡◌, refl, sym, ◌∙◌}
 use native.Mathlib.Omega.{arith}
-use lib.ListN.{length}
 use Rattle.inputs.specs.Lists.{among}
 use Rattle.tree.specs.Layout.{two}
 use Rattle.tree.specs.Standing.{row_at}
-use Rattle.tree.proofs.AccessLaws.{extent-upto}
 use Rattle.resolving_rules.specs.Resolve.{forced_in}
+use Rattle.resolving.specs.Records.{RecordsIn, records_in}
+use Rattle.tree.proofs.PartLaws.{walk-there}
 use Rattle.resolving.proofs.RecordsLaws.{records-next, forced-end, forced-inside, forced-step}
 use Rattle.resolving.proofs.sources.is_forced.Goals as goal
 
-pub loop-stop-init : goal.loop-stop-init
-loop-stop-init c =
-    (refl, c.requires)
+pub loop-part-init : goal.loop-part-init
+loop-part-init c =
+    let a = two c.args.source.0 in
+    walk-there c.into_iter-part-iterator.result c.new-part-items.result c.into_iter-part-iterator.ensures.into_iter_gives c.new-part-items.ensures
+    (λ s n e. (among a (forced_in (records_in c.args.records.now)) ≡ among a (forced_in (row_at s n e))) × RecordsIn s n e) (refl, c.requires.records)
 
-pub extent-requires : goal.extent-requires
-extent-requires c =
-    let i = c.loop-stop.invariant.1.inside in omega arith
+pub forces-requires : goal.forces-requires
+forces-requires c =
+    let l = c.loop-part in
+    let p = c.in-Some.part in
+    let i = forced-inside c.args.source.0 (omega arith) l.part-iterator p c.next.new.self l.invariant.1 c.in-Some.ensures.steps in
+    let w = p.whole.1 in omega arith
+
+pub returns-then-forces : goal.returns-then-forces
+returns-then-forces c =
+    let l = c.loop-part in
+    sym (l.invariant.0 ∙ forced-step c.args.source.0 (omega arith) l.part-iterator c.in-Some.part c.next.new.self l.invariant.1 c.in-Some.ensures.steps
+    ∙ rw (sym c.forces.ensures ∙ c.if-forces.true))
+
+pub loop-part-preserved : goal.loop-part-preserved
+loop-part-preserved c =
+    let l = c.loop-part in
+    let p = c.in-Some in (
+      l.invariant.0 ∙ forced-step c.args.source.0 (omega arith) l.part-iterator p.part c.next.new.self l.invariant.1 p.ensures.steps
+          ∙ rw (sym c.forces.ensures ∙ c.if-forces.false),
+      records-next l.part-iterator p.part c.next.new.self l.invariant.1 p.ensures.steps,
+    )
 
 pub returns : goal.returns
 returns c =
-    sym (c.loop-stop.invariant.0 ∙ forced-end c.args.source.0 (omega arith) c.loop-stop.invariant.1 (sym c.extent.ensures ∙ c.in_default.is))
-
-pub forces_at-requires : goal.forces_at-requires
-forces_at-requires c =
-    forced-inside c.args.source.0 (omega arith) c.loop-stop.invariant.1 (sym c.extent.ensures ∙ c.in-Some.is)
-
-pub returns-then-forces_at : goal.returns-then-forces_at
-returns-then-forces_at c =
-    sym (c.loop-stop.invariant.0
-    ∙ forced-step c.args.source.0 (omega arith) c.loop-stop.invariant.1 (sym c.extent.ensures ∙ c.in-Some.is)
-    ∙
-    ap (λ (b : Bool). b || among (two c.args.source.0)
-    (forced_in (row_at c.args.records.now c.in-Some.stop (length c.args.records.now))))
-    (sym c.forces_at.ensures ∙ c.if-forces_at.true))
-
-pub loop-stop-smaller : goal.loop-stop-smaller
-loop-stop-smaller c =
-    let i = extent-upto c.args.records.now c.loop-stop.at _ c.loop-stop.invariant.1.inside (sym c.extent.ensures ∙ c.in-Some.is) in omega arith
-
-pub loop-stop-preserved : goal.loop-stop-preserved
-loop-stop-preserved c = (
-  c.loop-stop.invariant.0 ∙ forced-step c.args.source.0 (omega arith) c.loop-stop.invariant.1 (sym c.extent.ensures ∙ c.in-Some.is)
-      ∙
-      ap (λ (b : Bool). b || among (two c.args.source.0)
-      (forced_in (row_at c.args.records.now c.in-Some.stop (length c.args.records.now))))
-      (sym c.forces_at.ensures ∙ c.if-forces_at.false),
-  records-next c.loop-stop.invariant.1 (sym c.extent.ensures ∙ c.in-Some.is),
-)
+    let l = c.loop-part in
+    sym (l.invariant.0 ∙ forced-end c.args.source.0 (omega arith) l.part-iterator c.next.new.self c.in-None.ensures.steps)

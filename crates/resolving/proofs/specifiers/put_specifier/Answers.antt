@@ -16,42 +16,45 @@ unwrap-end-requires c =
 
 pub slice_bounds-bytes-count : goal.slice_bounds-bytes-count
 slice_bounds-bytes-count c =
-    let i = upto-in c.args.s.now _ (c.args.at + 3) c.args.stop c.requires.inside (sym c.fixed.ensures ∙ c.unwrap-end.ensures) in omega arith
+    let p = c.args.part in
+    let i = upto-in p.bytes.now _ (p.at + 3) p.stop p.whole.0 (sym c.fixed.ensures ∙ c.unwrap-end.ensures) in omega arith
 
 pub slice_bounds-bytes-start : goal.slice_bounds-bytes-start
 slice_bounds-bytes-start c =
-    let i = upto-in c.args.s.now _ (c.args.at + 3) c.args.stop c.requires.inside (sym c.fixed.ensures ∙ c.unwrap-end.ensures) in
-    let f = c.requires.fits in omega arith
+    let p = c.args.part in
+    let i = upto-in p.bytes.now _ (p.at + 3) p.stop p.whole.0 (sym c.fixed.ensures ∙ c.unwrap-end.ensures) in
+    let f = p.whole.1 in omega arith
 
 pub slice_bounds-bytes-end : goal.slice_bounds-bytes-end
 slice_bounds-bytes-end c =
-    let i = upto-in c.args.s.now _ (c.args.at + 3) c.args.stop c.requires.inside (sym c.fixed.ensures ∙ c.unwrap-end.ensures) in
-    let f = c.requires.fits in omega arith
+    let p = c.args.part in
+    let i = upto-in p.bytes.now _ (p.at + 3) p.stop p.whole.0 (sym c.fixed.ensures ∙ c.unwrap-end.ensures) in
+    let f = p.whole.1 in omega arith
 
-pub specifier_at-requires : goal.specifier_at-requires
-specifier_at-requires c =
+pub specifier_of-requires : goal.specifier_of-requires
+specifier_of-requires c =
+    let p = c.args.part in
     let e = sym c.fixed.ensures ∙ c.unwrap-end.ensures in
-    let i = upto-in c.args.s.now _ (c.args.at + 3) c.args.stop c.requires.inside e in
-    let f = c.requires.fits in
-    (omega arith, named-inside c.args.all c.args.s.now c.args.at c.args.stop c.unwrap-end.result e, omega arith)
+    let i = upto-in p.bytes.now _ (p.at + 3) p.stop p.whole.0 e in
+    λ h. let k = named-inside c.args.all p c.unwrap-end.result e h in omega arith
 
 pub returns-in-Named : goal.returns-in-Named
 returns-in-Named c =
     let a = c.args in
     let e = sym c.fixed.ensures ∙ c.unwrap-end.ensures in
-    puts-as (specifier-by a.all a.s.now a.at a.stop c.unwrap-end.result e (sym c.specifier_at.ensures ∙ c.in-Named.is))
-    (rw (between_is a.s.now (a.at + 3) c.unwrap-end.result) at c.put_named.ensures)
+    puts-as (specifier-by a.all a.part c.unwrap-end.result e (sym c.specifier_of.ensures ∙ c.in-Named.is))
+    (rw (between_is a.part.bytes.now (a.part.at + 3) c.unwrap-end.result) at c.put_named.ensures)
 
 pub returns-in-Default : goal.returns-in-Default
 returns-in-Default c =
     let a = c.args in
     let e = sym c.fixed.ensures ∙ c.unwrap-end.ensures in
-    puts-done (specifier-by a.all a.s.now a.at a.stop c.unwrap-end.result e (sym c.specifier_at.ensures ∙ c.in-Default.is))
-    (wrote-as (rw (between_is a.s.now (a.at + 3) c.unwrap-end.result) at c.put_leaf.ensures) (default-bytes _))
+    puts-done (specifier-by a.all a.part c.unwrap-end.result e (sym c.specifier_of.ensures ∙ c.in-Default.is))
+    (wrote-as (rw (between_is a.part.bytes.now (a.part.at + 3) c.unwrap-end.result) at c.put_leaf.ensures) (default-bytes _))
 
 pub returns-in-Namespace : goal.returns-in-Namespace
 returns-in-Namespace c =
     let a = c.args in
     let e = sym c.fixed.ensures ∙ c.unwrap-end.ensures in
-    puts-done (specifier-by a.all a.s.now a.at a.stop c.unwrap-end.result e (sym c.specifier_at.ensures ∙ c.in-Namespace.is))
-    (wrote-as (rw (between_is a.s.now (a.at + 3) c.unwrap-end.result, c.from.ensures) at c.put_leaf-in-Namespace.ensures) (namespace-bytes a.all _))
+    puts-done (specifier-by a.all a.part c.unwrap-end.result e (sym c.specifier_of.ensures ∙ c.in-Namespace.is))
+    (wrote-as (rw (between_is a.part.bytes.now (a.part.at + 3) c.unwrap-end.result, c.from.ensures) at c.put_leaf-in-Namespace.ensures) (namespace-bytes a.all _))

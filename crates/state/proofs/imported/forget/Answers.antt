@@ -1,7 +1,0 @@
--- `forget`: `forgotten` says that both drops together drop the id's usages and its imported entry.
-use Rattle.state.proofs.UsageLaws.{forgotten}
-use Rattle.state.proofs.imported.forget.Goals as goal
-
-pub returns : goal.returns
-returns c =
-    forgotten c.requires c.id_number-n.ensures.0 c.id_number-n.ensures.1 c.drop_uses.ensures c.drop_import.ensures
