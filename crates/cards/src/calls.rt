@@ -1,7 +1,6 @@
 // The requests' calls. The buffers are filled before a call with what it cannot leave, so that a byte left alone shows.
 use crate::answer;
 use crate::request::{Extraction, Resolution};
-use std::io;
 use tychodrel::{tychodrel_decode_metadata, tychodrel_extract, tychodrel_resolve};
 
 const UNTOUCHED: u8 = 170;
@@ -10,8 +9,8 @@ const UNTOUCHED: u8 = 170;
 const ROOM: usize = 2048;
 
 // Answers an extraction.
-pub fn extract(rt: &impl Print, asked: &Extraction) -> io::Result<()> {
-    answer::asked(rt, asked)?;
+pub fn extract(rt: &impl Print, asked: &Extraction) {
+    answer::asked(rt, asked);
     let mut scope = [UNTOUCHED; 770];
     let mut report = [UNTOUCHED; 32];
     let mut work = [UNTOUCHED; ROOM];
@@ -30,21 +29,21 @@ pub fn extract(rt: &impl Print, asked: &Extraction) -> io::Result<()> {
         &mut out,
         &mut records,
     );
-    answer::extraction(rt, r, &asked.tree, &work, &out, &records)?;
-    answer::modules(rt, &scope)
+    answer::extraction(rt, r, &asked.tree, &work, &out, &records);
+    answer::modules(rt, &scope);
 }
 
 // Answers a decoding of attributes.
-pub fn decode(rt: &impl Print, attributes: &[u8]) -> io::Result<()> {
-    answer::attributes(rt, attributes)?;
+pub fn decode(rt: &impl Print, attributes: &[u8]) {
+    answer::attributes(rt, attributes);
     let mut metadata = [UNTOUCHED; 6];
     let r = tychodrel_decode_metadata(attributes, &mut metadata);
-    answer::decoding(rt, r, metadata)
+    answer::decoding(rt, r, metadata);
 }
 
 // Answers a resolving.
-pub fn resolve(rt: &impl Print, asked: &Resolution) -> io::Result<()> {
-    answer::handed_on(rt, asked)?;
+pub fn resolve(rt: &impl Print, asked: &Resolution) {
+    answer::handed_on(rt, asked);
     let mut scope = [UNTOUCHED; 770];
     let mut report = [UNTOUCHED; 32];
     let mut list = [UNTOUCHED; ROOM];
@@ -57,6 +56,6 @@ pub fn resolve(rt: &impl Print, asked: &Resolution) -> io::Result<()> {
         &mut report,
         &mut list,
     );
-    answer::resolving(rt, r, &list)?;
-    answer::modules(rt, &scope)
+    answer::resolving(rt, r, &list);
+    answer::modules(rt, &scope);
 }

@@ -9,33 +9,40 @@ mod request;
 use request::Request;
 use std::io;
 use std::io::Read;
-use text::hex::BytesError;
 
-// Answers or prints one line.
-fn take<R: Print + AllocGlobal>(rt: &R, line: &[u8]) -> io::Result<()> {
+// How many bytes of cards are run at most.
+const LONGEST: usize = 32_767;
+
+// Answers or prints one line. What can't be written is left out.
+fn take<R: Print + AllocGlobal>(rt: &R, line: &[u8]) {
     match Request::read(rt.alloc(), line) {
         Ok(Some(Request::Extract(extraction))) => calls::extract(rt, &extraction),
         Ok(Some(Request::Decode(attributes))) => calls::decode(rt, &attributes),
         Ok(Some(Request::Resolve(resolution))) => calls::resolve(rt, &resolution),
         Ok(None) => {
-            rt.write_all(line)?;
-            println!(rt; "")
+            let _ = rt.write_all(line);
+            let _ = println!(rt; "");
         }
-        Err(BytesError::Malformed) => println!(rt; "not a request that can be read"),
-        Err(BytesError::OutOfMemory) => println!(rt; "no memory for the request"),
+        Err(e) => answer::unread(rt, e),
     }
 }
 
 // Takes the lines one by one.
-fn run<R: Print + AllocGlobal>(rt: &R, text: &[u8]) -> io::Result<()> {
+fn run<R: Print + AllocGlobal>(rt: &R, text: &[u8]) {
     for line in text.split_inclusive(|b| *b == b'\n') {
-        take(rt, line.strip_suffix(b"\n").unwrap_or(line))?;
+        take(rt, line.strip_suffix(b"\n").unwrap_or(line));
     }
-    Ok(())
 }
 
+// Runs all that there is, up to a read that fails.
 fn main(rt: HostRuntime) -> io::Result<()> {
-    let mut text = Vec::new(rt.alloc());
-    rt.stdin().read_to_end(&mut text)?;
-    run(&rt, &text)
+    // With a byte to spare, so that reading asks for no more memory.
+    let mut text = Vec::with_capacity(rt.alloc(), LONGEST + 2)?;
+    let _ = rt.stdin().take(LONGEST as u64 + 1).read_to_end(&mut text);
+    if LONGEST < text.len() {
+        let _ = println!(rt; "longer than {LONGEST} bytes");
+    } else {
+        run(&rt, &text);
+    }
+    Ok(())
 }

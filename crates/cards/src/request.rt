@@ -1,10 +1,16 @@
 // The text of the requests: `extract OWN CONFIG FILES EXTERNALS TABLE TREE`, `decode ATTRIBUTES`, `resolve FILES TABLE
 // RECORDS`. OWN is a file in decimal and CONFIG is `on` or `off`. The rest is bytes in hexadecimal, `-` for none; the last
-// field may be written in groups apart by single spaces, and is not `-`.
+// field may be written in groups apart by single spaces, and is not `-`. A request of more than 4096 bytes in all is malformed.
+ghost use Rattle.std.specs.Prelude.{◌↔◌, ◌≤◌, IsTrue, IfOk, IfSome};
+ghost use Rattle.cards.specs.Request.{bytes_in};
+
 use std::alloc::Global;
 use text::decimal::number_at;
 use text::fields::field;
 use text::hex::{BytesError, bytes_at, read_hex};
+
+// How many bytes a request may have in all.
+const MOST: usize = 4096;
 
 #[derive(Drop)]
 pub struct Extraction {
@@ -34,13 +40,38 @@ pub enum Request {
 
 impl Request {
     // The request in a line, if it is one.
-    pub fn read(alloc: Global, line: &[u8]) -> Result<Option<Request>, BytesError> {
-        Ok(match field(line, 0) {
-            Some(b"extract") => Some(Request::Extract(read_extraction(alloc, line)?)),
-            Some(b"decode") => Some(Request::Decode(rest_at(alloc, line, 1)?)),
-            Some(b"resolve") => Some(Request::Resolve(read_resolution(alloc, line)?)),
-            _ => None,
-        })
+    pub fn read(alloc: Global, line: &[u8]) -> Result<Option<Request>, BytesError>
+        ensures { IfOk result (λ r. IfSome r (λ q. bytes_in q ≤ 4096)) }
+    {
+        let request = match field(line, 0) {
+            Some(b"extract") => Request::Extract(read_extraction(alloc, line)?),
+            Some(b"decode") => Request::Decode(rest_at(alloc, line, 1)?),
+            Some(b"resolve") => Request::Resolve(read_resolution(alloc, line)?),
+            _ => return Ok(None),
+        };
+        if request.fits() {
+            Ok(Some(request))
+        } else {
+            Err(BytesError::Malformed)
+        }
+    }
+
+    // Whether it has at most that many bytes in all.
+    fn fits(&self) -> bool
+        ensures { IsTrue result ↔ (bytes_in self.now ≤ 4096) }
+    {
+        match self {
+            Request::Extract(e) => {
+                let lists = e.files.len().saturating_add(e.externals.len());
+                let behind = e.table.len().saturating_add(e.tree.len());
+                lists.saturating_add(behind) <= MOST
+            }
+            Request::Decode(attributes) => attributes.len() <= MOST,
+            Request::Resolve(r) => {
+                let behind = r.table.len().saturating_add(r.records.len());
+                r.files.len().saturating_add(behind) <= MOST
+            }
+        }
     }
 }
 

@@ -45,6 +45,19 @@ pub struct Lent<'a> {
     ghost of_bytes: { Bytes tree.now },
 }
 
+impl<'a> Lent<'a> {
+    // Of any three slices: that a tree has bytes below 256 is known of a parameter.
+    pub fn new(externals: &'a [u8], table: &'a [u8], tree: &'a [u8]) -> Lent<'a>
+        ensures { (result.externals.now ≡ externals.now) × (result.table.now ≡ table.now) × (result.tree.now ≡ tree.now) }
+    {
+        Lent {
+            externals,
+            table,
+            tree,
+        }
+    }
+}
+
 // Why a call refuses.
 #[derive(Clone, Copy, PartialEq, Eq)]
 pub enum ExtractError {

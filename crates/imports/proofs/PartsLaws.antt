@@ -16,7 +16,6 @@ use Rattle.tree.specs.Standing.{row_at, Row as Standing}
 use Rattle.tree.specs.declared.row.Part.{Part}
 use Rattle.tree.specs.declared.row.Row.{Row}
 use Rattle.tree.proofs.PartLaws.{fields-none, fields-more, part_tag}
-use Rattle.tree.proofs.StandingLaws.{row-end}
 use Rattle.tree.proofs.SoundLaws.{row-sound}
 use Rattle.inputs.specs.Fields.{has}
 use Rattle.extraction_rules.specs.First.{specifiers_in, attributes_in}
@@ -102,21 +101,20 @@ module _ {r : Row} {p : Part} (w : LastPart r p) where
 
 -- ---- Where the specifiers end
 
-abbrev EndsRow : Row → ℕ → Type 0
+abbrev pub EndsRow : Row → ℕ → Type 0
 EndsRow r k = Ends r.bytes.now r.at r.end k
 
-ends-short : (r r' : Row) → GivesPart r None r' → EndsRow r r.end
+pub ends-short : (r r' : Row) → GivesPart r None r' → EndsRow r r.at
 ends-short r r' g =
     let z = fields-none r r' g in
-    let there : PartsRow r → r.at ≡ r.end = λ w. (row-end r.bytes.now r.at r.end (rule_of 0x10) r.inside.0 w g.0).0 in
     let le = r.inside.0 in
     record {
       after = omega arith;
-      before = omega arith;
-      row = λ w. subst (λ (k : ℕ). Standing r.bytes.now k r.end (rule_of 0x10)) (there w) w;
-      attributes = λ w. ap attributes_in z ∙ keep-none (has 0x2F) ∙ sym z ∙ ap (λ (k : ℕ). row_at r.bytes.now k r.end) (there w);
+      before = le;
+      row = λ w. w;
+      attributes = λ w. ap attributes_in z ∙ keep-none (has 0x2F) ∙ sym z;
       stays = λ w k. ap specifiers_in z ∙ keep-none (λ f. not (has 0x2F f));
-      goes = λ w k. let i = there w in absurd (omega arith);
+      goes = λ w k. absurd (omega arith);
     }
 
 module _ (r : Row) (p : Part) (r' : Row) (g : GivesPart r (Some p) r') where
@@ -149,21 +147,22 @@ module _ (r : Row) (p : Part) (r' : Row) (g : GivesPart r (Some p) r') where
         goes = λ w k. (_, _, first-specifiers (part-first r p r' g w n));
       }
 
--- what is found from the row r on is what is found from the start
-pub record Seeking (s : List ℕ) (from end : ℕ) (r : Row) : Type 0 where
+-- what is found from the row r on, which stands at `at`, is what is found from the start
+pub record Seeking (s : List ℕ) (from end at : ℕ) (r : Row) : Type 0 where
+  pub here : r.at ≡ at
   pub last : r.end ≡ end
   pub rest : (k : ℕ) → EndsRow r k → Ends s from end k
 
-pub seeking-start : {s : List ℕ} {from end : ℕ} (r : Row) → (r.bytes.now ≡ s) × (r.at ≡ from) × (r.end ≡ end) → Seeking s from end r
-seeking-start r m = record { last = m.2; rest = λ k w. rw (m.0, m.1, m.2) at w }
+pub seeking-start : {s : List ℕ} {from end : ℕ} (r : Row) → (r.bytes.now ≡ s) × (r.at ≡ from) × (r.end ≡ end) → Seeking s from end from r
+seeking-start r m = record { here = m.1; last = m.2; rest = λ k w. rw (m.0, m.1, m.2) at w }
 
-module _ {s : List ℕ} {from end : ℕ} {r : Row} (k : Seeking s from end r) (r' : Row) where
-  pub seeking-short : GivesPart r None r' → Ends s from end end
-  seeking-short g = subst (Ends s from end) k.last (k.rest r.end (ends-short r r' g))
+module _ {s : List ℕ} {from end at : ℕ} {r : Row} (k : Seeking s from end at r) (r' : Row) where
+  pub seeking-short : GivesPart r None r' → Ends s from end at
+  seeking-short g = subst (Ends s from end) k.here (k.rest r.at (ends-short r r' g))
 
   module _ (p : Part) (g : GivesPart r (Some p) r') where
     pub seeking-attributes : part_tag p ≡ 0x2F → Ends s from end p.at
     seeking-attributes t = subst (Ends s from end) (sym g.1) (k.rest r.at (ends-attributes r p r' g t))
 
-    pub seeking-more : (part_tag p ≡ 0x2F → ⊥) → Seeking s from end r'
-    seeking-more n = record { last = g.4 ∙ k.last; rest = λ e v. k.rest e (ends-more r p r' g n v) }
+    pub seeking-more : (part_tag p ≡ 0x2F → ⊥) → Seeking s from end p.stop r'
+    seeking-more n = record { here = g.3; last = g.4 ∙ k.last; rest = λ e v. k.rest e (ends-more r p r' g n v) }

@@ -12,17 +12,19 @@ use scope::id::Id;
 use state::ident::id_at;
 use tree::row::Part;
 
-// Where the specifiers from `from` on stop: at the 2F, or at the end of the import.
+// Where the specifiers from `from` on stop: at the 2F, or where no whole field follows.
 pub fn specifiers_end(part: &Part, from: usize) -> usize
     requires { from ≤ part.now.stop }
     ensures { Ends part.now.bytes.now from part.now.stop result }
 {
+    let mut at = from;
     for p in part.row(from) {
         if p.tag() == 0x2F {
             return p.at;
         }
+        at = p.stop;
     }
-    part.stop
+    at
 }
 
 // The id of a field, if it is a 22.

@@ -9,6 +9,9 @@ use std::{env, fs, io};
 use tree::grammar::Set;
 use tree::read::{Unread, Why, read_tree};
 
+// How many bytes are shown at most.
+const LONGEST: usize = 131_071;
+
 // A module, records or attributes, by the first tag.
 fn root_of(s: &[u8]) -> Set {
     match s {
@@ -27,26 +30,41 @@ fn words_of(why: Why) -> &'static str {
     }
 }
 
-fn show(rt: &impl Print, bytes: &[u8]) -> io::Result<()> {
-    match read_tree(bytes, root_of(bytes)) {
+// What can't be written is left out.
+fn show(rt: &impl Print, bytes: &[u8]) {
+    let _ = match read_tree(bytes, root_of(bytes)) {
         Ok(()) => print!(rt; "{}", Fields(bytes)),
         Err(Unread { why, place }) => {
             let words = words_of(why);
             let around = Around { bytes, place };
             print!(rt; "refused {words}, at {place}\n{around}")
         }
+    };
+}
+
+// Reads all that there is, up to a read that fails, and shows it.
+fn show_all<R: Print + AllocGlobal>(rt: &R, input: impl Read + Drop) -> io::Result<()> {
+    // With a byte to spare, so that reading asks for no more memory.
+    let mut bytes = Vec::with_capacity(rt.alloc(), LONGEST + 2)?;
+    let _ = input.take(LONGEST as u64 + 1).read_to_end(&mut bytes);
+    if LONGEST < bytes.len() {
+        let _ = println!(rt; "longer than {LONGEST} bytes");
+    } else {
+        show(rt, &bytes);
     }
+    Ok(())
 }
 
 fn main(rt: HostRuntime) -> io::Result<()> {
     let mut args = env::args(&rt)?;
     let Some(path) = args.nth(1) else {
-        let mut bytes = Vec::new(rt.alloc());
-        rt.stdin().read_to_end(&mut bytes)?;
-        return show(&rt, &bytes);
+        return show_all(&rt, rt.stdin());
     };
-    match fs::read(&rt, path.as_str()) {
-        Ok(bytes) => show(&rt, &bytes),
-        Err(e) => eprintln!(rt; "{path}: {e}"),
+    match fs::open(&rt, path.as_str()) {
+        Ok(file) => show_all(&rt, file),
+        Err(e) => {
+            let _ = eprintln!(rt; "{path}: {e}");
+            Ok(())
+        }
     }
 }

@@ -1,22 +1,17 @@
 -- Decimal numbers: their digits from the front, no leading zeros, and what was written parses to the number.
-use Rattle.std.specs.Prelude.{None, Some, Result, Ok, Err}
-use Rattle.std.specs.Char.{digit_value}
-use Rattle.std.specs.Result.{MatchResult, result_ok}
-use Rattle.std.specs.Str.{IsAscii, IsUtf8}
-use Rattle.std.specs.Str.Parse.{AllDigits, IsNumeral, digits_value, digits_value_after, without_leading_plus, ParsesUnsigned}
-use Rattle.std.proofs.lemmas.Str.{IsUtf8-from_ascii}
-use Rattle.std.proofs.lemmas.Str.Parse.{digit_from_value}
+use Rattle.std.specs.Prelude.{Option, None, Some, MatchOption, unwrap_or, ◌≢◌}
+use Rattle.std.specs.Char.{IsNotAsciiDigit}
+use Rattle.std.proofs.lemmas.List.{drop_more, drop_all}
 use Prim.Native.Nat.{ℕ, zero, suc, ◌+◌, ◌-◌, ◌*◌, ◌/◌, ◌%◌, ◌^◌, ◌≤◌, ◌<◌}
-use mathlib.Core.Path.{◌≡◌, refl, sym, ap, subst, ◌∙◌}
-use mathlib.Core.Bool.{Bool, true, false, ◌&&◌, cond, true≢false}
-use mathlib.Core.Logic.{◌⊎◌, inl, inr, ⊎_elim}
+use mathlib.Core.Path.{◌≡◌, refl, sym, ap, ◌∙◌}
+use mathlib.Core.Bool.{Bool, true, false, ◌&&◌, cond}
 use mathlib.Core.List.{List, [], ◌∷◌, ◌++◌, append_assoc, append-nil}
 use native.Mathlib.Nat.{pow-succ'}
 use native.Mathlib.Omega.{arith}
 use denote.Ref.{Bor}
 use lib.Dec.{ltb, leb, eqb}
-use lib.ListN.{length, drop, length-append}
-use borrow.Author.Tests.{lt-ltb, le-ltb, le-leb, ltb-true, ltb-false, leb-true, eqb-true, ne_eqb}
+use lib.ListN.{length, get_or, drop, length-append}
+use borrow.Author.Tests.{lt-ltb, le-ltb, le-leb, lt-leb, ltb-true, ltb-false, leb-true, ne_eqb}
 use Rattle.metadata.specs.Decimal.{decimal_by, decimal, is_digit, number_from, number, limited, unsigned, parsed}
 
 -- ---- Digits
@@ -91,7 +86,7 @@ decimal-leads =
 
 -- ---- Parsing
 
-digit-true : (b : ℕ) → 48 ≤ b → b ≤ 57 → is_digit b ≡ true
+pub digit-true : (b : ℕ) → 48 ≤ b → b ≤ 57 → is_digit b ≡ true
 digit-true b h g = rw (le-leb 48 b h, le-leb b 57 g)
 
 pub digit-is : (b : ℕ) → is_digit b ≡ true → (48 ≤ b) × (b ≤ 57)
@@ -101,6 +96,13 @@ digit-is b e = go (leb 48 b) (leb b 57) refl refl e
     go true true l h e = (leb-true 48 b l, leb-true b 57 h)
     go true false l h e = absurd (let z : ◌≡◌ {A = ℕ} 0 1 = cc in omega arith)
     go false h l k e = absurd (let z : ◌≡◌ {A = ℕ} 0 1 = cc in omega arith)
+
+pub digit-false : (b : ℕ) → IsNotAsciiDigit b → is_digit b ≡ false
+digit-false b h = go (is_digit b) refl
+  where
+    go : (t : Bool) → is_digit b ≡ t → is_digit b ≡ false
+    go true e = let i = digit-is b e in absurd (omega arith)
+    go false e = e
 
 from-digit : (n b : ℕ) (l : List ℕ) → 48 ≤ b → b ≤ 57 → number_from n (b ∷ l) ≡ number_from (n * 10 + (b - 48)) l
 unfolding number_from
@@ -136,95 +138,60 @@ pub decimal-parses : (n : ℕ) → n ≤ 4294967295 → parsed (decimal n) ≡ S
 unfolding parsed
 decimal-parses n h = rw (unsigned-decimal n, number-decimal n, le-leb n 4294967295 h)
 
--- ---- By the library's words
-
-digit-value : (b : ℕ) → 48 ≤ b → b ≤ 57 → digit_value b ≡ b - 48
-digit-value b h g = rw (le-ltb b 48 h, lt-ltb b 58 (omega arith))
-
--- a text stands for the value of its digits, and for none where another byte is in it
-abbrev DigitsOrNone : ℕ → List ℕ → Type 0
-DigitsOrNone n l = (AllDigits 10 l × (number_from n l ≡ Some (digits_value_after 10 n l))) ⊎ ((AllDigits 10 l → ⊥) × (number_from n l ≡ None))
-
-digit-first : (n b : ℕ) (l : List ℕ) (v : ℕ) → b - 48 ≡ v → digit_value b ≡ v → v < 10 → is_digit b ≡ true → DigitsOrNone (n * 10 + v) l → DigitsOrNone n (b ∷ l)
+-- a number that is too large stays so, whatever follows
+pub too-large : (l : List ℕ) (n : ℕ) → 4294967295 < n → limited (number_from n l) ≡ None
 unfolding number_from
-digit-first n b l v p q h e d = ⊎_elim (λ w. inl ((rw q h, w.0), rw (e, q, p) w.1)) (λ w. inr ((λ a. w.0 a.1), rw (e, p) w.1)) d
+too-large [] n h = rw (lt-leb n 4294967295 h)
+too-large (b ∷ l) n h = go (is_digit b) (too-large l (n * 10 + (b - 48)) (omega arith))
+  where
+    go : (t : Bool) → limited (number_from (n * 10 + (b - 48)) l) ≡ None → limited (cond t (number_from (n * 10 + (b - 48)) l) None) ≡ None
+    go true e = e
+    go false e = refl
 
-digits-by : (n b : ℕ) (l : List ℕ) → ((m : ℕ) → DigitsOrNone m l) → (t : Bool) → is_digit b ≡ t → DigitsOrNone n (b ∷ l)
+-- ---- The same of what is left of a text
+
+module _ (s : List ℕ) (i : ℕ) (h : i < length s) where
+  here : drop i s ≡ get_or s i 0 ∷ drop (i + 1) s
+  here = drop_more s i 0 h
+
+  pub number-more : (n : ℕ) → is_digit (get_or s i 0) ≡ true → number_from n (drop i s) ≡ number_from (n * 10 + (get_or s i 0 - 48)) (drop (i + 1) s)
+  unfolding number_from
+  number-more n e = ap (number_from n) here ∙ rw e
+
+  pub number-other : (n : ℕ) → is_digit (get_or s i 0) ≡ false → number_from n (drop i s) ≡ None
+  unfolding number_from
+  number-other n e = ap (number_from n) here ∙ rw e
+
+pub number-end : (s : List ℕ) (n : ℕ) (i : ℕ) → length s ≤ i → number_from n (drop i s) ≡ Some n
 unfolding number_from
-digits-by n b l d true e = let i = digit-is b e in digit-first n b l (b - 48) refl (digit-value b i.0 i.1) (omega arith) e (d (n * 10 + (b - 48)))
-digits-by n b l d false e = inr ((λ a. let r = digit_from_value b a.0 in true≢false (sym (digit-true b r.0 r.1) ∙ e)), rw e)
+number-end s n i h = ap (number_from n) (drop_all i s h)
 
-digits-or-none : (n : ℕ) (l : List ℕ) → DigitsOrNone n l
-unfolding number_from
-digits-or-none n [] = inl (tt, refl)
-digits-or-none n (b ∷ l) = digits-by n b l (λ m. digits-or-none m l) (is_digit b) refl
+pub number-none : (l : List ℕ) → length l ≡ 0 → number l ≡ None
+unfolding number
+number-none [] e = refl
+number-none (b ∷ l) e = absurd (omega arith)
 
-signless : (l : List ℕ) → unsigned l ≡ without_leading_plus l
+pub number-some : (l : List ℕ) → 0 < length l → number l ≡ number_from 0 l
+unfolding number
+number-some [] h = absurd (omega arith)
+number-some (b ∷ l) h = refl
+
+pub unsigned-shorter : (l : List ℕ) → length (unsigned l) ≤ length l
 unfolding unsigned
-signless [] = refl
-signless (b ∷ l) = go (eqb b 43)
+unsigned-shorter [] = omega arith
+unsigned-shorter (b ∷ l) = go (eqb b 43)
   where
-    go : (t : Bool) → cond t l (b ∷ l) ≡ drop (cond t 1 0) (b ∷ l)
-    go true = refl
-    go false = refl
+    go : (t : Bool) → length (cond t l (b ∷ l)) ≤ length (b ∷ l)
+    go true = omega arith
+    go false = omega arith
 
-number-numeral : (l : List ℕ) → IsNumeral 10 l → digits_value 10 l < 4294967296 → limited (number l) ≡ Some (digits_value 10 l)
-unfolding number
-number-numeral [] h b = absurd (omega arith)
-number-numeral (b ∷ l) h n =
-    ⊎_elim (λ d. ap limited d.1 ∙ rw (le-leb (digits_value 10 (b ∷ l)) 4294967295 (omega arith))) (λ d. absurd (d.0 h.1)) (digits-or-none 0 (b ∷ l))
-
-number-other : (l : List ℕ) → (IsNumeral 10 l × (digits_value 10 l < 4294967296) → ⊥) → limited (number l) ≡ None
-unfolding number
-number-other [] h = refl
-number-other (b ∷ l) h = ⊎_elim (λ d. ap limited d.1 ∙ large (leb v 4294967295) refl (λ k. h ((omega arith, d.0), k))) (λ d. ap limited d.1) (digits-or-none 0 (b ∷ l))
-  where
-    v : ℕ
-    v = digits_value 10 (b ∷ l)
-
-    large : (t : Bool) → leb v 4294967295 ≡ t → (v < 4294967296 → ⊥) → cond t (Some v) None ≡ None
-    large true e k = let i = leb-true v 4294967295 e in absurd (k (omega arith))
-    large false e k = refl
-
--- what the library's parsing gives
-pub parsed-as : {E : Type 0} (l : List ℕ) (r : Result ℕ E) → ParsesUnsigned 32 10 l r → result_ok r ≡ parsed l
-unfolding parsed
-parsed-as l (Ok n) h = sym (ap (λ (x : List ℕ). limited (number x)) (signless l) ∙ number-numeral (without_leading_plus l) h.0.0 h.0.1 ∙ ap Some (sym h.1))
-parsed-as l (Err e) h = sym (ap (λ (x : List ℕ). limited (number x)) (signless l) ∙ number-other (without_leading_plus l) h)
-
--- what is no text of UTF-8 stands for no number
-ascii-more : (b : ℕ) (l : List ℕ) → b < 128 → IsAscii l → IsAscii (b ∷ l)
-ascii-more b l h a zero = h
-ascii-more b l h a (suc i) = a i
-
-ascii-digits : (l : List ℕ) → AllDigits 10 l → IsAscii l
-ascii-digits [] a = λ i. omega arith
-ascii-digits (b ∷ l) a = let r = digit_from_value b a.0 in ascii-more b l (omega arith) (ascii-digits l a.1)
-
-ascii-signed : (l : List ℕ) → AllDigits 10 (without_leading_plus l) → IsAscii l
-ascii-signed [] a = λ i. omega arith
-ascii-signed (b ∷ l) a = go (eqb b 43) refl a
-  where
-    go : (t : Bool) → eqb b 43 ≡ t → AllDigits 10 (drop (cond t 1 0) (b ∷ l)) → IsAscii (b ∷ l)
-    go true e d = let i = eqb-true b 43 e in ascii-more b l (omega arith) (ascii-digits l d)
-    go false e d = ascii-digits (b ∷ l) d
-
-not-parsed : (l : List ℕ) → (IsUtf8 l → ⊥) → parsed l ≡ None
-unfolding parsed number
-not-parsed l h = ap (λ (x : List ℕ). limited (number x)) (signless l) ∙ go (without_leading_plus l) refl
-  where
-    go : (w : List ℕ) → without_leading_plus l ≡ w → limited (number w) ≡ None
-    go [] e = refl
-    go (b ∷ w) e = ⊎_elim (λ d. absurd (h (IsUtf8-from_ascii l (ascii-signed l (subst (AllDigits 10) (sym e) d.0))))) (λ d. ap limited d.1) (digits-or-none 0 (b ∷ w))
-
-module _ {E : Type 0} (P : E → Type 0) (l : List ℕ) where
-  pub text-none : (r : Result (Bor (List ℕ)) E) → MatchResult r (λ s. (s.now ≡ l) × IsUtf8 l) (λ e. (IsUtf8 l → ⊥) × P e) → result_ok r ≡ None → None ≡ parsed l
-  text-none (Ok s) m e = absurd (let z : ◌≡◌ {A = ℕ} 0 1 = cc in omega arith)
-  text-none (Err d) m e = sym (not-parsed l m.0)
-
-  pub text-some : (r : Result (Bor (List ℕ)) E) {s : Bor (List ℕ)} → MatchResult r (λ s. (s.now ≡ l) × IsUtf8 l) (λ e. (IsUtf8 l → ⊥) × P e) → result_ok r ≡ Some s → s.now ≡ l
-  text-some (Ok t) {s} m e = let z : t ≡ s = cc in rw z at m.0
-  text-some (Err d) m e = absurd (let z : ◌≡◌ {A = ℕ} 0 1 = cc in omega arith)
+-- what is left of a text without a plus at its front
+pub unsigned-stripped : (l : List ℕ) (r : Option (Bor (List ℕ))) → MatchOption r ((rest : List ℕ) → l ≢ 43 ∷ [] ++ rest) (λ x. l ≡ 43 ∷ [] ++ x.now) →
+    (b : Bor (List ℕ)) → b.now ≡ l → (unwrap_or r b).now ≡ unsigned l
+unfolding unsigned
+unsigned-stripped l (Some x) e b k = sym (ap unsigned e)
+unsigned-stripped [] None e b k = k
+unsigned-stripped (d ∷ l) None e b k = k ∙ sym (rw (ne_eqb d 43 (λ z. e l (ap (λ (n : ℕ). n ∷ l) z))))
 
 -- ---- Lengths
 

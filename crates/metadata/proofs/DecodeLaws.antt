@@ -2,17 +2,18 @@
 use Rattle.std.specs.Prelude.{Option, None, Some}
 use Rattle.std.specs.Option.{MatchOption}
 use denote.Ref.{Bor}
-use Prim.Native.Nat.{ℕ, ◌+◌}
+use Prim.Native.Nat.{ℕ, ◌+◌, ◌≤◌, ◌<◌}
+use native.Mathlib.Omega.{arith}
 use mathlib.Core.Path.{◌≡◌, refl, sym, ap, ◌∙◌}
 use mathlib.Core.Bool.{Bool, true, false, ◌&&◌}
 use mathlib.Core.List.{List, [], ◌∷◌, ◌++◌}
 use lib.Dec.{eqb}
-use lib.ListN.{length, take, drop}
+use lib.ListN.{length, take, length-take, drop}
 use lib.Pointwise.{pointwise}
 use lib.Seq.{slice}
 use Rattle.tree.specs.Layout.{same}
 use Rattle.tree.specs.Tree.{fixed_of, Field, Fields, parts_of}
-use Rattle.tree.proofs.LayoutLaws.{same-pointwise}
+use Rattle.tree.proofs.LayoutLaws.{same-pointwise, same-equal}
 use Rattle.metadata.specs.Decimal.{parsed}
 use Rattle.metadata.specs.Metadata.{injected_key, context_key, header, injected_attribute, starts_with, context_in, Metadata, told, merged, unset, decode_from, decode}
 use Rattle.tree.specs.Rows.{GivesPart, tree_of, fields_of}
@@ -21,6 +22,25 @@ use Rattle.tree.specs.declared.row.Row.{Row}
 use Rattle.tree.proofs.PartLaws.{fields-none, fields-more, part_fixed, part-short, part-tree}
 use Rattle.tree.proofs.StandingLaws.{tree-upto}
 use Rattle.metadata.specs.Calls.{attributes_in}
+
+-- runs of different lengths differ; so a content that starts with a key is as long, and a shorter one starts with none
+pub other-length : (x y : List ℕ) → (length x ≡ length y → ⊥) → same x y ≡ false
+other-length x y h = go (same x y) refl
+  where
+    go : (b : Bool) → same x y ≡ b → same x y ≡ false
+    go true e = absurd (h (ap length (same-equal x y e)))
+    go false e = e
+
+pub starts-short : (h x : List ℕ) → length x < length h → starts_with h x ≡ false
+unfolding starts_with
+starts-short h x l = other-length (take (length h) x) h (λ e. let n = length-take (length h) x in omega arith)
+
+pub starts-long : (h x : List ℕ) → starts_with h x ≡ true → length h ≤ length x
+unfolding starts_with
+starts-long h x e =
+    let n = length-take (length h) x in
+    let m = ap length (same-equal (take (length h) x) h e) in
+    omega arith
 
 -- a run is two runs behind one another just where its front is the first and its back the second
 same-split : (h v x : List ℕ) → same x (h ++ v) ≡ same (take (length h) x) h && same (drop (length h) x) v

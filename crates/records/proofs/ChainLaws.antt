@@ -1,6 +1,6 @@
 -- Chains through a list of places: what is written along a chain is what is written of the whole list, since nothing is written of places
 -- off the chain; and how chains are made, the last place first.
-use Prim.Native.Nat.{ℕ, zero, suc, ◌+◌, ◌%◌, ◌≤◌, ◌<◌}
+use Prim.Native.Nat.{ℕ, zero, suc, ◌+◌, ◌-◌, ◌%◌, ◌≤◌, ◌<◌}
 use native.Mathlib.Omega.{arith}
 use mathlib.Core.Path.{◌≡◌, refl, sym, ap, subst, ◌∙◌}
 use mathlib.Core.Bool.{Bool, true, false, cond}
@@ -18,6 +18,7 @@ use Rattle.records.specs.Writes.{WroteIf, sieve, item_at, ItemRead}
 use Rattle.std.specs.Prelude.{None, Some}
 use Rattle.records.specs.declared.places.Pair.{Pair}
 use Rattle.records.specs.declared.places.Import.{Import}
+use Rattle.records.specs.declared.places.Imports.{Imports}
 use Rattle.records.specs.declared.places.Chain.{Chain}
 use Rattle.records.specs.Listing.{
   Place,
@@ -34,8 +35,16 @@ use Rattle.records.specs.Listing.{
   place_in,
   places_in,
   next_in,
+  listed_in,
+  imports_in,
+  behind_in,
+  behind_out,
+  Listed,
+  Paired,
   Unchained,
+  Lists,
   Linked,
+  ChartedBoth,
   LeadsOn,
   GivesNext,
 }
@@ -281,3 +290,24 @@ module _ (work first : List ℕ) (a : List Import) (i k : ℕ) (x : Import) (fit
           let z = eqb-false j i q in
           ap (λ (m : ℕ). drop m (places_in a)) (ap (λ (y : Import). y.next) (get_or-set_other a i j x no_import z))
           ∙ w.goes j (omega arith) v
+
+-- as the loop has it, from i down to i - 1
+pub linked-step : (work first : List ℕ) (a : List Import) (i k : ℕ) (x : Import) → 0 < i → i ≤ length a → k < 2048 → k ≡ chain_in work (place_in a (i - 1)) →
+    place_of x ≡ place_in a (i - 1) → x.next ≡ get_or first k 0 → Linked work first a i →
+    Linked work (set first k (i - 1)) (set a (i - 1) x) (i - 1) × (places_in (set a (i - 1) x) ≡ places_in a)
+linked-step work first a i k x pos le low e same leads w =
+    let y : i ≡ i - 1 + 1 = omega arith in (
+      linked-more work first a (i - 1) k x (omega arith) low e same leads (subst (Linked work first a) y w),
+      places-kept work first a (i - 1) k x (omega arith) low e same leads,
+    )
+
+-- ---- With the items behind
+
+-- what was listed and then chained
+pub charted-all : (work out : List ℕ) (l : List Import) (a : Imports) → Lists work out l (behind_in a) (behind_out a) → Linked work a.first.now (listed_in a) 0 →
+    imports_in a ≡ places_in l → ChartedBoth work out a
+charted-all work out l a i w e =
+    record {
+      charted = record { listed = subst (λ (ps : List Place). Listed work ps (behind_in a)) (sym e) i.listed; linked = w };
+      paired = subst (λ (ps : List Place). Paired work out ps (behind_in a) (behind_out a)) (sym e) i.paired;
+    }

@@ -15,7 +15,7 @@ use Rattle.tree.specs.Standing.{row_at}
 use Rattle.tree.specs.Rows.{tree_of, fields_of}
 use Rattle.tree.specs.declared.row.Part.{Part}
 use Rattle.tree.specs.declared.row.Row.{Row}
-use Rattle.tree.proofs.StandingLaws.{row-more}
+use Rattle.tree.proofs.StandingLaws.{row-more, row-none}
 use Rattle.tree.proofs.PartLaws.{part_fixed, part-short, part-tree}
 use Rattle.tree.proofs.TreeLaws.{encodes-none}
 use Rattle.metadata.specs.Metadata.{append}
@@ -38,7 +38,7 @@ use Rattle.records.specs.Model.{gathered_of, gathered, is_namespace, starts_name
 use Rattle.records.specs.Writes.{literal_in, Placing, WroteFor, Onward, WroteIf, RowRead, BothRead, sieve, named_parts, item_at, ImportIs, items_in, retold, records_in}
 use Rattle.records.proofs.LiteralLaws.{value-test}
 use Rattle.records.proofs.LazyLaws.{cons-inj}
-use Rattle.records.proofs.SpecifierLaws.{item-is, item-none, sieve-none, sieve-append}
+use Rattle.records.proofs.SpecifierLaws.{item-is, item-none, row-past, sieve-none, sieve-append}
 
 -- ---- What is written under a premise
 
@@ -97,6 +97,12 @@ module _ (b : Bool) (v : List ℕ) where
   gathered-more {f} {fs} {gs} e = ap (λ (hs : Fields). encodes (sieve b (gathered v hs))) e ∙ sieve-bytes b (gathered_of v f) (gathered v gs)
 
   -- by places
+  pub imports-past : (s : List ℕ) (at end : ℕ) → end < at → encodes (sieve b (gathered v (row_at s at end))) ≡ []
+  imports-past s at end h = gathered-end (row-past s at end (omega arith))
+
+  pub imports-none : (s : List ℕ) (at end : ℕ) → at ≤ end → extent_at s at end ≡ None → encodes (sieve b (gathered v (row_at s at end))) ≡ []
+  imports-none s at end le e = gathered-end (row-none s at end le e)
+
   pub imports-more : (s : List ℕ) (at stop : ℕ) → at ≤ length s → extent_at s at (length s) ≡ Some stop →
       encodes (sieve b (gathered v (row_at s at (length s)))) ≡ encodes (sieve b (gathered_of v (item_at s at))) ++ encodes (sieve b (gathered v (row_at s stop (length s))))
   imports-more s at stop le e =
@@ -118,6 +124,10 @@ module _ (p : Part) (l : List ℕ) (r : Row) (i : ImportIs p r) where
 
   pub whole-differs : same_literal (literal_at p.bytes.now (p.at + 3)) l ≡ false → false ≡ whole_of l (tree_of p)
   whole-differs e = sym (by-literal ∙ ap (λ (c : Bool). c && is_namespace (sole (specifiers_in (fields_of r)))) e)
+
+pub named-nowhere : (b : Bool) (s : List ℕ) (at : ℕ) → extent_at s at (length s) ≡ None → encodes (sieve b (named_parts (item_at s at))) ≡ []
+unfolding named_parts keep
+named-nowhere b s at e = sieve-nothing b (named_parts (item_at s at)) (ap named_parts (item-none s at e))
 
 module _ (b : Bool) (p : Part) where
   pub named-short : part_fixed p ≡ None → encodes (sieve b (named_parts (tree_of p))) ≡ []
@@ -186,7 +196,20 @@ module _ (b : Bool) (l : List ℕ) where
   unfolding taken
   taken-both {w} {g} {ws' = ws'} {gs' = gs'} e e' = ap₂ (λ (x y : Fields). encodes (sieve b (taken l x y))) e e' ∙ sieve-bytes b (taken_of l w g) (taken l ws' gs')
 
-  -- by places
+  -- by places: past the end of either tree, and where no field stands
+  module _ (s : List ℕ) (at end : ℕ) (r : List ℕ) (at' end' : ℕ) where
+    pub taken-past : end < at → encodes (sieve b (taken l (row_at s at end) (row_at r at' end'))) ≡ []
+    taken-past h = taken-end (row_at r at' end') (row-past s at end (omega arith))
+
+    pub taken-past-out : end' < at' → encodes (sieve b (taken l (row_at s at end) (row_at r at' end'))) ≡ []
+    taken-past-out h = taken-end-out (row_at s at end) (row-past r at' end' (omega arith))
+
+    pub taken-none : at ≤ end → extent_at s at end ≡ None → encodes (sieve b (taken l (row_at s at end) (row_at r at' end'))) ≡ []
+    taken-none le e = taken-end (row_at r at' end') (row-none s at end le e)
+
+    pub taken-none-out : at' ≤ end' → extent_at r at' end' ≡ None → encodes (sieve b (taken l (row_at s at end) (row_at r at' end'))) ≡ []
+    taken-none-out le e = taken-end-out (row_at s at end) (row-none r at' end' le e)
+
   pub taken-more : (s : List ℕ) (at : ℕ) (r : List ℕ) (at' stop stop' : ℕ) → at ≤ length s → extent_at s at (length s) ≡ Some stop → at' ≤ length r →
       extent_at r at' (length r) ≡ Some stop' →
       encodes (sieve b (taken l (row_at s at (length s)) (row_at r at' (length r)))) ≡ encodes (sieve b (taken_of l (item_at s at) (item_at r at'))) ++

@@ -7,7 +7,7 @@ use mathlib.Core.Bool.{Bool, true, false, cond}
 use mathlib.Core.List.{List, [], ◌∷◌, ◌++◌}
 use lib.Dec.{leb, ltb}
 use lib.ListN.{length, drop}
-use borrow.Author.Tests.{le-leb, eq-eqb, ne_eqb, lt-ltb, le-ltb}
+use borrow.Author.Tests.{le-leb, lt-leb, eq-eqb, ne_eqb, lt-ltb, le-ltb}
 use Rattle.tree.specs.Layout.{two}
 use Rattle.tree.specs.Tree.{Field, field, none, framed as framed_field, encode, encodes}
 use Rattle.tree.specs.Access.{extent_at}
@@ -28,6 +28,10 @@ use Rattle.records.specs.Writes.{FieldAt, pattern_on, pattern_at, placed, litera
 -- ---- The pattern at a place
 
 module _ (s : List ℕ) (at : ℕ) where
+  pub pattern-past : {l : List ℕ} {o : ℕ} → length s < at → Wrote l o (encodes (pattern_at s at)) l o
+  unfolding pattern_at encodes
+  pattern-past h = wrote-as wrote-none (sym (ap (λ (b : Bool). encodes (cond b (pattern_on (extent_at s at (length s)) s at) none)) (lt-leb at (length s) h)))
+
   here : at ≤ length s → (r : Option ℕ) → extent_at s at (length s) ≡ r → pattern_at s at ≡ pattern_on r s at
   unfolding pattern_at
   here h r e = ap (λ (b : Bool). cond b (pattern_on (extent_at s at (length s)) s at) none) (le-leb at (length s) h) ∙ ap (λ (k : Option ℕ). pattern_on k s at) e

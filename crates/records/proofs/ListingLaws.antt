@@ -1,19 +1,20 @@
 -- The places of imports that a sweep lists: what stands there, and that listing an import, or passing another item, keeps the list true.
 use Rattle.std.specs.Prelude.{Option, None, Some}
-use Rattle.std.proofs.lemmas.List.{length-map}
-use Prim.Native.Nat.{ℕ, suc, ◌+◌, ◌/◌, ◌%◌, ◌≤◌}
+use Rattle.std.proofs.lemmas.List.{length-map, take_more_set}
+use Prim.Native.Nat.{ℕ, zero, suc, ◌+◌, ◌/◌, ◌%◌, ◌≤◌, ◌<◌}
 use native.Mathlib.Omega.{arith}
-use mathlib.Core.Path.{◌≡◌, refl, sym, ap, subst, ◌∙◌}
+use mathlib.Core.Path.{◌≡◌, refl, sym, ap, ap₂, subst, subst₂, ◌∙◌}
 use mathlib.Core.Bool.{Bool, true, false, cond, ◌&&◌}
 use mathlib.Core.List.{List, [], ◌∷◌, ◌++◌, append_assoc, append-nil, map-append}
-use lib.Dec.{leb}
-use lib.ListN.{length, get_or, get_or-map, take, replicate, length-replicate, get_or-replicate}
+use lib.Dec.{leb, eqb}
+use lib.ListN.{length, get_or, get_or-map, set, take, replicate, length-set, length-append, length-replicate, get_or-replicate}
 use lib.Seq.{slice, drop-cons, get_or-take, length-take-le}
-use borrow.Author.Tests.{le-leb, leb-true, leb-false, eqb-true}
+use borrow.Author.Tests.{le-leb, leb-true, leb-false, eqb-true, eqb-false}
 use Rattle.tree.specs.Layout.{same, two, value_of, literal_value, same_literal}
 use Rattle.tree.specs.Tree.{Field, none, tag_of, fixed_of, parts_of, encodes}
 use Rattle.tree.specs.Access.{extent_at}
 use Rattle.tree.specs.Standing.{row_at}
+use Rattle.tree.proofs.AccessLaws.{extent-upto}
 use Rattle.tree.proofs.FixedLaws.{no-upto}
 use Rattle.tree.proofs.LayoutLaws.{same-equal}
 use Rattle.inputs.specs.Fields.{has, sole}
@@ -40,6 +41,7 @@ use Rattle.records.specs.Listing.{
   place_in,
   places_in,
   Unchained,
+  ListedBoth,
   Lists,
 }
 use Rattle.records.proofs.SpecifierLaws.{item-is, item-none, item-read, extent-past, tag-import, import-is}
@@ -55,6 +57,18 @@ places-length l = length-map l place_of
 
 pub places-at : (l : List Import) (i : ℕ) → get_or (places_in l) i nowhere ≡ place_in l i
 places-at l i = get_or-map place_of l i no_import
+
+-- lists that agree in each place, and in the two places of an import
+pub places-agree : (a b : List Import) → length a ≡ length b → ((i : ℕ) → i < length a → place_in a i ≡ place_in b i) → places_in a ≡ places_in b
+places-agree [] [] e h = refl
+places-agree [] (j ∷ b) e h = absurd (omega arith)
+places-agree (i ∷ a) [] e h = absurd (omega arith)
+places-agree (i ∷ a) (j ∷ b) e h =
+    ap₂ (λ (p : Place) (ps : List Place). p ∷ ps) (h zero (omega arith)) (places-agree a b (omega arith) (λ k x. h (suc k) (omega arith)))
+
+pub place-agree : (a b : List Import) (i : ℕ) → (get_or a i no_import).at ≡ (get_or b i no_import).at → (get_or a i no_import).made ≡ (get_or b i no_import).made →
+    place_in a i ≡ place_in b i
+place-agree a b i e f = ap₂ (λ (x y : ℕ). (x, y)) e f
 
 -- an import more
 places-more : (l : List Import) (i : Import) → places_in (l ++ (i ∷ [])) ≡ places_in l ++ (place_of i ∷ [])
@@ -234,19 +248,57 @@ module _ (work : List ℕ) (at stop : ℕ) (le : at ≤ length work) (e : extent
         }
 
     -- an import more in the list, or an item that is none
-    pub lists-more : (l : List Import) (i : Import) → place_of i ≡ (at, made) → Lists work out l at made → Lists work out (l ++ (i ∷ [])) stop until
+    pub lists-more : (l : List Import) (i : Import) → place_of i ≡ (at, made) → ListedBoth work out l at made → ListedBoth work out (l ++ (i ∷ [])) stop until
     lists-more l i q w =
-        let e : places_in (l ++ (i ∷ [])) ≡ places_in l ++ ((at, made) ∷ []) = places-more l i ∙ ap (λ (p : Place). places_in l ++ (p ∷ [])) q in
-        record {
-          listed = subst (λ (ps : List Place). Listed work ps stop) (sym e) (listed-more (places_in l) made w.listed);
-          paired = subst (λ (ps : List Place). Paired work out ps stop until) (sym e) (paired-more (places_in l) w.paired);
-        }
+        let e : places_in (l ++ (i ∷ [])) ≡ places_in l ++ ((at, made) ∷ []) = places-more l i ∙ ap (λ (p : Place). places_in l ++ (p ∷ [])) q in (
+          subst (λ (ps : List Place). Listed work ps stop) (sym e) (listed-more (places_in l) made w.0),
+          subst (λ (ps : List Place). Paired work out ps stop until) (sym e) (paired-more (places_in l) w.1),
+        )
 
-    pub lists-pass : (l : List Import) → (get_or work at 0 ≡ 0x10 → ⊥) → Lists work out l at made → Lists work out l stop until
-    lists-pass l h w = record { listed = listed-pass (places_in l) h w.listed; paired = paired-pass (places_in l) h w.paired }
+    pub lists-pass : (l : List Import) → (get_or work at 0 ≡ 0x10 → ⊥) → ListedBoth work out l at made → ListedBoth work out l stop until
+    lists-pass l h w = (listed-pass (places_in l) h w.0, paired-pass (places_in l) h w.1)
+
+    -- one item of each tree: the first n of an array are listed, and so it is if it is an import
+    pub lists-step : (a a' : List Import) (n n' : ℕ) → length a ≡ 3641 → n < 3641 → stop ≤ 65536 → until ≤ 65536 → Lists work out (take n a) at made →
+        (get_or work at 0 ≡ 0x10 → (n' ≡ n + 1) × ((i : Import) × (place_of i ≡ (at, made)) × (a' ≡ set a n i))) ×
+        ((get_or work at 0 ≡ 0x10 → ⊥) → (n' ≡ n) × (a' ≡ a)) → Lists work out (take n' a') stop until × (length a' ≡ 3641)
+    lists-step a a' n n' cells few low low' i w = by (eqb (get_or work at 0) 0x10) refl
+      where
+        reached : Lists work out (take n a) at made → (3 ≤ stop) × (stop ≤ 65536)
+        reached l = let x = extent-upto work at (length work) le e in let y = l.low.0 in let z = x.0 in (omega arith, low)
+
+        reached_out : Lists work out (take n a) at made → (3 ≤ until) × (until ≤ 65536)
+        reached_out l = let x = extent-upto out made (length out) le' e' in let y = l.low_out.0 in let z = x.0 in (omega arith, low')
+
+        by : (c : Bool) → eqb (get_or work at 0) 0x10 ≡ c → Lists work out (take n' a') stop until × (length a' ≡ 3641)
+        by true q =
+            let k = w.0 (eqb-true (get_or work at 0) 0x10 q) in
+            let j = k.1.0 in
+            let m = lists-more (take n a) j k.1.1 (i.listed, i.paired) in
+            let t : take n' a' ≡ take n a ++ (j ∷ []) = ap₂ (λ (x : ℕ) (l : List Import). take x l) k.0 k.1.2 ∙ take_more_set a n j (omega arith) in
+            let f : length (take n a ++ (j ∷ [])) ≤ 3641 =
+            (let x = length-take-le n a (omega arith) in let y = length-append (take n a) (j ∷ []) in omega arith) in (
+              subst (λ (l : List Import). Lists work out l stop until) (sym t)
+                  (record { few = f; low = reached i; low_out = reached_out i; listed = m.0; paired = m.1 }),
+              ap (λ (l : List Import). length l) k.1.2 ∙ length-set a n j ∙ cells,
+            )
+        by false q =
+            let h = eqb-false (get_or work at 0) 0x10 q in
+            let k = w.1 h in
+            let m = lists-pass (take n a) h (i.listed, i.paired) in
+            let t : take n' a' ≡ take n a = ap₂ (λ (x : ℕ) (l : List Import). take x l) k.0 k.1 in (
+              subst (λ (l : List Import). Lists work out l stop until) (sym t)
+                  (record { few = i.few; low = reached i; low_out = reached_out i; listed = m.0; paired = m.1 }),
+              ap (λ (l : List Import). length l) k.1 ∙ cells,
+            )
 
 pub lists-start : (work out : List ℕ) → Lists work out [] 3 3
-lists-start work out = record { listed = listed-start work; paired = paired-start work out }
+lists-start work out =
+    record { few = omega arith; low = (omega arith, omega arith); low_out = (omega arith, omega arith); listed = listed-start work; paired = paired-start work out }
+
+-- with none listed, the places are those of the first items
+pub lists-none : (work out : List ℕ) {at made : ℕ} → at ≡ 3 → made ≡ 3 → Lists work out [] at made
+lists-none work out e f = subst₂ (Lists work out []) (sym e) (sym f) (lists-start work out)
 
 pub unchained-start : Unchained (replicate 2048 3641)
 unchained-start = record { cells = length-replicate {A = ℕ} 2048 3641; ends = λ k h. get_or-replicate 2048 k 3641 0 (omega arith) }

@@ -23,8 +23,8 @@ use Rattle.tree.specs.declared.row.Row.{Row}
 use Rattle.tree.proofs.FixedLaws.{no-upto, upto-inj}
 use Rattle.tree.proofs.AccessLaws.{upto-in, extent-upto}
 use Rattle.tree.proofs.ReadLaws.{good-fine, end-done}
-use Rattle.tree.proofs.StandingLaws.{tree-upto, tree-short}
-use Rattle.tree.proofs.PartLaws.{fields-none, fields-more, fields-made, row-there, part_tag, part_fixed, part-tree}
+use Rattle.tree.proofs.StandingLaws.{row-more, row-none, tree-upto, tree-short}
+use Rattle.tree.proofs.PartLaws.{fields-more, fields-made, row-there, part_tag, part_fixed, part-tree}
 use Rattle.tree.proofs.WidthLaws.{plain-ends}
 use Rattle.tree.proofs.TreeLaws.{encodes-none, encodes-one}
 use Rattle.tree.specs.declared.grammar.Value.TheVariants.{Literal}
@@ -79,16 +79,39 @@ specifiers-end : specifiers_in none ≡ none
 unfolding keep
 specifiers-end = refl
 
+module _ (s : List ℕ) (at end : ℕ) (le : at ≤ end) where
+  -- what a test of the specifiers says where the row ends, and where its first field is a 2F
+  pub row-ends : {A : Type 0} (p : Fields → A) → extent_at s at end ≡ None → p (specifiers_in (row_at s at end)) ≡ p none
+  row-ends p e = ap (λ (fs : Fields). p (specifiers_in fs)) (row-none s at end le e) ∙ ap p specifiers-end
+
+  pub row-skips : {A : Type 0} (p : Fields → A) (stop : ℕ) → extent_at s at end ≡ Some stop → tag_of (tree_at s at stop) ≡ 0x2F →
+      p (specifiers_in (row_at s at end)) ≡ p (specifiers_in (row_at s stop end))
+  row-skips p stop e h = ap (λ (fs : Fields). p (specifiers_in fs)) (row-more s at end stop le e) ∙ ap p (specifiers-skip (tree_at s at stop) (row_at s stop end) h)
+
+  pub row-takes : {A : Type 0} (p : Fields → A) (stop : ℕ) → extent_at s at end ≡ Some stop → (tag_of (tree_at s at stop) ≡ 0x2F → ⊥) →
+      p (specifiers_in (row_at s at end)) ≡ p (more (tree_at s at stop) (specifiers_in (row_at s stop end)))
+  row-takes p stop e h = ap (λ (fs : Fields). p (specifiers_in fs)) (row-more s at end stop le e) ∙ ap p (specifiers-take (tree_at s at stop) (row_at s stop end) h)
+
+-- the same of a row that gave a field: a 2F is none, another is the first specifier
 module _ (r : Row) (p : Part) (r' : Row) (g : GivesPart r (Some p) r') where
-  -- a 2F is none, another field is the first
-  pub row-skips : tag_of (tree_of p) ≡ 0x2F → specifiers_in (fields_of r) ≡ specifiers_in (fields_of r')
-  row-skips h = ap specifiers_in (fields-more r p r' g) ∙ specifiers-skip (tree_of p) (fields_of r') h
+  given : tree_of p ≡ tree_at r.bytes.now r.at p.stop
+  given = ap₂ (λ (s : List ℕ) (n : ℕ). tree_at s n p.stop) g.5 g.1
 
-  pub row-takes : (tag_of (tree_of p) ≡ 0x2F → ⊥) → specifiers_in (fields_of r) ≡ more (tree_of p) (specifiers_in (fields_of r'))
-  row-takes h = ap specifiers_in (fields-more r p r' g) ∙ specifiers-take (tree_of p) (fields_of r') h
+  left-over : fields_of r' ≡ row_at r.bytes.now p.stop r.end
+  left-over = fields-made r' (g.2, g.3, g.4)
 
-pub row-ends : (r r' : Row) → GivesPart r None r' → specifiers_in (fields_of r) ≡ none
-row-ends r r' g = ap specifiers_in (fields-none r r' g) ∙ specifiers-end
+  pub gives-skip : tag_of (tree_of p) ≡ 0x2F → specifiers_in (fields_of r) ≡ specifiers_in (fields_of r')
+  gives-skip h =
+      row-skips r.bytes.now r.at r.end r.inside.0 (λ fs. fs) p.stop g.0 (sym (ap tag_of given) ∙ h) ∙ ap specifiers_in (sym left-over)
+
+  pub gives-first : (tag_of (tree_of p) ≡ 0x2F → ⊥) → specifiers_in (fields_of r) ≡ more (tree_of p) (specifiers_in (fields_of r'))
+  gives-first h =
+      row-takes r.bytes.now r.at r.end r.inside.0 (λ fs. fs) p.stop g.0 (λ e. h (ap tag_of given ∙ e))
+      ∙ ap₂ (λ (f : Field) (fs : Fields). more f (specifiers_in fs)) (sym given) (sym left-over)
+
+-- and of one that gave none
+pub gives-none : (r r' : Row) → GivesPart r None r' → specifiers_in (fields_of r) ≡ none
+gives-none r r' g = row-ends r.bytes.now r.at r.end r.inside.0 (λ fs. fs) g.0
 
 pub namespace-then : (f : Field) (fs : Fields) → tag_of f ≡ 0x22 → is_none fs ≡ is_namespace (sole (more f fs))
 unfolding sole
@@ -188,7 +211,7 @@ read-row : {s : List ℕ} {from end : ℕ} (r : Row) → (r.bytes.now ≡ s) × 
 read-row r m w = row-there r m RowRead w
 
 -- a row that ends before it starts, or there
-row-past : (s : List ℕ) (at end : ℕ) → end ≤ at → row_at s at end ≡ none
+pub row-past : (s : List ℕ) (at end : ℕ) → end ≤ at → row_at s at end ≡ none
 unfolding row_at row row_on extent_at
 row-past s at end h = rw (lt-leb 3 (end - at) (omega arith)) refl
 
@@ -268,7 +291,7 @@ specifiers-more b f fs = by (has 0x2F f) refl
 
 pub bytes-none : (b : Bool) (r r' : Row) → GivesPart r None r' → encodes (sieve b (specifiers_in (fields_of r))) ≡ []
 unfolding encodes
-bytes-none b r r' g = ap (λ (fs : Fields). encodes (sieve b fs)) (row-ends r r' g) ∙ ap encodes (sieve-none b)
+bytes-none b r r' g = ap (λ (fs : Fields). encodes (sieve b fs)) (gives-none r r' g) ∙ ap encodes (sieve-none b)
 
 pub bytes-more : (b : Bool) (r : Row) (p : Part) (r' : Row) → GivesPart r (Some p) r' →
     encodes (sieve b (specifiers_in (fields_of r))) ≡ encodes (specifier_of b (tree_of p)) ++ encodes (sieve b (specifiers_in (fields_of r')))
@@ -317,6 +340,10 @@ pub if-copied : (p : Part) {bs l l' : List ℕ} {o q : ℕ} → encode (tree_of 
 if-copied p e w = record { size = w.size; is = λ r. wrote-as w (sym (read-bytes r p.of_bytes) ∙ e) }
 
 -- ---- A walk over a row that was read
+
+-- with all of the row left, all is written
+pub row-start : {r : Row} {bs l : List ℕ} {o : ℕ} → RowOnward (FieldsRead r) r bs bs l o l o
+row-start = record { size = refl; read = λ h. h; is = λ h w. w }
 
 gives-read : (r : Row) (p : Part) (r' : Row) → GivesPart r (Some p) r' → FieldsRead r → PartRead p × FieldsRead r'
 gives-read r p r' g w =

@@ -96,7 +96,14 @@ pub record Unchained (first : List ℕ) : Type 0 where
   pub ends : (k : ℕ) → k < 2048 → get_or first k 0 ≡ 3641
 
 -- the listed imports are those in front of `at` and `made`
+abbrev pub ListedBoth : List ℕ → List ℕ → List Import → ℕ → ℕ → Type 0
+ListedBoth work out l at made = Listed work (places_in l) at × Paired work out (places_in l) at made
+
+-- and they are at most 3,641, and both places lie behind a module's head, in trees of at most 65,536 bytes
 pub record Lists (work out : List ℕ) (l : List Import) (at made : ℕ) : Type 0 where
+  pub few : length l ≤ 3641
+  pub low : (3 ≤ at) × (at ≤ 65536)
+  pub low_out : (3 ≤ made) × (made ≤ 65536)
   pub listed : Listed work (places_in l) at
   pub paired : Paired work out (places_in l) at made
 

@@ -9,6 +9,7 @@ use Rattle.std.specs.Prelude.{Option, None, Some, Ok, Err, position}
 use Rattle.std.specs.List.{position_from}
 use Rattle.std.proofs.lemmas.Iterator.Adapters.{position_from-zero}
 use lib.Dec.{eqb}
+use borrow.Author.Tests.{eq-eqb, ne_eqb}
 use lib.ListN.{length, get_or, take, drop, set, length-set, length-drop}
 use lib.Seq.{get_or-set_same, get_or-set_other, drop-cons}
 use Rattle.scope.specs.declared.Mark.{Mark}
@@ -227,6 +228,20 @@ cells-put t fs ms base n f m p q r s h ef hf ea eb ec ed ep eq er es e =
     let z : n + 1 ≡ suc n = omega arith in
     let u : 0 + n ≡ n = omega arith in
     cc
+
+low-bit : (a : Bool) (x y : ℕ) → x ≡ cond a 1 0 → eqb ((x + 2 * y) % 2) 1 ≡ a
+low-bit true x y e = eq-eqb ((x + 2 * y) % 2) 1 (omega arith)
+low-bit false x y e = ne_eqb ((x + 2 * y) % 2) 1 (λ w. omega arith)
+
+-- four bits are read back
+pub bits-back : (a b c d : Bool) (x y z w r : ℕ) → x ≡ cond a 1 0 → x ≤ 1 → y ≡ cond b 1 0 → y ≤ 1 → z ≡ cond c 1 0 → z ≤ 1 → w ≡ cond d 1 0 → w ≤ 1 →
+    r ≡ x + 2 * y + 4 * z + 8 * w → (eqb (r % 2) 1 ≡ a) × (eqb (r / 2 % 2) 1 ≡ b) × (eqb (r / 4 % 2) 1 ≡ c) × (eqb (r / 8 % 2) 1 ≡ d) × (r < 16)
+bits-back a b c d x y z w r ex hx ey hy ez hz ew hw e =
+    let i : r ≡ x + 2 * (y + 2 * z + 4 * w) = omega arith in
+    let j : r / 2 ≡ y + 2 * (z + 2 * w) = omega arith in
+    let k : r / 4 ≡ z + 2 * w = omega arith in
+    let l : r / 8 ≡ w + 2 * 0 = omega arith in
+    (rw i (low-bit a x _ ex), rw j (low-bit b y _ ey), rw k (low-bit c z _ ez), rw l (low-bit d w 0 ew), omega arith)
 
 -- ---- The place of a file
 

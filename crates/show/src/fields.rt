@@ -2,6 +2,7 @@
 ghost use Rattle.std.specs.Prelude.{◌≡◌, ◌+◌, ◌≤◌, length, IfSome};
 
 use crate::buffer::split_front;
+use crate::cut::Line;
 use crate::names::name_of;
 use crate::resolved::{fixed_of, put_fixed};
 use std::fmt;
@@ -76,13 +77,14 @@ fn put_field<W: fmt::Write>(
     field: Field<'_>,
     depth: usize,
 ) -> fmt::Result {
+    let mut line = fmt::Formatter::new(Line::new(f));
     for _ in 0..depth {
-        write!(f, "  ")?;
+        write!(line, "  ")?;
     }
-    write!(f, "{:02X}", field.tag)?;
+    write!(line, "{:02X}", field.tag)?;
     if let Some(name) = name_of(field.tag) {
-        write!(f, " {name}")?;
+        write!(line, " {name}")?;
     }
-    put_fixed(f, field.tag, field.fixed)?;
+    put_fixed(&mut line, field.tag, field.fixed)?;
     writeln!(f)
 }

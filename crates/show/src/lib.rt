@@ -3,8 +3,9 @@
 #![tactic(auto)]
 
 pub mod buffer;
+mod cut;
 pub mod fields;
-mod line;
+pub mod line;
 mod names;
 pub mod place;
 mod resolved;

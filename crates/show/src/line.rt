@@ -1,4 +1,6 @@
 // The fixed bytes of a field as they stand in its line.
+ghost use Rattle.std.specs.Prelude.{◌≡◌, drop, IfOk};
+
 use std::{fmt, str};
 use text::hex::Hex;
 use tree::grammar::{Piece, Pieces, Value, pieces_of};
@@ -12,18 +14,18 @@ pub fn put_run<'a, W: fmt::Write>(
     word: &str,
     s: &'a [u8],
     n: usize,
-) -> Behind<'a> {
+) -> Behind<'a>
+    ensures { IfOk result (λ behind. behind.now ≡ drop n s.now) }
+{
     let (run, behind) = s.split_at(n.min(s.len()));
     write!(f, " {word}={}", Hex(run))?;
     Ok(behind)
 }
 
 // An atom, and four bytes behind another word.
-pub fn put_two<'a, W: fmt::Write>(
-    f: &mut fmt::Formatter<W>,
-    word: &str,
-    s: &'a [u8],
-) -> Behind<'a> {
+pub fn put_two<'a, W: fmt::Write>(f: &mut fmt::Formatter<W>, word: &str, s: &'a [u8]) -> Behind<'a>
+    ensures { IfOk result (λ behind. behind.now ≡ drop 6 s.now) }
+{
     let behind = put_run(f, "a", s, 2)?;
     put_run(f, word, behind, 4)
 }

@@ -23,3 +23,4 @@ pub mod ModulesLaws
 pub mod SourcedLaws
 pub mod SecondLaws
 pub mod PlaceLaws
+pub mod FrontLaws

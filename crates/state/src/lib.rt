@@ -1,7 +1,7 @@
 // What the walk keeps: its tables in one lent array, and the functions of which the rules are made. Callers see the rules' state alone.
 #![tactic(auto, using(crate::proofs::LiesLaws::lies))]
 
-ghost use Rattle.std.specs.Prelude.{◌≡◌, length, replicate};
+ghost use Rattle.std.specs.Prelude.{◌≡◌, length, replicate, take};
 ghost use Rattle.tables.specs.Rows.{rows, Lies};
 ghost use Rattle.state.specs.Cells.{cells as size, Good};
 ghost use Rattle.state.specs.Does.{HasRoom};
@@ -120,6 +120,23 @@ impl Tables {
     {
         let cells = [0; CELLS];
         Tables { cells }
+    }
+
+    // The tables at the front of an array that is good already.
+    pub fn from_cells(cells: &[u64]) -> Tables
+        requires { Good cells.now }
+        ensures { result.cells ≡ take size cells.now }
+    {
+        let mut front = [0; CELLS];
+        front.copy_from_slice(&cells[..CELLS]);
+        Tables { cells: front }
+    }
+
+    // The array.
+    pub fn into_cells(self) -> [u64; CELLS]
+        ensures { result ≡ self.cells }
+    {
+        self.cells
     }
 }
 

@@ -1,9 +1,10 @@
 -- Digits, and reading bytes pair by pair.
-use Rattle.std.proofs.Common.{ℕ, suc, ◌+◌, ◌-◌, ◌/◌, ◌%◌, ◌≤◌, ◌<◌, ◌≡◌, List, [], ◌∷◌, ◌++◌, length, get_or, take, drop, Bool, true, false, ltb, refl, sym, ap, ap₂, ◌∙◌, inl, inr, ⊎_elim, ◌⊎◌, arith, append_assoc}
+use Rattle.std.proofs.Common.{ℕ, suc, ◌+◌, ◌-◌, ◌*◌, ◌/◌, ◌%◌, ◌≤◌, ◌<◌, ◌≡◌, List, [], ◌∷◌, ◌++◌, length, get_or, take, drop, Bool, true, false, ltb, refl, sym, ap, ap₂, ◌∙◌, inl, inr, ⊎_elim, ◌⊎◌, arith, append_assoc}
 use Rattle.std.specs.Prelude.{None}
 use Rattle.std.proofs.lemmas.Bool.{ltb-true, ltb-false, lt-ltb, le-ltb}
 use Rattle.std.proofs.lemmas.List.{append-nil, nil_from_length, take_all, take_more}
 use Rattle.text.specs.Digits.{hex_digit_ascii}
+use Rattle.text.specs.Write.{Written}
 use Rattle.text.specs.Hex.{ByteIs, hexed, spelt, Small, NotSpelt}
 
 pub glyph-low : (v : ℕ) → v < 10 → hex_digit_ascii v ≡ 48 + v
@@ -40,9 +41,18 @@ hexed-once (x ∷ a) (y ∷ b) h k e =
     let r : x ≡ y = omega arith in
     ap₂ ◌∷◌ r (hexed-once a b h.1 k.1 (cc))
 
-hexed-append : (a b : List ℕ) → hexed (a ++ b) ≡ hexed a ++ hexed b
+pub hexed-append : (a b : List ℕ) → hexed (a ++ b) ≡ hexed a ++ hexed b
 hexed-append [] b = refl
 hexed-append (x ∷ a) b = ap (λ l. hex_digit_ascii (x / 16) ∷ hex_digit_ascii (x % 16) ∷ l) (hexed-append a b)
+
+pub length-hexed : (bs : List ℕ) → length (hexed bs) ≡ 2 * length bs
+length-hexed [] = refl
+length-hexed (b ∷ bs) = let h = length-hexed bs in omega arith
+
+-- the digits of a chunk have room in an empty text
+pub chunk-written : (room : ℕ) (old bs new : List ℕ) → old ≡ [] → 2 * length bs ≤ room → Written room old (hexed bs) new → new ≡ hexed bs
+chunk-written room [] bs new e h w = let l = length-hexed bs in w ∙ take_all (room - 0) (hexed bs) (omega arith)
+chunk-written room (x ∷ old) bs new e h w = cc
 
 pub hexed-more : (bs : List ℕ) (i : ℕ) → i < length bs →
     hexed (take (i + 1) bs) ≡ hexed (take i bs) ++ hex_digit_ascii (get_or bs i 0 / 16) ∷ hex_digit_ascii (get_or bs i 0 % 16) ∷ []

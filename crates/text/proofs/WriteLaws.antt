@@ -14,8 +14,11 @@ written-then room old xs mid ys new w v =
     v ∙ ap (λ k. mid ++ take k ys) e ∙ ap (λ l. l ++ take (room - length old - length xs) ys) w
     ∙ append_assoc old (take (room - length old) xs) (take (room - length old - length xs) ys) ∙ sym (ap (λ l. old ++ l) (take-both (room - length old) xs ys))
 
--- two characters more
+-- two characters more, in one write or in two
+pub written-two : (room : ℕ) (old xs mid new : List ℕ) (x y p q : ℕ) → x ≡ p → y ≡ q →
+    Written room old xs mid → Written room mid (x ∷ y ∷ []) new → Written room old (xs ++ p ∷ q ∷ []) new
+written-two room old xs mid new x y p q d e w v = rw (← d, ← e) (written-then room old xs mid (x ∷ y ∷ []) new w v)
+
 pub written-pair : (room : ℕ) (old xs mid m new : List ℕ) (x y p q : ℕ) → x ≡ p → y ≡ q →
     Written room old xs mid → Written room mid (x ∷ []) m → Written room m (y ∷ []) new → Written room old (xs ++ p ∷ q ∷ []) new
-written-pair room old xs mid m new x y p q d e w u v =
-    rw (← d, ← e) (written-then room old xs mid (x ∷ y ∷ []) new w (written-then room mid (x ∷ []) m (y ∷ []) new u v))
+written-pair room old xs mid m new x y p q d e w u v = written-two room old xs mid new x y p q d e w (written-then room mid (x ∷ []) m (y ∷ []) new u v)

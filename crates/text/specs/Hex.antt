@@ -1,5 +1,5 @@
 -- Bytes in lowercase hexadecimal: the text of some bytes, and what reading a text answers. `hex_digit_ascii` is the digit of a value.
-use Rattle.std.specs.Prelude.{ℕ, ◌/◌, ◌%◌, ◌<◌, ◌≡◌, List, [], ◌∷◌, Option, None, Some, Result, Ok, Err, Vec}
+use Rattle.std.specs.Prelude.{ℕ, ◌/◌, ◌%◌, ◌≤◌, ◌<◌, ◌≡◌, List, [], ◌∷◌, ◌++◌, length, drop, Option, None, Some, Result, Ok, Err, Vec}
 use Rattle.std.specs.Global.{Global}
 use Rattle.text.specs.Digits.{hex_digit_ascii}
 use Rattle.text.specs.declared.hex.BytesError.{BytesError}
@@ -39,11 +39,33 @@ pub record Spelling (spell : List ℕ → List ℕ) (s bytes : List ℕ) : Type 
   pub small : Small bytes
   pub text : s ≡ spell bytes
 
--- what reading the text s answers: its bytes; or Malformed, where it is the spelling of no bytes
+-- the text s is the spelling of some bytes
+abbrev pub IsSpelt : (List ℕ → List ℕ) → List ℕ → Type 0
+IsSpelt spell s = (bs : List ℕ) × Spelling spell s bs
+
+-- the text s is the spelling of n bytes, which are put at the front of `out`, and this becomes `new`
+pub record Put (spell : List ℕ → List ℕ) (s out : List ℕ) (n : ℕ) (new : List ℕ) : Type 0 where
+  pub bytes : List ℕ
+  pub spelling : Spelling spell s bytes
+  pub count : n ≡ length bytes
+  pub fits : n ≤ length out
+  pub put : new ≡ bytes ++ drop n out
+
+-- what reading the text s into `out` answers: how many bytes it is the spelling of; or None, where it is that of no bytes that have room
+abbrev pub BytesPut : (List ℕ → List ℕ) → List ℕ → List ℕ → Option ℕ → List ℕ → Type 0
+BytesPut spell s out (Some n) new = Put spell s out n new
+BytesPut spell s out None new = (bs : List ℕ) → Small bs → length bs ≤ length out → s ≡ spell bs → ⊥
+
+-- the same for a field, and None where there is no field
+abbrev pub BytesPutFrom : Option (List ℕ) → List ℕ → Option ℕ → List ℕ → Type 0
+BytesPutFrom (Some s) out r new = BytesPut spelt s out r new
+BytesPutFrom None out r new = r ≡ None
+
+-- what reading the text s answers: its bytes; or Malformed, where it is the spelling of no bytes; or OutOfMemory, where it is that of some
 abbrev pub BytesRead : (List ℕ → List ℕ) → List ℕ → Result (Vec ℕ Global) BytesError → Type 0
 BytesRead spell s (Ok bytes) = Spelling spell s bytes.items
 BytesRead spell s (Err Malformed) = NotSpelt spell s
-BytesRead spell s (Err OutOfMemory) = Unit
+BytesRead spell s (Err OutOfMemory) = IsSpelt spell s
 
 -- the bytes in a field, and none where there is no field
 abbrev pub BytesFrom : Option (List ℕ) → Result (Vec ℕ Global) BytesError → Type 0

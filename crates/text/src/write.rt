@@ -57,6 +57,20 @@ impl<const N: usize> Text<N> {
         }
     }
 
+    // Writes two bytes, one behind the other.
+    fn put_two(&mut self, first: u8, second: u8)
+        ensures { Written N self.old (first ∷ second ∷ []) self.new }
+    {
+        if 2 <= N - self.len {
+            self.bytes[self.len] = first;
+            self.bytes[self.len + 1] = second;
+            self.len += 2;
+        } else {
+            self.put(first);
+            self.put(second);
+        }
+    }
+
     // Writes all of s.
     pub fn put_all(&mut self, s: &[u8])
         ensures { Written N self.old s.now self.new }
@@ -71,8 +85,7 @@ impl<const N: usize> Text<N> {
         ensures { Written N self.old (hexed bytes.now) self.new }
     {
         for b in bytes {
-            self.put(glyph_of(b / 16));
-            self.put(glyph_of(b % 16));
+            self.put_two(glyph_of(b / 16), glyph_of(b % 16));
         }
     }
 

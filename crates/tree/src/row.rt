@@ -16,6 +16,14 @@ pub struct Part<'a> {
 }
 
 impl<'a> Part<'a> {
+    // Of any bytes: that these are below 256 is known of a parameter.
+    pub fn new(bytes: &'a [u8], at: usize, stop: usize) -> Part<'a>
+        requires { (at + 3 ≤ stop) × (stop ≤ length bytes.now) }
+        ensures { (result.bytes.now ≡ bytes.now) × (result.at ≡ at) × (result.stop ≡ stop) }
+    {
+        Part { bytes, at, stop }
+    }
+
     pub fn tag(&self) -> u8
         ensures { result ≡ get_or self.now.bytes.now self.now.at 0 }
     {

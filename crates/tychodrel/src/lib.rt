@@ -158,11 +158,7 @@ pub fn tychodrel_extract(
             entry,
             FileName(file),
             modes,
-            &Lent {
-                externals,
-                table,
-                tree,
-            },
+            &Lent::new(externals, table, tree),
             scope,
             report,
             work,

@@ -33,7 +33,9 @@ enum Way {
     Assignment(bool),
 }
 
-// A field: its parts by the way that its tag has, and then 'Each tag has its own rule'.
+// A field: its parts by the way that its tag has, and then 'Each tag has its own rule'. It stands in the loop over a row, so that no
+// result is copied from call to call at each field.
+#[inline(always)]
 #[cycle(call_chain_declarator_initialiser_member_node_part_parts_pattern_walk)]
 pub fn walk(part: &Part, object: bool, t: &mut Tables, out: &mut [u8], o: usize) -> Step
     ensures { FieldSteps part.now.bytes.now part.now.at part.now.stop (λ x. walk-rule (tree_of part.now) x.setting object part.now.at)

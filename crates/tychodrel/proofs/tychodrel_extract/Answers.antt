@@ -5,7 +5,8 @@ use Rattle.tychodrel.proofs.tychodrel_extract.Goals as goal
 
 pub returns-in-Ok : goal.returns-in-Ok
 returns-in-Ok c =
-    extract-given c.request_files-requested.result c.args.files.now _ _ c.request_files-requested.ensures c.in-Ok.is c.extract_in.ensures
+    let lent = c.new.ensures in
+    extract-given c.request_files-requested.result c.args.files.now _ _ c.request_files-requested.ensures c.in-Ok.is (rw (lent.0, lent.1, lent.2) at c.extract_in.ensures)
 
 pub returns-in-Err : goal.returns-in-Err
 returns-in-Err c =

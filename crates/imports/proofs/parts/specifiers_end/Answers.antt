@@ -1,5 +1,5 @@
 -- `specifiers_end`: the invariant `Seeking` says that where the specifiers that are left end, those from `from` on end too.
--- They end at a 2F, or at the end of the row.
+-- They end at a 2F, or where the row does.
 use mathlib.Core.Path.{sym, ◌∙◌}
 use Rattle.imports.proofs.PartsLaws.{seeking-start, seeking-more, seeking-short, seeking-attributes}
 use Rattle.imports.proofs.parts.specifiers_end.Goals as goal

@@ -1,14 +1,28 @@
--- `parse`: bytes that are no text stand for no number (`text-none`); of a text the library's parsing gives what it stands for (`parsed-as`).
+-- `parse`: without its plus the text is empty (`number-none`), or has digits (`number-some`), whose number `number_in` gives.
+use mathlib.Core.List.{List}
 use mathlib.Core.Path.{sym, ap, ◌∙◌}
-use Rattle.metadata.specs.Decimal.{parsed}
-use Rattle.metadata.proofs.DecimalLaws.{parsed-as, text-none, text-some}
+use Prim.Native.Nat.{ℕ, ◌<◌}
+use native.Mathlib.Omega.{arith}
+use lib.ListN.{length}
+use borrow.Author.Tests.{eqb-true, eqb-false}
+use Rattle.metadata.specs.Decimal.{number, limited, parsed}
+use Rattle.metadata.proofs.DecimalLaws.{number-none, number-some, unsigned-shorter}
 use Rattle.metadata.proofs.decimal.parse.Goals as goal
 
-pub returns-in_err-ok : goal.returns-in_err-ok
-returns-in_err-ok c =
-    c.from_residual.ensures ∙ text-none _ c.args.text.now c.from_utf8.result c.from_utf8.ensures.cases (sym c.ok.ensures.value ∙ c.in_err-ok.was)
+pub returns-then-is_empty : goal.returns-then-is_empty
+unfolding parsed
+returns-then-is_empty c =
+    let digits = c.behind_plus-digits in
+    let length-kept = ap length digits.ensures in
+    let shorter = unsigned-shorter c.args.text.now in
+    let empty = eqb-true _ _ (sym c.is_empty.ensures ∙ c.if-is_empty.true) in
+    let none = number-none digits.result.now (omega arith) in
+    sym (ap limited none) ∙ ap (λ (l : List ℕ). limited (number l)) digits.ensures
 
 pub returns : goal.returns
+unfolding parsed
 returns c =
-    let text = text-some _ c.args.text.now c.from_utf8.result c.from_utf8.ensures.cases (sym c.ok.ensures.value ∙ c.in_ok-ok.was) in
-    c.ok-2.ensures.value ∙ parsed-as _ c.parse.result c.parse.ensures.value.0 ∙ ap parsed text
+    let digits = c.behind_plus-digits in
+    let n = eqb-false _ _ (sym c.is_empty.ensures ∙ c.if-is_empty.false) in
+    let some : 0 < length digits.result.now = omega arith in
+    c.number_in.ensures ∙ sym (ap limited (number-some digits.result.now some)) ∙ ap (λ (l : List ℕ). limited (number l)) digits.ensures

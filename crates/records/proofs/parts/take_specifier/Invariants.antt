@@ -1,4 +1,4 @@
--- `take_specifier`: the invariant says that the specifiers of what is left are all of them, since only 2Fs were taken (`row-skips`).
+-- `take_specifier`: the invariant says that the specifiers of what is left are all of them, since only 2Fs were taken (`gives-skip`).
 use Prim.Native.Nat.{◌-◌}
 use mathlib.Core.Path.{◌≡◌}
 use Rattle.tree.specs.Rows.{fields_of}

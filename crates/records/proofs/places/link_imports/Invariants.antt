@@ -1,4 +1,4 @@
--- `link_imports`: the invariant says that the imports from i on are chained, and that no place has changed; `linked-more` puts the one in front
+-- `link_imports`: the invariant says that the imports from i on are chained, and that no place has changed; `linked-step` puts the one in front
 -- of them at the start of its chain.
 use mathlib.Core.Path.{◌≡◌}
 use Rattle.records.specs.Listing.{places_in, Linked}

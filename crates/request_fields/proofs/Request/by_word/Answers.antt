@@ -1,4 +1,4 @@
--- `by_word`: a word of seven letters is read letter by letter, and what stands behind it is asked as its function says.
+-- `by_word`: a longer word is read letter by letter, and what stands behind it is asked as its function says.
 use Rattle.std.proofs.Common.{codes, arith, rules}
 use Rattle.std.proofs.lemmas.Slice.Eq.{text_from_reads}
 use Rattle.request_fields.proofs.Request.by_word.Goals as goal
@@ -11,4 +11,9 @@ returns-in_ok-parse-in-extract c =
 pub returns-in_ok-parse-in-resolve : goal.returns-in_ok-parse-in-resolve
 returns-in_ok-parse-in-resolve c =
     let word = text_from_reads c.in-Some.word.now.now (codes "resolve") (omega arith) (omega arith, (omega arith, (omega arith, (omega arith, (omega arith, (omega arith, (omega arith, tt))))))) in
+    search rules
+
+pub returns-in_ok-parse-in-encode : goal.returns-in_ok-parse-in-encode
+returns-in_ok-parse-in-encode c =
+    let word = text_from_reads c.in-Some.word.now.now (codes "encode") (omega arith) (omega arith, (omega arith, (omega arith, (omega arith, (omega arith, (omega arith, tt)))))) in
     search rules

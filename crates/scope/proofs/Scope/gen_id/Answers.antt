@@ -14,7 +14,8 @@ numbered-requires c =
     let s = c.args.self in
     let f = c.args.file in
     let files : length s.files ≡ 256 = search rules in
-    let number = found-number s f.0 c.counted-n.result c.find_file.result files c.counted-n.ensures.0 c.find_file.ensures ∙ c.in-Some.is in
+    let counted = c.counted-n.ensures.0 in
+    let number = found-number s f.0 _ c.find_file.result files (omega arith) c.find_file.ensures ∙ c.in-Some.is in
     let below = number-below f.0 (modules_of s) number in
     let count = modules-length s in
     omega arith
@@ -24,7 +25,8 @@ returns-in-Some c =
     let s = c.args.self in
     let f = c.args.file in
     let files : length s.files ≡ 256 = search rules in
-    let number = found-number s f.0 c.counted-n.result c.find_file.result files c.counted-n.ensures.0 c.find_file.ensures ∙ c.in-Some.is in
+    let counted = c.counted-n.ensures.0 in
+    let number = found-number s f.0 _ c.find_file.result files (omega arith) c.find_file.ensures ∙ c.in-Some.is in
     c.numbered.ensures ∙ sym (gen-known f (modules_of s) number)
 
 pub returns-then-n-lt256 : goal.returns-then-n-lt256
@@ -32,7 +34,8 @@ returns-then-n-lt256 c =
     let s = c.args.self in
     let f = c.args.file in
     let files : length s.files ≡ 256 = search rules in
-    let number = found-number s f.0 c.counted-n.result c.find_file.result files c.counted-n.ensures.0 c.find_file.ensures ∙ c.in-None.is in
+    let counted = c.counted-n.ensures.0 in
+    let number = found-number s f.0 _ c.find_file.result files (omega arith) c.find_file.ensures ∙ c.in-None.is in
     c.numbered-then-n-lt256.ensures
     ∙ modules-added s c.add.result f c.counted-n.result c.counted-n.ensures.0 c.if-n-lt256.true number c.add.ensures
 
@@ -41,6 +44,7 @@ returns-else-n-lt256 c =
     let s = c.args.self in
     let f = c.args.file in
     let files : length s.files ≡ 256 = search rules in
-    let number = found-number s f.0 c.counted-n.result c.find_file.result files c.counted-n.ensures.0 c.find_file.ensures ∙ c.in-None.is in
+    let counted = c.counted-n.ensures.0 in
+    let number = found-number s f.0 _ c.find_file.result files (omega arith) c.find_file.ensures ∙ c.in-None.is in
     let count = modules-length s in
     cc (gen-refused f (modules_of s) number (omega arith))
