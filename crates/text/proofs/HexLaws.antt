@@ -1,5 +1,6 @@
 -- Digits, and reading bytes pair by pair.
-use Rattle.std.proofs.Common.{ℕ, suc, ◌+◌, ◌-◌, ◌*◌, ◌/◌, ◌%◌, ◌≤◌, ◌<◌, ◌≡◌, List, [], ◌∷◌, ◌++◌, length, get_or, take, drop, Bool, true, false, ltb, refl, sym, ap, ap₂, ◌∙◌, inl, inr, ⊎_elim, ◌⊎◌, arith, append_assoc}
+use Rattle.std.proofs.Common.{ℕ, suc, ◌+◌, ◌-◌, ◌*◌, ◌/◌, ◌%◌, ◌≤◌, ◌<◌, ◌≡◌, List, [], ◌∷◌, ◌++◌, length, get_or, take, drop, Bool, true, false, ltb}
+use Rattle.std.proofs.Common.{refl, sym, ap, ap₂, ◌∙◌, inl, inr, ⊎_elim, ◌⊎◌, arith, append_assoc}
 use Rattle.std.specs.Prelude.{None}
 use Rattle.std.proofs.lemmas.Bool.{ltb-true, ltb-false, lt-ltb, le-ltb}
 use Rattle.std.proofs.lemmas.List.{append-nil, nil_from_length, take_all, take_more}
@@ -70,7 +71,8 @@ pair-first (a ∷ b ∷ r) x y h d e = let k : length r ≤ suc (suc (length r))
 pub hex-more : (s done rest : List ℕ) (b : ℕ) → s ≡ hexed done ++ rest → 2 ≤ length rest → get_or rest 0 0 ≡ hex_digit_ascii (b / 16) → get_or rest 1 0 ≡ hex_digit_ascii (b % 16) →
     s ≡ hexed (done ++ b ∷ []) ++ take (length rest - 2) (drop 2 rest)
 hex-more s done rest b text h d e =
-    text ∙ ap (λ l. hexed done ++ l) (pair-first rest (hex_digit_ascii (b / 16)) (hex_digit_ascii (b % 16)) h d e) ∙ sym (ap (λ l. l ++ take (length rest - 2) (drop 2 rest)) (hexed-append done (b ∷ [])) ∙ append_assoc (hexed done) (hexed (b ∷ [])) (take (length rest - 2) (drop 2 rest)))
+    text ∙ ap (λ l. hexed done ++ l) (pair-first rest (hex_digit_ascii (b / 16)) (hex_digit_ascii (b % 16)) h d e)
+    ∙ sym (ap (λ l. l ++ take (length rest - 2) (drop 2 rest)) (hexed-append done (b ∷ [])) ∙ append_assoc (hexed done) (hexed (b ∷ [])) (take (length rest - 2) (drop 2 rest)))
 
 -- the text is the digits of the bytes `done`, and `rest` is left of it
 module _ (s done rest : List ℕ) (text : s ≡ hexed done ++ rest) where

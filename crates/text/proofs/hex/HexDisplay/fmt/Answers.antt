@@ -2,13 +2,12 @@
 use Rattle.std.proofs.Common.{ℕ, ◌≡◌, List, [], ◌++◌, refl, sym, ap, ◌∙◌, rules, arith, append_assoc, append-nil}
 use Rattle.std.proofs.lemmas.List.{nil_from_length}
 use Rattle.std.proofs.Output.{has_written_append, has_written_of_eq}
-use Rattle.std.specs.Slice.Iter.{chunks_size}
 use Rattle.text.specs.Hex.{hexed}
 use Rattle.text.proofs.HexLaws.{hexed-append, chunk-written}
 use Rattle.text.proofs.hex.HexDisplay.fmt.Goals as goal
 
 pub loop-bytes-init : goal.loop-bytes-init
-loop-bytes-init g c = let size : chunks_size c.into_iter-bytes-iterator.result ≡ 64 = search rules in record { room = omega (arith, size); so_far = ([], search rules, λ p. search rules) }
+loop-bytes-init g c = record { room = search (rules, arith); so_far = ([], search rules, λ p. search rules) }
 
 pub loop-bytes-preserved : goal.loop-bytes-preserved
 loop-bytes-preserved g c =
